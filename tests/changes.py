@@ -1,12 +1,17 @@
 #!/usr/bin/env python3
 """Tries what `sipd check --config NEW --against OLD` says, and its status: `tests/changes.py PROGRAM`, after `rt run` in crates/sipd.
 OLD is `examples/office.toml`, NEW that with some texts in place of others, and then the other way round. What is said of which change
-is docs/CONFIGURATION.md's. It prints a line for each change that isn't told so, and ends with 1 where there is one."""
+is docs/CONFIGURATION.md's. Then a day on which such changes come while people phone, by real sockets: its record is replayed, and gone on
+from. It prints a line for each change that isn't told so, or does something else, and ends with 1 where there is one."""
 
 import os
+import re
 import subprocess
 import sys
 import tempfile
+
+import phone
+import serve
 
 OFFICE = os.path.join(os.path.dirname(os.path.abspath(__file__)), "..", "examples", "office.toml")
 PROGRAM = os.path.abspath(sys.argv[1])
@@ -95,54 +100,147 @@ CASES = [
 ]
 
 
-def ended(*words):
-    done = subprocess.run([PROGRAM, "check", *words], stdin=subprocess.DEVNULL, capture_output=True, timeout=60)
+def ended(*words, pass_fds=()):
+    done = subprocess.run([PROGRAM, "check", *words], stdin=subprocess.DEVNULL, capture_output=True, timeout=60, pass_fds=pass_fds)
     return done.returncode, done.stdout.decode().splitlines(), done.stderr.decode().splitlines()
+
+
+class Tally:
+    """What was tried, how much of it was said otherwise, and the folder of the files that are compared."""
+
+    def __init__(self, folder):
+        self.folder, self.tried, self.wrong = folder, 0, 0
+
+    def expect(self, name, found, wanted):
+        self.tried += 1
+        if found != wanted:
+            self.wrong += 1
+            print(f"{name}: {found} in place of {wanted}")
+
+    def written(self, name, text):
+        path = os.path.join(self.folder, name)
+        with open(path, "w", encoding="utf-8") as file:
+            file.write(text)
+        return path
+
+
+def changed(office, changes):
+    """The office with some texts in place of others."""
+    text = office
+    for before, now in changes:
+        assert before in text, before
+        text = text.replace(before, now, 1)
+    return text
+
+
+def try_changes(tally, office, old):
+    """Each change, and the change back."""
+    complaints = {True: [], False: [f"sipd: {CANNOT}"]}
+    for changes, said, taken, said_back in CASES:
+        new = tally.written("new.toml", changed(office, changes))
+        tally.expect(changes, ended("--config", new, "--against", old), (0 if taken else 3, said, complaints[taken]))
+        if said_back is not None:
+            tally.expect(f"{changes} back", ended("--config", old, "--against", new), (0 if taken else 3, said_back, complaints[taken]))
+
+
+def try_refusals(tally, office, old):
+    """A file that is refused, or isn't there, on either side; and with --show."""
+    bad = tally.written("bad.toml", office.replace("via gateway", "via nobody", 1))
+    none = os.path.join(tally.folder, "nowhere.toml")
+    refused = "sipd: configuration refused 6"
+    tally.expect("NEW is refused", ended("--config", bad, "--against", old), (2, [], [refused]))
+    tally.expect("OLD is refused", ended("--config", old, "--against", bad), (2, [], ["sipd: of --against", refused]))
+    tally.expect("no OLD", ended("--config", old, "--against", none), (4, [], ["sipd: of --against", "sipd: no file", "sipd: device"]))
+    read, write = os.pipe()
+    os.write(write, office.encode())
+    os.close(write)
+    tally.expect("OLD is a pipe", ended("--config", old, "--against", f"/dev/fd/{read}", pass_fds=(read,)), (0, ["nothing differs"], []))
+    os.close(read)
+    status, said, _ = ended("--show", "--config", bad, "--against", old)
+    tally.expect("NEW is refused, with --show", (status, any("[[hop]]" in line for line in said)), (2, True))
+    status, said, _ = ended("--show", "--config", old, "--against", old)
+    tally.expect("with --show", (status, said[0], said[-1]), (0, "realm office", "nothing differs"))
+
+
+class Day:
+    """A server that records and whose configuration changes, and those who phone."""
+
+    def __init__(self, tally):
+        self.tally, self.record = tally, os.path.join(tally.folder, "day")
+        self.config = phone.office(tally.folder, phone.free_port())
+        self.server, port = phone.started(PROGRAM, self.config, "--reload", "--record", self.record)
+        self.alice, self.bob = serve.phones(port)
+        self.carol = phone.Phone("carol", phone.md5("carol:office:tea"), self.alice.server)
+        self.carol.again = False
+
+    def under(self, before, now):
+        """The file with a text in place of another one, once it is in force."""
+        serve.rewritten(self.config, lambda text: changed(text, [(before, now)]))
+        serve.says(self.server, serve.IN_FORCE)
+
+    def registers(self, name, it, proven):
+        self.tally.expect(f"{it.name} registers, {name}", it.register(), [401, 200] if proven else [401, 401])
+
+    def is_called(self, name, status):
+        """What becomes of a call of alice's to bob, who isn't reached."""
+        self.alice.invite(self.bob.address)
+        self.tally.expect(f"alice calls bob, {name}", self.alice.hear().status, status)
+
+
+def live_day(day):
+    """Users come and go, a password and a rule change, and a call stands over all of it."""
+    alice, bob, carol = day.alice, day.bob, day.carol
+    carol_is = CAROL.replace("1" * 32, carol.key)
+    day.registers("at first", alice, True)
+    day.registers("at first", bob, True)
+    day.registers("unknown", carol, False)
+    stands = serve.established(alice, bob)
+    day.under("# A hop:", carol_is + "# A hop:")
+    day.registers("known", carol, True)
+    serve.hung_up(carol, alice, serve.established(carol, alice))
+    day.under('a1 = "dbcb', 'a1 = "0bcb')
+    day.registers("with another password", bob, False)
+    day.under('a1 = "0bcb', 'a1 = "dbcb')
+    day.registers("with his password", bob, True)
+    day.under('target = "@127.0.0.1"\nverdict = "allow"', 'target = "@127.0.0.1"\nverdict = "deny"')
+    day.is_called("where a rule denies it", 403)
+    day.under('target = "@127.0.0.1"\nverdict = "deny"', 'target = "@127.0.0.1"\nverdict = "allow"')
+    day.under('name = "bob"', 'name = "bert"')
+    day.is_called("who is gone", 404)
+    serve.hung_up(alice, bob, stands)
+
+
+def try_day(tally):
+    """The day's record is replayed without its file, byte for byte what was logged and all that was heard; and is gone on from."""
+    day = Day(tally)
+    live_day(day)
+    printed, complaints = serve.killed(day.server)
+    tally.expect("complaints of the day", complaints, "")
+    status, again, complaints = serve.replayed(day.record)
+    tally.expect("the day again", (status, complaints, serve.audit_of(again)), (0, "", printed.splitlines()))
+    heard = [data for it in (day.alice, day.bob, day.carol) for data in it.heard]
+    tally.expect("heard and not replayed", [data for data in heard if data.decode() not in again], [])
+    server, _ = phone.started(PROGRAM, day.config, "--record", day.record + "_on", "--resume", day.record)
+    serve.hung_up(day.carol, day.alice, serve.established(day.carol, day.alice))
+    _, complaints = serve.killed(server)
+    tally.expect("the next start", re.fullmatch(f"sipd: goes on behind \\d+ lines of {day.record}\n", complaints) is not None, True)
 
 
 def main():
     with open(OFFICE, encoding="utf-8") as file:
         office = file.read()
-    wrong = tried = 0
-
-    def expect(name, found, wanted):
-        nonlocal wrong, tried
-        tried += 1
-        if found != wanted:
-            wrong += 1
-            print(f"{name}: {found} in place of {wanted}")
-
     with tempfile.TemporaryDirectory() as folder:
-
-        def written(name, text):
-            path = os.path.join(folder, name)
-            with open(path, "w", encoding="utf-8") as file:
-                file.write(text)
-            return path
-
-        old = written("old.toml", office)
-        complaints = {True: [], False: [f"sipd: {CANNOT}"]}
-        for changes, said, taken, said_back in CASES:
-            text = office
-            for before, now in changes:
-                assert before in text, before
-                text = text.replace(before, now, 1)
-            new = written("new.toml", text)
-            expect(changes, ended("--config", new, "--against", old), (0 if taken else 3, said, complaints[taken]))
-            if said_back is not None:
-                expect(f"{changes} back", ended("--config", old, "--against", new), (0 if taken else 3, said_back, complaints[taken]))
-        bad = written("bad.toml", office.replace("via gateway", "via nobody", 1))
-        none = os.path.join(folder, "nowhere.toml")
-        refused = "sipd: configuration refused 6"
-        expect("NEW is refused", ended("--config", bad, "--against", old), (2, [], [refused]))
-        expect("OLD is refused", ended("--config", old, "--against", bad), (2, [], ["sipd: of --against", refused]))
-        expect("no OLD", ended("--config", old, "--against", none), (4, [], ["sipd: of --against", "sipd: no file", "sipd: device"]))
-        status, said, _ = ended("--show", "--config", bad, "--against", old)
-        expect("NEW is refused, with --show", (status, any("[[hop]]" in line for line in said)), (2, True))
-        status, said, _ = ended("--show", "--config", old, "--against", old)
-        expect("with --show", (status, said[0], said[-1]), (0, "realm office", "nothing differs"))
-    print(f"{tried} changes, {wrong} not told")
-    return 1 if wrong else 0
+        tally = Tally(folder)
+        old = tally.written("old.toml", office)
+        try_changes(tally, office, old)
+        try_refusals(tally, office, old)
+        try:
+            try_day(tally)
+        finally:
+            for server in phone.SERVERS:
+                server.kill()
+    print(f"{tally.tried} changes, {tally.wrong} not told")
+    return 1 if tally.wrong else 0
 
 
 if __name__ == "__main__":

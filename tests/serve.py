@@ -3,92 +3,24 @@
 minute, prints a line for each trial, and ends with 1 where one fails. It asks for no rights, and by how much this machine is late
 it measures itself: a moment that it looks at may be later by that."""
 
+import hashlib
 import os
 import re
-import select
 import signal
 import socket
 import subprocess
 import sys
 import tempfile
-import threading
 import time
 
 import phone
 from phone import Phone, free_port, office, started, tag_of, uri_in
+from served import (
+    PROGRAM, audit_of, drawn, ended, established, first_word, goes_again, hears, hung_up, is_of_event, killed, made_in, marked, phones,
+    replayed, rewritten, says, stopped, waited, without_configurations,
+)
 
-PROGRAM = sys.argv[1] if len(sys.argv) > 1 else phone.PROGRAM
 LONGEST = 60  # seconds that a trial may take
-
-
-def waited(process):
-    """How many seconds a process was ready to run and had no processor, where the kernel tells that."""
-    try:
-        with open(f"/proc/{process}/schedstat") as it:
-            return int(it.read().split()[1]) / 1e9
-    except (OSError, IndexError, ValueError):
-        return 0
-
-
-class Lateness:
-    """By how many seconds at most this machine was late, for a server and for who looks at it, while it was asked for: as long as they
-    had no processor, and as much as it woke a sleeper too late."""
-
-    def __init__(self, server):
-        self.processes = (server.pid, os.getpid())
-
-    def __enter__(self):
-        self.most, self.over = 0, threading.Event()
-        self.before = sum(map(waited, self.processes))
-        self.sleeper = threading.Thread(target=self.sleep, daemon=True)
-        self.sleeper.start()
-        return self
-
-    def sleep(self):
-        while not self.over.is_set():
-            before = time.monotonic()
-            time.sleep(0.01)
-            self.most = max(self.most, time.monotonic() - before - 0.01)
-
-    def __exit__(self, *_):
-        self.over.set()
-        self.sleeper.join()
-        self.most += sum(map(waited, self.processes)) - self.before
-
-
-def ended(*words):
-    done = subprocess.run([PROGRAM, *words], stdin=subprocess.DEVNULL, capture_output=True, timeout=20)
-    return done.returncode, done.stdout.decode(), done.stderr.decode()
-
-
-def stopped(server):
-    """Ends a server by a signal; gives what it printed beside its first line, and its complaints."""
-    server.send_signal(signal.SIGTERM)
-    rest, complaints = server.communicate(timeout=10)
-    assert server.returncode == -signal.SIGTERM, (server.returncode, complaints)
-    return rest.decode(), complaints.decode()
-
-
-def hears(it, seconds):
-    """Whether a phone hears something within so many seconds."""
-    before = it.socket.gettimeout()
-    it.socket.settimeout(seconds)
-    try:
-        it.hear()
-        return True
-    except TimeoutError:
-        return False
-    finally:
-        it.socket.settimeout(before)
-
-
-def phones(port, *ips):
-    """Two phones. What comes to one again, as where this machine is slow, it passes over."""
-    made = []
-    for (name, password), ip in zip(phone.PASSWORDS.items(), ips or ("127.0.0.1", "127.0.0.1")):
-        made.append(Phone(name, phone.md5(f"{name}:office:{password}"), ("127.0.0.1", port), ip=ip))
-        made[-1].again = False
-    return made
 
 
 def call(folder):
@@ -128,30 +60,6 @@ def call(folder):
         "7 INVITE alice bob@127.0.0.1 send 7 sent 1",
     ], lines
     assert complaints == "", complaints
-
-
-def goes_again(server, alice, bob, meanwhile=lambda: None):
-    """Whether an INVITE that isn't answered goes again 500 ms (50 more or less, and what the machine was late) behind its first sending.
-    It has to on a machine that wasn't late at all; on one that was, and perhaps by more than was seen, it is to be tried again."""
-    bob.again = True
-    number, branch = alice.invite(bob.address)
-    with Lateness(server) as late:
-        first, then = bob.hear(), time.monotonic()
-        meanwhile()
-        second, now = bob.hear(), time.monotonic()
-    assert first.start == second.start and first.fields == second.fields
-    bob.answer(second, 486, "b1")
-    while bob.hear().method != "ACK":
-        pass
-    refused = alice.hear()
-    assert refused.status == 486, refused.start
-    alice.acknowledge(refused, bob.address, number, 2, branch)
-    bob.again = False
-    gap = now - then
-    if 0.45 - late.most <= gap <= 0.55 + late.most:
-        return True
-    assert late.most > 0.005, (gap, late.most)
-    return False
 
 
 def timer_a(folder):
@@ -225,15 +133,6 @@ def failed_send(folder):
     over = alice.hear()
     assert over.status == 500 and time.monotonic() - before < 5, over.start
     stopped(server)
-
-
-def drawn(server, port):
-    """What a server drew for the first challenge of a phone: its nonce, and its tag."""
-    alice, _ = phones(port)
-    alice.request("REGISTER", "sip:127.0.0.1", alice.address, "drawn", 1, [alice.contact()])
-    refused = alice.hear()
-    killed(server)
-    return re.search(r'nonce="([^"]*)"', refused["WWW-Authenticate"])[1], tag_of(refused)
 
 
 def drawn_anew(folder):
@@ -311,47 +210,12 @@ def closed_output(folder):
     assert (server.returncode, server.stderr) == (4, b"sipd: disk full\nsipd: device\n"), server
 
 
-def established(alice, bob):
-    """A call that stands: its Call-ID, and what its caller knows of it."""
-    number, _ = alice.invite(bob.address)
-    invite = bob.hear()
-    bob.answer(invite, 200, "b1", [bob.contact()])
-    taken = alice.hear()
-    assert taken.status == 200, taken.start
-    dialog = number, taken["Record-Route"], uri_in(taken["Contact"]), tag_of(taken)
-    alice.request("ACK", dialog[2], bob.address, number, 2, [("Route", dialog[1])], dialog[3])
-    assert bob.hear().method == "ACK"
-    return dialog
-
-
-def hung_up(alice, bob, dialog):
-    number, route, remote, tag = dialog
-    alice.request("BYE", remote, bob.address, number, 3, [("Route", route)], tag)
-    bye = bob.hear()
-    assert bye.method == "BYE", bye.start
-    bob.answer(bye, 200)
-    over = alice.hear()
-    assert over.status == 200 and over.method == "BYE", over.start
-
-
-def killed(server):
-    """Ends a server by a signal that it can't see; gives what it printed beside its first line, and its complaints."""
-    server.kill()
-    rest, complaints = server.communicate(timeout=10)
-    return rest.decode(), complaints.decode()
-
-
-def replayed(config, record):
-    status, printed, complaints = ended("replay", "--config", config, "--record", record)
-    return status, printed, complaints
-
-
-def audit_of(printed):
-    return [line[len("audit "):] for line in printed.splitlines() if line.startswith("audit ")]
+OTHER = (3, "", "sipd: the record was made with another configuration\n")
 
 
 def record(folder):
-    """What was recorded is replayed: the lines of the log byte for byte, and each packet that a phone heard."""
+    """What was recorded is replayed without its file: the lines of the log byte for byte, and each packet that a phone heard. So it is with
+    the file; another one is refused. A record of before is replayed with its file alone."""
     config, path = office(folder, free_port()), os.path.join(folder, "day")
     server, port = started(PROGRAM, config, "--record", path)
     alice, bob = phones(port)
@@ -369,10 +233,16 @@ def record(folder):
     printed, complaints = killed(server)
     assert complaints == "", complaints
     assert os.stat(path).st_mode & 0o777 == 0o600
-    status, again, complaints = replayed(config, path)
+    status, again, complaints = replayed(path)
     assert (status, complaints) == (0, ""), (status, complaints)
     assert audit_of(again) == printed.splitlines() != [], (audit_of(again), printed)
     assert len(heard) > 10 and all(data.decode() in again for data in heard)
+    bare, other = without_configurations(folder, path), os.path.join(folder, "another.toml")
+    with open(config) as source, open(other, "w") as made:
+        made.write(source.read() + "\n# another\n")
+    assert replayed(path, config) == replayed(bare, config) == (0, again, "")
+    assert replayed(path, other) == replayed(bare, other) == OTHER
+    assert replayed(bare) == (3, "", "sipd: the record doesn't hold its configuration: name it with --config\n")
 
 
 def restart(folder):
@@ -399,9 +269,76 @@ def restart(folder):
     hung_up(alice, bob, other)
     _, complaints = killed(server)
     assert complaints.startswith("sipd: goes on behind "), complaints
-    status, again, complaints = replayed(config, third)
+    status, again, complaints = replayed(third)
     assert (status, complaints) == (0, ""), complaints
     assert audit_of(again)[: len((before + printed).splitlines())] == (before + printed).splitlines()
+
+
+def restart_with_another(folder):
+    """A restart under another configuration: a standing call is hung up, who is gone isn't reached, who is new registers; a record of before
+    is gone on from with its own file; and so is what either made."""
+    config = office(folder, free_port())
+    first, second, third, fourth = (os.path.join(folder, "with_" + name) for name in ("first", "second", "third", "fourth"))
+    server, port = started(PROGRAM, config, "--record", first)
+    alice, bob = phones(port)
+    carol = Phone("carol", phone.md5("carol:office:tea"), ("127.0.0.1", port))
+    assert alice.register() == [401, 200] and bob.register() == [401, 200]
+    dialog = established(alice, bob)
+    killed(server)
+    with open(config) as source:
+        before = source.read()
+    bare = without_configurations(folder, first)
+    bob_is = re.compile(r'\[\[user\]\]\nname = "bob"\na1 = "\w+"\n')
+    carol_is = f'[[user]]\nname = "carol"\na1 = "{phone.md5("carol:office:tea")}"\n'
+    rewritten(config, lambda text: bob_is.sub(carol_is, text))
+    server, _ = started(PROGRAM, config, "--record", second, "--resume", first)
+    assert carol.register() == [401, 200]
+    hung_up(alice, bob, dialog)
+    alice.invite(bob.address)
+    refused = alice.hear()
+    assert refused.status == 404, refused.start
+    _, complaints = killed(server)
+    assert complaints.startswith("sipd: goes on behind "), complaints
+    server, _ = started(PROGRAM, config, "--record", third, "--resume", second)
+    other = established(alice, carol)
+    hung_up(alice, carol, other)
+    _, complaints = killed(server)
+    assert complaints.startswith("sipd: goes on behind "), complaints
+    rewritten(config, lambda text: before)
+    server, _ = started(PROGRAM, config, "--record", fourth, "--resume", bare)
+    hung_up(alice, bob, dialog)
+    _, complaints = killed(server)
+    assert complaints.startswith("sipd: goes on behind "), complaints
+    with open(fourth) as made:
+        assert sum(line.startswith("configuration ") for line in made) == 2
+
+
+def standby(folder):
+    """A second server reads the record of the first one as it grows, and goes on where that ended, in the middle of a line."""
+    config = office(folder, free_port())
+    first, second = (os.path.join(folder, "standby_" + name) for name in ("first", "second"))
+    server, port = started(PROGRAM, config, "--record", first)
+    alice, bob = phones(port)
+    with subprocess.Popen(["tail", "-c", "+1", "-f", first], stdout=subprocess.PIPE) as tail:
+        words = [PROGRAM, "serve", "--config", config, "--record", second, "--resume", "-"]
+        waiting = subprocess.Popen(words, stdin=tail.stdout, stdout=subprocess.PIPE, stderr=subprocess.PIPE)
+        phone.SERVERS.append(waiting)
+        tail.stdout.close()
+        assert alice.register() == [401, 200] and bob.register() == [401, 200]
+        dialog = established(alice, bob)
+        time.sleep(1.5)
+        assert waiting.poll() is None and not os.path.exists(second) and os.stat(second + ".part").st_size > os.stat(first).st_size - 200
+        killed(server)
+        with open(first, "a") as cut:
+            cut.write("time 18")
+        time.sleep(1.5)
+        tail.kill()
+    line = waiting.stdout.readline().decode()
+    assert line == f"sipd: serving 127.0.0.1:{port}\n", line
+    hung_up(alice, bob, dialog)
+    _, complaints = killed(waiting)
+    assert re.fullmatch(r"sipd: goes on behind \d+ lines of standard input\n", complaints), complaints
+    assert first_word(first) == "record"
 
 
 def no_count_twice(folder):
@@ -423,19 +360,6 @@ def no_count_twice(folder):
     killed(server)
 
 
-def marked(folder, path, word):
-    """A copy of a record whose first line begins otherwise."""
-    made = os.path.join(folder, "marked" + word.decode().strip())
-    with open(path, "rb") as source, open(made, "wb") as copy:
-        copy.write(word + source.read()[len(word):])
-    return made
-
-
-def first_word(path):
-    with open(path, "rb") as record:
-        return record.read(7).decode().strip()
-
-
 def not_resumed(folder):
     """A record of another configuration, none, one that is damaged and one that isn't there: a line says so, and the server starts anew."""
     config = office(folder, free_port())
@@ -446,16 +370,26 @@ def not_resumed(folder):
     killed(server)
     with open(good) as source:
         lines = source.readlines()
-    other, damaged, missing = (os.path.join(folder, name) for name in ("other.toml", "damaged", "nowhere"))
-    with open(config) as source, open(other, "w") as made:
-        made.write(source.read() + "\n# another\n")
+    other, home, damaged, turned, missing = (os.path.join(folder, name) for name in ("other.toml", "home.toml", "damaged", "turned", "nowhere"))
+    with open(config) as source:
+        text = source.read()
+    with open(other, "w") as made:
+        made.write(text + "\n# another\n")
+    with open(home, "w") as made:
+        made.write(text.replace('realm = "office"', 'realm = "home"'))
+    bare = without_configurations(folder, good)
+    first = 1 + next(place for place, line in enumerate(lines) if line.startswith("configuration "))
     with open(damaged, "w") as made:
-        made.writelines([*lines[:2], "hello\n", *lines[2:]])
+        made.writelines([*lines[: first + 1], "hello\n", *lines[first + 1 :]])
+    with open(turned, "w") as made:
+        made.writelines([lines[0], lines[1].replace("= ", "= #", 1), *lines[2:]])
     broken, left = (marked(folder, good, word) for word in (b"broken ", b"left   "))
     for number, (by, old, why) in enumerate((
-        (other, good, "it was made with another configuration"),
+        (other, bare, "it was made with another configuration"),
+        (home, good, "its configuration at line 2 has another realm"),
         (config, config, "it is no record"),
-        (config, damaged, "its line 3 begins no event"),
+        (config, damaged, f"its line {first + 2} begins no event and no configuration"),
+        (config, turned, "its line 2 begins no event and no configuration"),
         (config, missing, "it can't be read"),
         (config, folder, "it can't be read"),
         (config, os.devnull, "it is no record"),
@@ -464,20 +398,23 @@ def not_resumed(folder):
     )):
         server, _ = started(PROGRAM, by, "--record", os.path.join(folder, f"anew{number}"), "--resume", old)
         _, complaints = killed(server)
-        assert complaints == f"sipd: {old} isn't resumed: {why}; bindings, dialogs, open calls and nonces are lost\n", complaints
-    _, whole, _ = replayed(config, good)
-    assert replayed(config, left) == (0, whole, "")
-    assert replayed(config, broken) == (0, whole, f"sipd: the writing of {broken} failed: it lacks what came behind\n")
+        assert complaints == f"sipd: {old} isn't resumed: {why}; bindings, dialogs, open calls and nonces are lost: phones are found again when they register\n", complaints
+    _, whole, _ = replayed(good)
+    assert replayed(left) == (0, whole, "")
+    assert replayed(broken) == (0, whole, f"sipd: the writing of {broken} failed: it lacks what came behind\n")
     there = ended("serve", "--config", config, "--record", good)
     assert there == (4, "", "sipd: the record can't be made: its file is there already, or its folder isn't, or may not be written, or has no hard links\n"), there
-    assert replayed(other, good) == (3, "", "sipd: the record was made with another configuration\n")
-    assert replayed(config, config) == (3, "", "sipd: no record\n")
+    assert replayed(config) == (3, "", "sipd: no record\n")
+    for record, line in ((damaged, first + 2), (turned, 2)):
+        status, printed, complaints = replayed(record)
+        assert (status, complaints) == (3, f"sipd: script line {line}\n") and whole.startswith(printed), (status, complaints)
 
 
 def full_device(folder):
     """A record that can't be written any more: said once, and the server goes on; or it ends, by a word of the option, and is gone on from."""
     config = office(folder, free_port())
-    limited = ["env", "--ignore-signal=XFSZ", "prlimit", "--fsize=2000", "--"]
+    room = 2000 + os.stat(config).st_size + 2 * open(config).read().count("\n")
+    limited = ["env", "--ignore-signal=XFSZ", "prlimit", f"--fsize={room}", "--"]
     small, other = os.path.join(folder, "small"), os.path.join(folder, "small2")
     server, port = started(PROGRAM, config, "--record", small, before=limited)
     alice, bob = phones(port)
@@ -485,8 +422,8 @@ def full_device(folder):
     _, complaints = killed(server)
     assert complaints == "sipd: the record can't be written; nothing more is recorded\n", complaints
     assert first_word(small) == "broken"
-    status, _, complaints = replayed(config, small)
-    assert status == 3 and complaints.startswith(f"sipd: the writing of {small} failed: it lacks what came behind\nsipd: script line "), complaints
+    status, _, complaints = replayed(small)
+    assert (status, complaints) == (0, f"sipd: the writing of {small} failed: it lacks what came behind\n"), (status, complaints)
     server, _ = started(PROGRAM, config, "--record", other, "--record-fault", "end", before=limited)
     for _ in range(3):
         alice.request("REGISTER", "sip:127.0.0.1", alice.address, alice.mark(), 1, [alice.contact()])
@@ -552,11 +489,6 @@ def lost_record(folder):
         harm(path)
         assert server.wait(10) == 4
         assert server.stderr.read().decode() == f"{lost}\nsipd: the record can't be written\n"
-
-
-def made_in(folder, kind):
-    """The files of this kind that starts made in a folder of records."""
-    return sorted(name for name in os.listdir(folder) if re.fullmatch(r"\d+\." + kind, name))
 
 
 def folder_of_records(folder):
@@ -649,25 +581,6 @@ def guard(folder):
     assert 40 <= len(scanned) <= 40 + 20 * (passed + 2), (len(scanned), passed)
 
 
-def says(server, wanted, seconds=10):
-    """Waits until a server complains of this."""
-    said, until = b"", time.monotonic() + seconds
-    while wanted.encode() not in said:
-        ready, _, _ = select.select([server.stderr], [], [], max(0, until - time.monotonic()))
-        assert ready, (wanted, said)
-        said += os.read(server.stderr.fileno(), 65536)
-    return said.decode()
-
-
-def rewritten(config, change):
-    """Writes a file anew, in the place of the old one."""
-    with open(config) as source:
-        text = change(source.read())
-    with open(config + ".new", "w") as made:
-        made.write(text)
-    os.rename(config + ".new", config)
-
-
 IN_FORCE = "sipd: the configuration's file is in force\n"
 
 
@@ -701,9 +614,9 @@ def changed(folder):
 
 def not_taken(folder):
     """What isn't taken is said once, and what was in force stays: another realm, a file that is no configuration, one that is gone, one
-    that changes without end; what is taken behind that is."""
+    that changes without end; what is taken behind that is. HUP ends the server, as each signal does."""
     config = office(folder, free_port())
-    server, port = started(PROGRAM, config, "--reload")
+    server, port = started(PROGRAM, config, "--reload", before=["env", "--default-signal=HUP"])
     alice, _ = phones(port)
     with open(config) as source:
         text = source.read()
@@ -721,13 +634,95 @@ def not_taken(folder):
     assert said == IN_FORCE, said
     assert alice.register() == [401, 200]
     time.sleep(2.5)
-    _, complaints = stopped(server)
+    _, complaints = stopped(server, by=signal.SIGHUP)
     assert complaints == "", complaints
 
 
+def changed_record(folder):
+    """A record whose configuration changed holds both files whole, each in front of what was taken under it; it is replayed whole, without
+    either file, and is gone on from under either: who came by the change calls whom the record knows."""
+    config, old, path, copy = office(folder, free_port()), *(os.path.join(folder, name) for name in ("before.toml", "changed", "changed_copy"))
+    os.link(config, old)
+    server, port = started(PROGRAM, config, "--reload", "--record", path)
+    alice, _ = phones(port)
+    carol = Phone("carol", phone.md5("carol:office:tea"), alice.server)
+    assert alice.register() == [401, 200]
+    rewritten(config, lambda text: text + f'\n[[user]]\nname = "carol"\na1 = "{carol.key}"\n')
+    says(server, IN_FORCE)
+    assert carol.register() == [401, 200]
+    printed, complaints = killed(server)
+    assert complaints == "", complaints
+    status, again, complaints = replayed(path)
+    assert (status, complaints) == (0, ""), (status, complaints)
+    assert audit_of(again) == printed.splitlines() and len(audit_of(again)) == 4, (audit_of(again), printed)
+    assert all(data.decode() in again for data in (*alice.heard, *carol.heard))
+    assert replayed(path, old) == (0, again, "") and replayed(path, config) == OTHER
+    with open(path, "rb") as made:
+        whole = made.read()
+    with open(copy, "wb") as made:
+        made.write(whole)
+    wanted, firsts = [], []
+    for name in (old, config):
+        with open(name, "rb") as source:
+            text = source.read()
+        firsts.append(len(wanted))
+        wanted += [b"= " + line for line in text.splitlines()] + [b"configuration " + hashlib.sha256(text).hexdigest().encode()]
+    lines = whole.split(b"\n")
+    held = [line for line in lines if line.startswith((b"= ", b"+ ", b"configuration "))]
+    assert held == wanted and lines[1] == held[0] and lines[1 + firsts[1]].startswith((b"hex ", b"time ")), held
+    for by, record, who in ((config, path, 2), (old, copy, 1)):
+        server, _ = started(PROGRAM, by, "--record", by + ".record", "--resume", record)
+        if who == 2:
+            hung_up(carol, alice, established(carol, alice))
+        answers = [it.register() for it in (alice, carol)]
+        assert [answer[-1] == 200 for answer in answers] == [True, who == 2], answers
+        _, complaints = killed(server)
+        assert re.fullmatch(f"sipd: goes on behind \\d+ lines of {record}\n", complaints), complaints
+
+
+def told_against(folder):
+    """What a change from the last configuration of a record would do is told as from its file, also where the record was cut, and without one
+    it isn't told."""
+    config, new, path, later, cut, bare, bad = (os.path.join(folder, "against_" + name) for name in ("config", "new", "first", "second", "cut", "bare", "bad"))
+    os.rename(office(folder, free_port()), config)
+    with open(config) as source:
+        text = source.read()
+    with open(new, "w") as made:
+        made.write(text + f'\n[[user]]\nname = "carol"\na1 = "{phone.md5("carol:office:tea")}"\n')
+    server, port = started(PROGRAM, config, "--record", path)
+    alice, _ = phones(port)
+    assert alice.register() == [401, 200]
+    killed(server)
+
+    def told(of, old):
+        return ended("check", "--config", of, "--against", old)
+
+    comes = (0, "user carol comes\na server that runs can take it\n", "")
+    assert told(new, config) == told(new, path) == comes, (told(new, config), told(new, path))
+    server, _ = started(PROGRAM, new, "--record", later, "--resume", path)
+    assert alice.register() == [401, 200]
+    killed(server)
+    assert told(new, later) == (0, "nothing differs\n", ""), told(new, later)
+    assert told(config, later) == told(config, new), told(config, later)
+    with open(later) as source:
+        lines = source.readlines()
+    first, last = (1 + place for place, line in enumerate(lines) if line.startswith("configuration "))
+    for name, held in ((cut, [*lines[: last - 1], lines[last - 1][:20]]), (bare, filter(is_of_event, lines)), (bad, [*lines[:first], "hello\n", *lines[first:]])):
+        with open(name, "w") as made:
+            made.writelines(held)
+    assert told(new, cut) == comes, told(new, cut)
+    none = "sipd: of --against\nsipd: the record doesn't hold its configuration: name it with --config\n"
+    assert told(new, bare) == (3, "", none), told(new, bare)
+    assert told(new, bad) == (3, "", f"sipd: of --against\nsipd: script line {first + 1}\n"), told(new, bad)
+    digest = hashlib.sha256(b"version =\n").hexdigest()
+    with open(bad, "w") as made:
+        made.writelines([lines[0], "= version =\n", f"configuration {digest}\n"])
+    assert told(new, bad) == (2, "", "sipd: of --against\nsipd: configuration refused 2\n"), told(new, bad)
+
+
 TRIALS = (
-    call, another_address, turns, timer_a, guarded_timer, failed_send, drawn_anew, stop_and_continue, bad_starts, closed_output, record, restart, no_count_twice, not_resumed,
-    full_device, full_start, lost_record, folder_of_records, clock_behind, small_stack, guard, changed, not_taken,
+    call, another_address, turns, timer_a, guarded_timer, failed_send, drawn_anew, stop_and_continue, bad_starts, closed_output, record, restart, restart_with_another, standby,
+    no_count_twice, not_resumed, full_device, full_start, lost_record, folder_of_records, clock_behind, small_stack, guard, changed, not_taken, changed_record, told_against,
 )
 
 

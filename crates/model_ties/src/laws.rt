@@ -24,29 +24,16 @@ use sip_state::laws::same_states;
 /// states that are the same, or they part at a tie: up to some state their steps are the same, and then two things are due at one
 /// moment, the first at which anything is, of which each lets another one happen first. Nothing else is open: a step is all that
 /// it hands out, in its order, and all that it records. In both time passes only where something that is due happens, and all that
-/// is due by the moment of an event happens before it.
+/// is due by the moment of an event happens before it. The same is said of two runs over the same periods, each under its configuration
+/// (`periods`).
 pub fn runs_part_at_ties_alone()
-    ensures { (server : Server) (first : ℕ) (past : List Link) (start other_start last end : ProxyState) (events : List Event)
+    ensures events { (server : Server) (first : ℕ) (past : List Link) (start other_start last end : ProxyState) (events : List Event)
         (steps others : List StepOut) (history its : List Link)
         → IsChain server (first_state first) past start → SameState start other_start
         → IsRun server start events None steps history last → IsRun server other_start events None others its end
         → ArePrompt server history → ArePrompt server its
         → AreOne steps others last end ⊎ PartAtTie server start steps others }
-{
-    same_bindings();
-    same_dialogs();
-    same_states();
-    dialogs_after_same();
-    moment_rises();
-    steps_same();
-    steps_stand_at_their_moments();
-    requests_can_end();
-    steps_have_parts();
-}
-
-/// So do two runs over the same periods, each under its configuration: they take the same steps, or they part at a tie.
-pub fn runs_under_part_at_ties_alone()
-    ensures { (server : Server) (first : ℕ) (past : List Link) (start other_start last end : ProxyState) (periods : List Period)
+    ensures periods { (server : Server) (first : ℕ) (past : List Link) (start other_start last end : ProxyState) (periods : List Period)
         (steps others : List StepOut) (history its : List Link)
         → IsChain server (first_state first) past start → SameState start other_start
         → IsRunUnder server start periods None steps history last → IsRunUnder server other_start periods None others its end

@@ -1,9 +1,10 @@
-//! Two runs of the model over the same events: that they take the same steps, but for which of several things that are due at
-//! one moment happens first. Nothing runs here.
+//! Two runs of the model over the same events, or over the same periods: that they take the same steps, but for which of several
+//! things that are due at one moment happens first. Nothing runs here.
 //!
-//! - Used: `sip_loop`, of what is served and what is replayed.
-//! - Not here: which of them does happen first (`sip_engine_open`).
-//! - Tried: its own proofs, and a worked example in `src/examples.rt`.
+//! - Used: `sip_recorded`, of what is served and what is replayed; `sip_loop`, of a fault, which comes once nothing is due; `sip_replay`
+//!   and `sip_resume`, to say that time passes only where something that is due happens (`ArePrompt`).
+//! - Not here: which of them does happen first (`Engine::fire` of `sip_engine`).
+//! - Tried: a worked example in `src/examples.rt`, as contracts that compute.
 #![tactic(auto)]
 
 pub mod examples;

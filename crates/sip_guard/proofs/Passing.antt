@@ -1,6 +1,6 @@
 -- One datagram more that is passed over.
-use Rattle.std.proofs.Common.{◌≡◌, ℕ, ◌+◌, ◌<◌, ◌≤◌, Bool, true, false, not, ◌&&◌, List, ◌∷◌, Option, None, nat_lt, if◌then◌else◌, sym, ap, ◌∙◌, arith, add-one}
-use Rattle.std.proofs.lemmas.Bool.{lt-ltb, le-ltb}
+use Rattle.std.proofs.Common.{◌≡◌, ℕ, ◌+◌, ◌<◌, Bool, true, false, not, ◌&&◌, List, ◌∷◌, Option, nat_lt, if◌then◌else◌, sym, ap, ◌∙◌, arith, add-one}
+use Rattle.std.proofs.lemmas.Bool.{lt-ltb}
 use Rattle.std.specs.List.{list_all}
 use Rattle.sip_loop_link.specs.Told.{and_then, counted, left_of}
 use Rattle.sip_loop_link.specs.declared.datagram.Instead.TheVariants.{AskedAgain, HeardNothing}
@@ -12,12 +12,6 @@ use Rattle.sip_guard.specs.Unheard.{noted}
 pub heard_before : (old new : AllowanceState) (before after : LinkState) (count : ℕ) → PassesOver old new before after count → count < most_passed → after.heard ≡ before.heard
 heard_before old new before after count passes few =
     let less : nat_lt count most_passed ≡ true = lt-ltb count most_passed few in
-    passes.told ∙ ap (λ (less : Bool). left_of (if less then AskedAgain else HeardNothing) before.heard) less
-
--- behind the last of these, it heard nothing
-pub heard_nothing : (old new : AllowanceState) (before after : LinkState) (count : ℕ) → PassesOver old new before after count → most_passed ≤ count → after.heard ≡ and_then before.heard None
-heard_nothing old new before after count passes many =
-    let less : nat_lt count most_passed ≡ false = le-ltb count most_passed many in
     passes.told ∙ ap (λ (less : Bool). left_of (if less then AskedAgain else HeardNothing) before.heard) less
 
 pub one_passed : (old between new : AllowanceState) (before link after : LinkState) (count : ℕ) (datagram : Heard)

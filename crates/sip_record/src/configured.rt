@@ -5,7 +5,8 @@ ghost use Rattle.sip_record.specs.Recorder.{FrontOfConfiguration, FrontOfText, I
 
 use crate::line_room::LineRoom;
 use crate::writing::write;
-use sip_replay_script::{TellingWriter, configuration_line, end_of_line, put};
+use sip_replay_script::{TellingWriter, end_of_line, put};
+use sip_segment_text::configuration_line;
 
 /// The most bytes of a configuration that stand in one line: as many as a line has room for, and fewer than one that is read may have.
 const LONGEST_PIECE: usize = 131_072;

@@ -1,17 +1,28 @@
--- A run over some events and more has been one over the first of them.
-use Rattle.std.proofs.Common.{◌≡◌, ◌≢◌, ◌⊎◌, inl, inr, ◌∙◌, ℕ, List, [], ◌∷◌, ◌++◌, drop, length, reverse, append_assoc, Option, None, refl, sym, ap, ap₂, subst, arith}
+-- A run over some events and more has been one over the first of them, and so has a record.
+use Rattle.std.proofs.Common.{◌≡◌, ◌⊎◌, inl, inr, ◌∙◌, ℕ, List, [], ◌∷◌, ◌++◌, drop, reverse, append_assoc, append-nil, Option, Some, None, refl, sym, ap, ap₂, subst}
 use Rattle.std.proofs.lemmas.List.{reverse-append, reverse-reverse}
+use Rattle.std.specs.List.{AllByRecursion}
 use Rattle.sip_event.specs.declared.event.Event.{Event}
 use Rattle.sip_event.specs.declared.event.StepOut.{StepOut}
-use Rattle.std.specs.List.{AllByRecursion}
-use Rattle.sip_replay_script.specs.Events.{SaysEvent, SaysEvents}
+use Rattle.sip_config_types.specs.declared.config.Config.{Config}
+use Rattle.sip_replay_script.specs.Recorded.{SaysRecord}
+use Rattle.sip_segment_text.specs.Segments.{SaysWhole, Segment}
 use Rattle.model_bounds.specs.state.declared.proxy_state.ProxyState.{ProxyState}
 use Rattle.model_bounds.specs.state.declared.server.Server.{Server}
 use Rattle.model_bounds.specs.state.State.{first_state}
 use Rattle.model_bounds.specs.steps_model.Step.{Act, Given, Passing}
-use Rattle.model_bounds.specs.model.Run.{Link, IsChain, IsPaced, IsRun, IsUnder, IsUpTo, event_of, events_of, next_moment, steps_of}
+use Rattle.model_bounds.specs.model.Run.{Link, IsChain, IsPaced, IsRun, IsUnder, IsUpTo, event_of, events_of, next_moment, steps_of, under}
+use Rattle.model_bounds.specs.model.Periods.{IsRunUnder, Period, until_of}
+use Rattle.model_bounds.proofs.SendingLists.{all_before, all_behind, all_joined}
 use Rattle.model_ties.specs.Ties.{ArePrompt}
-use Rattle.sip_recorded.specs.Recorded.{IsRecorded, RecordsFront}
+use Rattle.sip_resume.specs.Resumes.{Runs}
+use Rattle.sip_resume.specs.Whole.{AreStated, KeepsFrame, config_behind}
+use Rattle.sip_loop.specs.Serving.{Doing, IsUnserved, Told, ahead, event_told, gathered, steps_taken, untold_in}
+use Rattle.sip_loop.specs.declared.served.ServeError.{ServeError}
+use Rattle.sip_recorded.specs.Recorded.{IsRecordedUnder, RecordsFront}
+use Rattle.sip_recorded.proofs.Joining.{RunsJoin, grown, grown_same, joined, periods_joined}
+use Rattle.sip_recorded.proofs.Recorded.{events_on, noted_text, period_is, prompt_turns}
+use Rattle.sip_recorded.proofs.Fronts.{GoesOn, Readings, says_on}
 
 -- ---- histories
 
@@ -64,54 +75,163 @@ begins server start last next left taken (link ∷ history) chain paced configur
       by_newest (inl is) rest = record { earlier = link ∷ history; later = []; middle = last; chain = chain; paced = is.0; configured = configured; prompt = prompt; events_are = is.1; steps_are = refl }
       by_newest (inr is) rest = with_link server start taken link history (rest is.0 is.1)
 
--- ---- runs and records
+-- ---- a run
 
 -- so a run has a front
-pub front_of : (server : Server) (first : ℕ) (text : List ℕ) (events more : List Event) (until : Option ℕ) (steps : List StepOut) (history : List Link) (last : ProxyState) → SaysEvents events text
-    → IsRun server (first_state first) (events ++ more) until steps history last → ArePrompt server history → RecordsFront server first text steps
-front_of server first text events more until steps history last says run prompt =
+pub record RunFront (server : Server) (start : ProxyState) (events : List Event) (steps : List StepOut) : Type 0 where
+  pub middle : ProxyState
+  pub further : List StepOut
+  pub runs : Runs server start middle events None
+  pub cut : steps ≡ runs.steps ++ further
+
+pub run_front : (server : Server) (start last : ProxyState) (events more : List Event) (until : Option ℕ) (steps : List StepOut) (history : List Link) → IsRun server start (events ++ more) until steps history last → ArePrompt server history
+    → RunFront server start events steps
+run_front server start last events more until steps history run prompt =
     let newest_first : events_of history ≡ reverse more ++ reverse events = sym (reverse-reverse (events_of history)) ∙ ap reverse run.of_events ∙ reverse-append events more in
-    let h : Begins server (first_state first) (reverse events) history = begins server (first_state first) last until (reverse more) (reverse events) history run.chain run.paced run.configured prompt newest_first in
+    let h : Begins server start (reverse events) history = begins server start last until (reverse more) (reverse events) history run.chain run.paced run.configured prompt newest_first in
     record {
-      front = reverse (steps_of h.earlier);
+      middle = h.middle;
       further = reverse h.later;
-      cut = sym run.of_steps ∙ ap reverse h.steps_are ∙ reverse-append h.later (steps_of h.earlier);
-      last = h.middle;
-      recorded = record {
-        events = events;
-        says = says;
+      runs = record {
+        steps = reverse (steps_of h.earlier);
         history = h.earlier;
         is_run = record { chain = h.chain; paced = h.paced; of_events = ap reverse h.events_are ∙ reverse-reverse events; of_steps = refl; configured = h.configured };
         prompt = h.prompt;
       };
+      cut = sym run.of_steps ∙ ap reverse h.steps_are ∙ reverse-append h.later (steps_of h.earlier);
     }
 
-rest_is : (front xs ys : List ℕ) → front ++ xs ≡ front ++ ys → xs ≡ ys
-rest_is [] xs ys e = e
-rest_is (b ∷ front) xs ys e = rest_is front xs ys (ap (drop 1) e)
+-- and so has one over periods
+record PeriodsFront (server : Server) (config : Config) (events : List Event) (periods : List Period) (start : ProxyState) (steps : List StepOut) : Type 0 where
+  front : List StepOut
+  further : List StepOut
+  cut : steps ≡ front ++ further
+  middle : ProxyState
+  history : List Link
+  is_run : IsRunUnder server start (record { config = config; events = events } ∷ periods) None front history middle
+  prompt : ArePrompt server history
 
-front_is : (front xs : List ℕ) → front ++ xs ≡ [] → front ≡ []
-front_is [] xs e = refl
-front_is (b ∷ front) xs e = absurd (omega (arith, ap length e))
+periods_front : (server : Server) (config : Config) (events : List Event) (periods : List Period) (more : List Event) (behind : List Period) (start last : ProxyState) (steps : List StepOut) (history : List Link)
+    → IsRunUnder server start (record { config = config; events = grown events periods more } ∷ periods_joined periods more behind) None steps history last → ArePrompt server history → PeriodsFront server config events periods start steps
+periods_front server config events [] more behind start last steps history h prompt =
+    let own : ArePrompt server h.earlier = all_behind _ h.later h.earlier (subst (λ (links : List Link). ArePrompt server links) h.of_history prompt) in
+    let so : RunFront (under server config) start events h.own = run_front (under server config) start h.middle events more (until_of behind None) h.own h.earlier h.is_run own in
+    record {
+      front = so.runs.steps;
+      further = so.further ++ h.further;
+      cut = h.of_steps ∙ ap (λ (outs : List StepOut). outs ++ h.further) so.cut ∙ append_assoc so.runs.steps so.further h.further;
+      middle = so.middle;
+      history = so.runs.history;
+      is_run = record {
+        own = so.runs.steps;
+        further = [];
+        earlier = so.runs.history;
+        later = [];
+        middle = so.middle;
+        is_run = so.runs.is_run;
+        behind = record { no_steps = refl; no_history = refl; stays = refl };
+        of_steps = sym (append-nil so.runs.steps);
+        of_history = refl;
+      };
+      prompt = so.runs.prompt;
+    }
+periods_front server config events (period ∷ periods) more behind start last steps history h prompt =
+    let all : ArePrompt server (h.later ++ h.earlier) = subst (λ (links : List Link). ArePrompt server links) h.of_history prompt in
+    let so : PeriodsFront server period.config period.events periods h.middle h.further =
+    periods_front server period.config period.events periods more behind h.middle last h.further h.later h.behind (all_before _ h.later h.earlier all) in
+    record {
+      front = h.own ++ so.front;
+      further = so.further;
+      cut = h.of_steps ∙ ap (λ (outs : List StepOut). h.own ++ outs) so.cut ∙ sym (append_assoc h.own so.front so.further);
+      middle = so.middle;
+      history = so.history ++ h.earlier;
+      is_run = record {
+        own = h.own;
+        further = so.front;
+        earlier = h.earlier;
+        later = so.history;
+        middle = h.middle;
+        is_run = h.is_run;
+        behind = so.is_run;
+        of_steps = refl;
+        of_history = refl;
+      };
+      prompt = all_joined _ so.history h.earlier so.prompt (all_behind _ h.later h.earlier all);
+    }
 
-module _ (one : (text other more further : List ℕ) (event second : Event) → SaysEvent text event → SaysEvent other second → text ++ more ≡ other ++ further → (text ≡ other) × (event ≡ second))
-    (something : (text : List ℕ) (event : Event) → SaysEvent text event → text ≢ []) where
-  -- what a text says begins with what a front of it says
-  says_first : (events all : List Event) (text more : List ℕ) → SaysEvents events text → SaysEvents all (text ++ more) → (further : List Event) × (all ≡ events ++ further)
-  says_first [] all text more a b = (all, refl)
-  says_first (e ∷ events) [] text more a b =
-      absurd (something a.first e a.says (front_is a.first (a.rest ++ more) (sym (append_assoc a.first a.rest more) ∙ ap (λ (l : List ℕ). l ++ more) (sym a.cut) ∙ b)))
-  says_first (e ∷ events) (f ∷ all) text more a b =
-      let whole : a.first ++ (a.rest ++ more) ≡ b.first ++ b.rest = sym (append_assoc a.first a.rest more) ∙ ap (λ (l : List ℕ). l ++ more) (sym a.cut) ∙ b.cut in
-      let same = one a.first b.first (a.rest ++ more) b.rest e f a.says b.says whole in
-      let left : b.rest ≡ a.rest ++ more = rest_is b.first b.rest (a.rest ++ more) (sym whole ∙ ap (λ (l : List ℕ). l ++ (a.rest ++ more)) same.0) in
-      let rest = says_first events all a.rest more a.others (subst (SaysEvents all) left b.others) in
-      (rest.0, ap₂ (λ (x : Event) (xs : List Event). x ∷ xs) (sym same.1) rest.1)
+-- ---- a record
 
-  -- a record that was cut behind an event
-  pub front_recorded : (server : Server) (first : ℕ) (text more : List ℕ) (steps : List StepOut) (last : ProxyState) (events : List Event) → IsRecorded server first (text ++ more) steps last → SaysEvents events text
-      → RecordsFront server first text steps
-  front_recorded server first text more steps last events h says =
-      let further = says_first events h.events text more says h.says in
-      front_of server first text events further.0 None steps h.history last says
-      (subst (λ (es : List Event). IsRun server (first_state first) es None steps h.history last) further.1 h.is_run) h.prompt
+-- of joined segments the first ones state the first periods
+record StatedFront (server : Server) (segments : List Segment) (more : List Event) (periods : List Period) : Type 0 where
+  front : List Period
+  behind : List Period
+  periods_are : periods ≡ periods_joined front more behind
+  stated : AreStated segments front
+  frames : AllByRecursion (KeepsFrame server) front
+
+stated_front : (server : Server) (segments : List Segment) (more : List Event) (others : List Segment) (periods : List Period) → AreStated (joined segments more others) periods → AllByRecursion (KeepsFrame server) periods → StatedFront server segments more periods
+stated_front server [] more others periods h frames = record { front = []; behind = periods; periods_are = refl; stated = tt; frames = tt }
+stated_front server (segment ∷ segments) more others [] h frames = absurd h
+stated_front server (segment ∷ segments) more others (period ∷ periods) h frames =
+    let so : StatedFront server segments more periods = stated_front server segments more others periods h.1 frames.1 in
+    record {
+      front = record { config = period.config; events = segment.events } ∷ so.front;
+      behind = so.behind;
+      periods_are = ap₂ (λ (p : Period) (ps : List Period). p ∷ ps)
+          (period_is period (record { config = period.config; events = grown segment.events so.front more }) refl (h.0.same ∙ sym (grown_same segments so.front segment.events segment.events more so.stated refl))) so.periods_are;
+      stated = (record { states = h.0.states; same = refl }, so.stated);
+      frames = (frames.0, so.frames);
+    }
+
+-- a record of which the first part says events and segments
+pub front_recorded : Readings → (server now : Server) (first : ℕ) (text further : List ℕ) (steps : List StepOut) (last : ProxyState) (events : List Event) (segments : List Segment) → IsRecordedUnder server now first (text ++ further) steps last → SaysWhole events segments text
+    → RecordsFront server first text steps
+front_recorded r server now first text further steps last events segments h says =
+    let on : GoesOn events segments h.events h.segments further = says_on r events h.events segments h.segments text further says h.says in
+    let so : StatedFront server segments on.more h.periods = stated_front server segments on.more on.others h.periods (subst (λ (ss : List Segment). AreStated ss h.periods) on.segments_are h.stated) h.frames in
+    let own : h.events ≡ grown events so.front on.more = on.events_are ∙ sym (grown_same segments so.front events events on.more so.stated refl) in
+    let run : IsRunUnder server (first_state first) (record { config = server.config; events = grown events so.front on.more } ∷ periods_joined so.front on.more so.behind) None steps h.history last =
+    subst (λ (es : List Event). IsRunUnder server (first_state first) (record { config = server.config; events = es } ∷ periods_joined so.front on.more so.behind) None steps h.history last) own
+    (subst (λ (ps : List Period). IsRunUnder server (first_state first) (record { config = server.config; events = h.events } ∷ ps) None steps h.history last) so.periods_are h.is_run) in
+    let front : PeriodsFront server server.config events so.front (first_state first) steps = periods_front server server.config events so.front on.more so.behind (first_state first) last steps h.history run h.prompt in
+    record {
+      front = front.front;
+      further = front.further;
+      cut = front.cut;
+      server_then = record { config = config_behind server.config so.front; word = server.word };
+      last = front.middle;
+      recorded = record {
+        events = events;
+        segments = segments;
+        periods = so.front;
+        says = says;
+        stated = so.stated;
+        frames = so.frames;
+        history = front.history;
+        is_run = front.is_run;
+        prompt = front.prompt;
+        in_force = refl;
+      };
+    }
+
+-- of serving that was refused, up to the last event that the journal was told
+pub unserved_on : RunsJoin → (server now : Server) (first : ℕ) (text : List ℕ) (steps : List StepOut) (turns : ℕ) (old new : ProxyState) (before after : Told) (e : ServeError) (front more : List ℕ) → IsRecordedUnder server now first text steps old
+    → (unserved : IsUnserved turns now old new before after e) → before.journal.bytes ≡ Some (Some front) → after.journal.bytes ≡ Some (Some (front ++ more))
+    → RecordsFront server first (text ++ more) (steps ++ gathered steps_taken unserved.done)
+unserved_on join server now first text steps turns old new before after e front more h unserved was is =
+    let done : List Doing = unserved.done in
+    let told : List Event = gathered event_told done in
+    let says : SaysRecord told more = noted_text before.journal.bytes after.journal.bytes front more told was is unserved.serves.told.noted in
+    let run : IsRun now old (told ++ untold_in unserved.point.stage) (ahead done) (gathered steps_taken done) unserved.serves.history new =
+    subst (λ (es : List Event). IsRun now old es (ahead done) (gathered steps_taken done) unserved.serves.history new) unserved.told_but_last unserved.serves.is_run in
+    let so : RunFront now old told (gathered steps_taken done) =
+    run_front now old new told (untold_in unserved.point.stage) (ahead done) (gathered steps_taken done) unserved.serves.history run
+    (prompt_turns now unserved.serves.history unserved.serves.is_run.configured unserved.serves.turns) in
+    record {
+      front = steps ++ so.runs.steps;
+      further = so.further;
+      cut = ap (λ (outs : List StepOut). steps ++ outs) so.cut ∙ sym (append_assoc steps so.runs.steps so.further);
+      server_then = now;
+      last = so.middle;
+      recorded = events_on join server now first text more steps old so.middle told h says so.runs;
+    }

@@ -1,2 +1,6 @@
 pub mod Cut
+pub mod Fronts
+pub mod Joining
+pub mod OfEvents
 pub mod Recorded
+pub mod Replayed

@@ -1,34 +1,34 @@
 -- Records, one behind the other, and two of one text.
-use Rattle.std.proofs.Common.{◌≡◌, ◌∙◌, ◌⊎◌, inl, inr, ℕ, List, [], ◌∷◌, ◌++◌, append_assoc, append-nil, drop, Option, Some, None, IfSome, refl, sym, ap, subst}
+use Rattle.std.proofs.Common.{◌≡◌, ◌∙◌, ◌⊎◌, inl, inr, ℕ, List, [], ◌∷◌, ◌++◌, append_assoc, append-nil, drop, Option, Some, None, refl, sym, ap, ap₂, subst}
 use Rattle.std.specs.Io.KnownBytes.{Appends}
-use Rattle.sip_config_types.specs.declared.config.Config.{Config}
 use Rattle.std.specs.List.{AllByRecursion}
+use Rattle.sip_config_types.specs.declared.config.Config.{Config}
+use Rattle.sip_config_change.specs.Frame.{frame_key_of}
 use Rattle.sip_event.specs.declared.event.Event.{Event}
 use Rattle.sip_event.specs.declared.event.Event.TheVariants.{Datagram, Time, Fault}
 use Rattle.sip_event.specs.declared.event.StepOut.{StepOut}
 use Rattle.sip_replay_script.specs.Events.{SaysEvents}
 use Rattle.sip_replay_script.specs.Recorded.{SaysRecord}
+use Rattle.sip_segment_text.specs.Segments.{SaysConfiguration, SaysWhole, Segment}
+use Rattle.sip_segments.specs.Stated.{States}
 use Rattle.sip_replay_print.specs.Print.{printed}
-use Rattle.sip_replay_script.proofs.RecordTexts.{record_says}
-use Rattle.sip_replay_script.proofs.Saying.{says_all}
+use Rattle.sip_record.specs.Record.{GrewBy, Notes, NotesConfiguration, NotesSegments, NotesText}
 use Rattle.model_bounds.specs.state.declared.proxy_state.ProxyState.{ProxyState}
 use Rattle.model_bounds.specs.state.declared.server.Server.{Server}
 use Rattle.model_bounds.specs.state.State.{first_state}
 use Rattle.model_bounds.specs.state.SameState.{SameState}
 use Rattle.model_bounds.specs.steps_model.Step.{Act, Given, Passing}
-use Rattle.model_bounds.specs.model.Run.{Link, IsChain, IsRun, first_moment, IsUnder, under}
+use Rattle.model_bounds.specs.model.Run.{Link, IsChain, IsUnder, under}
+use Rattle.model_bounds.specs.model.Periods.{IsRunUnder, Period}
 use Rattle.model_ties.specs.Ties.{AreOne, ArePrompt, IsPrompt, PartAtTie}
-use Rattle.sip_run.specs.Runs.{AreTurns, IsAtEnd, IsRunOver, IsTurn, IsUnopened}
-use Rattle.sip_run.proofs.RunOn.{run_on}
-use Rattle.sip_replay.specs.Refusals.{BeginsWith, StopsAtLine, moment_ahead}
-use Rattle.sip_replay.specs.Replays.{IsReplay, server_with}
-use Rattle.sip_resume.specs.Resumes.{IsResumed}
+use Rattle.sip_resume.specs.Outputs.{Outputs}
+use Rattle.sip_resume.specs.Resumes.{Runs}
+use Rattle.sip_resume.specs.Whole.{AreStated, IsRecordResumed, TakesWhole, config_behind}
+use Rattle.sip_resume.proofs.UnderRuns.{runs_one}
 use Rattle.sip_loop.specs.Replays.{ReplaysTo}
-use Rattle.sip_loop.specs.Serving.{AreInTurn, Doing, IsTurnOf, IsUnserved, Told, ahead, event_taken, event_told, gathered, steps_taken, untold_in}
-use Rattle.sip_loop.specs.declared.served.ServeError.{ServeError}
-use Rattle.sip_record.specs.Record.{Notes, NotesText}
-use Rattle.sip_recorded.specs.Recorded.{IsRecorded, PrintsFront, RecordsFront}
-use Rattle.sip_recorded.proofs.Cut.{front_of}
+use Rattle.sip_loop.specs.Serving.{AreInTurn, IsTurnOf}
+use Rattle.sip_recorded.specs.Recorded.{IsRecordedUnder}
+use Rattle.sip_recorded.proofs.Joining.{RunsJoin, recorded_on}
 
 -- ---- turns
 
@@ -40,168 +40,234 @@ prompt_turn server before after (Given (Fault at ticket)) out turn = (turn.1.non
 prompt_turn server before after (Passing at) out turn = turn
 
 -- under its own configuration
-under_own : (server : Server) (link : Link) → IsUnder server.config link → IsPrompt server link.before link.act link.out link.after → IsPrompt (under server link.config) link.before link.act link.out link.after
+pub under_own : (server : Server) (link : Link) → IsUnder server.config link → IsPrompt server link.before link.act link.out link.after → IsPrompt (under server link.config) link.before link.act link.out link.after
 under_own server link is prompt = subst (λ (c : Config). IsPrompt (under server c) link.before link.act link.out link.after) (sym is) prompt
 
-prompt_turns : (server : Server) (history : List Link) → AllByRecursion (IsUnder server.config) history → AreInTurn server history → ArePrompt server history
+pub prompt_turns : (server : Server) (history : List Link) → AllByRecursion (IsUnder server.config) history → AreInTurn server history → ArePrompt server history
 prompt_turns server [] configured turns = tt
 prompt_turns server (link ∷ history) configured turns =
     (under_own server link configured.0 (prompt_turn server link.before link.after link.act link.out turns.0), prompt_turns server history configured.1 turns.1)
 
--- one history behind another
-prompt_both : (server : Server) (history later : List Link) → ArePrompt server later → ArePrompt server history → ArePrompt server (later ++ history)
-prompt_both server history [] h k = k
-prompt_both server history (link ∷ later) h k = (h.0, prompt_both server history later h.1 k)
+-- ---- what is taken under the configuration that is in force
+
+-- a text of events alone
+pub says_alone : (events : List Event) (text : List ℕ) → SaysRecord events text → SaysWhole events [] text
+says_alone events text says = record { taken = text; rest = []; cut = sym (append-nil text); says = says; others = refl }
+
+-- and a run over them
+abbrev pub takes_alone : (server : Server) (old new : ProxyState) (events : List Event) → Runs server old new events None → TakesWhole server server old new events []
+takes_alone server old new events runs = record { periods = []; stated = tt; frames = tt; runs = runs_one server server.config old new events runs; in_force = refl }
 
 -- ---- one record behind another
 
-abbrev pub RunsJoin : Type 0
-RunsJoin =
-    (server : Server) (first middle last : ProxyState) (events more : List Event) (until : Option ℕ) (steps further : List StepOut) (history later : List Link)
-    → IsRun server first events (first_moment more until) steps history middle → IsRun server middle more until further later last
-    → IsRun server first (events ++ more) until (steps ++ further) (later ++ history) last
-
-pub nothing_recorded : (server : Server) (first : ℕ) → IsRecorded server first [] [] (first_state first)
-nothing_recorded server first = record { events = []; says = refl; history = []; is_run = record { chain = refl; paced = tt; of_events = refl; of_steps = refl; configured = tt }; prompt = tt }
-
--- a run goes on, over events that a further text says
-recorded_on : RunsJoin → (server : Server) (first : ℕ) (text more : List ℕ) (steps further : List StepOut) (old new : ProxyState) (events : List Event) (history : List Link) → IsRecorded server first text steps old
-    → SaysEvents events more → IsRun server old events None further history new → ArePrompt server history → IsRecorded server first (text ++ more) (steps ++ further) new
-recorded_on join server first text more steps further old new events history h says run prompt = record {
-  events = h.events ++ events;
-  says = says_all h.events events text more h.says says;
-  history = history ++ h.history;
-  is_run = join server (first_state first) old new h.events events None steps further h.history history (run_on server (first_state first) old h.events (first_moment events None) steps h.history h.is_run) run;
-  prompt = prompt_both server h.history history prompt h.prompt;
+pub nothing_recorded : (server : Server) (first : ℕ) → IsRecordedUnder server server first [] [] (first_state first)
+nothing_recorded server first = record {
+  events = [];
+  segments = [];
+  periods = [];
+  says = says_alone [] [] refl;
+  stated = tt;
+  frames = tt;
+  history = [];
+  is_run = record {
+    own = [];
+    further = [];
+    earlier = [];
+    later = [];
+    middle = first_state first;
+    is_run = record { chain = refl; paced = tt; of_events = refl; of_steps = refl; configured = tt };
+    behind = record { no_steps = refl; no_history = refl; stays = refl };
+    of_steps = refl;
+    of_history = refl;
+  };
+  prompt = tt;
+  in_force = refl;
 }
+
+-- events more, under the configuration that is in force
+pub events_on : RunsJoin → (server now : Server) (first : ℕ) (text more : List ℕ) (steps : List StepOut) (old new : ProxyState) (events : List Event) → IsRecordedUnder server now first text steps old → SaysRecord events more
+    → (runs : Runs now old new events None) → IsRecordedUnder server now first (text ++ more) (steps ++ runs.steps) new
+events_on join server now first text more steps old new events h says runs =
+    recorded_on join server now now first text more steps old new events [] h (says_alone events more says) (takes_alone now old new events runs)
 
 rest_is : (front xs ys : List ℕ) → front ++ xs ≡ front ++ ys → xs ≡ ys
 rest_is [] xs ys e = e
 rest_is (b ∷ front) xs ys e = rest_is front xs ys (ap (drop 1) e)
 
+-- what a journal was told of events
+pub noted_text : (before after : Option (Option (List ℕ))) (front more : List ℕ) (events : List Event) → before ≡ Some (Some front) → after ≡ Some (Some (front ++ more)) → Notes before after events → SaysRecord events more
+noted_text before after front more events was is noted =
+    let so : NotesText front (front ++ more) events =
+    subst (λ (w : Option (Option (List ℕ))). Notes (Some (Some front)) w events) is (subst (λ (w : Option (Option (List ℕ))). Notes w after events) was noted) in
+    subst (λ (l : List ℕ). SaysRecord events l) (sym (rest_is front more so.text so.grown)) so.says
+
+abbrev pub OneScript : Type 0
+OneScript = (events others : List Event) (text : List ℕ) → SaysEvents events text → SaysEvents others text → events ≡ others
+
+abbrev pub RecordsSay : Type 0
+RecordsSay = (events : List Event) (text : List ℕ) → SaysRecord events text → SaysEvents events text
+
 -- by serving
-pub served_on : RunsJoin → (server : Server) (first : ℕ) (text : List ℕ) (steps further : List StepOut) (old new : ProxyState) (front more : List ℕ) → IsRecorded server first text steps old
-    → ReplaysTo server old new front (front ++ more) None further → IsRecorded server first (text ++ more) (steps ++ further) new
-served_on join server first text steps further old new front more h replays =
-    let grown : more ≡ replays.text = rest_is front more replays.text replays.grown in
-    subst (λ (l : List ℕ). IsRecorded server first (text ++ l) (steps ++ further) new) (sym grown)
-    (recorded_on join server first text replays.text steps further old new replays.events replays.history h replays.says replays.is_run (prompt_turns server replays.history replays.is_run.configured replays.turns))
+pub served_on : RunsJoin → OneScript → RecordsSay → (server now : Server) (first : ℕ) (text : List ℕ) (steps further : List StepOut) (old new : ProxyState) (front more : List ℕ) (told : List Event) → IsRecordedUnder server now first text steps old
+    → SaysRecord told more → ReplaysTo now old new front (front ++ more) None further → IsRecordedUnder server now first (text ++ more) (steps ++ further) new
+served_on join one record_says server now first text steps further old new front more told h says replays =
+    let is_so : SaysEvents replays.events more = subst (λ (l : List ℕ). SaysEvents replays.events l) (sym (rest_is front more replays.text replays.grown)) replays.says in
+    let same : told ≡ replays.events = one told replays.events more (record_says told more says) is_so in
+    events_on join server now first text more steps old new replays.events h (subst (λ (es : List Event). SaysRecord es more) same says)
+    (record { steps = further; history = replays.history; is_run = replays.is_run; prompt = prompt_turns now replays.history replays.is_run.configured replays.turns })
+
+-- by a configuration that came into force
+says_configuration : (bytes text : List ℕ) → SaysConfiguration text bytes → SaysWhole [] (record { configuration = bytes; events = [] } ∷ []) text
+says_configuration bytes text says = record {
+  taken = [];
+  rest = text;
+  cut = refl;
+  says = refl;
+  others = record { first = text; taken = []; rest = []; cut = sym (append-nil text); configured = says; says = refl; others = refl };
+}
+
+abbrev takes_configuration : (now : Server) (state : ProxyState) (bytes : List ℕ) (config : Config) → States bytes config → record { config = config; word = now.word } ≡ under now config
+    → TakesWhole now (record { config = config; word = now.word }) state state [] (record { configuration = bytes; events = [] } ∷ [])
+takes_configuration now state bytes config states keeps = record {
+  periods = record { config = config; events = [] } ∷ [];
+  stated = (record { states = states; same = refl }, tt);
+  frames = (keeps, tt);
+  runs = record {
+    steps = [];
+    history = [];
+    is_run = record {
+      own = [];
+      further = [];
+      earlier = [];
+      later = [];
+      middle = state;
+      is_run = record { chain = refl; paced = tt; of_events = refl; of_steps = refl; configured = tt };
+      behind = record {
+        own = [];
+        further = [];
+        earlier = [];
+        later = [];
+        middle = state;
+        is_run = record { chain = refl; paced = tt; of_events = refl; of_steps = refl; configured = tt };
+        behind = record { no_steps = refl; no_history = refl; stays = refl };
+        of_steps = refl;
+        of_history = refl;
+      };
+      of_steps = refl;
+      of_history = refl;
+    };
+    prompt = tt;
+  };
+  in_force = refl;
+}
+
+abbrev pub PolicyIsNew : Type 0
+PolicyIsNew = (old new : Config) → frame_key_of old new ≡ None → record new { own = old.own; realm = old.realm } ≡ new
+
+pub changed_on : RunsJoin → PolicyIsNew → (server now : Server) (first : ℕ) (text : List ℕ) (steps : List StepOut) (last : ProxyState) (bytes : List ℕ) (config : Config) (front more : List ℕ) → IsRecordedUnder server now first text steps last
+    → States bytes config → frame_key_of now.config config ≡ None → NotesConfiguration (Some (Some front)) (Some (Some (front ++ more))) bytes
+    → IsRecordedUnder server (record { config = config; word = now.word }) first (text ++ more) steps last
+changed_on join policy server now first text steps last bytes config front more h states same_frame noted =
+    let so : GrewBy (λ (l : List ℕ). SaysConfiguration l bytes) front (front ++ more) = noted in
+    let then_server : Server = record { config = config; word = now.word } in
+    let keeps : then_server ≡ under now config = ap (λ (c : Config). let s : Server = record { config = c; word = now.word } in s) (sym (policy now.config config same_frame)) in
+    subst (λ (outs : List StepOut). IsRecordedUnder server then_server first (text ++ more) outs last) (append-nil steps)
+    (recorded_on join server now then_server first text more steps last last [] (record { configuration = bytes; events = [] } ∷ []) h
+    (says_configuration bytes more (subst (λ (l : List ℕ). SaysConfiguration l bytes) (sym (rest_is front more so.text so.grown)) so.says)) (takes_configuration now last bytes config states keeps))
 
 -- by going on from a record
-pub resumed_on : RunsJoin → ((events : List Event) (text : List ℕ) → SaysRecord events text → SaysEvents events text)
-    → (server : Server) (first : ℕ) (text : List ℕ) (steps : List StepOut) (old new : ProxyState) (bytes : Option (List ℕ)) (written written_then : Option (Option (List ℕ))) (lines : ℕ) (last : Option StepOut)
-    → IsRecorded server first text steps old → (resumed : IsResumed server old new bytes written written_then lines last) → IsRecorded server first (text ++ resumed.text) (steps ++ resumed.runs.steps) new
-resumed_on join says server first text steps old new bytes written written_then lines last h resumed =
-    recorded_on join server first text resumed.text steps resumed.runs.steps old new resumed.events resumed.runs.history h (says resumed.events resumed.text resumed.says) resumed.runs.is_run resumed.runs.prompt
+pub resumed_on : RunsJoin → (server now server_then : Server) (first : ℕ) (text : List ℕ) (steps : List StepOut) (old new : ProxyState) (bytes : Option (List ℕ)) (lines lines_then : ℕ) (outs outs_then : Outputs) (last : Option StepOut)
+    → IsRecordedUnder server now first text steps old → (resumed : IsRecordResumed now server_then old new bytes lines outs outs_then lines_then last)
+    → IsRecordedUnder server server_then first (text ++ resumed.text) (steps ++ resumed.takes.runs.steps) new
+resumed_on join server now server_then first text steps old new bytes lines lines_then outs outs_then last h resumed =
+    recorded_on join server now server_then first text resumed.text steps old new resumed.events resumed.segments h resumed.says resumed.takes
 
--- by a run over a list: each event came in its turn
-prompt_listed : (server : Server) (before after : ProxyState) (act : Act) (out : StepOut) → IsTurn server before act out after → IsPrompt server before act out after
-prompt_listed server before after (Given (Datagram at word from bytes)) out turn = tt
-prompt_listed server before after (Given (Time at)) out turn = tt
-prompt_listed server before after (Given (Fault at ticket)) out turn = (turn.none_due.none, turn.none_due.none_again)
-prompt_listed server before after (Passing at) out turn = turn
-
-prompt_list : (server : Server) (history : List Link) → AllByRecursion (IsUnder server.config) history → AreTurns server history → ArePrompt server history
-prompt_list server [] configured turns = tt
-prompt_list server (link ∷ history) configured turns =
-    (under_own server link configured.0 (prompt_listed server link.before link.after link.act link.out turns.0), prompt_list server history configured.1 turns.1)
-
--- which took all of them
-all_taken : (last : ProxyState) (left : List Event) (history : List Link) → IsAtEnd last left None ⊎ IsUnopened history None → left ≡ []
-all_taken last [] history ended = refl
-all_taken last (event ∷ left) history (inl end) = absurd end
-all_taken last (event ∷ left) history (inr unopened) = absurd (let none = unopened.no_memory in cc)
-
-pub run_over : (server : Server) (first : ℕ) (text : List ℕ) (events : List Event) (steps : List StepOut) → (over : IsRunOver server first events steps None) → SaysEvents events text → IsRecorded server first text steps over.last
-run_over server first text events steps over says =
-    let none : over.left ≡ [] = all_taken over.last over.left over.history over.ended in
-    let all : events ≡ over.taken = over.cut ∙ ap (λ (es : List Event). over.taken ++ es) none ∙ append-nil over.taken in
-    record {
-      events = over.taken;
-      says = subst (λ (es : List Event). SaysEvents es text) all says;
-      history = over.history;
-      is_run = subst (λ (es : List Event). IsRun server (first_state first) over.taken (first_moment es None) steps over.history over.last) none over.is_run;
-      prompt = prompt_list server over.history over.is_run.configured over.turns;
-    }
-
--- by replaying
-pub replayed : (config : Config) (word first : ℕ) (text : List ℕ) (old new : Option (List ℕ)) → (replay : IsReplay config word first (Some text) old new) → IsRecorded (server_with config word) first text replay.steps replay.last
-replayed config word first text old new replay = record {
-  events = replay.events;
-  says = subst (λ (l : List ℕ). SaysEvents replay.events l) (sym replay.whole) replay.says;
-  history = replay.history;
-  is_run = replay.is_run;
-  prompt = replay.prompt;
+-- by what the journal was told of it
+noted_whole : (front more : List ℕ) (between : Option (Option (List ℕ))) (events : List Event) (segments : List Segment) → Notes (Some (Some front)) between events → NotesSegments between (Some (Some (front ++ more))) segments → SaysWhole events segments more
+noted_whole front more None events segments h k = absurd k
+noted_whole front more (Some None) events segments h k = absurd h
+noted_whole front more (Some (Some half)) events segments h k = record {
+  taken = h.text;
+  rest = k.text;
+  cut = rest_is front more (h.text ++ k.text) (k.grown ∙ ap (λ (l : List ℕ). l ++ k.text) h.grown ∙ append_assoc front h.text k.text);
+  says = h.says;
+  others = k.says;
 }
+
+pub told_on : RunsJoin → (server now server_then : Server) (first : ℕ) (text : List ℕ) (steps : List StepOut) (old new : ProxyState) (bytes : Option (List ℕ)) (lines lines_then : ℕ) (outs outs_then : Outputs) (last : Option StepOut) (front more : List ℕ)
+    → IsRecordedUnder server now first text steps old → (resumed : IsRecordResumed now server_then old new bytes lines outs outs_then lines_then last) → outs.written ≡ Some (Some front) → outs_then.written ≡ Some (Some (front ++ more))
+    → IsRecordedUnder server server_then first (text ++ more) (steps ++ resumed.takes.runs.steps) new
+told_on join server now server_then first text steps old new bytes lines lines_then outs outs_then last front more h resumed was is =
+    let says : SaysWhole resumed.events resumed.segments more = noted_whole front more resumed.noted.between resumed.events resumed.segments
+    (subst (λ (w : Option (Option (List ℕ))). Notes w resumed.noted.between resumed.events) was resumed.noted.told)
+    (subst (λ (w : Option (Option (List ℕ))). NotesSegments resumed.noted.between w resumed.segments) is resumed.noted.told_then) in
+    recorded_on join server now server_then first text more steps old new resumed.events resumed.segments h says resumed.takes
 
 -- ---- two of one text
 
 abbrev pub PartAtTiesAlone : Type 0
 PartAtTiesAlone =
-    (server : Server) (first : ℕ) (past : List Link) (start other_start last end : ProxyState) (events : List Event) (steps others : List StepOut) (history its : List Link)
-    → IsChain server (first_state first) past start → SameState start other_start → IsRun server start events None steps history last → IsRun server other_start events None others its end
+    (server : Server) (first : ℕ) (past : List Link) (start other_start last end : ProxyState) (periods : List Period) (steps others : List StepOut) (history its : List Link)
+    → IsChain server (first_state first) past start → SameState start other_start → IsRunUnder server start periods None steps history last → IsRunUnder server other_start periods None others its end
     → ArePrompt server history → ArePrompt server its → AreOne steps others last end ⊎ PartAtTie server start steps others
 
-pub one_record : PartAtTiesAlone → ((events others : List Event) (text : List ℕ) → SaysEvents events text → SaysEvents others text → events ≡ others)
-    → (server : Server) (first : ℕ) (text : List ℕ) (steps others : List StepOut) (last end : ProxyState) → IsRecorded server first text steps last → IsRecorded server first text others end
-    → AreOne steps others last end ⊎ PartAtTie server (first_state first) steps others
-one_record part one server first text steps others last end h k =
-    let same : k.events ≡ h.events = one k.events h.events text k.says h.says in
-    part server first [] (first_state first) (first_state first) last end h.events steps others h.history k.history refl
-    (record { moment = refl; next = refl; bindings = λ aor moment le. refl; nonces = refl; requests = refl; dialogs = λ p. refl })
-    h.is_run (subst (λ (es : List Event). IsRun server (first_state first) es None others k.history end) same k.is_run) h.prompt k.prompt
+abbrev pub OneWhole : Type 0
+OneWhole = (events taken : List Event) (segments others : List Segment) (text : List ℕ) → SaysWhole events segments text → SaysWhole taken others text → (events ≡ taken) × (segments ≡ others)
 
--- what a replay prints
+-- bytes state one configuration
+one_config : (bytes : List ℕ) (config other : Config) → States bytes config → States bytes other → config ≡ other
+one_config bytes config other h k = let a = h.stated in let b = k.stated in cc
+
+pub period_is : (period other : Period) → period.config ≡ other.config → period.events ≡ other.events → period ≡ other
+period_is period other c e = ap₂ (λ (config : Config) (events : List Event). let p : Period = record { config = config; events = events } in p) c e
+
+one_stated : (segments : List Segment) (periods others : List Period) → AreStated segments periods → AreStated segments others → periods ≡ others
+one_stated [] [] [] h k = refl
+one_stated [] [] (other ∷ others) h k = absurd k
+one_stated [] (period ∷ periods) others h k = absurd h
+one_stated (segment ∷ segments) [] others h k = absurd h
+one_stated (segment ∷ segments) (period ∷ periods) [] h k = absurd k
+one_stated (segment ∷ segments) (period ∷ periods) (other ∷ others) h k =
+    ap₂ (λ (p : Period) (ps : List Period). p ∷ ps)
+    (period_is period other (one_config segment.configuration period.config other.config h.0.states k.0.states) (h.0.same ∙ sym k.0.same))
+    (one_stated segments periods others h.1 k.1)
+
+-- the events and periods of two records of one text
+record SameText (events others : List Event) (periods other_periods : List Period) : Type 0 where
+  events_are : others ≡ events
+  periods_are : other_periods ≡ periods
+
+same_text : OneWhole → (server now then_server : Server) (first : ℕ) (text : List ℕ) (steps others : List StepOut) (last end : ProxyState) → (h : IsRecordedUnder server now first text steps last) → (k : IsRecordedUnder server then_server first text others end)
+    → SameText h.events k.events h.periods k.periods
+same_text one server now then_server first text steps others last end h k =
+    let same = one k.events h.events k.segments h.segments text k.says h.says in
+    record {
+      events_are = same.0;
+      periods_are = one_stated h.segments k.periods h.periods (subst (λ (segments : List Segment). AreStated segments k.periods) same.1 k.stated) h.stated;
+    }
+
+pub first_same : (first : ℕ) → SameState (first_state first) (first_state first)
+first_same first = record { moment = refl; next = refl; bindings = λ aor moment le. refl; nonces = refl; requests = refl; dialogs = λ p. refl }
+
+pub one_record : PartAtTiesAlone → OneWhole → (server now then_server : Server) (first : ℕ) (text : List ℕ) (steps others : List StepOut) (last end : ProxyState) → IsRecordedUnder server now first text steps last → IsRecordedUnder server then_server first text others end
+    → AreOne steps others last end ⊎ PartAtTie server (first_state first) steps others
+one_record part one server now then_server first text steps others last end h k =
+    let same = same_text one server now then_server first text steps others last end h k in
+    part server first [] (first_state first) (first_state first) last end (record { config = server.config; events = h.events } ∷ h.periods) steps others h.history k.history refl (first_same first) h.is_run
+    (subst (λ (es : List Event). IsRunUnder server (first_state first) (record { config = server.config; events = es } ∷ h.periods) None others k.history end) same.events_are
+    (subst (λ (ps : List Period). IsRunUnder server (first_state first) (record { config = server.config; events = k.events } ∷ ps) None others k.history end) same.periods_are k.is_run))
+    h.prompt k.prompt
+
+-- and one configuration is in force behind it
+pub one_in_force : OneWhole → (server now then_server : Server) (first : ℕ) (text : List ℕ) (steps others : List StepOut) (last end : ProxyState) → IsRecordedUnder server now first text steps last → IsRecordedUnder server then_server first text others end
+    → now ≡ then_server
+one_in_force one server now then_server first text steps others last end h k =
+    let same = same_text one server now then_server first text steps others last end h k in
+    h.in_force ∙ ap (λ (ps : List Period). let s : Server = record { config = config_behind server.config ps; word = server.word } in s) (sym same.periods_are) ∙ sym k.in_force
+
+-- ---- what is printed
+
 pub prints_served : (server : Server) (first : ℕ) (steps others : List StepOut) (last end : ProxyState) (old new : Option (List ℕ)) → Appends old new (printed others)
     → AreOne steps others last end ⊎ PartAtTie server (first_state first) steps others → Appends old new (printed steps) ⊎ PartAtTie server (first_state first) steps others
 prints_served server first steps others last end old new written (inl one) = inl (subst (λ (outs : List StepOut). Appends old new (printed outs)) (sym one.steps_are) written)
 prints_served server first steps others last end old new written (inr part) = inr part
-
--- ---- refused
-
--- by serving that was refused: what the journal was told is recorded
-pub unserved_on : RunsJoin → (server : Server) (first : ℕ) (text : List ℕ) (steps : List StepOut) (turns : ℕ) (old new : ProxyState) (before after : Told) (e : ServeError) (front more : List ℕ) → IsRecorded server first text steps old
-    → (unserved : IsUnserved turns server old new before after e) → before.journal.bytes ≡ Some (Some front) → after.journal.bytes ≡ Some (Some (front ++ more))
-    → RecordsFront server first (text ++ more) (steps ++ gathered steps_taken unserved.done)
-unserved_on join server first text steps turns old new before after e front more h unserved was is =
-    let done : List Doing = unserved.done in
-    let told : List Event = gathered event_told done in
-    let noted : NotesText front (front ++ more) told =
-    subst (λ (w : Option (Option (List ℕ))). Notes (Some (Some front)) w told) is (subst (λ (w : Option (Option (List ℕ))). Notes w after.journal.bytes told) was unserved.serves.told.noted) in
-    let grown : more ≡ noted.text = rest_is front more noted.text noted.grown in
-    let run : IsRun server (first_state first) (h.events ++ gathered event_taken done) (ahead done) (steps ++ gathered steps_taken done) (unserved.serves.history ++ h.history) new =
-    join server (first_state first) old new h.events (gathered event_taken done) (ahead done) steps (gathered steps_taken done) h.history unserved.serves.history
-    (run_on server (first_state first) old h.events (first_moment (gathered event_taken done) (ahead done)) steps h.history h.is_run) unserved.serves.is_run in
-    let events : h.events ++ gathered event_taken done ≡ (h.events ++ told) ++ untold_in unserved.point.stage =
-    ap (λ (es : List Event). h.events ++ es) unserved.told_but_last ∙ sym (append_assoc h.events told (untold_in unserved.point.stage)) in
-    subst (λ (l : List ℕ). RecordsFront server first (text ++ l) (steps ++ gathered steps_taken done)) (sym grown)
-    (front_of server first (text ++ noted.text) (h.events ++ told) (untold_in unserved.point.stage) (ahead done) (steps ++ gathered steps_taken done) (unserved.serves.history ++ h.history) new
-    (says_all h.events told text noted.text h.says (record_says told noted.text noted.says))
-    (subst (λ (es : List Event). IsRun server (first_state first) es (ahead done) (steps ++ gathered steps_taken done) (unserved.serves.history ++ h.history) new) events run)
-    (prompt_both server h.history unserved.serves.history (prompt_turns server unserved.serves.history unserved.serves.is_run.configured unserved.serves.turns) h.prompt))
-
--- ---- a record that was cut within an event
-
--- what was replayed of it is recorded by the text of its whole events
-pub cut_replayed : (config : Config) (word first : ℕ) (script old new : Option (List ℕ)) (line : ℕ) → (refused : StopsAtLine (server_with config word) (first_state first) 0 script old new line) → refused.comes.ahead ≡ None
-    → IsRecorded (server_with config word) first refused.comes.text refused.steps refused.comes.last
-cut_replayed config word first script old new line refused none = record {
-  events = refused.comes.events;
-  says = refused.comes.says;
-  history = refused.comes.history;
-  is_run = subst (λ (o : Option Event). IsRun (server_with config word) (first_state first) refused.comes.events (moment_ahead o) refused.steps refused.comes.history refused.comes.last) none refused.comes.is_run;
-  prompt = refused.comes.prompt;
-}
-
--- the bytes begin with that text
-pub begins_so : (bytes text further : List ℕ) → IfSome (Some bytes) (BeginsWith (text ++ further)) → (rest : List ℕ) × (bytes ≡ text ++ rest)
-begins_so bytes text further begins = (further ++ begins.0, begins.1 ∙ append_assoc text further begins.0)
-
-pub prints_front : (server : Server) (first : ℕ) (text : List ℕ) (steps others : List StepOut) (end : ProxyState) (old new : Option (List ℕ)) → Appends old new (printed others) → (front : RecordsFront server first text steps)
-    → AreOne front.front others front.last end ⊎ PartAtTie server (first_state first) front.front others → PrintsFront server first steps others old new
-prints_front server first text steps others end old new written front either = record {
-  front = front.front;
-  further = front.further;
-  cut = front.cut;
-  written = prints_served server first front.front others front.last end old new written either;
-}

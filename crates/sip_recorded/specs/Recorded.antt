@@ -1,32 +1,43 @@
--- What a record holds: the events that a server took, from its first state on, however often it was ended and went on.
-use Rattle.std.specs.Prelude.{◌≡◌, ◌⊎◌, ℕ, List, ◌++◌, Option, None}
+-- What a record holds: the events that a server took, from its first state on, and the configurations that came into force between them,
+-- however often it was ended and went on.
+use Rattle.std.specs.Prelude.{◌≡◌, ◌⊎◌, ℕ, List, ◌∷◌, ◌++◌, Option, None}
 use Rattle.std.specs.Io.KnownBytes.{Appends}
+use Rattle.std.specs.List.{AllByRecursion}
 use Rattle.sip_event.specs.declared.event.Event.{Event}
 use Rattle.sip_event.specs.declared.event.StepOut.{StepOut}
-use Rattle.sip_replay_script.specs.Events.{SaysEvents}
+use Rattle.sip_segment_text.specs.Segments.{SaysWhole, Segment}
 use Rattle.sip_replay_print.specs.Print.{printed}
 use Rattle.model_bounds.specs.state.declared.server.Server.{Server}
 use Rattle.model_bounds.specs.state.declared.proxy_state.ProxyState.{ProxyState}
 use Rattle.model_bounds.specs.state.State.{first_state}
-use Rattle.model_bounds.specs.model.Run.{Link, IsRun}
+use Rattle.model_bounds.specs.model.Run.{Link}
+use Rattle.model_bounds.specs.model.Periods.{IsRunUnder, Period}
 use Rattle.model_ties.specs.Ties.{ArePrompt, PartAtTie}
+use Rattle.sip_resume.specs.Whole.{AreStated, KeepsFrame, config_behind}
 
--- A text says events, and these steps are a run over exactly these events, from the first state to this one, in which all that was due by the
--- moment of an event happened before it, and time passed in no other way.
-pub record IsRecorded (server : Server) (first : ℕ) (text : List ℕ) (steps : List StepOut) (last : ProxyState) : Type 0 where
+-- A text says events, and segments behind them, and these steps are a run over exactly these, from the first state to this one: the events
+-- under the server's configuration, those of each segment under the one that its text states, by which it is the same server to others. All
+-- that was due by the moment of an event happened before it, and time passed in no other way. The last of these configurations is in force then.
+pub record IsRecordedUnder (server server_then : Server) (first : ℕ) (text : List ℕ) (steps : List StepOut) (last : ProxyState) : Type 0 where
   pub events : List Event
-  pub says : SaysEvents events text
+  pub segments : List Segment
+  pub periods : List Period
+  pub says : SaysWhole events segments text
+  pub stated : AreStated segments periods
+  pub frames : AllByRecursion (KeepsFrame server) periods
   pub history : List Link
-  pub is_run : IsRun server (first_state first) events None steps history last
+  pub is_run : IsRunUnder server (first_state first) (record { config = server.config; events = events } ∷ periods) None steps history last
   pub prompt : ArePrompt server history
+  pub in_force : server_then ≡ record { config = config_behind server.config periods; word = server.word }
 
 -- Of some steps a text records the first ones, up to the last event that it says; others came behind them.
 pub record RecordsFront (server : Server) (first : ℕ) (text : List ℕ) (steps : List StepOut) : Type 0 where
   pub front : List StepOut
   pub further : List StepOut
   pub cut : steps ≡ front ++ further
+  pub server_then : Server
   pub last : ProxyState
-  pub recorded : IsRecorded server first text front last
+  pub recorded : IsRecordedUnder server server_then first text front last
 
 -- What was written is what is printed of the first of some steps; or those parted at a tie from the steps that were taken in their place.
 pub record PrintsFront (server : Server) (first : ℕ) (steps others : List StepOut) (old new : Option (List ℕ)) : Type 0 where

@@ -1,111 +1,145 @@
 ghost use Rattle.std.specs.Prelude.{◌≡◌, ◌⊎◌, ◌++◌, ℕ, List, [], None, Option, Some};
 ghost use Rattle.std.specs.Io.KnownBytes.{Appends};
 ghost use Rattle.sip_config_types.specs.declared.config.Config.{Config};
+ghost use Rattle.sip_config_change.specs.Frame.{frame_key_of};
 ghost use Rattle.sip_event.specs.declared.event.Event.{Event};
 ghost use Rattle.sip_event.specs.declared.event.StepOut.{StepOut};
-ghost use Rattle.sip_replay_script.specs.Events.{SaysEvents};
+ghost use Rattle.sip_segment_text.specs.Segments.{SaysWhole, Segment};
+ghost use Rattle.sip_segments.specs.Stated.{States};
+ghost use Rattle.sip_record.specs.Record.{NotesConfiguration};
 ghost use Rattle.sip_replay_print.specs.Print.{printed};
 ghost use Rattle.model_bounds.specs.state.declared.proxy_state.ProxyState.{ProxyState};
 ghost use Rattle.model_bounds.specs.state.declared.server.Server.{Server};
 ghost use Rattle.model_bounds.specs.state.State.{first_state};
 ghost use Rattle.model_ties.specs.Ties.{AreOne, PartAtTie};
-ghost use Rattle.sip_run.specs.Runs.{IsRunOver};
-ghost use Rattle.sip_replay.specs.Refusals.{StopsAtLine};
-ghost use Rattle.sip_replay.specs.Replays.{IsReplay, server_with};
-ghost use Rattle.sip_resume.specs.Resumes.{IsResumed};
+ghost use Rattle.sip_resume.specs.Outputs.{Outputs};
+ghost use Rattle.sip_resume.specs.Whole.{IsRecordResumed};
+ghost use Rattle.sip_replay.specs.Records.{IsRecordReplay};
+ghost use Rattle.sip_replay.specs.Replays.{server_with};
 ghost use Rattle.sip_loop.specs.Serving.{IsServed, IsUnserved, Told, gathered, steps_taken};
 ghost use Rattle.sip_loop.specs.declared.served.ServeError.{ServeError};
-ghost use Rattle.sip_recorded.specs.Recorded.{IsRecorded, PrintsFront, RecordsFront};
+ghost use Rattle.sip_recorded.specs.Recorded.{IsRecordedUnder, PrintsFront, RecordsFront};
 
 use model_bounds::model::runs::runs_join;
 use model_ties::laws::runs_part_at_ties_alone;
+use sip_config_change::laws::policy_in_the_old_frame_is_new;
 use sip_loop::laws::replayed_is_served;
 use sip_replay::laws::script_says_one_list;
 use sip_replay_script::laws::{next_event_is_one, written_event_is_recorded};
+use sip_segment_text::laws::{next_configuration_is_one, record_says_one_list};
 
 /// A server that begins has an empty record. Where turns are served whole and the journal tells its bytes, what it grew by is the
-/// record of the steps that were taken, behind that of what the server did before.
+/// record of the steps that were taken, behind that of what the server did before, whichever configurations came into force in it.
 pub fn served_is_recorded()
-    ensures begins { (server : Server) (first : ℕ) → IsRecorded server first [] [] (first_state first) }
-    ensures goes_on { (server : Server) (first : ℕ) (text : List ℕ) (steps : List StepOut) (turns : ℕ) (old new : ProxyState)
+    ensures begins { (server : Server) (first : ℕ) → IsRecordedUnder server server first [] [] (first_state first) }
+    ensures goes_on { (server now : Server) (first : ℕ) (text : List ℕ) (steps : List StepOut) (turns : ℕ) (old new : ProxyState)
         (before after : Told) (front more : List ℕ)
-        → IsRecorded server first text steps old → (served : IsServed turns server old new before after)
+        → IsRecordedUnder server now first text steps old → (served : IsServed turns now old new before after)
         → before.journal.bytes ≡ Some (Some front) → after.journal.bytes ≡ Some (Some (front ++ more))
-        → IsRecorded server first (text ++ more) (steps ++ gathered steps_taken served.done) new }
+        → IsRecordedUnder server now first (text ++ more) (steps ++ gathered steps_taken served.done) new }
 {
     replayed_is_served();
     runs_join();
+    script_says_one_list();
+    written_event_is_recorded();
+}
+
+/// Where bytes state a configuration by which the server is to others what it was, and the journal was told them, what it grew by is the
+/// record of that: the same steps, to the same state, and this configuration is in force behind them.
+pub fn change_is_recorded()
+    ensures { (server now : Server) (first : ℕ) (text : List ℕ) (steps : List StepOut) (last : ProxyState) (bytes : List ℕ) (config : Config)
+        (front more : List ℕ)
+        → IsRecordedUnder server now first text steps last → States bytes config → frame_key_of now.config config ≡ None
+        → NotesConfiguration (Some (Some front)) (Some (Some (front ++ more))) bytes
+        → IsRecordedUnder server (record { config = config; word = now.word }) first (text ++ more) steps last }
+{
+    runs_join();
+    policy_in_the_old_frame_is_new();
 }
 
 /// Where serving is refused, whatever for, what the journal grew by is the record of the first of the steps that were taken, up to the
 /// own step of the last event that it was told. Nothing of what came behind that was given to the link: that waits until its event was
 /// told (`IsPath`).
 pub fn unserved_is_recorded()
-    ensures { (server : Server) (first : ℕ) (text : List ℕ) (steps : List StepOut) (turns : ℕ) (old new : ProxyState) (before after : Told)
-        (e : ServeError) (front more : List ℕ)
-        → IsRecorded server first text steps old → (unserved : IsUnserved turns server old new before after e)
+    ensures { (server now : Server) (first : ℕ) (text : List ℕ) (steps : List StepOut) (turns : ℕ) (old new : ProxyState)
+        (before after : Told) (e : ServeError) (front more : List ℕ)
+        → IsRecordedUnder server now first text steps old → (unserved : IsUnserved turns now old new before after e)
         → before.journal.bytes ≡ Some (Some front) → after.journal.bytes ≡ Some (Some (front ++ more))
         → RecordsFront server first (text ++ more) (steps ++ gathered steps_taken unserved.done) }
 {
     runs_join();
 }
 
-/// A record that was cut behind one of its events records the first of the steps, up to that event's own.
+/// A record that was cut behind one of its events, or one of its configurations, records the first of the steps, up to the own step of
+/// the last event in front of that.
 pub fn front_is_recorded()
-    ensures { (server : Server) (first : ℕ) (text more : List ℕ) (steps : List StepOut) (last : ProxyState) (events : List Event)
-        → IsRecorded server first (text ++ more) steps last → SaysEvents events text → RecordsFront server first text steps }
+    ensures { (server now : Server) (first : ℕ) (text further : List ℕ) (steps : List StepOut) (last : ProxyState) (events : List Event)
+        (segments : List Segment)
+        → IsRecordedUnder server now first (text ++ further) steps last → SaysWhole events segments text → RecordsFront server first text steps }
 {
+    next_configuration_is_one();
     next_event_is_one();
-}
-
-/// A server that was brought to where a text leads has it for its record, behind that of what it did before.
-pub fn resumed_is_recorded()
-    ensures { (server : Server) (first : ℕ) (text : List ℕ) (steps : List StepOut) (old new : ProxyState) (bytes : Option (List ℕ))
-        (written written_then : Option (Option (List ℕ))) (lines : ℕ) (last : Option StepOut)
-        → IsRecorded server first text steps old → (resumed : IsResumed server old new bytes written written_then lines last)
-        → IsRecorded server first (text ++ resumed.text) (steps ++ resumed.runs.steps) new }
-{
-    runs_join();
     written_event_is_recorded();
 }
 
-/// What `run` makes of a list of events, where it takes them all, is what a text that says them records.
-pub fn run_is_recorded()
-    ensures { (server : Server) (first : ℕ) (text : List ℕ) (events : List Event) (steps : List StepOut)
-        → (over : IsRunOver server first events steps None) → SaysEvents events text → IsRecorded server first text steps over.last }
-{}
+/// A server that was brought to where a text leads, by its events and its configurations, has it for its record, behind that of what it
+/// did before; and so it has what its journal was told meanwhile (`told`), where that tells its bytes.
+pub fn resumed_is_recorded()
+    ensures taken { (server now server_then : Server) (first : ℕ) (text : List ℕ) (steps : List StepOut) (old new : ProxyState)
+        (bytes : Option (List ℕ)) (lines lines_then : ℕ) (outs outs_then : Outputs) (last : Option StepOut)
+        → IsRecordedUnder server now first text steps old
+        → (resumed : IsRecordResumed now server_then old new bytes lines outs outs_then lines_then last)
+        → IsRecordedUnder server server_then first (text ++ resumed.text) (steps ++ resumed.takes.runs.steps) new }
+    ensures told { (server now server_then : Server) (first : ℕ) (text : List ℕ) (steps : List StepOut) (old new : ProxyState)
+        (bytes : Option (List ℕ)) (lines lines_then : ℕ) (outs outs_then : Outputs) (last : Option StepOut) (front more : List ℕ)
+        → IsRecordedUnder server now first text steps old
+        → (resumed : IsRecordResumed now server_then old new bytes lines outs outs_then lines_then last)
+        → outs.written ≡ Some (Some front) → outs_then.written ≡ Some (Some (front ++ more))
+        → IsRecordedUnder server server_then first (text ++ more) (steps ++ resumed.takes.runs.steps) new }
+{
+    runs_join();
+}
 
-/// What one text records is one: whoever took the events that it says, by serving them, by going on from them, or both, again and
-/// again, took the same steps, each with all that it hands out in the same order and all that it records, and came to states that are
-/// the same. Or they part at a tie, where two things are due at one moment, and each lets another one happen first; up to there the
-/// steps are the same.
+/// What one text records is one: whoever took the events and the configurations that it says, by serving, by going on from them, or
+/// both, again and again, took the same steps, each with all that it hands out in the same order and all that it records, and came to
+/// states that are the same, under the same configuration (`in_force`). Or they part at a tie, where two things are due at one moment,
+/// and each lets another one happen first; up to there the steps are the same.
 pub fn records_are_one()
-    ensures { (server : Server) (first : ℕ) (text : List ℕ) (steps others : List StepOut) (last end : ProxyState)
-        → IsRecorded server first text steps last → IsRecorded server first text others end
+    ensures steps { (server now server_then : Server) (first : ℕ) (text : List ℕ) (steps others : List StepOut) (last end : ProxyState)
+        → IsRecordedUnder server now first text steps last → IsRecordedUnder server server_then first text others end
         → AreOne steps others last end ⊎ PartAtTie server (first_state first) steps others }
+    ensures in_force { (server now server_then : Server) (first : ℕ) (text : List ℕ) (steps others : List StepOut) (last end : ProxyState)
+        → IsRecordedUnder server now first text steps last → IsRecordedUnder server server_then first text others end → now ≡ server_then }
 {
     runs_part_at_ties_alone();
-    script_says_one_list();
+    record_says_one_list();
 }
 
 /// So a replay of a record prints what was served: exactly the packets that were handed out, in their order, each at its moment, and
-/// exactly the lines of the records; or the replay parts from it at a tie, and up to there it takes the same steps.
+/// exactly the lines of the records, each step under the configuration that was in force; or the replay parts from it at a tie, and up to
+/// there it takes the same steps.
 pub fn replay_prints_what_was_served()
-    ensures { (config : Config) (word first : ℕ) (text : List ℕ) (steps : List StepOut) (last : ProxyState) (old new : Option (List ℕ))
-        → IsRecorded (server_with config word) first text steps last → (replay : IsReplay config word first (Some text) old new)
-        → Appends old new (printed steps) ⊎ PartAtTie (server_with config word) (first_state first) steps replay.steps }
+    ensures { (config : Config) (word first : ℕ) (now : Server) (text : List ℕ) (steps : List StepOut) (last : ProxyState) (lines : ℕ)
+        (old new : Option (List ℕ))
+        → IsRecordedUnder (server_with config word) now first text steps last
+        → (replay : IsRecordReplay config word first (Some text) lines old new)
+        → Appends old new (printed steps)
+        ⊎ PartAtTie (server_with config word) (first_state first) steps replay.taken.takes.runs.steps }
 {
+    next_configuration_is_one();
+    next_event_is_one();
     records_are_one();
+    written_event_is_recorded();
 }
 
-/// And where a replay is refused at a line at which no event begins, as it is at the end of a record that was cut within one, it has
-/// printed what was served up to the last event before that line; or it parts from it at a tie.
+/// And a replay of a record that was cut anywhere has printed what was served at first, up to the last event or configuration that is
+/// whole, and nothing else; or it parts from it at a tie.
 pub fn cut_replay_prints_what_was_served()
-    ensures { (config : Config) (word first : ℕ) (bytes lost : List ℕ) (steps : List StepOut) (last : ProxyState) (old new : Option (List ℕ))
-        (line : ℕ)
-        → IsRecorded (server_with config word) first (bytes ++ lost) steps last
-        → (refused : StopsAtLine (server_with config word) (first_state first) 0 (Some bytes) old new line) → refused.comes.ahead ≡ None
-        → PrintsFront (server_with config word) first steps refused.steps old new }
+    ensures { (config : Config) (word first : ℕ) (now : Server) (bytes lost : List ℕ) (steps : List StepOut) (last : ProxyState) (lines : ℕ)
+        (old new : Option (List ℕ))
+        → IsRecordedUnder (server_with config word) now first (bytes ++ lost) steps last
+        → (replay : IsRecordReplay config word first (Some bytes) lines old new)
+        → PrintsFront (server_with config word) first steps replay.taken.takes.runs.steps old new }
 {
     front_is_recorded();
     records_are_one();

@@ -1,5 +1,6 @@
-//! What a record replays is what was served: what is served, gone on with and replayed of one text are the same steps, but for which
-//! of several things that are due at one moment happens first. Nothing runs here.
+//! What a record replays is what was served: what is served, gone on with and replayed of one text, with the configurations that it
+//! says came into force, are the same steps, but for which of several things that are due at one moment happens first. The same of a
+//! script, which says events alone (`scripts`). Nothing runs here.
 //!
 //! - Used: nobody: it is read.
 //! - Not here: the calls (`sip_loop`, `sip_resume`, `sip_replay`), and why two runs part at ties alone (`model_ties`).
@@ -7,3 +8,4 @@
 #![tactic(auto)]
 
 pub mod laws;
+pub mod scripts;

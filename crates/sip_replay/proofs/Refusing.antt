@@ -13,6 +13,7 @@ use Rattle.model_bounds.specs.state.State.{first_state}
 use Rattle.model_bounds.specs.model.Access.{Access}
 use Rattle.model_bounds.specs.Bounds.{IsBounded}
 use Rattle.model_bounds.specs.model.Run.{first_moment}
+use Rattle.model_bounds.proofs.SendingLists.{all_joined}
 use Rattle.sip_replay_print.specs.Print.{step_text, printed}
 use Rattle.sip_replay.specs.Errors.{error_at, unread_error, IsFaulted}
 use Rattle.sip_replay_script.specs.Devices.{WritesFront}
@@ -31,7 +32,7 @@ use Rattle.sip_replay_script.proofs.Fronts.{appends_kept, front_all, front_none,
 use Rattle.std.proofs.lemmas.List.Sums.{sum_by-append}
 use Rattle.sip_replay.proofs.Replaying.{AllAreLawful, Replays}
 use Rattle.sip_run.proofs.RunOn.{run_on}
-use Rattle.sip_replay.proofs.Running.{RunsJoin, prompt_both}
+use Rattle.sip_replay.proofs.Running.{RunsJoin}
 
 -- ---- nothing was taken
 
@@ -185,7 +186,7 @@ comes_on join server first mid old part before middle start half more h c = reco
   begins = subst (λ l. IfSome (pending old before) (BeginsWith l)) (sym (append_assoc h.text c.text c.further)) (begins_on (pending old before) (pending part middle) h.text (c.text ++ c.further) h.consumes c.begins);
   is_run = join server first mid c.last h.events c.events (moment_ahead c.ahead) h.plays.steps more h.plays.history c.history
       (run_on server first mid h.events (first_moment c.events (moment_ahead c.ahead)) h.plays.steps h.plays.history h.plays.is_run) c.is_run;
-  prompt = prompt_both server h.plays.history c.history c.prompt h.plays.prompt;
+  prompt = all_joined _ c.history h.plays.history c.prompt h.plays.prompt;
 }
 
 none_behind_both : (a b : Option (List ℕ)) (text more : List ℕ) → Consumes a b text → IfSome b (NoEventBehind more) → IfSome a (NoEventBehind (text ++ more))

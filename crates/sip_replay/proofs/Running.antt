@@ -12,7 +12,8 @@ use Rattle.model_bounds.specs.state.declared.proxy_state.ProxyState.{ProxyState}
 use Rattle.model_bounds.specs.steps_model.Step.{Given, IsDeadline, IsResend, IsStep, Passing, moment_of}
 use Rattle.model_bounds.specs.model.Run.{Link, IsRun, event_moment, events_of, steps_of, first_moment}
 use Rattle.sip_replay_print.specs.Print.{step_text, printed}
-use Rattle.model_ties.specs.Ties.{ArePrompt, IsPrompt}
+use Rattle.model_bounds.proofs.SendingLists.{all_joined}
+use Rattle.model_ties.specs.Ties.{IsPrompt}
 use Rattle.sip_run.specs.Due.{Fires, NothingDueBy}
 use Rattle.sip_run.proofs.RunOn.{run_on}
 use Rattle.sip_replay.specs.Replays.{Plays}
@@ -22,11 +23,6 @@ pub prompt_event : (server : Server) (mid new : ProxyState) (event : Event) (out
 prompt_event server mid new (Datagram at word from bytes) out none = tt
 prompt_event server mid new (Time at) out none = tt
 prompt_event server mid new (Fault at ticket) out none = (none.none, none.none_again)
-
--- one history behind another
-pub prompt_both : (server : Server) (history later : List Link) → ArePrompt server later → ArePrompt server history → ArePrompt server (later ++ history)
-prompt_both server history [] h k = k
-prompt_both server history (link ∷ later) h k = (h.0, prompt_both server history later h.1 k)
 
 -- no step yet
 pub plays_nothing : (server : Server) (state : ProxyState) (until : Option ℕ) (before : Option (List ℕ)) → Plays server state state [] until before before
@@ -103,6 +99,6 @@ plays_both join server old mid new events event a b c h next = record {
   history = next.history ++ h.history;
   is_run = join server old mid new events (event ∷ []) None h.steps next.steps h.history next.history
       (run_on server old mid events (Some (event_moment event)) h.steps h.history h.is_run) next.is_run;
-  prompt = prompt_both server h.history next.history next.prompt h.prompt;
+  prompt = all_joined _ next.history h.history next.prompt h.prompt;
   written = subst (λ l. Appends a c l) (sym (flat_map-append step_text h.steps next.steps)) (Appends-trans a b c (printed h.steps) (printed next.steps) h.written next.written);
 }

@@ -1,3 +1,4 @@
 pub mod Errors
+pub mod Records
 pub mod Refusals
 pub mod Replays

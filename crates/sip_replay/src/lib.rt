@@ -1,5 +1,5 @@
-//! A script replayed: its events are handed to the engine, each at its moment, and the packets and records that the engine hands
-//! out are printed.
+//! A script or a record replayed: its events are handed to the engine, each at its moment, and the packets and records that the engine
+//! hands out are printed.
 //!
 //! - Used: `sipd_command`.
 //! - Not here: the program's words and streams.
@@ -14,10 +14,12 @@ mod due;
 mod error;
 pub mod laws;
 mod playback;
+mod record;
 mod stop;
 
 pub use error::ReplayError;
 pub use playback::replay;
+pub use record::replay_record;
 
 /// Of `sip_engine`.
 pub mod engine {

@@ -1,6 +1,6 @@
 //! How steps are printed: each packet with its line, each record as its line, through a writer that may fail at any call.
 //!
-//! - Used: `sip_replay`, for each step of a replay.
+//! - Used: `sip_replay`, for each step of a replay; `sip_resume`, where the steps of a record are shown.
 //! - Not here: the text of a script (`sip_replay_script`); the server.
 //! - Tried: a worked example in `src/examples.rt`, as a contract that computes; `test_engine`.
 #![tactic(auto)]
@@ -8,6 +8,8 @@
 pub mod examples;
 mod packet_head;
 mod print;
+mod sink;
 mod writing;
 
 pub use print::{PrintRoom, print_step};
+pub use sink::{NoSink, Printer, StepSink};

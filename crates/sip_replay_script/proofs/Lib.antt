@@ -1,11 +1,9 @@
 pub mod Calls
-pub mod Configurations
 pub mod CutEvents
 pub mod CutLines
 pub mod Damaged
 pub mod DatagramWord
 pub mod Datagrams
-pub mod FirstBytes
 pub mod Fronts
 pub mod Gathering
 pub mod HeadAtOnce
@@ -16,6 +14,6 @@ pub mod OneReading
 pub mod RecordTexts
 pub mod Samples
 pub mod Saying
-pub mod Segments
+pub mod Unread
 pub mod Written
 pub mod WrittenEvents

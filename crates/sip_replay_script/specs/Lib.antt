@@ -1,4 +1,3 @@
-pub mod Configurations
 pub mod Devices
 pub mod EventText
 pub mod Events
@@ -6,4 +5,3 @@ pub mod Gathered
 pub mod Lines
 pub mod Recorded
 pub mod Script
-pub mod Segments

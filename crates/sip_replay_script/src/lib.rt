@@ -1,13 +1,13 @@
 //! The text of a script: lines are read as events, and events are written as lines, through readers and writers that may fail at any
-//! call. And that of a record, which may hold the whole text of each configuration, too.
+//! call. And what a record says of its events.
 //!
-//! - Used: `sip_replay`, for each line of its script; `sip_record` and `sip_resume`, for each event that is recorded and taken again.
-//! - Not here: the server; how its steps are printed (`sip_replay_print`).
+//! - Used: `sip_replay`, for each line of its script; `sip_record` and `sip_resume`, for each event that is recorded and taken again;
+//!   `sip_segment_text`, which reads configurations between its lines; `sip_replay_print`, `sipd_report` and `sipd_start`, for what they
+//!   write to and read from.
+//! - Not here: the server; how its steps are printed (`sip_replay_print`); what a record says of its configurations (`sip_segment_text`).
 //! - Tried: worked examples in `src/examples.rt`, as contracts that compute; `test_engine`.
 #![tactic(auto)]
 
-mod configuration;
-mod configuration_stop;
 mod cut_line;
 mod device;
 mod event;
@@ -22,11 +22,8 @@ mod print_stop;
 mod read_stop;
 mod recorded;
 mod script;
-mod upcoming;
 mod writing;
 
-pub use configuration::{configuration_line, next_configuration};
-pub use configuration_stop::ConfigurationStop;
 pub use device::{TellingReader, TellingWriter};
 pub use event::next_line;
 pub use event_text::{empty_text, fault_text, hex_front, time_text};
@@ -38,5 +35,4 @@ pub use print_stop::PrintStop;
 pub use read_stop::ReadStop;
 pub use recorded::next_recorded;
 pub use script::{DatagramHead, Line, line_of};
-pub use upcoming::{Upcoming, look_ahead};
 pub use writing::{hand_on, put};

@@ -91,8 +91,9 @@ impl Lines {
         }
     }
 
-    /// The next byte, which stays; nothing at the end of the script. `Read` is the only refusal.
-    pub(crate) fn peek<R: TellingReader>(&mut self, reader: &mut R) -> Result<Option<u8>, ReadStop>
+    /// The next byte, which stays: it begins what is given next; `None` at the end of the script. `Read` is the only refusal: the reader
+    /// failed, or was asked 4,294,967,295 times.
+    pub fn peek<R: TellingReader>(&mut self, reader: &mut R) -> Result<Option<u8>, ReadStop>
         ensures kept { OnOk result (Keeps (pending self.old (R.remaining reader.old)) (pending self.new (R.remaining reader.new))) }
         ensures byte { IfOk result (λ found. IfSome found (λ byte. (rest : List ℕ) × (self.new.unread ≡ byte ∷ rest))) }
         ensures end { IfOk result (λ found. IfNone found (IsAtEnd (pending self.new (R.remaining reader.new)))) }

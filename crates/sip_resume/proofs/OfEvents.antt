@@ -10,8 +10,9 @@ use Rattle.model_bounds.specs.model.Run.{Link, IsRun, under}
 use Rattle.model_bounds.specs.model.Periods.{IsRunUnder, Period}
 use Rattle.sip_replay_script.specs.Lines.{is_end}
 use Rattle.sip_replay_script.specs.Recorded.{SaysRecord}
-use Rattle.sip_replay_script.specs.Segments.{Segment, SaysWhole}
+use Rattle.sip_segment_text.specs.Segments.{Segment, SaysWhole}
 use Rattle.sip_record.specs.Record.{GrewKnown, Notes, NotesSegments}
+use Rattle.sip_resume.specs.Outputs.{Outputs}
 use Rattle.sip_resume.specs.Resumes.{EndsHere, IsResumed, Runs, newest_step}
 use Rattle.sip_resume.specs.Whole.{AreStated, IsRecordResumed, NotesWhole, RunsUnder, TakesWhole, config_behind}
 
@@ -92,9 +93,9 @@ none_so one server server_then old new bytes events text further written written
       both.same,
     )
 
-pub events_resumed : OneIsARun → (server server_then : Server) (old new : ProxyState) (bytes : Option (List ℕ)) (written written_then : Option (Option (List ℕ))) (lines : ℕ) (last : Option StepOut) → (h : IsRecordResumed server server_then old new bytes 0 written written_then lines last)
-    → h.segments ≡ [] → EndsHere h.further → IsResumed server old new bytes written written_then lines last × (server_then ≡ server)
-events_resumed one server server_then old new bytes written written_then lines last h none ends =
-    let all : WithoutSegments server server_then old new h.events h.segments h.text written written_then last = record { says = h.says; takes = h.takes; last_is = h.last_is; noted = h.noted } in
-    none_so one server server_then old new bytes h.events h.text h.further written written_then lines last
-    (subst (λ (segments : List Segment). WithoutSegments server server_then old new h.events segments h.text written written_then last) none all) h.whole ends h.counted
+pub events_resumed : OneIsARun → (server server_then : Server) (old new : ProxyState) (bytes : Option (List ℕ)) (outs outs_then : Outputs) (lines : ℕ) (last : Option StepOut) → (h : IsRecordResumed server server_then old new bytes 0 outs outs_then lines last)
+    → h.segments ≡ [] → EndsHere h.further → IsResumed server old new bytes outs.written outs_then.written lines last × (server_then ≡ server)
+events_resumed one server server_then old new bytes outs outs_then lines last h none ends =
+    let all : WithoutSegments server server_then old new h.events h.segments h.text outs.written outs_then.written last = record { says = h.says; takes = h.takes; last_is = h.last_is; noted = h.noted } in
+    none_so one server server_then old new bytes h.events h.text h.further outs.written outs_then.written lines last
+    (subst (λ (segments : List Segment). WithoutSegments server server_then old new h.events segments h.text outs.written outs_then.written last) none all) h.whole ends h.counted

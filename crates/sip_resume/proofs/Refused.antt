@@ -1,5 +1,5 @@
 -- Why an event of a record isn't taken.
-use Rattle.std.proofs.Common.{◌≡◌, ℕ, Bool, true, false, List, [], ◌∷◌, ◌++◌, Option, None, Some, refl, sym, subst}
+use Rattle.std.proofs.Common.{◌≡◌, inl, inr, ℕ, Bool, true, false, List, [], ◌∷◌, ◌++◌, Option, None, Some, refl, sym, subst}
 use Rattle.std.specs.Prelude.{IfSome, IsSome, if◌then◌else◌}
 use Rattle.std.specs.Io.KnownBytes.{Consumes}
 use Rattle.sip_event.specs.declared.event.Event.{Event}
@@ -13,11 +13,17 @@ use Rattle.sip_run.specs.engine.StepError.{refusal_at, is_too_large}
 use Rattle.sip_run.specs.Refusals.{RefusesStep, refusal_of_event}
 use Rattle.sip_replay_script.specs.Lines.{Reading, pending}
 use Rattle.sip_replay_script.specs.Recorded.{GivesRecorded}
-use Rattle.sip_resume.specs.Errors.{error_of_step}
-use Rattle.sip_resume.specs.Resumes.{IsNext, JournalAt, ResumeStops, Runs, StepStops, UnreadStops}
+use Rattle.sip_replay_print.specs.Print.{printed}
+use Rattle.sip_replay_script.proofs.Fronts.{front_all, front_none}
+use Rattle.sip_replay_script.specs.declared.print_stop.PrintStop.{PrintStop}
+use Rattle.sip_replay_script.specs.declared.print_stop.PrintStop.TheVariants as prints
+use Rattle.sip_event.specs.declared.event.StepOut.{StepOut}
+use Rattle.sip_resume.specs.Errors.{error_of_print, error_of_step}
+use Rattle.sip_resume.specs.Outputs.{Outputs}
+use Rattle.sip_resume.specs.Resumes.{FiringStops, IsNext, JournalAt, PassesTime, ResumeStops, RunsPart, RunsShown, StepStops, StopsAmong, StopsAround, TakesOwn, TurnStops, UnreadStops}
 use Rattle.sip_resume.specs.declared.error.ResumeError.{ResumeError}
 use Rattle.sip_resume.specs.declared.error.ResumeError.TheVariants as errors
-use Rattle.sip_resume.proofs.Running.{runs_nothing}
+use Rattle.sip_resume.proofs.Running.{runs_nothing, shown_by}
 
 -- ---- a step that is refused
 
@@ -40,18 +46,52 @@ too_late state (Datagram at word from bytes) h = some_else (is_too_large at) ste
 too_late state (Time at) h = h
 too_late state (Fault at ticket) h = h
 
-by_moment : (state : ProxyState) (event : Event) (e : StepError) → StepStops (refusal_at (event_moment event)) e → StepStops (refusal_of_event state event) e
-by_moment state event step_errors.NoMemory h = tt
-by_moment state event step_errors.MomentTooLarge h = too_late state event h
-by_moment state event step_errors.Worn h = too_late state event h
+part_of : (server : Server) (old new : ProxyState) (events : List Event) (until : Option ℕ) (a b : Option (List ℕ)) → RunsShown server old new events until a b → RunsPart server old new events until a b
+part_of server old new events until a b h = record { runs = h.runs; front = front_all a b (printed h.runs.steps) h.all }
 
--- what is due before it was refused
-pub due_stops : (state : ProxyState) (event : Event) (at : ℕ) (e : StepError) → at ≡ event_moment event → StepStops (refusal_at at) e → StepStops (refusal_of_event state event) e
-due_stops state event at e is h = by_moment state event e (subst (λ (m : ℕ). StepStops (refusal_at m) e) is h)
+-- what is due was refused
+firing_refused : (server : Server) (old mid : ProxyState) (at : ℕ) (a b : Option (List ℕ)) (e : StepError) → RunsShown server old mid [] (Some at) a b → StepStops (refusal_at at) e → FiringStops server old mid at a b (error_of_step e)
+firing_refused server old mid at a b step_errors.NoMemory h s = part_of server old mid [] (Some at) a b h
+firing_refused server old mid at a b step_errors.MomentTooLarge h s = record { due = h; refused = s }
+firing_refused server old mid at a b step_errors.Worn h s = record { due = h; refused = s }
+
+pub firing_stops : (server : Server) (old mid new : ProxyState) (at : ℕ) (a b : Option (List ℕ)) (e : StepError) → new ≡ mid → RunsShown server old mid [] (Some at) a b → RefusesStep (refusal_at at) e → FiringStops server old new at a b (error_of_step e)
+firing_stops server old mid new at a b e same h s =
+    subst (λ (x : ProxyState). FiringStops server old x at a b (error_of_step e)) (sym same) (firing_refused server old mid at a b e h (step_stops (refusal_at at) e s))
+
+-- or wasn't shown
+pub firing_unshown : (server : Server) (old new : ProxyState) (at : ℕ) (a c : Option (List ℕ)) (stop : PrintStop) → RunsPart server old new [] (Some at) a c → FiringStops server old new at a c (error_of_print stop)
+firing_unshown server old new at a c prints.NoMemory h = h
+firing_unshown server old new at a c prints.Write h = h
+
+-- and so an event isn't taken
+due_so : (server : Server) (old new : ProxyState) (event : Event) (a b : Option (List ℕ)) (e : ResumeError) → FiringStops server old new (event_moment event) a b e → TurnStops server old new event a b e
+due_so server old new event a b errors.NoMemory h = inl h
+due_so server old new event a b (errors.Damaged line) h = absurd h
+due_so server old new event a b errors.Read h = absurd h
+due_so server old new event a b errors.Step h = record { due = h.due; refused = too_late new event h.refused }
+due_so server old new event a b errors.Journal h = absurd h
+due_so server old new event a b errors.Write h = inl h
+
+pub due_stops : (server : Server) (old new : ProxyState) (at : ℕ) (event : Event) (a b : Option (List ℕ)) (e : ResumeError) → at ≡ event_moment event → FiringStops server old new at a b e → TurnStops server old new event a b e
+due_stops server old new at event a b e is h = due_so server old new event a b e (subst (λ (m : ℕ). FiringStops server old new m a b e) is h)
 
 -- its own step was refused
-pub own_stops : (old new : ProxyState) (event : Event) (e : StepError) → new ≡ old → RefusesStep (refusal_of_event old event) e → StepStops (refusal_of_event new event) e
-own_stops old new event e same h = subst (λ (s : ProxyState). StepStops (refusal_of_event s event) e) (sym same) (step_stops (refusal_of_event old event) e h)
+own_refused : (server : Server) (old mid : ProxyState) (event : Event) (a b : Option (List ℕ)) (e : StepError) → RunsShown server old mid [] (Some (event_moment event)) a b → StepStops (refusal_of_event mid event) e → TurnStops server old mid event a b (error_of_step e)
+own_refused server old mid event a b step_errors.NoMemory h s = inl (part_of server old mid [] (Some (event_moment event)) a b h)
+own_refused server old mid event a b step_errors.MomentTooLarge h s = record { due = h; refused = s }
+own_refused server old mid event a b step_errors.Worn h s = record { due = h; refused = s }
+
+pub own_stops : (server : Server) (old mid new : ProxyState) (at : ℕ) (event : Event) (a b : Option (List ℕ)) (e : StepError) → new ≡ mid → at ≡ event_moment event → RunsShown server old mid [] (Some at) a b → RefusesStep (refusal_of_event mid event) e
+    → TurnStops server old new event a b (error_of_step e)
+own_stops server old mid new at event a b e same is h s =
+    subst (λ (x : ProxyState). TurnStops server old x event a b (error_of_step e)) (sym same)
+    (own_refused server old mid event a b e (shown_by server old mid at event a b is h) (step_stops (refusal_of_event mid event) e s))
+
+-- or wasn't shown
+pub own_unshown : (server : Server) (old new : ProxyState) (event : Event) (a c : Option (List ℕ)) (stop : PrintStop) → RunsPart server old new (event ∷ []) None a c → TurnStops server old new event a c (error_of_print stop)
+own_unshown server old new event a c prints.NoMemory h = inr h
+own_unshown server old new event a c prints.Write h = inr h
 
 -- ---- an event that comes next
 
@@ -63,36 +103,52 @@ next_bytes (Some xs) (Some ys) text h = (ys, h)
 is_next : (part rest : Reading) (m r : Option (List ℕ)) (event : Event) → GivesRecorded part rest m r event → IsNext (pending part m) event
 is_next part rest m r event g = record { text = g.given.text; says = g.recorded; begins = next_bytes (pending part m) (pending rest r) g.given.text g.given.consumes }
 
-pub step_refused : (F : Type 0) (server : Server) (old new : ProxyState) (part rest : Reading) (m r : Option (List ℕ)) (event : Event) (number : ℕ) (written : Option (Option (List ℕ))) (e : StepError) → GivesRecorded part rest m r event
-    → Runs server old new [] (Some (event_moment event)) → StepStops (refusal_of_event new event) e → ResumeStops server old new F (pending part m) number written (error_of_step e)
-step_refused F server old new part rest m r event number written step_errors.NoMemory given runs h = (Some (event_moment event), runs)
-step_refused F server old new part rest m r event number written step_errors.MomentTooLarge given runs h = record { event = event; next = is_next part rest m r event given; runs = runs; refused = h }
-step_refused F server old new part rest m r event number written step_errors.Worn given runs h = record { event = event; next = is_next part rest m r event given; runs = runs; refused = h }
+among : (server : Server) (old new : ProxyState) (part rest : Reading) (m r : Option (List ℕ)) (event : Event) (outs outs_then : Outputs) → GivesRecorded part rest m r event → StopsAround server old new event outs.shown outs_then.shown
+    → StopsAmong server old new (pending part m) outs outs_then
+among server old new part rest m r event outs outs_then given (inl h) = inl (record { until = Some (event_moment event); part = h })
+among server old new part rest m r event outs outs_then given (inr h) = inr (record { event = event; next = is_next part rest m r event given; part = h })
 
-pub step_told : (written : Option (Option (List ℕ))) (e : StepError) → JournalAt written written (error_of_step e)
-step_told written step_errors.NoMemory = refl
-step_told written step_errors.MomentTooLarge = refl
-step_told written step_errors.Worn = refl
+pub turn_refused : (F : Type 0) (server : Server) (old new : ProxyState) (part rest : Reading) (m r : Option (List ℕ)) (event : Event) (number : ℕ) (outs outs_then : Outputs) (e : ResumeError) → GivesRecorded part rest m r event
+    → TurnStops server old new event outs.shown outs_then.shown e → ResumeStops server old new F (pending part m) number outs outs_then e
+turn_refused F server old new part rest m r event number outs outs_then errors.NoMemory given h = among server old new part rest m r event outs outs_then given h
+turn_refused F server old new part rest m r event number outs outs_then (errors.Damaged line) given h = absurd h
+turn_refused F server old new part rest m r event number outs outs_then errors.Read given h = absurd h
+turn_refused F server old new part rest m r event number outs outs_then errors.Step given h = record { event = event; next = is_next part rest m r event given; runs = h.due.runs; shown = h.due.all; refused = h.refused }
+turn_refused F server old new part rest m r event number outs outs_then errors.Journal given h = absurd h
+turn_refused F server old new part rest m r event number outs outs_then errors.Write given h = among server old new part rest m r event outs outs_then given h
+
+pub turn_told : (server : Server) (old new : ProxyState) (event : Event) (a b : Option (List ℕ)) (written : Option (Option (List ℕ))) (e : ResumeError) → TurnStops server old new event a b e → JournalAt written written e
+turn_told server old new event a b written errors.NoMemory h = refl
+turn_told server old new event a b written (errors.Damaged line) h = absurd h
+turn_told server old new event a b written errors.Read h = absurd h
+turn_told server old new event a b written errors.Step h = refl
+turn_told server old new event a b written errors.Journal h = absurd h
+turn_told server old new event a b written errors.Write h = refl
 
 -- it was taken, and not told
-pub untold : (F : Type 0) (server : Server) (old new : ProxyState) (part rest : Reading) (m r : Option (List ℕ)) (event : Event) (number : ℕ) (written : Option (Option (List ℕ))) (e : ResumeError) → e ≡ errors.Journal
-    → GivesRecorded part rest m r event → Runs server old new (event ∷ []) None → written ≡ None → ResumeStops server old new F (pending part m) number written e
-untold F server old new part rest m r event number written e is given runs failed =
-    subst (λ (x : ResumeError). ResumeStops server old new F (pending part m) number written x) (sym is)
-    (record { event = event; next = is_next part rest m r event given; runs = runs; failed = failed })
+pub untold : (F : Type 0) (server : Server) (old new : ProxyState) (part rest : Reading) (m r : Option (List ℕ)) (event : Event) (number : ℕ) (outs outs_then : Outputs) (out : StepOut) (e : ResumeError) → e ≡ errors.Journal
+    → GivesRecorded part rest m r event → TakesOwn server old new event outs.shown outs_then.shown out → outs_then.written ≡ None → ResumeStops server old new F (pending part m) number outs outs_then e
+untold F server old new part rest m r event number outs outs_then out e is given takes failed =
+    subst (λ (x : ResumeError). ResumeStops server old new F (pending part m) number outs outs_then x) (sym is)
+    (record { event = event; next = is_next part rest m r event given; runs = takes.runs; shown = takes.all; failed = failed })
 
 pub untold_at : (old new : Option (Option (List ℕ))) (e : ResumeError) → e ≡ errors.Journal → new ≡ None → JournalAt old new e
 untold_at old new e is failed = subst (λ (x : ResumeError). JournalAt old new x) (sym is) failed
 
 -- ---- no event that comes next
 
-pub unread : (F : Type 0) (server : Server) (state : ProxyState) (number : ℕ) (script : Option (List ℕ)) (written : Option (Option (List ℕ))) (e : ResumeError) → UnreadStops F script number e
-    → ResumeStops server state state F script number written e
-unread F server state number script written errors.NoMemory h = (None, runs_nothing server state None)
-unread F server state number script written (errors.Damaged line) h = (refl, h.0, h.1)
-unread F server state number script written errors.Read h = (refl, h)
-unread F server state number script written errors.Step h = absurd h
-unread F server state number script written errors.Journal h = absurd h
+-- no time passed, and nothing was shown
+pub nothing_shown : (server : Server) (state : ProxyState) (outs : Outputs) → PassesTime server state state outs outs
+nothing_shown server state outs = record { until = None; part = record { runs = runs_nothing server state None; front = front_none outs.shown [] } }
+
+pub unread : (F : Type 0) (server : Server) (state : ProxyState) (number : ℕ) (script : Option (List ℕ)) (outs : Outputs) (e : ResumeError) → UnreadStops F script number e
+    → ResumeStops server state state F script number outs outs e
+unread F server state number script outs errors.NoMemory h = inl (nothing_shown server state outs)
+unread F server state number script outs (errors.Damaged line) h = (refl, h.0, h.1, refl)
+unread F server state number script outs errors.Read h = (refl, h, refl)
+unread F server state number script outs errors.Step h = absurd h
+unread F server state number script outs errors.Journal h = absurd h
+unread F server state number script outs errors.Write h = absurd h
 
 pub unread_told : (F : Type 0) (number : ℕ) (script : Option (List ℕ)) (written : Option (Option (List ℕ))) (e : ResumeError) → UnreadStops F script number e → JournalAt written written e
 unread_told F number script written errors.NoMemory h = refl
@@ -100,11 +156,4 @@ unread_told F number script written (errors.Damaged line) h = refl
 unread_told F number script written errors.Read h = refl
 unread_told F number script written errors.Step h = absurd h
 unread_told F number script written errors.Journal h = absurd h
-
--- why the reader stopped
-pub stopped_so : (F H : Type 0) (server : Server) (old new : ProxyState) (rest : Option (List ℕ)) (number : ℕ) (written : Option (Option (List ℕ))) (e : ResumeError) → (F → H) → ResumeStops server old new F rest number written e → ResumeStops server old new H rest number written e
-stopped_so F H server old new rest number written errors.NoMemory so h = h
-stopped_so F H server old new rest number written (errors.Damaged line) so h = h
-stopped_so F H server old new rest number written errors.Read so h = (h.0, so h.1)
-stopped_so F H server old new rest number written errors.Step so h = h
-stopped_so F H server old new rest number written errors.Journal so h = h
+unread_told F number script written errors.Write h = absurd h

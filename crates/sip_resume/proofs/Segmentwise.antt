@@ -2,7 +2,7 @@
 use Rattle.std.proofs.Common.{◌≡◌, inl, inr, ℕ, ◌<◌, ◌≤◌, Bool, true, Ok, Err, List, [], ◌∷◌, ◌++◌, Option, None, Some, refl, sym, ◌∙◌, subst, arith, append-nil}
 use Rattle.std.specs.Prelude.{IfNone, IfSome}
 use Rattle.std.specs.Io.KnownBytes.{IsAtEnd, Keeps}
-use Rattle.std.proofs.KnownBytes.{Consumes-nil, Consumes-trans}
+use Rattle.std.proofs.KnownBytes.{Appends-nil, Consumes-nil, Consumes-trans}
 use Rattle.sip_event.specs.declared.event.StepOut.{StepOut}
 use Rattle.sip_config_types.specs.declared.config.Config.{Config}
 use Rattle.sip_run.specs.engine.Engine.{Engine}
@@ -11,8 +11,8 @@ use Rattle.model_bounds.specs.state.declared.proxy_state.ProxyState.{ProxyState}
 use Rattle.model_bounds.specs.model.Run.{under}
 use Rattle.sip_replay_script.specs.Lines.{Reading, IsOver, left, pending}
 use Rattle.sip_replay_script.specs.Recorded.{IsDamagedRecord}
-use Rattle.sip_replay_script.specs.Segments.{Segment, SaysSegments}
-use Rattle.sip_replay_script.specs.Configurations.{IsCutConfiguration, IsDamagedConfiguration, GivesConfiguration, IsLongConfiguration}
+use Rattle.sip_segment_text.specs.Segments.{Segment, SaysSegments}
+use Rattle.sip_segment_text.specs.Configurations.{IsCutConfiguration, IsDamagedConfiguration, GivesConfiguration, IsLongConfiguration}
 use Rattle.sip_replay_script.proofs.Written.{keeps_consumes}
 use Rattle.sip_record.specs.Record.{Notes, NotesConfiguration, NotesSegments, GrewKnown}
 use Rattle.sip_record.proofs.Noting.{SegmentBegins as SegmentTextBegins}
@@ -21,6 +21,7 @@ use Rattle.sip_segments.specs.declared.stop.SegmentStop.TheVariants as stops
 use Rattle.sip_segments.specs.Stated.{States, StatesNone}
 use Rattle.sip_segments.specs.Stops.{NextIs, SegmentStops, StatesOther}
 use Rattle.sip_segments.specs.Takes.{TakesConfiguration}
+use Rattle.sip_resume.specs.Outputs.{Outputs, outputs_of}
 use Rattle.sip_resume.specs.Resumes.{EndsHere}
 use Rattle.sip_resume.specs.RecordErrors.{end_of, record_error_of}
 use Rattle.sip_resume.specs.Whole.{EndsWhole, IsDamagedWhole, RecordStops}
@@ -30,8 +31,7 @@ use Rattle.sip_resume.specs.declared.error.ResumeError.TheVariants as events
 use Rattle.sip_resume.specs.declared.record_error.RecordError.{RecordError}
 use Rattle.sip_resume.specs.declared.record_error.RecordError.TheVariants as errors
 use Rattle.sip_resume.proofs.Eventwise.{if_kept, noted_at, numbers_add}
-use Rattle.sip_resume.proofs.Refused.{next_bytes}
-use Rattle.sip_resume.proofs.Running.{runs_nothing}
+use Rattle.sip_resume.proofs.Refused.{next_bytes, nothing_shown}
 use Rattle.sip_resume.proofs.UnderRuns.{runs_none, runs_one}
 
 -- ---- where no configuration is taken
@@ -79,8 +79,8 @@ pub noted_none : (old : Option (Option (List ℕ))) → NotesSegments old old []
 noted_none None = tt
 noted_none (Some old) = known_nothing old
 
-abbrev pub segments_nothing : (server : Server) (state : ProxyState) (before : Option (List ℕ)) (lines : ℕ) (written : Option (Option (List ℕ))) → TakesSegments server server state state before before lines lines written written None
-segments_nothing server state before lines written = record {
+abbrev pub segments_nothing : (server : Server) (state : ProxyState) (before : Option (List ℕ)) (lines : ℕ) (outs : Outputs) → TakesSegments server server state state before before lines lines outs outs None
+segments_nothing server state before lines outs = record {
   segments = [];
   text = [];
   periods = [];
@@ -88,18 +88,20 @@ segments_nothing server state before lines written = record {
   consumes = Consumes-nil before;
   counted = omega arith;
   stated = tt;
+  frames = tt;
   runs = runs_none server state;
   last_is = refl;
   in_force = refl;
   is_under = refl;
-  noted = noted_none written;
+  shown = Appends-nil outs.shown;
+  noted = noted_none outs.written;
 }
 
-reaches_over : (server : Server) (state : ProxyState) (known : Option (List ℕ)) (part rest : Reading) (after : Option (List ℕ)) (written : Option (Option (List ℕ))) → IfSome known EndsWhole
-    → ReachesNext server server state state known part rest after written written part.number None true
-reaches_over server state known part rest after written ends = record {
+reaches_over : (server : Server) (state : ProxyState) (known : Option (List ℕ)) (part rest : Reading) (after : Option (List ℕ)) (outs : Outputs) → IfSome known EndsWhole
+    → ReachesNext server server state state known part rest after outs outs part.number None true
+reaches_over server state known part rest after outs ends = record {
   left_then = known;
-  takes = segments_nothing server state known part.number written;
+  takes = segments_nothing server state known part.number outs;
   over = λ e. ends;
   kept = λ e. absurd cc;
   no_event = λ e. absurd cc;
@@ -107,14 +109,14 @@ reaches_over server state known part rest after written ends = record {
   fewer = λ e. absurd cc;
 }
 
-pub reaches_end : (old new : Engine) (known : Option (List ℕ)) (part rest : Reading) (before after : Option (List ℕ)) (written : Option (Option (List ℕ))) (lines : ℕ) (last : Option StepOut) (is_over : Bool) → Keeps known (pending part before) → new ≡ old
-    → IfSome (pending part before) EndsWhole → lines ≡ part.number → last ≡ None → is_over ≡ true → ReachesNext old.server new.server old.state new.state known part rest after written written lines last is_over
-reaches_end old new known part rest before after written lines last is_over kept same ends number none over =
-    subst (λ (e : Engine). ReachesNext old.server e.server old.state e.state known part rest after written written lines last is_over) (sym same)
-    (subst (λ (n : ℕ). ReachesNext old.server old.server old.state old.state known part rest after written written n last is_over) (sym number)
-    (subst (λ (out : Option StepOut). ReachesNext old.server old.server old.state old.state known part rest after written written part.number out is_over) (sym none)
-    (subst (λ (b : Bool). ReachesNext old.server old.server old.state old.state known part rest after written written part.number None b) (sym over)
-    (reaches_over old.server old.state known part rest after written (if_kept EndsWhole known (pending part before) kept ends)))))
+pub reaches_end : (old new : Engine) (known : Option (List ℕ)) (part rest : Reading) (before after : Option (List ℕ)) (outs : Outputs) (lines : ℕ) (last : Option StepOut) (is_over : Bool) → Keeps known (pending part before) → new ≡ old
+    → IfSome (pending part before) EndsWhole → lines ≡ part.number → last ≡ None → is_over ≡ true → ReachesNext old.server new.server old.state new.state known part rest after outs outs lines last is_over
+reaches_end old new known part rest before after outs lines last is_over kept same ends number none over =
+    subst (λ (e : Engine). ReachesNext old.server e.server old.state e.state known part rest after outs outs lines last is_over) (sym same)
+    (subst (λ (n : ℕ). ReachesNext old.server old.server old.state old.state known part rest after outs outs n last is_over) (sym number)
+    (subst (λ (out : Option StepOut). ReachesNext old.server old.server old.state old.state known part rest after outs outs part.number out is_over) (sym none)
+    (subst (λ (b : Bool). ReachesNext old.server old.server old.state old.state known part rest after outs outs part.number None b) (sym over)
+    (reaches_over old.server old.state known part rest after outs (if_kept EndsWhole known (pending part before) kept ends)))))
 
 -- ---- why none begins
 
@@ -122,16 +124,17 @@ both_none : (rest : Option (List ℕ)) → IfSome rest IsDamagedRecord → IfSom
 both_none None h k = tt
 both_none (Some rest) h k = record { no_event = h; no_configuration = k }
 
-unbegun_stops : (server : Server) (state : ProxyState) (longest : ℕ) (F : Type 0) (rest : Option (List ℕ)) (lines : ℕ) (written : Option (Option (List ℕ))) (e : RecordError) → IfSome rest IsDamagedRecord → UnbegunStops server longest F rest lines e
-    → RecordStops server server state state longest F rest lines written e
-unbegun_stops server state longest F rest lines written errors.NoMemory none h = (refl, (None, runs_nothing server state None))
-unbegun_stops server state longest F rest lines written (errors.Damaged line) none h = record { in_force = refl; state = refl; why = both_none rest none h.0; at = h.1 }
-unbegun_stops server state longest F rest lines written errors.Read none h = (refl, refl, h)
-unbegun_stops server state longest F rest lines written errors.Step none h = absurd h
-unbegun_stops server state longest F rest lines written errors.Journal none h = absurd h
-unbegun_stops server state longest F rest lines written (errors.TooLong line) none h = record { in_force = refl; state = refl; why = h.0; at = h.1 }
-unbegun_stops server state longest F rest lines written (errors.NoConfiguration line why) none h = record { in_force = refl; state = refl; why = h.0; at = h.1 }
-unbegun_stops server state longest F rest lines written (errors.OtherFrame line key) none h = record { in_force = refl; state = refl; why = h.0; at = h.1 }
+unbegun_stops : (server : Server) (state : ProxyState) (longest : ℕ) (F : Type 0) (rest : Option (List ℕ)) (lines : ℕ) (outs : Outputs) (e : RecordError) → IfSome rest IsDamagedRecord → UnbegunStops server longest F rest lines e
+    → RecordStops server server state state longest F rest lines outs outs e
+unbegun_stops server state longest F rest lines outs errors.NoMemory none h = (refl, inl (nothing_shown server state outs))
+unbegun_stops server state longest F rest lines outs (errors.Damaged line) none h = record { in_force = refl; state = refl; shown = refl; why = both_none rest none h.0; at = h.1 }
+unbegun_stops server state longest F rest lines outs errors.Read none h = (refl, refl, h, refl)
+unbegun_stops server state longest F rest lines outs errors.Step none h = absurd h
+unbegun_stops server state longest F rest lines outs errors.Journal none h = absurd h
+unbegun_stops server state longest F rest lines outs (errors.TooLong line) none h = record { in_force = refl; state = refl; shown = refl; why = h.0; at = h.1 }
+unbegun_stops server state longest F rest lines outs (errors.NoConfiguration line why) none h = record { in_force = refl; state = refl; shown = refl; why = h.0; at = h.1 }
+unbegun_stops server state longest F rest lines outs (errors.OtherFrame line key) none h = record { in_force = refl; state = refl; shown = refl; why = h.0; at = h.1 }
+unbegun_stops server state longest F rest lines outs errors.Write none h = absurd h
 
 is_next_kept : (known script : Option (List ℕ)) (Is : List ℕ → Type 0) → Keeps known script → NextIs script Is → NextIs known Is
 is_next_kept known script Is kept h = record {
@@ -149,21 +152,22 @@ unbegun_kept server longest F known script lines errors.Journal kept h = absurd 
 unbegun_kept server longest F known script lines (errors.TooLong line) kept h = (if_kept (IsLongConfiguration longest) known script kept h.0, h.1)
 unbegun_kept server longest F known script lines (errors.NoConfiguration line why) kept h = (is_next_kept known script (λ bytes. StatesNone bytes why) kept h.0, h.1)
 unbegun_kept server longest F known script lines (errors.OtherFrame line key) kept h = (is_next_kept known script (λ bytes. StatesOther server bytes key) kept h.0, h.1)
+unbegun_kept server longest F known script lines errors.Write kept h = absurd h
 
-pub unbegun : (old new : Engine) (longest : ℕ) (F : Type 0) (known script : Option (List ℕ)) (lines : ℕ) (written : Option (Option (List ℕ))) (e : RecordError) → Keeps known script → new ≡ old → IfSome known IsDamagedRecord
-    → UnbegunStops old.server longest F script lines e → SegmentsStop old.server new.server old.state new.state longest F known lines written written e
-unbegun old new longest F known script lines written e kept same none h =
-    subst (λ (x : Engine). SegmentsStop old.server x.server old.state x.state longest F known lines written written e) (sym same)
+pub unbegun : (old new : Engine) (longest : ℕ) (F : Type 0) (known script : Option (List ℕ)) (lines : ℕ) (outs : Outputs) (e : RecordError) → Keeps known script → new ≡ old → IfSome known IsDamagedRecord
+    → UnbegunStops old.server longest F script lines e → SegmentsStop old.server new.server old.state new.state longest F known lines outs outs e
+unbegun old new longest F known script lines outs e kept same none h =
+    subst (λ (x : Engine). SegmentsStop old.server x.server old.state x.state longest F known lines outs outs e) (sym same)
     (record {
       rest = known;
       reached = old.state;
       in_force = old.server;
       lines_then = lines;
-      half = written;
+      half = outs;
       last = None;
-      takes = segments_nothing old.server old.state known lines written;
-      why = unbegun_stops old.server old.state longest F known lines written e none (unbegun_kept old.server longest F known script lines e kept h);
-      noted = noted_none written;
+      takes = segments_nothing old.server old.state known lines outs;
+      why = unbegun_stops old.server old.state longest F known lines outs e none (unbegun_kept old.server longest F known script lines e kept h);
+      noted = noted_none outs.written;
     })
 
 -- ---- a segment
@@ -176,10 +180,10 @@ SegmentNoted =
     (old mid new : Option (Option (List ℕ))) (segment : Segment) → NotesConfiguration old mid segment.configuration → Notes mid new segment.events → NotesSegments old new (segment ∷ [])
 
 -- of the server as it was before
-abbrev segment_under : SegmentSaid → SegmentNoted → (server in_force : Server) (config : Config) (old new : ProxyState) (known : Option (List ℕ)) (part half : Reading) (before middle rest : Option (List ℕ)) (written told whole : Option (Option (List ℕ))) (text : List ℕ) (lines : ℕ) (last : Option StepOut)
-    → Keeps known (pending part before) → GivesConfiguration part half before middle text → States text config → in_force ≡ record { config = config; word = server.word } → in_force ≡ under server config → NotesConfiguration written told text
-    → TakesEvents (under server config) old new (pending half middle) rest half.number lines told whole last → TakesSegments server in_force old new known rest part.number lines written whole last
-segment_under said noted server in_force config old new known part half before middle rest written told whole text lines last kept gives states is is_under configured h = record {
+abbrev segment_under : SegmentSaid → SegmentNoted → (server in_force : Server) (config : Config) (old new : ProxyState) (known : Option (List ℕ)) (part half : Reading) (before middle rest : Option (List ℕ)) (outs : Outputs) (told : Option (Option (List ℕ))) (whole : Outputs) (text : List ℕ) (lines : ℕ) (last : Option StepOut)
+    → Keeps known (pending part before) → GivesConfiguration part half before middle text → States text config → in_force ≡ record { config = config; word = server.word } → in_force ≡ under server config → NotesConfiguration outs.written told text
+    → TakesEvents (under server config) old new (pending half middle) rest half.number lines (outputs_of told outs.shown) whole last → TakesSegments server in_force old new known rest part.number lines outs whole last
+segment_under said noted server in_force config old new known part half before middle rest outs told whole text lines last kept gives states is is_under configured h = record {
   segments = record { configuration = text; events = h.events } ∷ [];
   text = gives.text ++ h.text;
   periods = record { config = config; events = h.events } ∷ [];
@@ -187,35 +191,37 @@ segment_under said noted server in_force config old new known part half before m
   consumes = Consumes-trans known (pending half middle) rest gives.text h.text (keeps_consumes known (pending part before) (pending half middle) gives.text kept gives.consumes) h.consumes;
   counted = numbers_add part.number half.number lines gives.text h.text gives.number h.counted;
   stated = (record { states = states; same = refl }, tt);
+  frames = (sym is ∙ is_under, tt);
   runs = runs_one server config old new h.events h.runs;
   last_is = h.last_is;
   in_force = is;
   is_under = is_under;
-  noted = noted written told whole (record { configuration = text; events = h.events }) configured h.noted;
+  shown = h.shown;
+  noted = noted outs.written told whole.written (record { configuration = text; events = h.events }) configured h.noted;
 }
 
 -- events that the changed server takes are taken by the server under that configuration
-events_under : (old mid : Engine) (config : Config) (new : ProxyState) (before rest : Option (List ℕ)) (lines lines_then : ℕ) (written written_then : Option (Option (List ℕ))) (last : Option StepOut) → mid.server ≡ under old.server config → mid.state ≡ old.state
-    → TakesEvents mid.server mid.state new before rest lines lines_then written written_then last → TakesEvents (under old.server config) old.state new before rest lines lines_then written written_then last
-events_under old mid config new before rest lines lines_then written written_then last is same h =
-    subst (λ (s : Server). TakesEvents s old.state new before rest lines lines_then written written_then last) is
-    (subst (λ (s : ProxyState). TakesEvents mid.server s new before rest lines lines_then written written_then last) same h)
+events_under : (old mid : Engine) (config : Config) (new : ProxyState) (before rest : Option (List ℕ)) (lines lines_then : ℕ) (outs outs_then : Outputs) (last : Option StepOut) → mid.server ≡ under old.server config → mid.state ≡ old.state
+    → TakesEvents mid.server mid.state new before rest lines lines_then outs outs_then last → TakesEvents (under old.server config) old.state new before rest lines lines_then outs outs_then last
+events_under old mid config new before rest lines lines_then outs outs_then last is same h =
+    subst (λ (s : Server). TakesEvents s old.state new before rest lines lines_then outs outs_then last) is
+    (subst (λ (s : ProxyState). TakesEvents mid.server s new before rest lines lines_then outs outs_then last) same h)
 
-segment_of : SegmentSaid → SegmentNoted → (old mid : Engine) (new : ProxyState) (known : Option (List ℕ)) (part half : Reading) (before middle rest : Option (List ℕ)) (written told whole : Option (Option (List ℕ))) (text : List ℕ) (lines : ℕ) (last : Option StepOut)
-    → Keeps known (pending part before) → TakesConfiguration old mid part half before middle text → NotesConfiguration written told text → TakesEvents mid.server mid.state new (pending half middle) rest half.number lines told whole last
-    → TakesSegments old.server mid.server old.state new known rest part.number lines written whole last
-segment_of said noted old mid new known part half before middle rest written told whole text lines last kept taken configured h =
-    segment_under said noted old.server mid.server taken.taken.config old.state new known part half before middle rest written told whole text lines last kept taken.gives taken.taken.states taken.taken.changes.server taken.taken.changes.is_under configured
-    (events_under old mid taken.taken.config new (pending half middle) rest half.number lines told whole last taken.taken.changes.is_under taken.taken.changes.state h)
+segment_of : SegmentSaid → SegmentNoted → (old mid : Engine) (new : ProxyState) (known : Option (List ℕ)) (part half : Reading) (before middle rest : Option (List ℕ)) (outs : Outputs) (told : Option (Option (List ℕ))) (whole : Outputs) (text : List ℕ) (lines : ℕ) (last : Option StepOut)
+    → Keeps known (pending part before) → TakesConfiguration old mid part half before middle text → NotesConfiguration outs.written told text → TakesEvents mid.server mid.state new (pending half middle) rest half.number lines (outputs_of told outs.shown) whole last
+    → TakesSegments old.server mid.server old.state new known rest part.number lines outs whole last
+segment_of said noted old mid new known part half before middle rest outs told whole text lines last kept taken configured h =
+    segment_under said noted old.server mid.server taken.taken.config old.state new known part half before middle rest outs told whole text lines last kept taken.gives taken.taken.states taken.taken.changes.server taken.taken.changes.is_under configured
+    (events_under old mid taken.taken.config new (pending half middle) rest half.number lines (outputs_of told outs.shown) whole last taken.taken.changes.is_under taken.taken.changes.state h)
 
-pub reaches_next : SegmentSaid → SegmentNoted → (old mid : Engine) (then_server : Server) (new : ProxyState) (known : Option (List ℕ)) (part half rest : Reading) (before middle after : Option (List ℕ)) (written told whole : Option (Option (List ℕ))) (text : List ℕ) (lines : ℕ)
-    (last : Option StepOut) (is_over : Bool) → Keeps known (pending part before) → then_server ≡ mid.server → TakesConfiguration old mid part half before middle text → NotesConfiguration written told text → ReachesEnd mid.server mid.state new half rest middle after told whole lines last is_over
-    → ReachesNext old.server then_server old.state new known part rest after written whole lines last is_over
-reaches_next said noted old mid then_server new known part half rest before middle after written told whole text lines last is_over kept same taken configured h =
-    subst (λ (s : Server). ReachesNext old.server s old.state new known part rest after written whole lines last is_over) (sym same)
+pub reaches_next : SegmentSaid → SegmentNoted → (old mid : Engine) (then_server : Server) (new : ProxyState) (known : Option (List ℕ)) (part half rest : Reading) (before middle after : Option (List ℕ)) (outs : Outputs) (told : Option (Option (List ℕ))) (whole : Outputs) (text : List ℕ) (lines : ℕ)
+    (last : Option StepOut) (is_over : Bool) → Keeps known (pending part before) → then_server ≡ mid.server → TakesConfiguration old mid part half before middle text → NotesConfiguration outs.written told text → ReachesEnd mid.server mid.state new half rest middle after (outputs_of told outs.shown) whole lines last is_over
+    → ReachesNext old.server then_server old.state new known part rest after outs whole lines last is_over
+reaches_next said noted old mid then_server new known part half rest before middle after outs told whole text lines last is_over kept same taken configured h =
+    subst (λ (s : Server). ReachesNext old.server s old.state new known part rest after outs whole lines last is_over) (sym same)
     (record {
       left_then = h.left_then;
-      takes = segment_of said noted old mid new known part half before middle h.left_then written told whole text lines last kept taken configured h.takes;
+      takes = segment_of said noted old mid new known part half before middle h.left_then outs told whole text lines last kept taken configured h.takes;
       over = λ e. events_end h.left_then (h.over e);
       kept = h.kept;
       no_event = h.no_event;
@@ -233,18 +239,18 @@ reaches_next said noted old mid then_server new known part half rest before midd
 -- ---- why no more of it is taken
 
 -- the journal failed behind the configuration
-pub untold : (old mid : Engine) (longest : ℕ) (F : Type 0) (known : Option (List ℕ)) (part half : Reading) (before middle : Option (List ℕ)) (written told : Option (Option (List ℕ))) (text : List ℕ) (e : RecordError) → Keeps known (pending part before) → e ≡ errors.Journal → told ≡ None
-    → TakesConfiguration old mid part half before middle text → SegmentsStop old.server mid.server old.state mid.state longest F known part.number written told e
-untold old mid longest F known part half before middle written told text e kept is failed taken =
-    subst (λ (x : RecordError). SegmentsStop old.server mid.server old.state mid.state longest F known part.number written told x) (sym is)
+pub untold : (old mid : Engine) (longest : ℕ) (F : Type 0) (known : Option (List ℕ)) (part half : Reading) (before middle : Option (List ℕ)) (outs : Outputs) (told : Option (Option (List ℕ))) (text : List ℕ) (e : RecordError) → Keeps known (pending part before) → e ≡ errors.Journal → told ≡ None
+    → TakesConfiguration old mid part half before middle text → SegmentsStop old.server mid.server old.state mid.state longest F known part.number outs (outputs_of told outs.shown) e
+untold old mid longest F known part half before middle outs told text e kept is failed taken =
+    subst (λ (x : RecordError). SegmentsStop old.server mid.server old.state mid.state longest F known part.number outs (outputs_of told outs.shown) x) (sym is)
     (record {
       rest = known;
       reached = old.state;
       in_force = old.server;
       lines_then = part.number;
-      half = written;
+      half = outs;
       last = None;
-      takes = segments_nothing old.server old.state known part.number written;
+      takes = segments_nothing old.server old.state known part.number outs;
       why = inr (record {
         config = taken.taken.config;
         next = record {
@@ -254,44 +260,46 @@ untold old mid longest F known part half before middle written told text e kept 
         };
         in_force = taken.taken.changes.server;
         state = taken.taken.changes.state;
+        shown = refl;
         failed = failed;
       });
-      noted = subst (λ (o : Option (Option (List ℕ))). NotesSegments written o []) (sym failed) tt;
+      noted = subst (λ (o : Option (Option (List ℕ))). NotesSegments outs.written o []) (sym failed) tt;
     })
 
 -- why an event isn't taken
-pub event_stops : (server : Server) (old new : ProxyState) (longest : ℕ) (F : Type 0) (rest : Option (List ℕ)) (lines : ℕ) (half whole : Option (Option (List ℕ))) (e : ResumeError) → NextStops server old new F rest lines half whole e
-    → RecordStops server server old new longest F rest lines whole (record_error_of e)
+pub event_stops : (server : Server) (old new : ProxyState) (longest : ℕ) (F : Type 0) (rest : Option (List ℕ)) (lines : ℕ) (half whole : Outputs) (e : ResumeError) → NextStops server old new F rest lines half whole e
+    → RecordStops server server old new longest F rest lines half whole (record_error_of e)
 event_stops server old new longest F rest lines half whole events.NoMemory h = (refl, h.why)
-event_stops server old new longest F rest lines half whole (events.Damaged line) h = record { in_force = refl; state = h.why.0; why = both_none rest h.why.1 h.none; at = h.why.2 }
-event_stops server old new longest F rest lines half whole events.Read h = (refl, h.why.0, h.why.1)
+event_stops server old new longest F rest lines half whole (events.Damaged line) h = record { in_force = refl; state = h.why.0; shown = h.why.3; why = both_none rest h.why.1 h.none; at = h.why.2 }
+event_stops server old new longest F rest lines half whole events.Read h = (refl, h.why.0, h.why.1, h.why.2)
 event_stops server old new longest F rest lines half whole events.Step h = (refl, h.why)
 event_stops server old new longest F rest lines half whole events.Journal h = inl (refl, h.why)
+event_stops server old new longest F rest lines half whole events.Write h = (refl, h.why)
 
-stopped_under : SegmentSaid → SegmentNoted → (server in_force : Server) (config : Config) (old reached new : ProxyState) (longest : ℕ) (F : Type 0) (known : Option (List ℕ)) (part half : Reading) (before middle rest : Option (List ℕ)) (written told so_far whole : Option (Option (List ℕ)))
+stopped_under : SegmentSaid → SegmentNoted → (server in_force : Server) (config : Config) (old reached new : ProxyState) (longest : ℕ) (F : Type 0) (known : Option (List ℕ)) (part half : Reading) (before middle rest : Option (List ℕ)) (outs : Outputs) (told : Option (Option (List ℕ))) (so_far whole : Outputs)
     (text : List ℕ) (lines : ℕ) (last : Option StepOut) (refusal : ResumeError) → Keeps known (pending part before) → GivesConfiguration part half before middle text → States text config → in_force ≡ record { config = config; word = server.word } → in_force ≡ under server config
-    → NotesConfiguration written told text → TakesEvents (under server config) old reached (pending half middle) rest half.number lines told so_far last → NextStops in_force reached new F rest lines so_far whole refusal
-    → SegmentsStop server in_force old new longest F known part.number written whole (record_error_of refusal)
-stopped_under said noted server in_force config old reached new longest F known part half before middle rest written told so_far whole text lines last refusal kept gives states is is_under configured h stops = record {
+    → NotesConfiguration outs.written told text → TakesEvents (under server config) old reached (pending half middle) rest half.number lines (outputs_of told outs.shown) so_far last → NextStops in_force reached new F rest lines so_far whole refusal
+    → SegmentsStop server in_force old new longest F known part.number outs whole (record_error_of refusal)
+stopped_under said noted server in_force config old reached new longest F known part half before middle rest outs told so_far whole text lines last refusal kept gives states is is_under configured h stops = record {
   rest = rest;
   reached = reached;
   in_force = in_force;
   lines_then = lines;
   half = so_far;
   last = last;
-  takes = segment_under said noted server in_force config old reached known part half before middle rest written told so_far text lines last kept gives states is is_under configured h;
+  takes = segment_under said noted server in_force config old reached known part half before middle rest outs told so_far text lines last kept gives states is is_under configured h;
   why = event_stops in_force reached new longest F rest lines so_far whole refusal stops;
-  noted = noted written told whole (record { configuration = text; events = h.events }) configured (noted_at told so_far whole h.events refusal h.noted stops.told);
+  noted = noted outs.written told whole.written (record { configuration = text; events = h.events }) configured (noted_at told so_far.written whole.written h.events refusal h.noted stops.told);
 }
 
-pub stopped_behind : SegmentSaid → SegmentNoted → (old mid : Engine) (then_server : Server) (new : ProxyState) (longest : ℕ) (F : Type 0) (known : Option (List ℕ)) (part half : Reading) (before middle : Option (List ℕ)) (written told whole : Option (Option (List ℕ))) (text : List ℕ)
-    (refusal : ResumeError) (e : RecordError) → Keeps known (pending part before) → e ≡ record_error_of refusal → then_server ≡ mid.server → TakesConfiguration old mid part half before middle text → NotesConfiguration written told text
-    → EventsStop mid.server mid.state new F (pending half middle) half.number told whole refusal → SegmentsStop old.server then_server old.state new longest F known part.number written whole e
-stopped_behind said noted old mid then_server new longest F known part half before middle written told whole text refusal e kept is same taken configured h =
-    subst (λ (x : RecordError). SegmentsStop old.server then_server old.state new longest F known part.number written whole x) (sym is)
-    (subst (λ (s : Server). SegmentsStop old.server s old.state new longest F known part.number written whole (record_error_of refusal)) (sym same)
-    (stopped_under said noted old.server mid.server taken.taken.config old.state h.reached new longest F known part half before middle h.rest written told h.half whole text h.lines_then h.last refusal kept taken.gives taken.taken.states taken.taken.changes.server
-    taken.taken.changes.is_under configured (events_under old mid taken.taken.config h.reached (pending half middle) h.rest half.number h.lines_then told h.half h.last taken.taken.changes.is_under taken.taken.changes.state h.takes) h.stops))
+pub stopped_behind : SegmentSaid → SegmentNoted → (old mid : Engine) (then_server : Server) (new : ProxyState) (longest : ℕ) (F : Type 0) (known : Option (List ℕ)) (part half : Reading) (before middle : Option (List ℕ)) (outs : Outputs) (told : Option (Option (List ℕ))) (whole : Outputs) (text : List ℕ)
+    (refusal : ResumeError) (e : RecordError) → Keeps known (pending part before) → e ≡ record_error_of refusal → then_server ≡ mid.server → TakesConfiguration old mid part half before middle text → NotesConfiguration outs.written told text
+    → EventsStop mid.server mid.state new F (pending half middle) half.number (outputs_of told outs.shown) whole refusal → SegmentsStop old.server then_server old.state new longest F known part.number outs whole e
+stopped_behind said noted old mid then_server new longest F known part half before middle outs told whole text refusal e kept is same taken configured h =
+    subst (λ (x : RecordError). SegmentsStop old.server then_server old.state new longest F known part.number outs whole x) (sym is)
+    (subst (λ (s : Server). SegmentsStop old.server s old.state new longest F known part.number outs whole (record_error_of refusal)) (sym same)
+    (stopped_under said noted old.server mid.server taken.taken.config old.state h.reached new longest F known part half before middle h.rest outs told h.half whole text h.lines_then h.last refusal kept taken.gives taken.taken.states taken.taken.changes.server
+    taken.taken.changes.is_under configured (events_under old mid taken.taken.config h.reached (pending half middle) h.rest half.number h.lines_then (outputs_of told outs.shown) h.half h.last taken.taken.changes.is_under taken.taken.changes.state h.takes) h.stops))
 
 -- what holds where no more comes
 pub none_waits : {P : Type 0} {X : Type 0} (found : Option X) → found ≡ None → IfNone found P → P

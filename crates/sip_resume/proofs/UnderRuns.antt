@@ -1,5 +1,6 @@
 -- Runs under one configuration after the other, joined.
 use Rattle.std.proofs.Common.{◌≡◌, ℕ, List, [], ◌∷◌, ◌++◌, Option, None, refl, sym, ◌∙◌, ap, subst, append_assoc, append-nil}
+use Rattle.std.specs.List.{AllByRecursion}
 use Rattle.sip_event.specs.declared.event.Event.{Event}
 use Rattle.sip_event.specs.declared.event.StepOut.{StepOut}
 use Rattle.sip_config_types.specs.declared.config.Config.{Config}
@@ -7,12 +8,12 @@ use Rattle.model_bounds.specs.state.declared.server.Server.{Server}
 use Rattle.model_bounds.specs.state.declared.proxy_state.ProxyState.{ProxyState}
 use Rattle.model_bounds.specs.model.Run.{Link, IsRun, under}
 use Rattle.model_bounds.specs.model.Periods.{IsNoStep, IsRunUnder, Period, until_of}
+use Rattle.model_bounds.proofs.SendingLists.{all_joined}
 use Rattle.sip_run.proofs.RunOn.{run_on}
-use Rattle.sip_replay_script.specs.Segments.{Segment}
+use Rattle.sip_segment_text.specs.Segments.{Segment}
 use Rattle.sip_resume.specs.Resumes.{Runs, newest_step}
-use Rattle.sip_resume.specs.Whole.{AreStated, RunsUnder, config_behind}
+use Rattle.sip_resume.specs.Whole.{AreStated, KeepsFrame, RunsUnder, config_behind}
 use Rattle.sip_resume.specs.Parts.{newest_of}
-use Rattle.sip_resume.proofs.Running.{prompt_both}
 
 -- ---- what time passes up to
 
@@ -53,7 +54,7 @@ runs_both server old mid new periods others h k = record {
   steps = h.steps ++ k.steps;
   history = k.history ++ h.history;
   is_run = run_both server old mid new periods others None h.steps k.steps h.history k.history h.is_run k.is_run;
-  prompt = prompt_both server h.history k.history k.prompt h.prompt;
+  prompt = all_joined _ k.history h.history k.prompt h.prompt;
 }
 
 -- ---- none, and one
@@ -106,6 +107,13 @@ stated_both [] others [] more h k = k
 stated_both [] others (period ∷ periods) more h k = absurd h
 stated_both (segment ∷ segments) others [] more h k = absurd h
 stated_both (segment ∷ segments) others (period ∷ periods) more h k = (h.0, stated_both segments others periods more h.1 k)
+
+-- of a server under another configuration, to others the same
+pub frames_of : (server mid : Server) (config : Config) (periods : List Period) → mid ≡ under server config → AllByRecursion (KeepsFrame mid) periods → AllByRecursion (KeepsFrame server) periods
+frames_of server mid config periods is h = frames_back server config periods (subst (λ (s : Server). AllByRecursion (KeepsFrame s) periods) is h) where
+  frames_back : (server : Server) (config : Config) (periods : List Period) → AllByRecursion (KeepsFrame (under server config)) periods → AllByRecursion (KeepsFrame server) periods
+  frames_back server config [] h = tt
+  frames_back server config (period ∷ periods) h = (h.0, frames_back server config periods h.1)
 
 pub config_both : (config : Config) (periods others : List Period) → config_behind config (periods ++ others) ≡ config_behind (config_behind config periods) others
 config_both config [] others = refl

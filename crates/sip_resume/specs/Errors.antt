@@ -2,10 +2,12 @@
 use Rattle.std.specs.Prelude.{ℕ, Result, Ok, Err}
 use Rattle.sip_run.specs.engine.declared.error.StepError.{StepError}
 use Rattle.sip_run.specs.engine.declared.error.StepError.TheVariants as steps
+use Rattle.sip_replay_script.specs.declared.print_stop.PrintStop.{PrintStop}
+use Rattle.sip_replay_script.specs.declared.print_stop.PrintStop.TheVariants as prints
 use Rattle.sip_replay_script.specs.declared.read_stop.ReadStop.{ReadStop}
 use Rattle.sip_replay_script.specs.declared.read_stop.ReadStop.TheVariants as stops
 use Rattle.sip_resume.specs.declared.error.ResumeError.{ResumeError}
-use Rattle.sip_resume.specs.declared.error.ResumeError.TheVariants.{NoMemory, Damaged, Read, Step, Journal}
+use Rattle.sip_resume.specs.declared.error.ResumeError.TheVariants.{NoMemory, Damaged, Read, Step, Journal, Write}
 
 -- this project's profile
 abbrev pub number_of_error : ResumeError → ℕ
@@ -14,12 +16,18 @@ number_of_error (Damaged line) = 2
 number_of_error Read = 3
 number_of_error Step = 4
 number_of_error Journal = 5
+number_of_error Write = 6
 
 -- what a refused step is to it
 abbrev pub error_of_step : StepError → ResumeError
 error_of_step steps.NoMemory = NoMemory
 error_of_step steps.MomentTooLarge = Step
 error_of_step steps.Worn = Step
+
+-- and a step that isn't shown
+abbrev pub error_of_print : PrintStop → ResumeError
+error_of_print prints.NoMemory = NoMemory
+error_of_print prints.Write = Write
 
 -- whether a record ends where no event is read that would begin with a line, or why it isn't taken further
 abbrev pub end_at : ReadStop → ℕ → Result (Unit {0}) ResumeError

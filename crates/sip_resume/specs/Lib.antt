@@ -1,4 +1,5 @@
 pub mod Errors
+pub mod Outputs
 pub mod RecordErrors
 pub mod Resumes
 pub mod Whole

@@ -1,6 +1,7 @@
 -- Parts of a record that a server takes: the events up to a configuration or to the end, and segments.
 use Rattle.std.specs.Prelude.{◌≡◌, ◌+◌, ◌≤◌, ◌<◌, ⊤, ℕ, Bool, true, false, List, Option, None, Some, IfSome, count_by}
 use Rattle.std.specs.Io.KnownBytes.{Consumes, Keeps}
+use Rattle.std.specs.List.{AllByRecursion}
 use Rattle.sip_event.specs.declared.event.Event.{Event}
 use Rattle.sip_event.specs.declared.event.StepOut.{StepOut}
 use Rattle.model_bounds.specs.state.declared.server.Server.{Server}
@@ -9,17 +10,18 @@ use Rattle.model_bounds.specs.model.Run.{under}
 use Rattle.model_bounds.specs.model.Periods.{Period}
 use Rattle.sip_replay_script.specs.Lines.{Reading, is_end, left, pending}
 use Rattle.sip_replay_script.specs.Recorded.{SaysRecord, IsDamagedRecord}
-use Rattle.sip_replay_script.specs.Segments.{SaysSegments, Segment}
-use Rattle.sip_replay_script.specs.Configurations.{IsDamagedConfiguration, IsLongConfiguration}
+use Rattle.sip_segment_text.specs.Segments.{SaysSegments, Segment}
+use Rattle.sip_segment_text.specs.Configurations.{IsDamagedConfiguration, IsLongConfiguration}
 use Rattle.sip_record.specs.Record.{Notes, NotesSegments}
 use Rattle.sip_segments.specs.Stated.{StatesNone}
 use Rattle.sip_segments.specs.Stops.{NextIs, StatesOther}
+use Rattle.sip_resume.specs.Outputs.{Outputs, Shows}
 use Rattle.sip_resume.specs.Resumes.{EndsHere, JournalAt, ResumeStops, Runs, TakesNext, newest_step}
-use Rattle.sip_resume.specs.Whole.{AreStated, EndsWhole, RecordStops, RunsUnder, config_behind}
+use Rattle.sip_resume.specs.Whole.{AreStated, EndsWhole, KeepsFrame, RecordStops, RunsUnder, config_behind}
 use Rattle.sip_resume.specs.declared.error.ResumeError.{ResumeError}
 use Rattle.sip_resume.specs.declared.error.ResumeError.TheVariants as errors
 use Rattle.sip_resume.specs.declared.record_error.RecordError.{RecordError}
-use Rattle.sip_resume.specs.declared.record_error.RecordError.TheVariants.{NoMemory, Damaged, Read, Step, Journal, TooLong, NoConfiguration, OtherFrame}
+use Rattle.sip_resume.specs.declared.record_error.RecordError.TheVariants.{NoMemory, Damaged, Read, Step, Journal, TooLong, NoConfiguration, OtherFrame, Write}
 use Rattle.sip_resume.specs.declared.parts.Next.{Next}
 use Rattle.sip_resume.specs.declared.parts.Next.TheVariants.{Taken, Configuration, End}
 
@@ -32,26 +34,26 @@ newest_of (Some out) before = Some out
 
 -- nothing was passed, and no event begins here
 pub record StaysHere (old new : ProxyState) (part rest : Reading) (before after : Option (List ℕ))
-    (written written_then : Option (Option (List ℕ))) : Type 0 where
+    (outs outs_then : Outputs) : Type 0 where
   pub state : new ≡ old
   pub kept : Keeps (pending part before) (pending rest after)
   pub number : rest.number ≡ part.number
   pub fewer : left rest ≤ left part
-  pub noted : written_then ≡ written
+  pub noted : outs_then ≡ outs
   pub no_event : IfSome (pending part before) IsDamagedRecord
 
 -- the record ends here
-pub record EndsAt (old new : ProxyState) (part : Reading) (before : Option (List ℕ)) (written written_then : Option (Option (List ℕ))) : Type 0 where
+pub record EndsAt (old new : ProxyState) (part : Reading) (before : Option (List ℕ)) (outs outs_then : Outputs) : Type 0 where
   pub state : new ≡ old
   pub ends : IfSome (pending part before) EndsHere
-  pub noted : written_then ≡ written
+  pub noted : outs_then ≡ outs
 
 -- what became of the next event
 abbrev pub GoesTo : Server → ProxyState → ProxyState → Reading → Reading → Option (List ℕ) → Option (List ℕ)
-    → Option (Option (List ℕ)) → Option (Option (List ℕ)) → Next → Type 0
-GoesTo server old new part rest before after written written_then (Taken out) = TakesNext server old new part rest before after written written_then out
-GoesTo server old new part rest before after written written_then Configuration = StaysHere old new part rest before after written written_then
-GoesTo server old new part rest before after written written_then End = EndsAt old new part before written written_then
+    → Outputs → Outputs → Next → Type 0
+GoesTo server old new part rest before after outs outs_then (Taken out) = TakesNext server old new part rest before after outs outs_then out
+GoesTo server old new part rest before after outs outs_then Configuration = StaysHere old new part rest before after outs outs_then
+GoesTo server old new part rest before after outs outs_then End = EndsAt old new part before outs outs_then
 
 -- where what is left is damaged, it says no configuration either
 abbrev pub SaysNoneAt : Option (List ℕ) → ResumeError → Type 0
@@ -60,19 +62,20 @@ SaysNoneAt rest (errors.Damaged line) = IfSome rest IsDamagedConfiguration
 SaysNoneAt rest errors.Read = ⊤
 SaysNoneAt rest errors.Step = ⊤
 SaysNoneAt rest errors.Journal = ⊤
+SaysNoneAt rest errors.Write = ⊤
 
 -- why it isn't taken
 pub record NextStops (server : Server) (old new : ProxyState) (spent : Type 0) (rest : Option (List ℕ)) (lines : ℕ)
-    (written written_then : Option (Option (List ℕ))) (e : ResumeError) : Type 0 where
-  pub why : ResumeStops server old new spent rest lines written_then e
-  pub told : JournalAt written written_then e
+    (outs outs_then : Outputs) (e : ResumeError) : Type 0 where
+  pub why : ResumeStops server old new spent rest lines outs outs_then e
+  pub told : JournalAt outs.written outs_then.written e
   pub none : SaysNoneAt rest e
 
 -- ---- events
 
--- events were taken that come next in a record, and told to the journal; so many lines were given by then
+-- events were taken that come next in a record, their steps were shown, and they were told to the journal; so many lines were given by then
 pub record TakesEvents (server : Server) (old new : ProxyState) (before rest : Option (List ℕ)) (lines lines_then : ℕ)
-    (written written_then : Option (Option (List ℕ))) (last : Option StepOut) : Type 0 where
+    (outs outs_then : Outputs) (last : Option StepOut) : Type 0 where
   pub events : List Event
   pub text : List ℕ
   pub says : SaysRecord events text
@@ -80,13 +83,14 @@ pub record TakesEvents (server : Server) (old new : ProxyState) (before rest : O
   pub counted : lines_then ≡ lines + count_by is_end text
   pub runs : Runs server old new events None
   pub last_is : newest_step runs.history ≡ last
-  pub noted : Notes written written_then events
+  pub shown : Shows outs.shown outs_then.shown runs.steps
+  pub noted : Notes outs.written outs_then.written events
 
 -- up to the end of the record, or to where no event begins
 pub record ReachesEnd (server : Server) (old new : ProxyState) (part rest : Reading) (before after : Option (List ℕ))
-    (written written_then : Option (Option (List ℕ))) (lines : ℕ) (last : Option StepOut) (is_over : Bool) : Type 0 where
+    (outs outs_then : Outputs) (lines : ℕ) (last : Option StepOut) (is_over : Bool) : Type 0 where
   pub left_then : Option (List ℕ)
-  pub takes : TakesEvents server old new (pending part before) left_then part.number lines written written_then last
+  pub takes : TakesEvents server old new (pending part before) left_then part.number lines outs outs_then last
   pub over : is_over ≡ true → IfSome left_then EndsHere
   pub kept : is_over ≡ false → Keeps left_then (pending rest after)
   pub no_event : is_over ≡ false → IfSome left_then IsDamagedRecord
@@ -95,20 +99,20 @@ pub record ReachesEnd (server : Server) (old new : ProxyState) (part rest : Read
 
 -- why no more of them are taken
 pub record EventsStop (server : Server) (old new : ProxyState) (spent : Type 0) (before : Option (List ℕ)) (lines : ℕ)
-    (written written_then : Option (Option (List ℕ))) (e : ResumeError) : Type 0 where
+    (outs outs_then : Outputs) (e : ResumeError) : Type 0 where
   pub rest : Option (List ℕ)
   pub reached : ProxyState
   pub lines_then : ℕ
-  pub half : Option (Option (List ℕ))
+  pub half : Outputs
   pub last : Option StepOut
-  pub takes : TakesEvents server old reached before rest lines lines_then written half last
-  pub stops : NextStops server reached new spent rest lines_then half written_then e
+  pub takes : TakesEvents server old reached before rest lines lines_then outs half last
+  pub stops : NextStops server reached new spent rest lines_then half outs_then e
 
 -- ---- segments
 
--- segments were taken that come next in a record, each under its configuration, and told to the journal
+-- segments were taken that come next in a record, each under its configuration, their steps were shown, and they were told to the journal
 pub record TakesSegments (server server_then : Server) (old new : ProxyState) (before rest : Option (List ℕ)) (lines lines_then : ℕ)
-    (written written_then : Option (Option (List ℕ))) (last : Option StepOut) : Type 0 where
+    (outs outs_then : Outputs) (last : Option StepOut) : Type 0 where
   pub segments : List Segment
   pub text : List ℕ
   pub periods : List Period
@@ -116,17 +120,19 @@ pub record TakesSegments (server server_then : Server) (old new : ProxyState) (b
   pub consumes : Consumes before rest text
   pub counted : lines_then ≡ lines + count_by is_end text
   pub stated : AreStated segments periods
+  pub frames : AllByRecursion (KeepsFrame server) periods
   pub runs : RunsUnder server old new periods
   pub last_is : newest_step runs.history ≡ last
   pub in_force : server_then ≡ record { config = config_behind server.config periods; word = server.word }
   pub is_under : server_then ≡ under server (config_behind server.config periods)
-  pub noted : NotesSegments written written_then segments
+  pub shown : Shows outs.shown outs_then.shown runs.steps
+  pub noted : NotesSegments outs.written outs_then.written segments
 
 -- up to the end of the record, or to where no event begins
 pub record ReachesNext (server server_then : Server) (old new : ProxyState) (before : Option (List ℕ)) (part rest : Reading) (after : Option (List ℕ))
-    (written written_then : Option (Option (List ℕ))) (lines : ℕ) (last : Option StepOut) (is_over : Bool) : Type 0 where
+    (outs outs_then : Outputs) (lines : ℕ) (last : Option StepOut) (is_over : Bool) : Type 0 where
   pub left_then : Option (List ℕ)
-  pub takes : TakesSegments server server_then old new before left_then part.number lines written written_then last
+  pub takes : TakesSegments server server_then old new before left_then part.number lines outs outs_then last
   pub over : is_over ≡ true → IfSome left_then EndsWhole
   pub kept : is_over ≡ false → Keeps left_then (pending rest after)
   pub no_event : is_over ≡ false → IfSome left_then IsDamagedRecord
@@ -135,16 +141,16 @@ pub record ReachesNext (server server_then : Server) (old new : ProxyState) (bef
 
 -- why no more of them are taken
 pub record SegmentsStop (server server_then : Server) (old new : ProxyState) (longest : ℕ) (spent : Type 0) (before : Option (List ℕ)) (lines : ℕ)
-    (written written_then : Option (Option (List ℕ))) (e : RecordError) : Type 0 where
+    (outs outs_then : Outputs) (e : RecordError) : Type 0 where
   pub rest : Option (List ℕ)
   pub reached : ProxyState
   pub in_force : Server
   pub lines_then : ℕ
-  pub half : Option (Option (List ℕ))
+  pub half : Outputs
   pub last : Option StepOut
-  pub takes : TakesSegments server in_force old reached before rest lines lines_then written half last
-  pub why : RecordStops in_force server_then reached new longest spent rest lines_then written_then e
-  pub noted : NotesSegments written written_then takes.segments
+  pub takes : TakesSegments server in_force old reached before rest lines lines_then outs half last
+  pub why : RecordStops in_force server_then reached new longest spent rest lines_then half outs_then e
+  pub noted : NotesSegments outs.written outs_then.written takes.segments
 
 -- why no segment begins here, of which the server is as it was: the record ends neither
 abbrev pub UnbegunStops : Server → ℕ → Type 0 → Option (List ℕ) → ℕ → RecordError → Type 0
@@ -156,3 +162,4 @@ UnbegunStops server longest spent rest lines Journal = ⊥
 UnbegunStops server longest spent rest lines (TooLong line) = IfSome rest (IsLongConfiguration longest) × (line ≡ lines + 1)
 UnbegunStops server longest spent rest lines (NoConfiguration line e) = NextIs rest (λ bytes. StatesNone bytes e) × (line ≡ lines + 1)
 UnbegunStops server longest spent rest lines (OtherFrame line key) = NextIs rest (λ bytes. StatesOther server bytes key) × (line ≡ lines + 1)
+UnbegunStops server longest spent rest lines Write = ⊥

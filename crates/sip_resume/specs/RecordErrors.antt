@@ -5,7 +5,7 @@ use Rattle.sip_segments.specs.declared.stop.SegmentStop.TheVariants as stops
 use Rattle.sip_resume.specs.declared.error.ResumeError.{ResumeError}
 use Rattle.sip_resume.specs.declared.error.ResumeError.TheVariants as events
 use Rattle.sip_resume.specs.declared.record_error.RecordError.{RecordError}
-use Rattle.sip_resume.specs.declared.record_error.RecordError.TheVariants.{NoMemory, Damaged, Read, Step, Journal, TooLong, NoConfiguration, OtherFrame}
+use Rattle.sip_resume.specs.declared.record_error.RecordError.TheVariants.{NoMemory, Damaged, Read, Step, Journal, TooLong, NoConfiguration, OtherFrame, Write}
 
 -- this project's profile
 abbrev pub number_of_error : RecordError → ℕ
@@ -17,6 +17,7 @@ number_of_error Journal = 5
 number_of_error (TooLong line) = 6
 number_of_error (NoConfiguration line e) = 7
 number_of_error (OtherFrame line key) = 8
+number_of_error Write = 9
 
 -- where events are refused
 abbrev pub record_error_of : ResumeError → RecordError
@@ -25,6 +26,7 @@ record_error_of (events.Damaged line) = Damaged line
 record_error_of events.Read = Read
 record_error_of events.Step = Step
 record_error_of events.Journal = Journal
+record_error_of events.Write = Write
 
 -- whether a record ends where no configuration is taken, or why it isn't taken further
 abbrev pub end_of : SegmentStop → Result (Unit {0}) RecordError

@@ -11,12 +11,14 @@ use Rattle.model_bounds.specs.Bounds.{IsBounded}
 use Rattle.model_ties.specs.Ties.{ArePrompt}
 use Rattle.sip_run.specs.engine.declared.error.StepError.{StepError}
 use Rattle.sip_run.specs.engine.declared.error.StepError.TheVariants as step_errors
+use Rattle.sip_run.specs.engine.StepError.{refusal_at}
 use Rattle.sip_run.specs.Refusals.{refusal_of_event}
 use Rattle.sip_replay_script.specs.Lines.{Reading, is_end}
 use Rattle.sip_replay_script.specs.Recorded.{SaysRecorded, SaysRecord, GivesRecorded, IsCutRecord, IsDamagedRecord}
 use Rattle.sip_record.specs.Record.{Notes}
+use Rattle.sip_resume.specs.Outputs.{Outputs, Shows, ShowsFront}
 use Rattle.sip_resume.specs.declared.error.ResumeError.{ResumeError}
-use Rattle.sip_resume.specs.declared.error.ResumeError.TheVariants.{NoMemory, Damaged, Read, Step, Journal}
+use Rattle.sip_resume.specs.declared.error.ResumeError.TheVariants.{NoMemory, Damaged, Read, Step, Journal, Write}
 
 -- these events have a run from one state to another, in which time passes only where something that is due happens, and all that is due by
 -- the moment of an event happens before it
@@ -57,47 +59,55 @@ pub record IsNext (rest : Option (List ℕ)) (event : Event) : Type 0 where
   pub says : SaysRecorded text event
   pub begins : IfSome rest (λ bytes. (further : List ℕ) × (bytes ≡ text ++ further))
 
+-- events have such a run, and a front of what is printed of its steps was shown
+pub record RunsPart (server : Server) (old new : ProxyState) (events : List Event) (until : Option ℕ) (shown shown_then : Option (List ℕ)) : Type 0 where
+  pub runs : Runs server old new events until
+  pub front : ShowsFront shown shown_then runs.steps
+
 -- time passed, and no event was taken
-abbrev pub PassesTime : Server → ProxyState → ProxyState → Type 0
-PassesTime server old new = (until : Option ℕ) × Runs server old new [] until
+pub record PassesTime (server : Server) (old new : ProxyState) (outs outs_then : Outputs) : Type 0 where
+  pub until : Option ℕ
+  pub part : RunsPart server old new [] until outs.shown outs_then.shown
+
+-- the event that comes next was taken, and its steps weren't all shown
+pub record TakesUnshown (server : Server) (old new : ProxyState) (rest : Option (List ℕ)) (outs outs_then : Outputs) : Type 0 where
+  pub event : Event
+  pub next : IsNext rest event
+  pub part : RunsPart server old new (event ∷ []) None outs.shown outs_then.shown
+
+-- it stopped as time passed, or where the steps of the event that comes next were shown
+abbrev pub StopsAmong : Server → ProxyState → ProxyState → Option (List ℕ) → Outputs → Outputs → Type 0
+StopsAmong server old new rest outs outs_then = PassesTime server old new outs outs_then ⊎ TakesUnshown server old new rest outs outs_then
 
 -- An event comes next, time passed up to its moment, and the server refuses its step then. A moment that is too large for what is due
 -- is so for the event, too.
-pub record RefusesNext (server : Server) (old new : ProxyState) (rest : Option (List ℕ)) : Type 0 where
+pub record RefusesNext (server : Server) (old new : ProxyState) (rest : Option (List ℕ)) (outs outs_then : Outputs) : Type 0 where
   pub event : Event
   pub next : IsNext rest event
   pub runs : Runs server old new [] (Some (event_moment event))
+  pub shown : Shows outs.shown outs_then.shown runs.steps
   pub refused : IsSome (refusal_of_event new event)
 
--- the event that comes next was taken, and the journal wasn't told it, since it failed
-pub record TakesUntold (server : Server) (old new : ProxyState) (rest : Option (List ℕ)) (written : Option (Option (List ℕ))) : Type 0 where
+-- the event that comes next was taken, its steps were shown, and the journal wasn't told it, since it failed
+pub record TakesUntold (server : Server) (old new : ProxyState) (rest : Option (List ℕ)) (outs outs_then : Outputs) : Type 0 where
   pub event : Event
   pub next : IsNext rest event
   pub runs : Runs server old new (event ∷ []) None
-  pub failed : written ≡ None
+  pub shown : Shows outs.shown outs_then.shown runs.steps
+  pub failed : outs_then.written ≡ None
 
 -- Why an event isn't taken of what is still to come of a record, behind so many lines, and where the server stands then: memory ran
--- out, wherever it was as time passed; or it is as it was, since what is left is damaged from the next line on (it begins with no text
--- that says an event as a record does, and is no front of one), or the reader stopped; or the server refuses the step; or the journal failed behind it.
-abbrev pub ResumeStops : Server → ProxyState → ProxyState → Type 0 → Option (List ℕ) → ℕ → Option (Option (List ℕ)) → ResumeError → Type 0
-ResumeStops server old new reader_stopped rest lines written NoMemory = PassesTime server old new
-ResumeStops server old new reader_stopped rest lines written (Damaged line) = (new ≡ old) × IfSome rest IsDamagedRecord × (line ≡ lines + 1)
-ResumeStops server old new reader_stopped rest lines written Read = (new ≡ old) × reader_stopped
-ResumeStops server old new reader_stopped rest lines written Step = RefusesNext server old new rest
-ResumeStops server old new reader_stopped rest lines written Journal = TakesUntold server old new rest written
-
--- It was refused behind some of its events, by which the server had come to a state; the journal was told them, unless it has failed.
-pub record IsUnresumed (server : Server) (old new : ProxyState) (reader_stopped : Type 0) (record_bytes : Option (List ℕ))
-    (written written_then : Option (Option (List ℕ))) (e : ResumeError) : Type 0 where
-  pub text : List ℕ
-  pub events : List Event
-  pub rest : Option (List ℕ)
-  pub reached : ProxyState
-  pub says : SaysRecord events text
-  pub whole : IfSome record_bytes (λ bytes. (further : List ℕ) × (rest ≡ Some further) × (bytes ≡ text ++ further))
-  pub runs : Runs server old reached events None
-  pub noted : Notes written written_then events
-  pub why : ResumeStops server reached new reader_stopped rest (count_by is_end text) written_then e
+-- out, wherever it was, or what steps are shown to stopped; or it is as it was, since what is left is damaged from the next line on (it
+-- begins with no text that says an event as a record does, and is no front of one), or the reader stopped; or the server refuses the step;
+-- or the journal failed behind it.
+abbrev pub ResumeStops : Server → ProxyState → ProxyState → Type 0 → Option (List ℕ) → ℕ → Outputs → Outputs → ResumeError → Type 0
+ResumeStops server old new spent rest lines outs outs_then NoMemory = StopsAmong server old new rest outs outs_then
+ResumeStops server old new spent rest lines outs outs_then (Damaged line) =
+    (new ≡ old) × IfSome rest IsDamagedRecord × (line ≡ lines + 1) × (outs_then.shown ≡ outs.shown)
+ResumeStops server old new spent rest lines outs outs_then Read = (new ≡ old) × spent × (outs_then.shown ≡ outs.shown)
+ResumeStops server old new spent rest lines outs outs_then Step = RefusesNext server old new rest outs outs_then
+ResumeStops server old new spent rest lines outs outs_then Journal = TakesUntold server old new rest outs outs_then
+ResumeStops server old new spent rest lines outs outs_then Write = StopsAmong server old new rest outs outs_then
 
 -- ---- a run goes on
 
@@ -111,18 +121,24 @@ pub record IsOneRun (server : Server) (first : ℕ) (events more : List Event) (
 
 -- ---- inside
 
--- an event was taken, and that is its own step
-pub record TakesOwn (server : Server) (old new : ProxyState) (event : Event) (out : StepOut) : Type 0 where
+-- events have such a run, and what is printed of its steps was shown
+pub record RunsShown (server : Server) (old new : ProxyState) (events : List Event) (until : Option ℕ) (shown shown_then : Option (List ℕ)) : Type 0 where
+  pub runs : Runs server old new events until
+  pub all : Shows shown shown_then runs.steps
+
+-- an event was taken, that is its own step, and its steps were shown
+pub record TakesOwn (server : Server) (old new : ProxyState) (event : Event) (shown shown_then : Option (List ℕ)) (out : StepOut) : Type 0 where
   pub runs : Runs server old new (event ∷ []) None
   pub last : newest_step runs.history ≡ Some out
+  pub all : Shows shown shown_then runs.steps
 
--- the next event of the record was taken, and told to the journal
-pub record TakesNext (server : Server) (old new : ProxyState) (part rest : Reading) (middle after : Option (List ℕ))
-    (written written_then : Option (Option (List ℕ))) (out : StepOut) : Type 0 where
+-- the next event of the record was taken, its steps were shown, and it was told to the journal
+pub record TakesNext (server : Server) (old new : ProxyState) (part rest : Reading) (middle after : Option (List ℕ)) (outs outs_then : Outputs)
+    (out : StepOut) : Type 0 where
   pub event : Event
   pub gives : GivesRecorded part rest middle after event
-  pub takes : TakesOwn server old new event out
-  pub noted : Notes written written_then (event ∷ [])
+  pub takes : TakesOwn server old new event outs.shown outs_then.shown out
+  pub noted : Notes outs.written outs_then.written (event ∷ [])
 
 -- a step is refused for want of memory, or as the server says
 abbrev pub StepStops : Option StepError → StepError → Type 0
@@ -130,13 +146,43 @@ StepStops refusal step_errors.NoMemory = ⊤
 StepStops refusal step_errors.MomentTooLarge = IsSome refusal
 StepStops refusal step_errors.Worn = IsSome refusal
 
+-- what is due by a moment was shown as far as it happened, and the next step is refused
+pub record RefusesDue (server : Server) (old new : ProxyState) (until : Option ℕ) (shown shown_then : Option (List ℕ)) (refusal : Option StepError) : Type 0 where
+  pub due : RunsShown server old new [] until shown shown_then
+  pub refused : IsSome refusal
+
+-- why what is due by a moment didn't all happen
+abbrev pub FiringStops : Server → ProxyState → ProxyState → ℕ → Option (List ℕ) → Option (List ℕ) → ResumeError → Type 0
+FiringStops server old new at shown shown_then NoMemory = RunsPart server old new [] (Some at) shown shown_then
+FiringStops server old new at shown shown_then (Damaged line) = ⊥
+FiringStops server old new at shown shown_then Read = ⊥
+FiringStops server old new at shown shown_then Step = RefusesDue server old new (Some at) shown shown_then (refusal_at at)
+FiringStops server old new at shown shown_then Journal = ⊥
+FiringStops server old new at shown shown_then Write = RunsPart server old new [] (Some at) shown shown_then
+
+-- it stopped before an event, or at it
+abbrev pub StopsAround : Server → ProxyState → ProxyState → Event → Option (List ℕ) → Option (List ℕ) → Type 0
+StopsAround server old new event shown shown_then =
+    RunsPart server old new [] (Some (event_moment event)) shown shown_then ⊎ RunsPart server old new (event ∷ []) None shown shown_then
+
+-- why an event that was read isn't taken
+abbrev pub TurnStops : Server → ProxyState → ProxyState → Event → Option (List ℕ) → Option (List ℕ) → ResumeError → Type 0
+TurnStops server old new event shown shown_then NoMemory = StopsAround server old new event shown shown_then
+TurnStops server old new event shown shown_then (Damaged line) = ⊥
+TurnStops server old new event shown shown_then Read = ⊥
+TurnStops server old new event shown shown_then Step =
+    RefusesDue server old new (Some (event_moment event)) shown shown_then (refusal_of_event new event)
+TurnStops server old new event shown shown_then Journal = ⊥
+TurnStops server old new event shown shown_then Write = StopsAround server old new event shown shown_then
+
 -- why no event is read behind so many lines
 abbrev pub UnreadStops : Type 0 → Option (List ℕ) → ℕ → ResumeError → Type 0
-UnreadStops reader_stopped rest lines NoMemory = ⊤
-UnreadStops reader_stopped rest lines (Damaged line) = IfSome rest IsDamagedRecord × (line ≡ lines + 1)
-UnreadStops reader_stopped rest lines Read = reader_stopped
-UnreadStops reader_stopped rest lines Step = ⊥
-UnreadStops reader_stopped rest lines Journal = ⊥
+UnreadStops spent rest lines NoMemory = ⊤
+UnreadStops spent rest lines (Damaged line) = IfSome rest IsDamagedRecord × (line ≡ lines + 1)
+UnreadStops spent rest lines Read = spent
+UnreadStops spent rest lines Step = ⊥
+UnreadStops spent rest lines Journal = ⊥
+UnreadStops spent rest lines Write = ⊥
 
 -- where an event isn't taken, the journal is as it was, or has failed
 abbrev pub JournalAt : Option (Option (List ℕ)) → Option (Option (List ℕ)) → ResumeError → Type 0
@@ -145,3 +191,4 @@ JournalAt old new (Damaged line) = new ≡ old
 JournalAt old new Read = new ≡ old
 JournalAt old new Step = new ≡ old
 JournalAt old new Journal = new ≡ None
+JournalAt old new Write = new ≡ old

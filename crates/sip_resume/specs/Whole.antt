@@ -1,26 +1,28 @@
 -- A server that takes a whole record again: events, and the configurations that came into force between them.
 use Rattle.std.specs.Prelude.{◌≡◌, ◌⊎◌, ◌+◌, ⊤, ℕ, List, [], ◌∷◌, ◌++◌, count_by, Option, None, Some, IfSome}
+use Rattle.std.specs.List.{AllByRecursion}
 use Rattle.sip_event.specs.declared.event.Event.{Event}
 use Rattle.sip_event.specs.declared.event.StepOut.{StepOut}
 use Rattle.sip_config_types.specs.declared.config.Config.{Config}
 use Rattle.model_bounds.specs.state.declared.server.Server.{Server}
 use Rattle.model_bounds.specs.state.declared.proxy_state.ProxyState.{ProxyState}
 use Rattle.model_bounds.specs.state.State.{first_state}
-use Rattle.model_bounds.specs.model.Run.{Link}
+use Rattle.model_bounds.specs.model.Run.{Link, under}
 use Rattle.model_bounds.specs.model.Periods.{IsRunUnder, Period}
 use Rattle.model_bounds.specs.model.Access.{Access}
 use Rattle.model_bounds.specs.Bounds.{IsBounded}
 use Rattle.model_ties.specs.Ties.{ArePrompt}
 use Rattle.sip_replay_script.specs.Lines.{is_end}
 use Rattle.sip_replay_script.specs.Recorded.{IsDamagedRecord}
-use Rattle.sip_replay_script.specs.Segments.{SaysWhole, Segment}
-use Rattle.sip_replay_script.specs.Configurations.{IsCutConfiguration, IsDamagedConfiguration, IsLongConfiguration}
+use Rattle.sip_segment_text.specs.Segments.{SaysWhole, Segment}
+use Rattle.sip_segment_text.specs.Configurations.{IsCutConfiguration, IsDamagedConfiguration, IsLongConfiguration}
 use Rattle.sip_record.specs.Record.{Notes, NotesSegments}
 use Rattle.sip_segments.specs.Stated.{States, StatesNone}
 use Rattle.sip_segments.specs.Stops.{NextIs, StatesOther}
-use Rattle.sip_resume.specs.Resumes.{EndsHere, PassesTime, RefusesNext, TakesUntold, newest_step}
+use Rattle.sip_resume.specs.Outputs.{Outputs, Shows}
+use Rattle.sip_resume.specs.Resumes.{EndsHere, RefusesNext, StopsAmong, TakesUntold, newest_step}
 use Rattle.sip_resume.specs.declared.record_error.RecordError.{RecordError}
-use Rattle.sip_resume.specs.declared.record_error.RecordError.TheVariants.{NoMemory, Damaged, Read, Step, Journal, TooLong, NoConfiguration, OtherFrame}
+use Rattle.sip_resume.specs.declared.record_error.RecordError.TheVariants.{NoMemory, Damaged, Read, Step, Journal, TooLong, NoConfiguration, OtherFrame, Write}
 
 -- ---- what segments say
 
@@ -35,6 +37,10 @@ AreStated [] [] = ⊤
 AreStated [] (period ∷ periods) = ⊥
 AreStated (segment ∷ segments) [] = ⊥
 AreStated (segment ∷ segments) (period ∷ periods) = IsStated segment period × AreStated segments periods
+
+-- to others a server is the same under the period's configuration
+abbrev pub KeepsFrame : Server → Period → Type 0
+KeepsFrame server period = record { config = period.config; word = server.word } ≡ under server period.config
 
 -- the configuration that is in force behind some periods, where one was before
 abbrev pub config_behind : Config → List Period → Config
@@ -51,11 +57,12 @@ pub record RunsUnder (server : Server) (old new : ProxyState) (periods : List Pe
   pub is_run : IsRunUnder server old periods None steps history new
   pub prompt : ArePrompt server history
 
--- A server takes events under the configuration that was in force, and those of each segment under the one that its text states; the last
--- of these is in force then.
+-- A server takes events under the configuration that was in force, and those of each segment under the one that its text states, by which it is
+-- the same server to others; the last of these is in force then.
 pub record TakesWhole (server server_then : Server) (old new : ProxyState) (events : List Event) (segments : List Segment) : Type 0 where
   pub periods : List Period
   pub stated : AreStated segments periods
+  pub frames : AllByRecursion (KeepsFrame server) periods
   pub runs : RunsUnder server old new (record { config = server.config; events = events } ∷ periods)
   pub in_force : server_then ≡ record { config = config_behind server.config periods; word = server.word }
 
@@ -73,10 +80,10 @@ EndsWhole rest = EndsHere rest ⊎ IsCutConfiguration rest
 
 -- What is to come of a record, where it is known, is a text that says events and segments, and behind it nothing, or the front of what says one
 -- more event or configuration. The server took them in their order: the state is where a run under these configurations leads, and the last
--- of them is in force; the journal was told them; so many lines were given by then; and that is the last step of the run, which is the last
--- event's own, since time passes only up to that event.
+-- of them is in force; exactly what is printed of the steps was shown, the journal was told the events and segments, and so many lines were
+-- given by then; and that is the last step of the run, which is the last event's own, since time passes only up to that event.
 pub record IsRecordResumed (server server_then : Server) (old new : ProxyState) (record_bytes : Option (List ℕ)) (lines : ℕ)
-    (written written_then : Option (Option (List ℕ))) (lines_then : ℕ) (last : Option StepOut) : Type 0 where
+    (outs outs_then : Outputs) (lines_then : ℕ) (last : Option StepOut) : Type 0 where
   pub text : List ℕ
   pub further : List ℕ
   pub events : List Event
@@ -85,25 +92,27 @@ pub record IsRecordResumed (server server_then : Server) (old new : ProxyState) 
   pub says : SaysWhole events segments text
   pub ends : EndsWhole further
   pub takes : TakesWhole server server_then old new events segments
-  pub noted : NotesWhole written written_then events segments
+  pub shown : Shows outs.shown outs_then.shown takes.runs.steps
+  pub noted : NotesWhole outs.written outs_then.written events segments
   pub counted : lines_then ≡ lines + count_by is_end text
   pub last_is : newest_step takes.runs.history ≡ last
 
 -- ---- a record that isn't taken further
 
 -- the configuration that comes next is in force, and the journal wasn't told it, since it failed
-pub record ChangesUntold (server server_then : Server) (old new : ProxyState) (rest : Option (List ℕ))
-    (written : Option (Option (List ℕ))) : Type 0 where
+pub record ChangesUntold (server server_then : Server) (old new : ProxyState) (rest : Option (List ℕ)) (outs outs_then : Outputs) : Type 0 where
   pub config : Config
   pub next : NextIs rest (λ bytes. States bytes config)
   pub in_force : server_then ≡ record { config = config; word = server.word }
   pub state : new ≡ old
-  pub failed : written ≡ None
+  pub shown : outs_then.shown ≡ outs.shown
+  pub failed : outs_then.written ≡ None
 
 -- what comes next isn't taken, and the server is as it was
-pub record IsUntaken (server server_then : Server) (old new : ProxyState) (Why : Type 0) (lines line : ℕ) : Type 0 where
+pub record IsUntaken (server server_then : Server) (old new : ProxyState) (Why : Type 0) (lines line : ℕ) (outs outs_then : Outputs) : Type 0 where
   pub in_force : server_then ≡ server
   pub state : new ≡ old
+  pub shown : outs_then.shown ≡ outs.shown
   pub why : Why
   pub at : line ≡ lines + 1
 
@@ -113,39 +122,43 @@ pub record IsDamagedWhole (rest : List ℕ) : Type 0 where
   pub no_configuration : IsDamagedConfiguration rest
 
 -- Why nothing more is taken of what is still to come of a record, behind so many lines, by a server under the configuration in force, and how it
--- stands then: memory ran out, wherever it was as time passed; or it is as it was, since what is left is damaged, the reader stopped, or the
+-- stands then: memory ran out, wherever it was, or what steps are shown to stopped; or it is as it was, since what is left is damaged, the reader stopped, or the
 -- configuration that comes next is too long, none, or another server's; or it refuses the step of the event that comes next; or the journal
 -- failed behind an event or a configuration.
-abbrev pub RecordStops : Server → Server → ProxyState → ProxyState → ℕ → Type 0 → Option (List ℕ) → ℕ → Option (Option (List ℕ)) → RecordError → Type 0
-RecordStops server server_then old new longest spent rest lines written NoMemory = (server_then ≡ server) × PassesTime server old new
-RecordStops server server_then old new longest spent rest lines written (Damaged line) =
-    IsUntaken server server_then old new (IfSome rest IsDamagedWhole) lines line
-RecordStops server server_then old new longest spent rest lines written Read = (server_then ≡ server) × (new ≡ old) × spent
-RecordStops server server_then old new longest spent rest lines written Step = (server_then ≡ server) × RefusesNext server old new rest
-RecordStops server server_then old new longest spent rest lines written Journal =
-    ((server_then ≡ server) × TakesUntold server old new rest written) ⊎ ChangesUntold server server_then old new rest written
-RecordStops server server_then old new longest spent rest lines written (TooLong line) =
-    IsUntaken server server_then old new (IfSome rest (IsLongConfiguration longest)) lines line
-RecordStops server server_then old new longest spent rest lines written (NoConfiguration line e) =
-    IsUntaken server server_then old new (NextIs rest (λ bytes. StatesNone bytes e)) lines line
-RecordStops server server_then old new longest spent rest lines written (OtherFrame line key) =
-    IsUntaken server server_then old new (NextIs rest (λ bytes. StatesOther server bytes key)) lines line
+abbrev pub RecordStops : Server → Server → ProxyState → ProxyState → ℕ → Type 0 → Option (List ℕ) → ℕ → Outputs → Outputs → RecordError → Type 0
+RecordStops server server_then old new longest spent rest lines outs outs_then NoMemory = (server_then ≡ server) × StopsAmong server old new rest outs outs_then
+RecordStops server server_then old new longest spent rest lines outs outs_then (Damaged line) =
+    IsUntaken server server_then old new (IfSome rest IsDamagedWhole) lines line outs outs_then
+RecordStops server server_then old new longest spent rest lines outs outs_then Read =
+    (server_then ≡ server) × (new ≡ old) × spent × (outs_then.shown ≡ outs.shown)
+RecordStops server server_then old new longest spent rest lines outs outs_then Step = (server_then ≡ server) × RefusesNext server old new rest outs outs_then
+RecordStops server server_then old new longest spent rest lines outs outs_then Journal =
+    ((server_then ≡ server) × TakesUntold server old new rest outs outs_then) ⊎ ChangesUntold server server_then old new rest outs outs_then
+RecordStops server server_then old new longest spent rest lines outs outs_then (TooLong line) =
+    IsUntaken server server_then old new (IfSome rest (IsLongConfiguration longest)) lines line outs outs_then
+RecordStops server server_then old new longest spent rest lines outs outs_then (NoConfiguration line e) =
+    IsUntaken server server_then old new (NextIs rest (λ bytes. StatesNone bytes e)) lines line outs outs_then
+RecordStops server server_then old new longest spent rest lines outs outs_then (OtherFrame line key) =
+    IsUntaken server server_then old new (NextIs rest (λ bytes. StatesOther server bytes key)) lines line outs outs_then
+RecordStops server server_then old new longest spent rest lines outs outs_then Write = (server_then ≡ server) × StopsAmong server old new rest outs outs_then
 
--- It was refused behind some of its events and configurations, by which the server had come to a state, under the last of them; the journal was
--- told them, unless it has failed.
+-- It was refused behind some of its events and configurations, by which the server had come to a state, under the last of them; exactly what is
+-- printed of their steps was shown by then; the journal was told them, unless it has failed.
 pub record IsRecordUnresumed (server server_then : Server) (old new : ProxyState) (longest : ℕ) (spent : Type 0)
-    (record_bytes : Option (List ℕ)) (lines : ℕ) (written written_then : Option (Option (List ℕ))) (e : RecordError) : Type 0 where
+    (record_bytes : Option (List ℕ)) (lines : ℕ) (outs outs_then : Outputs) (e : RecordError) : Type 0 where
   pub text : List ℕ
   pub events : List Event
   pub segments : List Segment
   pub rest : Option (List ℕ)
   pub reached : ProxyState
   pub in_force : Server
+  pub half : Outputs
   pub says : SaysWhole events segments text
   pub whole : IfSome record_bytes (λ bytes. (further : List ℕ) × (rest ≡ Some further) × (bytes ≡ text ++ further))
   pub takes : TakesWhole server in_force old reached events segments
-  pub noted : NotesWhole written written_then events segments
-  pub why : RecordStops in_force server_then reached new longest spent rest (lines + count_by is_end text) written_then e
+  pub shown : Shows outs.shown half.shown takes.runs.steps
+  pub noted : NotesWhole outs.written outs_then.written events segments
+  pub why : RecordStops in_force server_then reached new longest spent rest (lines + count_by is_end text) half outs_then e
 
 -- ---- a run goes on
 

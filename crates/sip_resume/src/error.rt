@@ -1,8 +1,9 @@
 ghost use Rattle.std.specs.Prelude.{◌≡◌};
-ghost use Rattle.sip_resume.specs.Errors.{error_of_step, number_of_error};
+ghost use Rattle.sip_resume.specs.Errors.{error_of_print, error_of_step, number_of_error};
 ghost use Rattle.sip_resume.specs.declared.error.ResumeError.TheVariants.{NoMemory, Journal};
 
 use sip_record::JournalFault;
+use sip_replay_script::PrintStop;
 use sip_run::engine::StepError;
 use std::alloc::{AllocError, AllocFailed};
 use std::error::Error;
@@ -22,6 +23,8 @@ pub enum ResumeError {
     Step,
     /// The journal failed.
     Journal,
+    /// What the steps are shown to gave up.
+    Write,
 }
 
 impl ResumeError {
@@ -35,6 +38,7 @@ impl ResumeError {
             ResumeError::Read => 3,
             ResumeError::Step => 4,
             ResumeError::Journal => 5,
+            ResumeError::Write => 6,
         }
     }
 }
@@ -47,6 +51,7 @@ impl fmt::Display for ResumeError {
             ResumeError::Read => write!(f, "the record could not be read"),
             ResumeError::Step => write!(f, "moments or numbers are worn out"),
             ResumeError::Journal => write!(f, "the journal failed"),
+            ResumeError::Write => write!(f, "the steps could not be written"),
         }
     }
 }
@@ -84,6 +89,17 @@ impl From<StepError> for ResumeError {
         match e {
             StepError::NoMemory => ResumeError::NoMemory,
             StepError::MomentTooLarge | StepError::Worn => ResumeError::Step,
+        }
+    }
+}
+
+impl From<PrintStop> for ResumeError {
+    ghost from_gives = { λ stop e. e ≡ error_of_print stop };
+
+    fn from(stop: PrintStop) -> ResumeError {
+        match stop {
+            PrintStop::NoMemory => ResumeError::NoMemory,
+            PrintStop::Write => ResumeError::Write,
         }
     }
 }

@@ -1,6 +1,7 @@
-ghost use Rattle.std.specs.Prelude.{◌≡◌, true, IfOk, IfErr};
+ghost use Rattle.std.specs.Prelude.{◌≡◌, ◌≤◌, true, IfOk, IfErr};
 ghost use Rattle.sip_replay_script.specs.Devices.{later};
 ghost use Rattle.sip_replay_script.specs.Lines.{pending, IsSpent};
+ghost use Rattle.sip_resume.specs.Outputs.{outputs_of};
 ghost use Rattle.sip_resume.specs.Parts.{EventsStop, GoesTo, NextStops, ReachesEnd};
 ghost use Rattle.sip_resume.specs.declared.error.ResumeError.TheVariants as Refusal;
 
@@ -10,33 +11,38 @@ use crate::resuming::resume_next;
 use model_bounds::model::runs::runs_join;
 use sip_policy::Rules;
 use sip_record::Journal;
-use sip_replay_script::{Lines, TellingReader, Upcoming, look_ahead};
+use sip_replay_print::StepSink;
+use sip_replay_script::{Lines, TellingReader};
 use sip_run::engine::Engine;
+use sip_segment_text::{Upcoming, look_ahead};
 use sip_timers::Timers;
 use std::alloc::Global;
 
 /// Takes the next event of a record, if a whole one stands there.
-fn take_next<T: Timers, R: Rules, I: TellingReader, J: Journal>(
+fn take_next<T: Timers, R: Rules, I: TellingReader, J: Journal, S: StepSink>(
     alloc: Global,
     engine: &mut Engine<T, R>,
     lines: &mut Lines,
     reader: &mut I,
     journal: &mut J,
+    sink: &mut S,
 ) -> Result<Next, ResumeError>
     ensures server { engine.new.server ≡ engine.old.server }
     ensures next { IfOk result (GoesTo engine.old.server engine.old.state engine.new.state lines.old lines.new (I.remaining reader.old)
-        (I.remaining reader.new) (J.written journal.old) (J.written journal.new)) }
+        (I.remaining reader.new) (outputs_of (J.written journal.old) (S.shown sink.old)) (outputs_of (J.written journal.new) (S.shown sink.new))) }
     ensures refused { IfErr result (NextStops engine.old.server engine.old.state engine.new.state
         (IsSpent (I.has_failed reader.new) lines.new.asks) (pending lines.old (I.remaining reader.old)) lines.old.number
-        (J.written journal.old) (J.written journal.new)) }
+        (outputs_of (J.written journal.old) (S.shown sink.old)) (outputs_of (J.written journal.new) (S.shown sink.new))) }
     ensures whole { ¬ (result ≡ Err Refusal.Journal) → J.faulted journal.new ≡ J.faulted journal.old }
     ensures said { result ≡ Err Refusal.Journal → J.faulted journal.new ≡ true }
+    ensures gave_up { result ≡ Err Refusal.Write → S.gave_up sink.new }
     ensures asked { later lines.new.asks (I.asked reader.new) ≡ later lines.old.asks (I.asked reader.old) }
+    ensures less { lines.new.asks ≤ lines.old.asks }
 {
     match look_ahead(lines, reader) {
         Ok(Upcoming::Over) => Ok(Next::End),
         Ok(Upcoming::Configuration) => Ok(Next::Configuration),
-        Ok(Upcoming::Event) => match resume_next(alloc, engine, lines, reader, journal)? {
+        Ok(Upcoming::Event) => match resume_next(alloc, engine, lines, reader, journal, sink)? {
             Some(out) => Ok(Next::Taken(out)),
             None => Ok(Next::End),
         },
@@ -45,29 +51,32 @@ fn take_next<T: Timers, R: Rules, I: TellingReader, J: Journal>(
 }
 
 /// Takes the events of a record up to its end, or to where no event begins.
-pub(crate) fn take_events<T: Timers, R: Rules, I: TellingReader, J: Journal>(
+pub(crate) fn take_events<T: Timers, R: Rules, I: TellingReader, J: Journal, S: StepSink>(
     alloc: Global,
     engine: &mut Engine<T, R>,
     lines: &mut Lines,
     reader: &mut I,
     journal: &mut J,
+    sink: &mut S,
 ) -> Result<Reached, ResumeError>
     ensures server { engine.new.server ≡ engine.old.server }
     ensures taken { IfOk result (λ reached. ReachesEnd engine.old.server engine.old.state engine.new.state lines.old lines.new
-        (I.remaining reader.old) (I.remaining reader.new) (J.written journal.old) (J.written journal.new) reached.lines reached.last
+        (I.remaining reader.old) (I.remaining reader.new) (outputs_of (J.written journal.old) (S.shown sink.old)) (outputs_of (J.written journal.new) (S.shown sink.new)) reached.lines reached.last
         reached.is_over) }
     ensures refused { IfErr result (EventsStop engine.old.server engine.old.state engine.new.state
         (IsSpent (I.has_failed reader.new) lines.new.asks) (pending lines.old (I.remaining reader.old)) lines.old.number
-        (J.written journal.old) (J.written journal.new)) }
+        (outputs_of (J.written journal.old) (S.shown sink.old)) (outputs_of (J.written journal.new) (S.shown sink.new))) }
     ensures whole { ¬ (result ≡ Err Refusal.Journal) → J.faulted journal.new ≡ J.faulted journal.old }
     ensures said { result ≡ Err Refusal.Journal → J.faulted journal.new ≡ true }
+    ensures gave_up { result ≡ Err Refusal.Write → S.gave_up sink.new }
     ensures asked { later lines.new.asks (I.asked reader.new) ≡ later lines.old.asks (I.asked reader.old) }
+    ensures less { lines.new.asks ≤ lines.old.asks }
 {
     runs_join();
     let mut taken = lines.number();
     let mut last = None;
     'events: loop {
-        match take_next(alloc, engine, lines, reader, journal)? {
+        match take_next(alloc, engine, lines, reader, journal, sink)? {
             Next::Taken(out) => {
                 taken = lines.number();
                 last = Some(out);

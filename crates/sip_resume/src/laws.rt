@@ -5,10 +5,14 @@ ghost use Rattle.model_bounds.specs.state.declared.proxy_state.ProxyState.{Proxy
 ghost use Rattle.model_bounds.specs.state.declared.server.Server.{Server};
 ghost use Rattle.model_bounds.specs.state.State.{first_state};
 ghost use Rattle.sip_config_types.specs.declared.config.Config.{Config};
+ghost use Rattle.model_bounds.specs.Bounds.{IsBounded};
+ghost use Rattle.model_bounds.specs.model.Access.{Access};
 ghost use Rattle.model_bounds.specs.model.Run.{IsRun, Link, under};
 ghost use Rattle.model_bounds.specs.model.Periods.{IsRunUnder, Period};
+ghost use Rattle.sip_segment_text.specs.Segments.{Segment};
+ghost use Rattle.sip_resume.specs.Outputs.{Outputs};
 ghost use Rattle.sip_resume.specs.Resumes.{EndsHere, IsOneRun, IsResumed};
-ghost use Rattle.sip_resume.specs.Whole.{IsOneRunUnder, IsRecordResumed};
+ghost use Rattle.sip_resume.specs.Whole.{IsOneRunUnder, IsRecordResumed, TakesWhole};
 
 use model_bounds::bounds::every_history_is_bounded;
 use model_bounds::model::laws::every_run_has_access;
@@ -16,7 +20,7 @@ use model_bounds::model::periods::{runs_under_are_one, under_one_is_a_run};
 use model_bounds::model::runs::runs_join;
 
 /// A run before a restart and the run behind it are one run over all events: a server that was brought to where a record leads
-/// (`resume`), and goes on from there (`serve`), did nothing that one which never ended couldn't have done. Each valid new request
+/// (`resume_record`), and goes on from there (`serve`), did nothing that one which never ended couldn't have done. Each valid new request
 /// outside a dialog is sent, before and behind, to exactly the unexpired bindings or the configured hop that the first matching rule
 /// gives its proven user; bindings change or are listed exactly as an allowed REGISTER says; every policy denial is a 403 whose
 /// Warning names that rule; all else sent belongs to an open request or a known dialog, whichever side of the restart opened it
@@ -46,13 +50,23 @@ pub fn restart_under_is_one_run()
     every_history_is_bounded();
 }
 
-/// Of a record that holds no configuration, and was cut in none, this is what `resume` says: the server is the same, and the events led
-/// there.
+/// A record that holds no configuration, and was cut in none, is one of events alone: the server is the same, and the events led there.
 pub fn record_of_events_is_resumed()
-    ensures { (server server_then : Server) (old new : ProxyState) (bytes : Option (List ℕ)) (written written_then : Option (Option (List ℕ)))
+    ensures { (server server_then : Server) (old new : ProxyState) (bytes : Option (List ℕ)) (outs outs_then : Outputs)
         (lines : ℕ) (last : Option StepOut)
-        → (resumed : IsRecordResumed server server_then old new bytes 0 written written_then lines last) → resumed.segments ≡ []
-        → EndsHere resumed.further → IsResumed server old new bytes written written_then lines last × (server_then ≡ server) }
+        → (resumed : IsRecordResumed server server_then old new bytes 0 outs outs_then lines last) → resumed.segments ≡ []
+        → EndsHere resumed.further → IsResumed server old new bytes outs.written outs_then.written lines last × (server_then ≡ server) }
 {
     under_one_is_a_run();
+}
+
+/// Over every record that is taken, and over one that isn't as far as it was, each step is lawful by all that went before it, under the
+/// configuration that was in force then; and what is sent and kept is bounded.
+pub fn every_record_is_lawful()
+    ensures { (server server_then : Server) (first : ℕ) (new : ProxyState) (events : List Event) (segments : List Segment)
+        → (takes : TakesWhole server server_then (first_state first) new events segments)
+        → Access server takes.runs.history × IsBounded server takes.runs.history }
+{
+    runs_under_are_one();
+    every_history_is_bounded();
 }

@@ -1,12 +1,14 @@
-//! A server brought to where a record leads: the events that the record says are taken again, nothing of which is sent, so that a
-//! run goes on behind them.
+//! A server brought to where a record leads: the events that the record says are taken again, each under the configuration that was in
+//! force, so that a run goes on behind them. Nothing of it is sent; what was decided and sent then can be shown.
 //!
-//! - Used: `sipd_start`, where `serve` is to go on from a record.
-//! - Not here: what writes a record (`sip_record`), and what prints what a record led to (`sip_replay`).
+//! - Used: `sipd_start`, where `serve` is to go on from a record; `sip_replay`, where a record is replayed. `sip_recorded` says what a
+//!   resumed server has for its record.
+//! - Not here: what writes a record (`sip_record`), how one configuration of it is taken (`sip_segments`), how steps are printed
+//!   (`sip_replay_print`).
 //! - Tried: `test_serve`, and over sockets `tests/serve.py`.
 //!
 //! ```text
-//! let resumed = resume(alloc, &mut engine, &mut reader, &mut journal)?;
+//! let resumed = resume_record(alloc, &mut engine, &mut lines, &mut reader, longest, &mut journal, &mut NoSink)?;
 //! ```
 #![tactic(auto)]
 
@@ -21,8 +23,7 @@ mod whole;
 
 pub use error::ResumeError;
 pub use record_error::RecordError;
-pub use resuming::{Resumed, resume};
-pub use whole::resume_record;
+pub use whole::{Resumed, resume_record};
 
 /// Of `sip_engine`.
 pub mod engine {

@@ -5,7 +5,7 @@ use sip_event::StepOut;
 
 /// What comes next in a record.
 #[derive(Drop)]
-pub enum Next {
+pub(crate) enum Next {
     /// An event, which was taken; its own step.
     Taken(StepOut),
     /// No event, but what may be a configuration.
@@ -16,18 +16,18 @@ pub enum Next {
 
 /// How far a record was taken.
 #[derive(Drop)]
-pub struct Reached {
+pub(crate) struct Reached {
     /// How many lines were given by then.
-    pub lines: u64,
+    pub(crate) lines: u64,
     /// The own step of the last event; none where no event was taken.
-    pub last: Option<StepOut>,
+    pub(crate) last: Option<StepOut>,
     /// Whether the record ends there.
-    pub is_over: bool,
+    pub(crate) is_over: bool,
 }
 
 impl Reached {
     /// Nothing more was taken behind so many lines, and the record ends there.
-    pub fn over(lines: u64) -> Self
+    pub(crate) fn over(lines: u64) -> Self
         ensures { (result.lines ≡ lines) × (result.last ≡ None) × (result.is_over ≡ true) }
     {
         Reached {
@@ -38,7 +38,7 @@ impl Reached {
     }
 
     /// The same behind what was taken before.
-    pub fn behind(self, before: Reached) -> Self
+    pub(crate) fn behind(self, before: Reached) -> Self
         ensures lines { result.lines ≡ self.lines }
         ensures last { result.last ≡ newest_of self.last before.last }
         ensures is_over { result.is_over ≡ self.is_over }

@@ -28,6 +28,8 @@ pub enum RecordError {
     NoConfiguration(u64, ConfigError),
     /// By this key, the configuration that begins with this line is that of another server.
     OtherFrame(u64, FrameKey),
+    /// What the steps are shown to gave up.
+    Write,
 }
 
 impl RecordError {
@@ -44,6 +46,7 @@ impl RecordError {
             RecordError::TooLong(_) => 6,
             RecordError::NoConfiguration(..) => 7,
             RecordError::OtherFrame(..) => 8,
+            RecordError::Write => 9,
         }
     }
 }
@@ -65,6 +68,7 @@ impl fmt::Display for RecordError {
             RecordError::OtherFrame(line, key) => {
                 write!(f, "the configuration at line {line} has another {key}")
             }
+            RecordError::Write => write!(f, "the steps could not be written"),
         }
     }
 }
@@ -81,6 +85,7 @@ impl From<ResumeError> for RecordError {
             ResumeError::Read => RecordError::Read,
             ResumeError::Step => RecordError::Step,
             ResumeError::Journal => RecordError::Journal,
+            ResumeError::Write => RecordError::Write,
         }
     }
 }

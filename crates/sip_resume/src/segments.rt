@@ -1,9 +1,10 @@
-ghost use Rattle.std.specs.Prelude.{◌≡◌, ℕ, List, Option, true, IfOk, IfErr, IfSome, IfNone, OnErr};
+ghost use Rattle.std.specs.Prelude.{◌≡◌, ◌≤◌, ℕ, List, Option, true, IfOk, IfErr, IfSome, IfNone, OnErr};
 ghost use Rattle.std.specs.Io.KnownBytes.{Keeps};
 ghost use Rattle.sip_replay_script.specs.Devices.{later};
 ghost use Rattle.sip_replay_script.specs.Lines.{pending, IsSpent};
 ghost use Rattle.sip_replay_script.specs.Recorded.{IsDamagedRecord};
 ghost use Rattle.sip_segments.specs.Takes.{TakesConfiguration};
+ghost use Rattle.sip_resume.specs.Outputs.{outputs_of};
 ghost use Rattle.sip_resume.specs.RecordErrors;
 ghost use Rattle.sip_resume.specs.Whole.{EndsWhole};
 ghost use Rattle.sip_resume.specs.Parts.{ReachesNext, SegmentsStop, UnbegunStops};
@@ -15,9 +16,10 @@ use crate::record_error::RecordError;
 use sip_policy::Rules;
 use sip_record::Journal;
 use sip_record::laws::noted_segments_join;
-use sip_replay_script::laws::segments_join;
+use sip_replay_print::StepSink;
 use sip_replay_script::{Lines, TellingReader};
 use sip_run::engine::Engine;
+use sip_segment_text::laws::segments_join;
 use sip_segments::{SegmentStop, take_configuration};
 use sip_text::Buffer;
 use sip_timers::Timers;
@@ -54,6 +56,7 @@ fn begin_segment<T: Timers, R: Rules, I: TellingReader>(
         (pending lines.old (I.remaining reader.old)) lines.old.number) }
     ensures unchanged { OnErr result (engine.new ≡ engine.old) }
     ensures asked { later lines.new.asks (I.asked reader.new) ≡ later lines.old.asks (I.asked reader.old) }
+    ensures less { lines.new.asks ≤ lines.old.asks }
 {
     match take_configuration(alloc, engine, lines, reader, longest) {
         Ok(found) => Ok(found),
@@ -65,23 +68,26 @@ fn begin_segment<T: Timers, R: Rules, I: TellingReader>(
 }
 
 /// Takes the next configuration of a record and tells it, and then the events behind it. What is still to come was so before it was looked at.
-pub(crate) fn take_segment<T: Timers, R: Rules, I: TellingReader, J: Journal>(
+pub(crate) fn take_segment<T: Timers, R: Rules, I: TellingReader, J: Journal, S: StepSink>(
     alloc: Global,
     engine: &mut Engine<T, R>,
     lines: &mut Lines,
     reader: &mut I,
     longest: usize,
     journal: &mut J,
+    sink: &mut S,
 ) -> Result<Reached, RecordError>
     ensures taken { (before : Option (List ℕ)) → Keeps before (pending lines.old (I.remaining reader.old))
         → IfOk result (λ reached. ReachesNext engine.old.server engine.new.server engine.old.state engine.new.state before lines.old
-        lines.new (I.remaining reader.new) (J.written journal.old) (J.written journal.new) reached.lines reached.last reached.is_over) }
+        lines.new (I.remaining reader.new) (outputs_of (J.written journal.old) (S.shown sink.old)) (outputs_of (J.written journal.new) (S.shown sink.new)) reached.lines reached.last reached.is_over) }
     ensures refused { (before : Option (List ℕ)) → Keeps before (pending lines.old (I.remaining reader.old))
         → IfSome before IsDamagedRecord → IfErr result (SegmentsStop engine.old.server engine.new.server engine.old.state engine.new.state
-        longest (IsSpent (I.has_failed reader.new) lines.new.asks) before lines.old.number (J.written journal.old) (J.written journal.new)) }
+        longest (IsSpent (I.has_failed reader.new) lines.new.asks) before lines.old.number (outputs_of (J.written journal.old) (S.shown sink.old)) (outputs_of (J.written journal.new) (S.shown sink.new))) }
     ensures whole { ¬ (result ≡ Err Refusal.Journal) → J.faulted journal.new ≡ J.faulted journal.old }
     ensures said { result ≡ Err Refusal.Journal → J.faulted journal.new ≡ true }
+    ensures gave_up { result ≡ Err Refusal.Write → S.gave_up sink.new }
     ensures asked { later lines.new.asks (I.asked reader.new) ≡ later lines.old.asks (I.asked reader.old) }
+    ensures less { lines.new.asks ≤ lines.old.asks }
 {
     segments_join();
     noted_segments_join();
@@ -90,6 +96,6 @@ pub(crate) fn take_segment<T: Timers, R: Rules, I: TellingReader, J: Journal>(
         return Ok(Reached::over(before));
     };
     journal.configured(text.as_slice())?;
-    let reached = take_events(alloc, engine, lines, reader, journal)?;
+    let reached = take_events(alloc, engine, lines, reader, journal, sink)?;
     Ok(reached)
 }

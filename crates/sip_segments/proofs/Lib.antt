@@ -1,1 +1,2 @@
+pub mod SoFar
 pub mod Stopping

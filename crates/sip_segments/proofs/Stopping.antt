@@ -8,7 +8,7 @@ use Rattle.sip_engine.specs.declared.change_error.ChangeError.{ChangeError}
 use Rattle.sip_engine.specs.declared.change_error.ChangeError.TheVariants as changes
 use Rattle.sip_engine.specs.state.declared.server.Server.{Server}
 use Rattle.sip_replay_script.specs.Lines.{Reading, pending}
-use Rattle.sip_replay_script.specs.Configurations.{GivesConfiguration}
+use Rattle.sip_segment_text.specs.Configurations.{GivesConfiguration}
 use Rattle.sip_segments.specs.Stops.{ChangeStops, IsNext, ReadStops, SegmentStops, TextStops}
 use Rattle.sip_segments.specs.Takes.{GivesStated}
 use Rattle.sip_segments.specs.declared.stop.SegmentStop.{SegmentStop}

@@ -1,3 +1,4 @@
+pub mod Last
 pub mod Stated
 pub mod Stops
 pub mod Takes

@@ -4,10 +4,10 @@ use Rattle.sip_config_types.specs.declared.config.Config.{Config}
 use Rattle.sip_config_change.specs.declared.key.FrameKey.{FrameKey}
 use Rattle.sip_config_change.specs.Frame.{frame_key_of}
 use Rattle.sip_engine.specs.state.declared.server.Server.{Server}
-use Rattle.sip_replay_script.specs.declared.configuration_stop.ConfigurationStop.{ConfigurationStop}
-use Rattle.sip_replay_script.specs.declared.configuration_stop.ConfigurationStop.TheVariants as stops
-use Rattle.sip_replay_script.specs.Configurations.{IsCutConfiguration, IsDamagedConfiguration, IsLongConfiguration}
-use Rattle.sip_replay_script.specs.Segments.{SaysConfiguration}
+use Rattle.sip_segment_text.specs.declared.configuration_stop.ConfigurationStop.{ConfigurationStop}
+use Rattle.sip_segment_text.specs.declared.configuration_stop.ConfigurationStop.TheVariants as stops
+use Rattle.sip_segment_text.specs.Configurations.{IsCutConfiguration, IsDamagedConfiguration, IsLongConfiguration}
+use Rattle.sip_segment_text.specs.Segments.{SaysConfiguration}
 use Rattle.sip_segments.specs.declared.stop.SegmentStop.{SegmentStop}
 use Rattle.sip_segments.specs.declared.stop.SegmentStop.TheVariants.{NoMemory, Damaged, Cut, Read, TooLong, NoConfiguration, OtherFrame}
 use Rattle.sip_segments.specs.Stated.{States, StatesNone}

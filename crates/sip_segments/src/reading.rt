@@ -9,7 +9,8 @@ ghost use Rattle.sip_segments.specs.Takes.{GivesStated};
 use crate::stop::SegmentStop;
 use sip_config::{ConfigError, read_config};
 use sip_config_types::Config;
-use sip_replay_script::{Lines, TellingReader, next_configuration};
+use sip_replay_script::{Lines, TellingReader};
+use sip_segment_text::next_configuration;
 use sip_text::Buffer;
 use std::alloc::Global;
 
@@ -62,7 +63,7 @@ pub fn read_configuration<I: TellingReader>(
 }
 
 /// The configuration that a text states, whose first line is this one.
-fn config_in(alloc: Global, text: &[u8], first: u64) -> Result<Config, SegmentStop>
+pub(crate) fn config_in(alloc: Global, text: &[u8], first: u64) -> Result<Config, SegmentStop>
     ensures stated { IfOk result (States text.now) }
     ensures refused { IfErr result (TextStops text.now first) }
 {

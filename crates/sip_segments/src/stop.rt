@@ -3,7 +3,7 @@ ghost use Rattle.sip_segments.specs.Stops;
 
 use sip_config::ConfigError;
 use sip_config_change::FrameKey;
-use sip_replay_script::ConfigurationStop;
+use sip_segment_text::ConfigurationStop;
 use std::error::Error;
 use std::fmt;
 

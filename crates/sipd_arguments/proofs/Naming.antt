@@ -1,5 +1,5 @@
 -- Lines that name a command none of whose options is tied to another.
-use Rattle.std.proofs.Common.{◌≡◌, ◌∙◌, Bool, true, false, true≢false, ◌&&◌, not, List, [], ◌∷◌, ◌++◌, Option, Some, None, IfSome, Result, Ok, Err, ◌⊎◌, ⊎_elim, inl, inr, refl, sym, ap, subst, codes, fold, append-nil, append_assoc, is_some, unwrap_or, if◌then◌else◌}
+use Rattle.std.proofs.Common.{◌≡◌, ◌∙◌, Bool, true, false, true≢false, ◌&&◌, List, [], ◌∷◌, ◌++◌, Option, Some, None, IfSome, Result, Ok, Err, ◌⊎◌, ⊎_elim, inl, inr, refl, sym, ap, subst, codes, fold, append-nil, append_assoc, unwrap_or, if◌then◌else◌}
 use Rattle.std.specs.Borrow.{Bor}
 use Rattle.std.specs.Option.{option_map_or}
 use Rattle.std.specs.Str.{bytes_eq}
@@ -11,18 +11,16 @@ use Rattle.clap.specs.declared.builder.command.Command.{Command}
 use Rattle.clap.specs.declared.error.Error.{Error}
 use Rattle.clap.proofs.OnLiterals.{clap_on_literals}
 use Rattle.sipd_arguments.proofs.Building.{is_simple_program}
-use Rattle.sipd_arguments.specs.CommandLine.{EndsBy, EndsExactly, IsCallOf, alone, app_for, asks_text, free_command, free_command_in, lacks_configuration, lacks_in, program, text_at}
+use Rattle.sipd_arguments.specs.CommandLine.{EndsBy, EndsExactly, IsCallOf, alone, app_for, asks_text, free_command, free_command_in, program}
 use Rattle.sipd_arguments.specs.CommandLine.{check_command, decide_command, replay_command, report_command}
-use Rattle.sipd_arguments.specs.Commands.{Answers, IsCommand, IsComplaint, IsMade, IsUncalled, IsUncalledOf}
+use Rattle.sipd_arguments.specs.Commands.{Answers, IsCommand, IsMade, IsUncalled, IsUncalledOf}
 use Rattle.sipd_arguments.specs.declared.call.Call.{Call}
-use Rattle.sipd_arguments.specs.declared.call.Call.TheVariants as calls
-use Rattle.sipd_arguments.specs.declared.call.ReplayCall.TheVariants.{Script, Record}
 use Rattle.sipd_arguments.specs.declared.commands.Parsed.{Parsed}
 use Rattle.sipd_arguments.specs.declared.commands.Parsed.TheVariants as parsed
 use Rattle.sipd_arguments.specs.declared.exit.Exit.{Exit}
 use Rattle.sipd_arguments.specs.declared.exit.Exit.TheVariants.{Usage, Memory}
 use Rattle.sipd_arguments.specs.declared.matches.Uncalled.{Uncalled}
-use Rattle.sipd_arguments.specs.declared.matches.Uncalled.TheVariants.{NoMemory, NoRecord, NoConfiguration, NoCommand}
+use Rattle.sipd_arguments.specs.declared.matches.Uncalled.TheVariants.{NoMemory, NoRecord, NoCommand}
 
 -- ---- which command a line names
 
@@ -185,44 +183,26 @@ found_named first rest name shape (is_report n s) = rw (n, s) (found_report firs
 -- ---- how such a line ends
 
 -- an error of it
-ends_err : (kinds : Kinds) (lacks : Bool) (e : Error) (result : Result Parsed Exit) → HasKind kinds e → Answers (kind_of e) result → EndsBy kinds lacks result
-ends_err kinds lacks e (Ok (parsed.Text text)) (inl memory) is = absurd (true≢false (sym is ∙ ap asks_text memory))
-ends_err kinds lacks e (Ok (parsed.Text text)) (inr among) is = record { kind = kind_of e; among = among; is_so = is }
-ends_err kinds lacks e (Ok (parsed.Call call)) has is = absurd is
-ends_err kinds lacks e (Err (Usage text)) (inl memory) is = absurd (is.1 memory)
-ends_err kinds lacks e (Err (Usage text)) (inr among) is = inr (record { kind = kind_of e; among = among; is_so = is.0 })
-ends_err kinds lacks e (Err Memory) has is = tt
-ends_err kinds lacks e (Err exit) has is = absurd is
+ends_err : (kinds : Kinds) (e : Error) (result : Result Parsed Exit) → HasKind kinds e → Answers (kind_of e) result → EndsBy kinds result
+ends_err kinds e (Ok (parsed.Text text)) (inl memory) is = absurd (true≢false (sym is ∙ ap asks_text memory))
+ends_err kinds e (Ok (parsed.Text text)) (inr among) is = record { kind = kind_of e; among = among; is_so = is }
+ends_err kinds e (Ok (parsed.Call call)) has is = absurd is
+ends_err kinds e (Err (Usage text)) (inl memory) is = absurd (is.1 memory)
+ends_err kinds e (Err (Usage text)) (inr among) is = record { kind = kind_of e; among = among; is_so = is.0 }
+ends_err kinds e (Err Memory) has is = tt
+ends_err kinds e (Err exit) has is = absurd is
 
 pub exact_err : (words : List Text) (faults : Bor (List (Bor Text))) (app : App) (e : Error) (result : Result Parsed Exit) → app ≡ app_for faults words
     → (is_simple_and_free app ≡ true → HasKind (fault_of app words) e) → Answers (kind_of e) result → EndsExactly words result
 exact_err words faults app e result is kinds answers = by (free_command_in words) refl
   where
-    by : (o : Option Shape) → free_command_in words ≡ o
-        → IfSome o (λ only. EndsBy (fault_of (alone only) words) (lacks_in (subcommand_of (alone only) words)) result)
+    by : (o : Option Shape) → free_command_in words ≡ o → IfSome o (λ only. EndsBy (fault_of (alone only) words) result)
     by None named = tt
     by (Some only) named =
         let app_is : app ≡ alone only = is ∙ ap (λ (o : Option Shape). option_map_or alone o (program faults)) named in
         let line = line_of words only named in
         let free : is_simple_and_free app ≡ true = ap is_simple_and_free app_is ∙ is_free line.name only (named_so line.name only line.command) in
-        ends_err (fault_of (alone only) words) _ e result (subst (λ (a : App). HasKind (fault_of a words) e) app_is (kinds free)) answers
-
-and_false : (a : Bool) → (a && false) ≡ false
-and_false true = refl
-and_false false = refl
-
--- a call lacks nothing
-nothing_lacks : (name : Text) (rows : List Row) (call : Call) → IsCallOf (Some (name, rows)) call → lacks_in (Some (name, rows)) ≡ false
-nothing_lacks name rows (calls.Check call) is = ap (λ (t : Text). bytes_eq t (codes "replay") && lacks_configuration rows) is.0
-nothing_lacks name rows (calls.Replay (Script config)) is =
-    ap (λ (o : Option Text). bytes_eq name (codes "replay") && (is_some o && not (is_some (text_at (codes "config") rows)))) is.1.0 ∙ and_false (bytes_eq name (codes "replay"))
-nothing_lacks name rows (calls.Replay (Record config path)) is =
-    ap (λ (o : Option Text). bytes_eq name (codes "replay") && (is_some (text_at (codes "record") rows) && not (is_some o))) is.1.1
-    ∙ ap (λ (b : Bool). bytes_eq name (codes "replay") && b) (and_false (is_some (text_at (codes "record") rows))) ∙ and_false (bytes_eq name (codes "replay"))
-nothing_lacks name rows (calls.Serve call) is = ap (λ (t : Text). bytes_eq t (codes "replay") && lacks_configuration rows) is.0
-nothing_lacks name rows (calls.Decide call) is = ap (λ (t : Text). bytes_eq t (codes "replay") && lacks_configuration rows) is.0
-nothing_lacks name rows (calls.Report call) is = ap (λ (t : Text). bytes_eq t (codes "replay") && lacks_configuration rows) is.0
-nothing_lacks name rows (calls.User call) is = ap (λ (t : Text). bytes_eq t (codes "replay") && lacks_configuration rows) is.0
+        ends_err (fault_of (alone only) words) e result (subst (λ (a : App). HasKind (fault_of a words) e) app_is (kinds free)) answers
 
 no_serve : (name : Text) (shape : Shape) → Named name shape → bytes_eq name (codes "serve") ≡ false
 no_serve name shape (is_check n s) = ap (λ (t : Text). bytes_eq t (codes "serve")) n
@@ -230,20 +210,13 @@ no_serve name shape (is_replay n s) = ap (λ (t : Text). bytes_eq t (codes "serv
 no_serve name shape (is_decide n s) = ap (λ (t : Text). bytes_eq t (codes "serve")) n
 no_serve name shape (is_report n s) = ap (λ (t : Text). bytes_eq t (codes "serve")) n
 
-complained : (lacks : Bool) (exit : Exit) → lacks ≡ true → IsComplaint exit → EndsBy [] lacks (Err exit)
-complained lacks (Usage text) is so = inl (refl, is)
-complained lacks Memory is so = tt
-complained lacks exit is so = absurd so
-
--- what is no call without a fault
-ends_uncalled : (name : Text) (rows : List Row) (shape : Shape) (why : Uncalled) (exit : Exit) → free_command name ≡ Some shape → IsUncalled name rows why → IsComplaint exit
-    → (why ≡ NoMemory → exit ≡ Memory) → EndsBy [] (lacks_in (Some (name, rows))) (Err exit)
-ends_uncalled name rows shape NoMemory exit named is so memory = subst (λ (e : Exit). EndsBy [] (lacks_in (Some (name, rows))) (Err e)) (sym (memory refl)) tt
-ends_uncalled name rows shape NoRecord exit named is so memory =
+-- what is no call without a fault: memory ran out
+ends_uncalled : (name : Text) (rows : List Row) (shape : Shape) (why : Uncalled) (exit : Exit) → free_command name ≡ Some shape → IsUncalled name rows why
+    → (why ≡ NoMemory → exit ≡ Memory) → EndsBy [] (Err exit)
+ends_uncalled name rows shape NoMemory exit named is memory = subst (λ (e : Exit). EndsBy [] (Err e)) (sym (memory refl)) tt
+ends_uncalled name rows shape NoRecord exit named is memory =
     absurd (true≢false (sym (ap (λ (t : Text). bytes_eq t (codes "serve")) is.0) ∙ no_serve name shape (named_so name shape named)))
-ends_uncalled name rows shape NoConfiguration exit named is so memory =
-    complained _ exit (ap (λ (t : Text). bytes_eq t (codes "replay") && lacks_configuration rows) is.0 ∙ is.1) so
-ends_uncalled name rows shape NoCommand exit named is so memory = absurd (none_is shape (sym is ∙ named))
+ends_uncalled name rows shape NoCommand exit named is memory = absurd (none_is shape (sym is ∙ named))
   where
     none_is : (shape : Shape) → None ≡ Some shape → ⊥
     none_is shape e = absurd cc
@@ -251,19 +224,17 @@ ends_uncalled name rows shape NoCommand exit named is so memory = absurd (none_i
 -- what was matched gives a call, or is none
 pub data Matched (found : Option (Text × List Row)) : Result Parsed Exit → Type 0 where
   gives : (call : Call) → IsCallOf found call → Matched found (Ok (parsed.Call call))
-  none : (why : Uncalled) (exit : Exit) → IsUncalledOf found why → IsComplaint exit → (why ≡ NoMemory → exit ≡ Memory) → Matched found (Err exit)
+  none : (why : Uncalled) (exit : Exit) → IsUncalledOf found why → (why ≡ NoMemory → exit ≡ Memory) → Matched found (Err exit)
 
-ends_matched : (name : Text) (rows : List Row) (shape : Shape) (result : Result Parsed Exit) → free_command name ≡ Some shape → Matched (Some (name, rows)) result
-    → EndsBy [] (lacks_in (Some (name, rows))) result
-ends_matched name rows shape result named (gives call is) = (refl, nothing_lacks name rows call is)
-ends_matched name rows shape result named (none why exit is so memory) = ends_uncalled name rows shape why exit named is so memory
+ends_matched : (name : Text) (rows : List Row) (shape : Shape) (result : Result Parsed Exit) → free_command name ≡ Some shape → Matched (Some (name, rows)) result → EndsBy [] result
+ends_matched name rows shape result named (gives call is) = refl
+ends_matched name rows shape result named (none why exit is memory) = ends_uncalled name rows shape why exit named is memory
 
 pub exact_ok : (words : List Text) (faults : Bor (List (Bor Text))) (app : App) (result : Result Parsed Exit) → app ≡ app_for faults words
     → (is_simple_and_free app ≡ true → fault_of app words ≡ []) → Matched (subcommand_of app words) result → EndsExactly words result
 exact_ok words faults app result is kinds matched = by (free_command_in words) refl
   where
-    by : (o : Option Shape) → free_command_in words ≡ o
-        → IfSome o (λ only. EndsBy (fault_of (alone only) words) (lacks_in (subcommand_of (alone only) words)) result)
+    by : (o : Option Shape) → free_command_in words ≡ o → IfSome o (λ only. EndsBy (fault_of (alone only) words) result)
     by None named = tt
     by (Some only) named =
         let app_is : app ≡ alone only = is ∙ ap (λ (o : Option Shape). option_map_or alone o (program faults)) named in
@@ -274,5 +245,4 @@ exact_ok words faults app result is kinds matched = by (free_command_in words) r
         let has = subst (λ (list : List Text). HasName line.name (subcommand_of (alone only) list)) (sym line.is) (found_named line.first line.rest line.name only which) in
         let found : subcommand_of app words ≡ Some (line.name, has.0) = ap (λ (a : App). subcommand_of a words) app_is ∙ has.1 in
         let ended = ends_matched line.name has.0 only result line.command (subst (λ (f : Option (Text × List Row)). Matched f result) found matched) in
-        subst (λ (kinds : Kinds). EndsBy kinds (lacks_in (subcommand_of (alone only) words)) result) (sym no_fault)
-        (subst (λ (f : Option (Text × List Row)). EndsBy [] (lacks_in f) result) (sym has.1) ended)
+        subst (λ (kinds : Kinds). EndsBy kinds result) (sym no_fault) ended

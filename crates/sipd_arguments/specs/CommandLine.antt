@@ -1,5 +1,5 @@
 -- The command line: the commands that the program knows, with their options, and what each asks for (this project's profile).
-use Rattle.std.specs.Prelude.{◌≡◌, ⊤, ℕ, pos, ◌^◌, Bool, true, false, ◌&&◌, not, nat_lt, if◌then◌else◌, List, [], ◌∷◌, codes, Option, Some, None, IfSome, unwrap_or, option_map, option_and_then, is_some, slice_get, string_bytes, Result, Ok, Err, ◌⊎◌}
+use Rattle.std.specs.Prelude.{◌≡◌, ⊤, ℕ, pos, ◌^◌, Bool, true, false, ◌&&◌, not, nat_lt, if◌then◌else◌, List, [], ◌∷◌, codes, Option, Some, None, IfSome, unwrap_or, option_map, option_and_then, is_some, slice_get, string_bytes, Result, Ok, Err}
 use Rattle.std.specs.Str.{bytes_eq}
 use Rattle.std.specs.Str.Parse.{digits_value, without_leading_plus}
 use Rattle.std.specs.Option.{option_map_or}
@@ -171,14 +171,10 @@ pub record IsCheck (rows : List Row) (call : CheckCall) : Type 0 where
   pub show : call.show ≡ is_on (codes "show") rows
   pub against : option_map string_bytes call.against ≡ text_at (codes "against") rows
 
--- `replay`: a script, or a record with its configuration
+-- `replay`: a script, or a record
 abbrev pub IsReplay : List Row → ReplayCall → Type 0
 IsReplay rows (Script config) = (text_at (codes "record") rows ≡ None) × (option_map string_bytes config ≡ text_at (codes "config") rows)
-IsReplay rows (Record config path) = (text_at (codes "record") rows ≡ Some (string_bytes path)) × (text_at (codes "config") rows ≡ Some (string_bytes config))
-
--- whether a record is to be replayed without its configuration
-abbrev pub lacks_configuration : List Row → Bool
-lacks_configuration rows = is_some (text_at (codes "record") rows) && not (is_some (text_at (codes "config") rows))
+IsReplay rows (Record config path) = (text_at (codes "record") rows ≡ Some (string_bytes path)) × (option_map string_bytes config ≡ text_at (codes "config") rows)
 
 -- where a server is to record: in a new file of a folder, or in a file, going on from another one where that is named
 abbrev pub IsPlace : Option Text → Option Text → Option Text → Option RecordPlace → Type 0
@@ -257,23 +253,18 @@ pub record HasFault (asks : Bool) (kinds : Kinds) : Type 0 where
   pub among : IsAmong kind kinds
   pub is_so : asks_text kind ≡ asks
 
--- a line that names such a command is a record to be replayed without its configuration
-abbrev pub lacks_in : Option (Text × List Row) → Bool
-lacks_in None = false
-lacks_in (Some named) = bytes_eq named.0 (codes "replay") && lacks_configuration named.1
-
--- How a line ends in which these are the first faults: it is a call exactly where there is none, and nothing lacks beside it; what is
--- asked for help or the version is a text, and all else is complained about. Memory may run out.
-abbrev pub EndsBy : Kinds → Bool → Result Parsed Exit → Type 0
-EndsBy kinds lacks (Ok (parsed.Call call)) = (kinds ≡ []) × (lacks ≡ false)
-EndsBy kinds lacks (Ok (parsed.Text text)) = HasFault true kinds
-EndsBy kinds lacks (Err (Usage text)) = ((kinds ≡ []) × (lacks ≡ true)) ⊎ HasFault false kinds
-EndsBy kinds lacks (Err Memory) = ⊤
-EndsBy kinds lacks (Err exit) = ⊥
+-- How a line ends in which these are the first faults: it is a call exactly where there is none; what is asked for help or the version is
+-- a text, and all else is complained about. Memory may run out.
+abbrev pub EndsBy : Kinds → Result Parsed Exit → Type 0
+EndsBy kinds (Ok (parsed.Call call)) = kinds ≡ []
+EndsBy kinds (Ok (parsed.Text text)) = HasFault true kinds
+EndsBy kinds (Err (Usage text)) = HasFault false kinds
+EndsBy kinds (Err Memory) = ⊤
+EndsBy kinds (Err exit) = ⊥
 
 -- a line that names a command none of whose options is tied to another ends by the first faults of it (`fault_of` of clap)
 abbrev pub EndsExactly : List Text → Result Parsed Exit → Type 0
-EndsExactly words result = IfSome (free_command_in words) (λ only. EndsBy (fault_of (alone only) words) (lacks_in (subcommand_of (alone only) words)) result)
+EndsExactly words result = IfSome (free_command_in words) (λ only. EndsBy (fault_of (alone only) words) result)
 
 -- what the words of a command line ask for: a call, by the program's commands and options, or a text
 abbrev pub Asks : List Text → Parsed → Type 0

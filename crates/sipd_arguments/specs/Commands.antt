@@ -5,13 +5,13 @@ use Rattle.clap.specs.declared.builder.command.Command.{Command}
 use Rattle.clap.specs.declared.builder.command.Command.TheViews.{out-Command}
 use Rattle.clap.specs.declared.error.kind.ErrorKind.{ErrorKind}
 use Rattle.clap.specs.declared.error.kind.ErrorKind.TheVariants.{OutOfMemory}
-use Rattle.sipd_arguments.specs.CommandLine.{asks_text, free_command, lacks_configuration, lacks_record}
+use Rattle.sipd_arguments.specs.CommandLine.{asks_text, free_command, lacks_record}
 use Rattle.sipd_arguments.specs.declared.commands.Parsed.{Parsed}
 use Rattle.sipd_arguments.specs.declared.commands.Parsed.TheVariants as parsed
 use Rattle.sipd_arguments.specs.declared.exit.Exit.{Exit}
 use Rattle.sipd_arguments.specs.declared.exit.Exit.TheVariants.{Usage, Memory}
 use Rattle.sipd_arguments.specs.declared.matches.Uncalled.{Uncalled}
-use Rattle.sipd_arguments.specs.declared.matches.Uncalled.TheVariants.{NoMemory, NoRecord, NoConfiguration, NoCommand}
+use Rattle.sipd_arguments.specs.declared.matches.Uncalled.TheVariants.{NoMemory, NoRecord, NoCommand}
 
 -- a command without commands of its own
 pub record IsCommand (shape : Shape) (c : Command) : Type 0 where
@@ -39,12 +39,6 @@ IsMade (Some shape) None = ⊥
 IsMade None (Some c) = ⊥
 IsMade None None = ⊤
 
--- why nothing is replayed
-abbrev pub IsUnreplayed : List Row → Uncalled → Type 0
-IsUnreplayed rows NoMemory = ⊤
-IsUnreplayed rows NoConfiguration = lacks_configuration rows ≡ true
-IsUnreplayed rows why = ⊥
-
 -- why nothing is served
 abbrev pub IsUnserved : List Row → Uncalled → Type 0
 IsUnserved rows NoMemory = ⊤
@@ -55,7 +49,6 @@ IsUnserved rows why = ⊥
 abbrev pub IsUncalled : Text → List Row → Uncalled → Type 0
 IsUncalled name rows NoMemory = ⊤
 IsUncalled name rows NoRecord = (name ≡ codes "serve") × (lacks_record rows ≡ true)
-IsUncalled name rows NoConfiguration = (name ≡ codes "replay") × (lacks_configuration rows ≡ true)
 IsUncalled name rows NoCommand = free_command name ≡ None
 
 abbrev pub IsUncalledOf : Option (Text × List Row) → Uncalled → Type 0

@@ -24,9 +24,14 @@ pub struct CheckCall {
 #[derive(Drop)]
 pub enum ReplayCall {
     /// The script on standard input, with the configuration of a file; with the sample where none is named.
-    Script { config: Option<String> },
-    /// The record in a file, with the configuration of the file with which it was made.
-    Record { config: String, path: String },
+    Script {
+        config: Option<String>,
+    },
+    /// The record in a file, with the configurations that it holds; one of before, which holds none, with that of a file.
+    Record {
+        config: Option<String>,
+        path: String,
+    },
 }
 
 /// What becomes of a server whose record can't be written.

@@ -21,10 +21,6 @@ const RECORD_FAULTS: &[&str] = &["go-on", "end"];
 const NO_RECORD: &str =
     "error: '--record-fault <WORD>' is for a record: '--record <FILE>' or '--records <FOLDER>'\n\nFor more information, try '--help'.\n";
 
-/// What is said of a record that is to be replayed without its configuration.
-const NO_CONFIGURATION: &str =
-    "error: the following required arguments were not provided:\n  --config <FILE>\n\nUsage: sipd replay --config <FILE> --record <FILE>\n\nFor more information, try '--help'.\n";
-
 /// What is said of a line that names no command. The parse says so itself.
 const NO_COMMAND: &str = "error: no command\n\nFor more information, try '--help'.\n";
 
@@ -84,7 +80,7 @@ fn check_command<'a>(alloc: Global) -> Result<Command<'a>, AllocError>
     ensures { IfOk result (IsCommand Definitions.check_command) }
 {
     let show = "Print what was understood, or what is wrong and where";
-    let against = "Tell what a change from this configuration would do";
+    let against = "Tell what a change from this file or record would do";
     Command::new(alloc, "check")
         .about("Checks a configuration")
         .arg(config_argument(alloc).required(true))?
@@ -92,13 +88,12 @@ fn check_command<'a>(alloc: Global) -> Result<Command<'a>, AllocError>
         .arg(option(alloc, "against", "OLD", against))
 }
 
-/// `--record FILE`, of a record that is there. That its configuration is named is looked at behind the parse: of options that are tied to
-/// one another the parse doesn't say which lines it takes.
+/// `--record FILE`, of a record that is there.
 fn old_record_argument<'a>(alloc: Global) -> Arg<'a>
     ensures rule { rule_of result ≡ Definitions.option (codes "record") }
     ensures local { result.global ≡ false }
 {
-    let help = "Replay this record of a server instead of standard input, with its configuration";
+    let help = "Replay this record of a server instead of standard input";
     option(alloc, "record", "FILE", help)
 }
 
@@ -341,7 +336,6 @@ fn complaint(alloc: Global, why: Uncalled) -> Exit
     match why {
         Uncalled::NoMemory => Exit::Memory,
         Uncalled::NoRecord => usage(alloc, NO_RECORD),
-        Uncalled::NoConfiguration => usage(alloc, NO_CONFIGURATION),
         Uncalled::NoCommand => usage(alloc, NO_COMMAND),
     }
 }

@@ -28,6 +28,8 @@ pub enum Exit {
     NoRecord,
     /// A record was made with another configuration.
     OtherConfiguration,
+    /// A record doesn't hold its configuration, and no file is named that does.
+    NoConfiguration,
     /// A server that runs can't take a configuration in the place of another.
     OtherFrame,
     /// The file of a new record can't be made.
@@ -44,7 +46,11 @@ impl Exit {
         match self {
             Exit::Usage(_) | Exit::Question(_) => 1,
             Exit::Configuration(_) => 2,
-            Exit::Script(_) | Exit::NoRecord | Exit::OtherConfiguration | Exit::OtherFrame => 3,
+            Exit::Script(_)
+            | Exit::NoRecord
+            | Exit::OtherConfiguration
+            | Exit::NoConfiguration
+            | Exit::OtherFrame => 3,
             Exit::Device(_) | Exit::NewRecord | Exit::Recording => 4,
             Exit::Memory | Exit::Stack { .. } => 5,
         }
@@ -69,6 +75,10 @@ impl fmt::Display for Exit {
             Exit::OtherConfiguration => {
                 write!(f, "sipd: the record was made with another configuration")
             }
+            Exit::NoConfiguration => write!(
+                f,
+                "sipd: the record doesn't hold its configuration: name it with --config"
+            ),
             Exit::OtherFrame => write!(f, "sipd: a server that runs can't take it"),
             Exit::NewRecord => write!(
                 f,

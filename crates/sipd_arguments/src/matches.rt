@@ -2,7 +2,7 @@ ghost use Rattle.std.specs.Prelude.{◌≡◌, false, codes, IfErr, IfOk, is_som
 ghost use Rattle.clap.specs.Words.{found_of, rows_of, subcommand_rows_of};
 ghost use Rattle.sipd_arguments.specs.CommandLine as Definitions;
 ghost use Rattle.sipd_arguments.specs.CommandLine.{IsCall, IsCallOf, IsPlace};
-ghost use Rattle.sipd_arguments.specs.Commands.{IsUncalled, IsUncalledOf, IsUnreplayed, IsUnserved};
+ghost use Rattle.sipd_arguments.specs.Commands.{IsUncalled, IsUncalledOf, IsUnserved};
 
 use crate::call::{
     Call, CheckCall, DecideCall, RecordFault, RecordPlace, ReplayCall, ReportCall, ServeCall,
@@ -17,8 +17,6 @@ pub(crate) enum Uncalled {
     NoMemory,
     /// A word on the record stands where there is none.
     NoRecord,
-    /// A record is to be replayed without its configuration.
-    NoConfiguration,
     /// No command is named.
     NoCommand,
 }
@@ -90,17 +88,14 @@ fn check_call(alloc: Global, matches: &ArgMatches<'_>) -> Result<CheckCall, Allo
     })
 }
 
-/// What is replayed. A record is replayed with its configuration alone: without one `NoConfiguration` is the refusal.
-fn replay_call(alloc: Global, matches: &ArgMatches<'_>) -> Result<ReplayCall, Uncalled>
-    ensures call { IfOk result (Definitions.IsReplay (rows_of (found_of matches.now))) }
-    ensures refused { IfErr result (IsUnreplayed (rows_of (found_of matches.now))) }
+fn replay_call(alloc: Global, matches: &ArgMatches<'_>) -> Result<ReplayCall, AllocError>
+    ensures { IfOk result (Definitions.IsReplay (rows_of (found_of matches.now))) }
 {
     let config = text_of(alloc, matches, "config")?;
-    match (text_of(alloc, matches, "record")?, config) {
-        (None, config) => Ok(ReplayCall::Script { config }),
-        (Some(path), Some(config)) => Ok(ReplayCall::Record { config, path }),
-        (Some(_), None) => Err(Uncalled::NoConfiguration),
-    }
+    Ok(match text_of(alloc, matches, "record")? {
+        Some(path) => ReplayCall::Record { config, path },
+        None => ReplayCall::Script { config },
+    })
 }
 
 /// What becomes of the server where its record can't be written.

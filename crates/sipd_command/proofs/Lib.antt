@@ -1,3 +1,4 @@
+mod Ahead
 mod Changing
 mod Printed
 mod Turning

@@ -1,12 +1,11 @@
 -- What is written of a server, part by part.
-use Rattle.std.proofs.Common.{◌≡◌, ℕ, ◌<◌, ◌+◌, Bool, true, false, List, [], ◌∷◌, ◌++◌, length, take, get_or, Option, subst, sym, ap, ◌∙◌, append-nil}
+use Rattle.std.proofs.Common.{◌≡◌, ℕ, ◌<◌, ◌+◌, List, [], ◌∷◌, ◌++◌, length, take, get_or, Option, subst, sym, ap, ◌∙◌, append-nil}
 use Rattle.std.proofs.lemmas.Grind.{flat_map-append}
 use Rattle.std.proofs.lemmas.List.{take_more}
 use Rattle.std.specs.Io.KnownBytes.{Appends}
 use Rattle.std.proofs.KnownBytes.{Appends-nil, Appends-trans}
 use Rattle.sip_audit.specs.declared.record.Record.{Record}
-use Rattle.sip_record.specs.Recorder.{told}
-use Rattle.sip_loop.specs.Printing.{record_text, lines_of, Prints}
+use Rattle.sip_loop.specs.Printing.{record_text, lines_of}
 
 -- one record's line more
 pub lines_more : (records : List Record) (i : ℕ) (one : Record) (a b c : Option (List ℕ)) → i < length records → one ≡ get_or records i one → Appends a b (lines_of (take i records)) → Appends b c (record_text one)
@@ -19,15 +18,3 @@ lines_more records i one a b c lt is h1 h2 =
 
 pub appends_none : (a : Option (List ℕ)) → Appends a a []
 appends_none a = Appends-nil a
-
--- lines that were printed on what hasn't failed were written
-pub told_lines : (before after : Bool) (a b : Option (List ℕ)) (records : List Record) → Prints (told before a) (told after b) records → after ≡ false → Appends a b (lines_of records)
-told_lines before true a b records h e = absurd cc
-told_lines true false a b records h e = absurd h
-told_lines false false a b records h e = h
-
--- and the other way round
-pub lines_told : (before after : Bool) (a b : Option (List ℕ)) (records : List Record) → before ≡ false → after ≡ false → Appends a b (lines_of records) → Prints (told before a) (told after b) records
-lines_told true after a b records e f h = absurd cc
-lines_told false true a b records e f h = absurd cc
-lines_told false false a b records e f h = h

@@ -1,11 +1,17 @@
 -- How the program ends where a replay is refused, or a server can't go on.
-use Rattle.std.specs.Prelude.{◌≡◌}
+use Rattle.std.specs.Prelude.{◌≡◌, ◌+◌, ◌-◌, ◌^◌, ℕ, min}
 use Rattle.sip_loop.specs.declared.audit_log.AuditFault.{AuditFault}
 use Rattle.sip_loop.specs.declared.audit_log.AuditFault.TheVariants as audits
 use Rattle.sip_loop.specs.declared.served.ServeError.{ServeError}
 use Rattle.sip_loop.specs.declared.served.ServeError.TheVariants as serving
 use Rattle.sip_replay.specs.declared.error.ReplayError.{ReplayError}
 use Rattle.sip_replay.specs.declared.error.ReplayError.TheVariants as replays
+use Rattle.sip_replay_script.specs.declared.print_stop.PrintStop.{PrintStop}
+use Rattle.sip_replay_script.specs.declared.print_stop.PrintStop.TheVariants as prints
+use Rattle.sip_resume.specs.declared.record_error.RecordError.{RecordError}
+use Rattle.sip_resume.specs.declared.record_error.RecordError.TheVariants as records
+use Rattle.sip_segments.specs.declared.stop.SegmentStop.{SegmentStop}
+use Rattle.sip_segments.specs.declared.stop.SegmentStop.TheVariants as segments
 use Rattle.sipd_arguments.specs.Exits.{IsPrintFault}
 use Rattle.sipd_arguments.specs.declared.device_fault.DeviceFault.{DeviceFault}
 use Rattle.sipd_arguments.specs.declared.device_fault.DeviceFault.TheVariants.{Other}
@@ -18,6 +24,37 @@ exit_of_replay replays.NoMemory = Memory
 exit_of_replay (replays.Script line) = Script line
 exit_of_replay replays.Read = Device Other
 exit_of_replay replays.Write = Device Other
+
+-- the line of a record's file that is this one behind its first line
+abbrev pub line_of_file : ℕ → ℕ
+line_of_file line = min (line + 1) (2 ^ 64 - 1)
+
+-- what it is where the configuration isn't read with which a record begins
+abbrev pub exit_of_segment : SegmentStop → Exit
+exit_of_segment segments.NoMemory = Memory
+exit_of_segment (segments.Damaged line) = Script (line_of_file line)
+exit_of_segment (segments.Cut line) = Script (line_of_file line)
+exit_of_segment (segments.TooLong line) = Script (line_of_file line)
+exit_of_segment (segments.NoConfiguration line e) = Script (line_of_file line)
+exit_of_segment (segments.OtherFrame line key) = Script (line_of_file line)
+exit_of_segment segments.Read = Device Other
+
+-- what the refused replay of a record is to it, behind whose first line so many lines were read
+abbrev pub exit_of_record : RecordError → ℕ → Exit
+exit_of_record records.NoMemory lines = Memory
+exit_of_record (records.Damaged line) lines = Script (line_of_file line)
+exit_of_record (records.TooLong line) lines = Script (line_of_file line)
+exit_of_record (records.NoConfiguration line e) lines = Script (line_of_file line)
+exit_of_record (records.OtherFrame line key) lines = Script (line_of_file line)
+exit_of_record records.Step lines = Script (line_of_file lines)
+exit_of_record records.Read lines = Device Other
+exit_of_record records.Write lines = Device Other
+exit_of_record records.Journal lines = Recording
+
+-- and what it is where the print isn't handed on
+abbrev pub exit_of_print : PrintStop → Exit
+exit_of_print prints.NoMemory = Memory
+exit_of_print prints.Write = Device Other
 
 -- what it is to who serves that a line of a decision couldn't be printed: a device's fault is told as one
 abbrev pub fault_of_print : Exit → AuditFault

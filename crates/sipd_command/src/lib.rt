@@ -9,6 +9,7 @@ mod line_printer;
 mod printing;
 mod program;
 mod reloading;
+mod replaying;
 mod service;
 mod serving;
 mod unheard;

@@ -1,17 +1,13 @@
 ghost use Rattle.std.specs.Prelude.{◌≡◌, ◌≤◌};
 ghost use Rattle.sipd_command.specs.Exits;
 
+use crate::replaying::replay_record;
 use crate::serving::serve_file;
 use sip_event::Boot;
 use sip_policy::Rules;
-use sip_record::RecordMark;
 use sip_replay::{ReplayError, replay};
 use sip_timers::Timers;
-use sipd_arguments::{
-    Call, DeviceFault, Exit, Parsed, ReplayCall, config_of, config_of_bytes, parse, print,
-    stated_in,
-};
-use sipd_start::open_record;
+use sipd_arguments::{Call, DeviceFault, Exit, Parsed, ReplayCall, config_of, parse, print};
 use sipd_tools::{check, decide, make_report, make_user};
 use std::io::{Read, Write};
 use std::net::Net;
@@ -50,44 +46,6 @@ pub fn replay_script<T: Timers, P: Rules, R: Files + AllocGlobal, I: Read, W: Wr
     }
 }
 
-/// How the program ends where the replay of a record is refused: its first line is a line, too.
-fn exit_of_record(e: ReplayError) -> Exit {
-    match e {
-        ReplayError::Script(line) => Exit::Script(line.saturating_add(1)),
-        e => exit_of_replay(e),
-    }
-}
-
-/// Replays a record with the configuration of the file with which it was made, whatever became of it; complains where it lacks
-/// events.
-fn replay_record<T: Timers, P: Rules, R: Files + AllocGlobal, W: Write, C: Write>(
-    rt: &R,
-    config: &str,
-    path: &str,
-    output: &mut W,
-    complaints: &mut C,
-) -> Result<(), Exit> {
-    let alloc = rt.alloc();
-    let stated = stated_in(rt, config)?;
-    let config = config_of_bytes(alloc, stated.bytes.as_slice())?;
-    let mut record = open_record(rt, alloc, path, &stated.digest)?;
-    if record.head.mark == RecordMark::Broken {
-        let _ = writeln!(
-            complaints,
-            "sipd: the writing of {path} failed: it lacks what came behind"
-        );
-    }
-    let boot = Boot {
-        word: record.head.word,
-        first: record.head.first,
-        keys: 0,
-    };
-    match replay::<T, P, _, W>(alloc, config, boot, &mut record.events, output) {
-        Ok(()) => Ok(()),
-        Err(e) => Err(exit_of_record(e)),
-    }
-}
-
 /// Replays the script of the input, or a record.
 fn replay_call<T: Timers, P: Rules, R: Files + AllocGlobal, I: Read, W: Write, C: Write>(
     rt: &R,
@@ -102,7 +60,8 @@ fn replay_call<T: Timers, P: Rules, R: Files + AllocGlobal, I: Read, W: Write, C
             replay_script::<T, P, R, I, W>(rt, config, input, output)
         }
         ReplayCall::Record { config, path } => {
-            replay_record::<T, P, R, W, C>(rt, config.as_str(), path.as_str(), output, complaints)
+            let config = config.as_ref().map(String::as_str);
+            replay_record::<T, P, R, W, C>(rt, config, path.as_str(), output, complaints)
         }
     }
 }
@@ -118,7 +77,7 @@ fn carry_out<
     match call {
         Call::Check(call) => check(rt, call, output, complaints),
         Call::Replay(call) => replay_call::<T, P, R, I, W, C>(rt, call, input, output, complaints),
-        Call::Serve(call) => serve_file::<T, P, R, W, C>(rt, call, output, complaints),
+        Call::Serve(call) => { serve_file::<T, P, R, I, W, C>(rt, call, input, output, complaints) }
         Call::Decide(call) => decide(rt, call, output),
         Call::Report(call) => make_report(rt, call, input, output, complaints),
         Call::User(call) => make_user(rt, call, input, output, complaints),
@@ -140,8 +99,9 @@ fn run<
 }
 
 /// Does what the words of a command line say, the program's own name first, on these kinds of timers and rules, and gives
-/// the exit status: 0 done, 1 usage, 2 configuration, 3 script, 4 device, 5 memory. The last line that it complains of says
-/// why, but for the text on usage.
+/// the exit status: 0 done; 1 usage, or a question without an answer; 2 a configuration that is refused; 3 a script or a record that
+/// isn't taken, or a configuration that can't come in another one's place; 4 a device, or a record that can't be made or written; 5
+/// memory, or the stack. The last line that it complains of says why, but for the text on usage.
 pub fn command<
     T: Timers,
     P: Rules,

@@ -196,8 +196,9 @@ fn say_unheard<L: Link, C: Clock, M: Write>(
     }
 }
 
-/// Waits for a datagram until something is due, and lets the server do one turn, in which it prints its records; complains about a
-/// record that can't be written, and about what wasn't heard.
+/// Looks at the journal, and lets the configuration change; then waits for a datagram until something is due, and lets the server do one
+/// turn, in which it prints its records. Complains about a record that can't be written, and about what wasn't heard. Where a change
+/// can't be told to the journal, there is no turn.
 fn do_turn<
     T: Timers,
     P: Rules,

@@ -22,7 +22,7 @@ use sipd_arguments::{DeviceFault, Exit, ServeCall, Stated, config_of_bytes, stat
 use sipd_reload::{PathFile, Watch, WatchedFile};
 use sipd_start::{Beginning, Begun, WatchedJournal, begin, check_stack, new_boot, secret};
 use std::alloc::{AllocError, Global};
-use std::io::{ErrorKind, Write};
+use std::io::{ErrorKind, Read, Write};
 use std::net::Net;
 use std::random::RandomSource;
 use std::rt;
@@ -195,8 +195,8 @@ fn serve_with<
     serve_turns(alloc, &mut service, &serving, printer, complaints)
 }
 
-/// Serves and records.
-fn serve_recorded<
+/// Serves with a server that is begun, which records, or couldn't.
+fn serve_begun<
     T: Timers,
     P: Rules,
     R: Files + rt::Clock + AllocGlobal,
@@ -205,9 +205,9 @@ fn serve_recorded<
     W: Write + Drop,
     M: Write,
 >(
-    beginning: &Beginning<'_, R>,
     rt: &R,
-    mut start: Start<L, StdRng>,
+    start: Start<L, StdRng>,
+    begun: Begun<'_, T, P, R>,
     watch: Option<Watch<F>>,
     printer: &mut LinePrinter<W>,
     complaints: &mut M,
@@ -216,7 +216,7 @@ fn serve_recorded<
         engine,
         record,
         last,
-    } = begin::<T, P, R, _, M>(beginning, &mut start.words, complaints)?;
+    } = begun;
     let decided = match &last {
         Some(out) => out.records.as_slice(),
         None => &[],
@@ -252,47 +252,99 @@ fn watch_of<'a, R: Files + AllocGlobal>(
     Ok(Some(Watch::new(file, in_force, 0)))
 }
 
+/// Serves and records. The address is bound first; behind what the input gives, where the server goes on from that, since until then
+/// it is the address of the server whose record comes there.
+fn serve_recorded<
+    T: Timers,
+    P: Rules,
+    R: Files + Net + rt::Clock + AllocGlobal,
+    I: Read,
+    F: WatchedFile,
+    W: Write + Drop,
+    M: Write,
+>(
+    rt: &R,
+    call: &ServeCall,
+    config: &Config,
+    beginning: &Beginning<'_, R>,
+    mut words: StdRng,
+    watch: Option<Watch<F>>,
+    input: &mut I,
+    printer: &mut LinePrinter<W>,
+    complaints: &mut M,
+) -> Result<(), Exit> {
+    let address = address_of(config);
+    let bound = if beginning.reads_input() {
+        None
+    } else {
+        Some(bind(rt, address)?)
+    };
+    let begun = begin::<T, P, R, I, _, M>(beginning, input, &mut words, complaints)?;
+    let link = match bound {
+        Some(link) => link,
+        None => bind(rt, address)?,
+    };
+    let start = start_of(rt.alloc(), call, config, link, words)?;
+    serve_begun(rt, start, begun, watch, printer, complaints)
+}
+
+/// Serves, and records nothing.
+fn serve_unrecorded<
+    T: Timers,
+    P: Rules,
+    R: Net + rt::Clock + AllocGlobal,
+    F: WatchedFile,
+    W: Write + Drop,
+    M: Write,
+>(
+    rt: &R,
+    call: &ServeCall,
+    config: Config,
+    words: StdRng,
+    watch: Option<Watch<F>>,
+    printer: &mut LinePrinter<W>,
+    complaints: &mut M,
+) -> Result<(), Exit> {
+    let alloc = rt.alloc();
+    let link = bind(rt, address_of(&config))?;
+    let mut start = start_of(alloc, call, &config, link, words)?;
+    let engine = Engine::<T, P>::open(alloc, config, new_boot(&mut start.words))?;
+    serve_with(
+        rt,
+        start,
+        engine,
+        NoJournal,
+        &[],
+        watch,
+        printer,
+        complaints,
+    )
+}
+
 /// Serves with the configuration of a file.
 pub fn serve_file<
     T: Timers,
     P: Rules,
     R: Files + Net + rt::Clock + RandomSource + AllocGlobal,
+    I: Read,
     W: Write,
     M: Write,
->(rt: &R, call: &ServeCall, output: &mut W, complaints: &mut M) -> Result<(), Exit> {
+>(rt: &R, call: &ServeCall, input: &mut I, output: &mut W, complaints: &mut M) -> Result<(), Exit> {
     check_stack(rt)?;
     let alloc = rt.alloc();
     let stated = stated_in(rt, call.config.as_str())?;
     let config = config_of_bytes(alloc, stated.bytes.as_slice())?;
-    let link = bind(rt, address_of(&config))?;
     let words: StdRng = rand::make_rng(rt)?;
-    let mut start = start_of(alloc, call, &config, link, words)?;
     let watch = watch_of(rt, call, &stated)?;
     let mut printer = LinePrinter::new(alloc, output);
-    match &call.record {
-        None => {
-            let engine = Engine::<T, P>::open(alloc, config, new_boot(&mut start.words))?;
-            serve_with(
-                rt,
-                start,
-                engine,
-                NoJournal,
-                &[],
-                watch,
-                &mut printer,
-                complaints,
-            )
-        }
-        Some(place) => {
-            let beginning = Beginning::new(rt, &stated, place, call.record_fault)?;
-            serve_recorded::<T, P, R, _, _, _, M>(
-                &beginning,
-                rt,
-                start,
-                watch,
-                &mut printer,
-                complaints,
-            )
-        }
-    }
+    let printer = &mut printer;
+    let Some(place) = &call.record else {
+        return serve_unrecorded::<T, P, R, _, _, M>(
+            rt, call, config, words, watch, printer, complaints,
+        );
+    };
+    let beginning = Beginning::new(rt, &stated, place, call.record_fault)?;
+    serve_recorded::<T, P, R, I, _, _, M>(
+        rt, call, &config, &beginning, words, watch, input, printer, complaints,
+    )
 }

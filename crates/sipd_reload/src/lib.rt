@@ -1,7 +1,8 @@
 //! What a serving program needs to notice, between two turns, that the file of its configuration holds other bytes which are to be
 //! taken: a file as a trait, with one of the system and one over memory, and a watch of it.
 //!
-//! - Used: `sipd_command` asks it once a turn, where a service is to take its configuration anew.
+//! - Used: `sipd_command` asks it once a turn, where a service is to take its configuration anew; `sipd_start` and
+//!   `sipd_tools` read no longer configuration of a record.
 //! - Not here: what the bytes say, and what is done with them.
 //! - Tried: worked examples in `src/examples.rt`, as contracts that compute; `test_kinds`, on memory, with each allocation refused.
 //!
@@ -31,6 +32,7 @@ mod watched_file;
 
 pub use file_fault::FileFault;
 pub use file_state::FileState;
+pub use limits::MOST_BYTES;
 pub use look::Look;
 pub use memory_file::MemoryFile;
 pub use path_file::PathFile;

@@ -6,7 +6,7 @@ use crate::file_fault::FileFault;
 use crate::stamp::Stamp;
 
 /// The most bytes that are read of a configuration.
-pub(crate) const MOST_BYTES: usize = 16_777_216;
+pub const MOST_BYTES: usize = 16_777_216;
 
 /// A stamp, unless its file is longer than is read.
 pub(crate) fn short_stamp(stamp: Result<Stamp, FileFault>) -> Result<Stamp, FileFault>

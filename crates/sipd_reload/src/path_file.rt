@@ -13,7 +13,8 @@ use std::fs::{Metadata, OpenFile};
 use std::os::unix::fs::MetadataExt;
 use std::rt::Files;
 
-/// The file of a path. It tells nothing of what it answers, since what a file holds no clause can say.
+/// The file that a path names when it is asked: another one may have been put in its place. What is no regular file is refused by
+/// `stamp` alone, which a watch asks first. It tells nothing of what it answers, since what a file holds no clause can say.
 #[derive(Drop)]
 pub struct PathFile<'a, R> {
     rt: &'a R,

@@ -17,7 +17,7 @@ use std::marker::Model;
 const SECOND: u64 = 1000;
 
 /// A watch of the file of a configuration, which is in force. It tells when the file holds other bytes that are to be taken: those that
-/// two looks saw alike, a second apart, so that no file is taken while it is written.
+/// two looks in a row saw alike, a second apart at least, so that a file that is written without such a pause isn't taken in part.
 #[derive(Drop)]
 pub struct Watch<F: WatchedFile> {
     file: F,

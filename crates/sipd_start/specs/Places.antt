@@ -1,5 +1,6 @@
 -- Which files a start makes that records, from which record it goes on, and why a file isn't made.
-use Rattle.std.specs.Prelude.{◌≡◌, ℕ, List, ◌++◌, codes, Option, None, Some, option_map, string_bytes}
+use Rattle.std.specs.Prelude.{◌≡◌, ℕ, Bool, false, List, ◌++◌, codes, Option, None, Some, option_map, string_bytes}
+use Rattle.std.specs.Str.{bytes_eq}
 use Rattle.std.specs.declared.io.ErrorKind.{ErrorKind}
 use Rattle.std.specs.declared.io.ErrorKind.TheVariants.{OutOfMemory, AlreadyExists, NotFound, PermissionDenied, NotADirectory, IsADirectory, ReadOnlyFilesystem, FilesystemLoop, InvalidFilename, InvalidInput, Unsupported}
 use Rattle.sip_record.specs.declared.on_fault.OnFault.{OnFault}
@@ -69,3 +70,12 @@ exit_of_making InvalidFilename = NewRecord
 exit_of_making InvalidInput = NewRecord
 exit_of_making Unsupported = NewRecord
 exit_of_making kind = Recording
+
+-- whether a record is the program's input: it is called `-`
+abbrev pub is_input : List ℕ → Bool
+is_input old = bytes_eq old (codes "-")
+
+-- and so it is where one is named
+abbrev pub reads_input : Option (List ℕ) → Bool
+reads_input None = false
+reads_input (Some old) = is_input old

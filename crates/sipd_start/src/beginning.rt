@@ -1,24 +1,29 @@
-ghost use Rattle.std.specs.Prelude.{◌≡◌, false, IfErr, IfNone, IfOk, IfSome, None, Ok, OnErr, OnOk};
+ghost use Rattle.std.specs.Prelude.{◌≡◌, codes, false, option_map, string_bytes, IfErr, IfNone, IfOk, IfSome, None, Ok, OnErr, OnOk};
+ghost use Rattle.sip_replay_script.specs.Lines.{pending};
 ghost use Rattle.sipd_arguments.specs.declared.call.RecordFault.TheVariants.{GoOn};
 ghost use Rattle.sipd_start.specs.Begins.{Begins, GoesOn, GoesOnFrom, GoesOnFromFile, IsLeftBehind, IsNotGoneOn};
-ghost use Rattle.sipd_start.specs.Begins.{IsNotResumed, IsOpened, LeadsTo, StartsAnew, StopsAt};
+ghost use Rattle.sipd_start.specs.Begins.{IsNotResumed, IsOpened, IsServerOf, LeadsTo, StartsAnew, StopsAt};
 ghost use Rattle.sipd_start.specs.Boots;
+ghost use Rattle.sipd_start.specs.Places;
 ghost use Rattle.sipd_start.specs.Places.{IsPlaceOf};
 
 use crate::making::{Place, check_free, make_part, name_part, place_of, remove_part};
-use crate::not_resumed::{NotResumed, Stop, unread, untaken};
-use crate::old_record::{OldRecord, old_record, open_file};
+use crate::not_resumed::{NotResumed, Stop, unread};
+use crate::old_lines::OldLines;
+use crate::old_record::{head_in, open_file};
 use crate::record_file::{RecordFile, mark_file};
+use crate::taking::{old_lines, take_old, tell};
 use rand_core::Rng;
 use sip_event::{Boot, StepOut};
 use sip_policy::Rules;
 use sip_record::{NoJournal, RecordHead, RecordMark, Recorder};
 use sip_replay_script::TellingReader;
+use sip_resume::Resumed;
 use sip_resume::engine::Engine;
-use sip_resume::{Resumed, resume};
+use sip_text::same_bytes;
 use sip_timers::Timers;
 use sipd_arguments::{Exit, RecordFault, RecordPlace, Stated, config_of_bytes};
-use std::io::Write;
+use std::io::{ErrorKind, Write};
 use std::rt::{Clock, Files};
 
 /// The number of the first datagram.
@@ -26,6 +31,9 @@ const FIRST: u64 = 1;
 
 /// 2^64: what the high half of a secret counts.
 const HALF: u128 = 1 << 64;
+
+/// How the input is called where a record is asked for.
+const INPUT: &str = "-";
 
 /// What a server that records is begun with.
 #[derive(Drop)]
@@ -59,6 +67,23 @@ impl<'a, R: Files + Clock + AllocGlobal> Beginning<'a, R> {
             fault,
         })
     }
+
+    /// Whether it goes on from what the input gives: that may come for as long as another server serves.
+    pub fn reads_input(&self) -> bool
+        ensures { result ≡ Places.reads_input (option_map (λ old. string_bytes old) self.now.place.old) }
+    {
+        match &self.place.old {
+            Some(old) => is_input(old.as_str()),
+            None => false,
+        }
+    }
+}
+
+/// Whether a record is the input.
+fn is_input(old: &str) -> bool
+    ensures { result ≡ Places.is_input old.now }
+{
+    same_bytes(old.as_bytes(), INPUT.as_bytes())
 }
 
 /// A server that is begun.
@@ -125,10 +150,11 @@ fn open<T: Timers, P: Rules, R: AllocGlobal>(
     Ok(Engine::open(alloc, config, boot)?)
 }
 
-/// The new record of a start, which hasn't its name yet.
+/// The new record of a start, of which the first line is written, with this digest. It hasn't its name yet.
 fn make<'a, R: Files + AllocGlobal>(
     beginning: &Beginning<'a, R>,
     boot: Boot,
+    digest: [u8; 32],
 ) -> Result<Recorder<RecordFile<'a, R>>, Exit>
     ensures { IfOk result (λ r. r.has_failed ≡ false) }
 {
@@ -136,7 +162,7 @@ fn make<'a, R: Files + AllocGlobal>(
         mark: RecordMark::Whole,
         word: boot.word,
         first: boot.first,
-        digest: beginning.stated.digest,
+        digest,
     };
     make_part(
         beginning.rt,
@@ -181,6 +207,18 @@ fn settle<'a, R: Files + AllocGlobal>(
     }
 }
 
+/// The record of a server that starts anew: the configuration stands behind its first line. It has its name then.
+fn make_anew<'a, R: Files + AllocGlobal>(
+    beginning: &Beginning<'a, R>,
+    boot: Boot,
+) -> Result<Recorder<RecordFile<'a, R>>, Exit>
+    ensures { IfOk result (λ r. r.has_failed ≡ false) }
+{
+    let mut recorder = make(beginning, boot, beginning.stated.digest)?;
+    tell(beginning.stated, &mut recorder)?;
+    name(beginning, recorder)
+}
+
 /// A server that starts anew, and its record.
 fn begin_anew<'a, T: Timers, P: Rules, R: Files + AllocGlobal, W: Rng>(
     beginning: &Beginning<'a, R>,
@@ -194,10 +232,7 @@ fn begin_anew<'a, T: Timers, P: Rules, R: Files + AllocGlobal, W: Rng>(
 {
     let boot = new_boot(words);
     let engine = open(beginning, boot)?;
-    let made = match make(beginning, boot) {
-        Ok(record) => name(beginning, record),
-        Err(exit) => Err(exit),
-    };
+    let made = make_anew(beginning, boot);
     Ok(Begun {
         engine,
         record: settle(beginning, made)?,
@@ -205,51 +240,58 @@ fn begin_anew<'a, T: Timers, P: Rules, R: Files + AllocGlobal, W: Rng>(
     })
 }
 
-/// A server that has taken the events of a record, and records none.
-#[tactic(auto, using(crate::proofs::Beginnings::leads, crate::proofs::Refusals::stops_at, crate::proofs::Refusals::exits_at))]
-fn go_on_alone<'a, T: Timers, P: Rules, R: Files + AllocGlobal, I: TellingReader + Drop>(
+/// A server that has taken what stands behind the first line of a record, and records none.
+#[tactic(auto, using(crate::proofs::Beginnings::leads))]
+fn go_on_alone<'a, T: Timers, P: Rules, R: Files + AllocGlobal, I: TellingReader>(
     beginning: &Beginning<'a, R>,
     mut engine: Engine<T, P>,
-    mut old: OldRecord<I>,
+    old: OldLines,
+    reader: &mut I,
 ) -> Result<GoneOn<'a, T, P, R>, Stop>
-    ensures server { IfOk result (λ gone_on. gone_on.begun.engine.server ≡ engine.server) }
-    ensures resumed { IfOk result (λ gone_on. LeadsTo engine.server engine.state (I.remaining old.events)
+    ensures server { IfOk result (λ gone_on. IsServerOf beginning.now.stated.now.bytes.items engine.server.word gone_on.begun.engine.server) }
+    ensures resumed { IfOk result (λ gone_on. LeadsTo engine.server engine.state (pending old.lines (I.remaining reader.old))
         gone_on.begun.engine.state gone_on.lines gone_on.begun.last) }
     ensures unrecorded { IfOk result (λ gone_on. gone_on.begun.record ≡ None) }
-    ensures stops { IfErr result (StopsAt engine.server engine.state (I.remaining old.events)) }
+    ensures stops { IfErr result (StopsAt engine.server engine.state (pending old.lines (I.remaining reader.old))) }
 {
     let alloc = beginning.rt.alloc();
-    match resume(alloc, &mut engine, &mut old.events, &mut NoJournal) {
-        Ok(Resumed { lines, last }) => {
-            let begun = Begun {
-                engine,
-                record: None,
-                last,
-            };
-            Ok(GoneOn { begun, lines })
-        }
-        Err(e) => Err(untaken(e)),
-    }
+    let stated = beginning.stated;
+    let Resumed { lines, last } = take_old(
+        alloc,
+        stated,
+        &mut engine,
+        old,
+        reader,
+        &mut NoJournal,
+    )?;
+    let begun = Begun {
+        engine,
+        record: None,
+        last,
+    };
+    Ok(GoneOn { begun, lines })
 }
 
-/// A server that has taken the events of a record, which stand in the new record, too. That has its name once it is whole, so that
-/// the older one is needed no more.
-#[tactic(auto, using(crate::proofs::Beginnings::leads, crate::proofs::Refusals::stops_at, crate::proofs::Refusals::exits_at))]
-fn go_on_recorded<'a, T: Timers, P: Rules, R: Files + AllocGlobal, I: TellingReader + Drop>(
+/// A server that has taken what stands behind the first line of a record, which stands in the new record, too. That has its name once it
+/// is whole, so that the older one is needed no more.
+#[tactic(auto, using(crate::proofs::Beginnings::leads, crate::proofs::Refusals::exits_at))]
+fn go_on_recorded<'a, T: Timers, P: Rules, R: Files + AllocGlobal, I: TellingReader>(
     beginning: &Beginning<'a, R>,
     mut engine: Engine<T, P>,
     mut recorder: Recorder<RecordFile<'a, R>>,
-    mut old: OldRecord<I>,
+    old: OldLines,
+    reader: &mut I,
 ) -> Result<GoneOn<'a, T, P, R>, Stop>
-    ensures server { IfOk result (λ gone_on. gone_on.begun.engine.server ≡ engine.server) }
-    ensures resumed { IfOk result (λ gone_on. LeadsTo engine.server engine.state (I.remaining old.events)
+    ensures server { IfOk result (λ gone_on. IsServerOf beginning.now.stated.now.bytes.items engine.server.word gone_on.begun.engine.server) }
+    ensures resumed { IfOk result (λ gone_on. LeadsTo engine.server engine.state (pending old.lines (I.remaining reader.old))
         gone_on.begun.engine.state gone_on.lines gone_on.begun.last) }
     ensures whole { IfOk result (λ gone_on. IfSome gone_on.begun.record (λ r. r.has_failed ≡ false)) }
     ensures unrecorded { IfOk result (λ gone_on. IfNone gone_on.begun.record (beginning.now.fault ≡ GoOn)) }
-    ensures stops { IfErr result (StopsAt engine.server engine.state (I.remaining old.events)) }
+    ensures stops { IfErr result (StopsAt engine.server engine.state (pending old.lines (I.remaining reader.old))) }
 {
     let alloc = beginning.rt.alloc();
-    match resume(alloc, &mut engine, &mut old.events, &mut recorder) {
+    let stated = beginning.stated;
+    match take_old(alloc, stated, &mut engine, old, reader, &mut recorder) {
         Ok(Resumed { lines, last }) => {
             let begun = Begun {
                 engine,
@@ -258,83 +300,98 @@ fn go_on_recorded<'a, T: Timers, P: Rules, R: Files + AllocGlobal, I: TellingRea
             };
             Ok(GoneOn { begun, lines })
         }
-        Err(e) => {
+        Err(stop) => {
             remove_part(beginning.rt, &beginning.place);
-            Err(untaken(e))
+            Err(stop)
         }
     }
 }
 
-/// A server that goes on from a record that can be read.
-#[tactic(auto, using(crate::proofs::Refusals::exits_on))]
-fn go_on<'a, T: Timers, P: Rules, R: Files + AllocGlobal, I: TellingReader + Drop, W: Rng>(
+/// A server that goes on from a record whose first line says this head, and whose events stand behind it. The new record's first line has
+/// the same digest, since what the older one says comes next in it.
+#[tactic(auto, using(crate::proofs::Refusals::exits_on, crate::proofs::Refusals::unbegun_so))]
+fn go_on<'a, T: Timers, P: Rules, R: Files + AllocGlobal, I: TellingReader, W: Rng>(
     beginning: &Beginning<'a, R>,
-    old: OldRecord<I>,
+    head: &RecordHead,
+    reader: &mut I,
     words: &mut W,
 ) -> Result<GoneOn<'a, T, P, R>, Stop>
-    ensures goes_on { IfOk result (λ gone_on. GoesOn beginning.now.stated.now.bytes.items old.head (I.remaining old.events)
-        gone_on.begun.engine.server gone_on.begun.engine.state gone_on.lines gone_on.begun.last) }
+    ensures goes_on { IfOk result (λ gone_on. GoesOn beginning.now.stated.now.bytes.items beginning.now.stated.now.digest head.now
+        (I.remaining reader.old) gone_on.begun.engine.server gone_on.begun.engine.state gone_on.lines gone_on.begun.last) }
     ensures left { W.stream words.new ≡ Boots.behind_secret (W.stream words.old) }
     ensures whole { IfOk result (λ gone_on. IfSome gone_on.begun.record (λ r. r.has_failed ≡ false)) }
     ensures unrecorded { IfOk result (λ gone_on. IfNone gone_on.begun.record (beginning.now.fault ≡ GoOn)) }
-    ensures stopped { IfErr result (IsNotGoneOn beginning.now.stated.now.bytes.items old.head (I.remaining old.events)) }
+    ensures stopped { IfErr result (IsNotGoneOn beginning.now.stated.now.bytes.items beginning.now.stated.now.digest head.now
+        (I.remaining reader.old)) }
 {
-    let boot = boot_again(&old.head, words);
+    let boot = boot_again(head, words);
+    let alloc = beginning.rt.alloc();
+    let old = old_lines(alloc, reader, head, &beginning.stated.digest)?;
     let engine = open(beginning, boot)?;
-    match settle(beginning, make(beginning, boot))? {
-        Some(record) => go_on_recorded(beginning, engine, record, old),
-        None => go_on_alone(beginning, engine, old),
+    match settle(beginning, make(beginning, boot, head.digest))? {
+        Some(record) => go_on_recorded(beginning, engine, record, old, reader),
+        None => go_on_alone(beginning, engine, old, reader),
     }
 }
 
-/// A server that goes on from where a record leads that some reader gives, if that is one of this configuration, and whole.
-#[tactic(auto, using(crate::proofs::Beginnings::goes_on_from, crate::proofs::Refusals::unread_so, crate::proofs::Refusals::marked_off, crate::proofs::Refusals::stopped_behind_so))]
-fn begin_from<'a, T: Timers, P: Rules, R: Files + AllocGlobal, I: TellingReader + Drop, W: Rng>(
+/// A server that goes on from where a record leads that some reader gives, if that is whole, and one of this configuration or one that
+/// holds its own.
+#[tactic(auto, using(crate::proofs::Beginnings::goes_on_from, crate::proofs::Refusals::marked_off, crate::proofs::Refusals::stopped_behind_so))]
+fn begin_from<'a, T: Timers, P: Rules, R: Files + AllocGlobal, I: TellingReader, W: Rng>(
     beginning: &Beginning<'a, R>,
-    reader: I,
+    reader: &mut I,
     words: &mut W,
 ) -> Result<GoneOn<'a, T, P, R>, Stop>
     ensures goes_on { IfOk result (λ gone_on. GoesOnFrom beginning.now.stated.now.bytes.items beginning.now.stated.now.digest
-        (I.remaining reader) gone_on.begun.engine.server gone_on.begun.engine.state gone_on.lines gone_on.begun.last) }
+        (I.remaining reader.old) gone_on.begun.engine.server gone_on.begun.engine.state gone_on.lines gone_on.begun.last) }
     ensures left { OnOk result (W.stream words.new ≡ Boots.behind_secret (W.stream words.old)) }
     ensures left_behind { OnErr result (IsLeftBehind (W.stream words.old) (W.stream words.new)) }
     ensures whole { IfOk result (λ gone_on. IfSome gone_on.begun.record (λ r. r.has_failed ≡ false)) }
     ensures unrecorded { IfOk result (λ gone_on. IfNone gone_on.begun.record (beginning.now.fault ≡ GoOn)) }
-    ensures refused { IfErr result (IsNotResumed beginning.now.stated.now.bytes.items beginning.now.stated.now.digest (I.remaining reader)) }
+    ensures refused { IfErr result (IsNotResumed beginning.now.stated.now.bytes.items beginning.now.stated.now.digest
+        (I.remaining reader.old)) }
 {
-    let alloc = beginning.rt.alloc();
-    let old = match old_record(alloc, reader, &beginning.stated.digest) {
-        Ok(old) => old,
+    let head = match head_in(beginning.rt.alloc(), reader) {
+        Ok(head) => head,
         Err(exit) => return Err(unread(exit)),
     };
-    match old.head.mark {
-        RecordMark::Whole => go_on(beginning, old, words),
+    match head.mark {
+        RecordMark::Whole => go_on(beginning, &head, reader, words),
         RecordMark::Broken => Err(Stop::NotResumed(NotResumed::Broken)),
         RecordMark::Left => Err(Stop::NotResumed(NotResumed::Left)),
     }
 }
 
-/// A server that goes on from where the record of a file leads, where it can. What the file holds no clause can say.
-#[tactic(auto, using(crate::proofs::Beginnings::goes_on_from_file))]
-fn begin_again<'a, T: Timers, P: Rules, R: Files + AllocGlobal, W: Rng>(
+/// A server that goes on from where the record of a file leads, or of the input, where it can. What the file holds no clause can say.
+#[tactic(auto, using(crate::proofs::Beginnings::goes_on_from_input, crate::proofs::Beginnings::goes_on_from_file))]
+fn begin_again<'a, T: Timers, P: Rules, R: Files + AllocGlobal, I: TellingReader, W: Rng>(
     beginning: &Beginning<'a, R>,
     old: &str,
+    input: &mut I,
     words: &mut W,
 ) -> Result<GoneOn<'a, T, P, R>, Stop>
-    ensures goes_on { IfOk result (λ gone_on. GoesOnFromFile beginning.now.stated.now.bytes.items beginning.now.stated.now.digest
-        (W.stream words.old) gone_on.begun.engine.server gone_on.begun.engine.state gone_on.begun.last (W.stream words.new)) }
+    ensures goes_on { IfOk result (λ gone_on. GoesOnFromFile (Places.is_input old.now) (I.remaining input.old) beginning.now.stated.now.bytes.items
+        beginning.now.stated.now.digest (W.stream words.old) gone_on.begun.engine.server gone_on.begun.engine.state gone_on.begun.last
+        (W.stream words.new)) }
     ensures left_behind { OnErr result (IsLeftBehind (W.stream words.old) (W.stream words.new)) }
     ensures whole { IfOk result (λ gone_on. IfSome gone_on.begun.record (λ r. r.has_failed ≡ false)) }
     ensures unrecorded { IfOk result (λ gone_on. IfNone gone_on.begun.record (beginning.now.fault ≡ GoOn)) }
 {
+    if is_input(old) {
+        return begin_from(beginning, input, words);
+    }
     match open_file(beginning.rt, beginning.rt.alloc(), old) {
-        Ok(reader) => begin_from(beginning, reader, words),
+        Ok(mut reader) => begin_from(beginning, &mut reader, words),
         Err(exit) => Err(unread(exit)),
     }
 }
 
-/// Says that a record is gone on from, in its first line, so that no other start does.
+/// Says that a record is gone on from, in its first line, so that no other start does. Where it came through the input, its file is somebody
+/// else's.
 fn leave<R: Files, C: Write>(rt: &R, old: &str, complaints: &mut C) {
+    if is_input(old) {
+        return;
+    }
     if mark_file(rt, old, RecordMark::Left).is_err() {
         let _ = writeln!(
             complaints,
@@ -343,15 +400,45 @@ fn leave<R: Files, C: Write>(rt: &R, old: &str, complaints: &mut C) {
     }
 }
 
+/// How a record is called.
+fn name_of_old(old: &str) -> &str {
+    if is_input(old) { "standard input" } else { old }
+}
+
+/// Says why a record isn't gone on from, what is lost with it, and until when.
+fn say_lost<C: Write>(old: &str, why: NotResumed, complaints: &mut C) {
+    let old = name_of_old(old);
+    let _ = writeln!(
+        complaints,
+        "sipd: {old} isn't resumed: {why}; bindings, dialogs, open calls and nonces are lost: phones are found again when they register"
+    );
+}
+
+/// Reads the input up to its end, or until it fails, since until then another server may serve.
+fn read_out<I: TellingReader>(input: &mut I) {
+    let mut part = [0u8; 512];
+    for _ in 0..u32::MAX {
+        match input.ask(&mut part) {
+            Ok(0) => return,
+            Ok(_) => {}
+            Err(e) if e.kind() == ErrorKind::Interrupted => {}
+            Err(_) => return,
+        }
+    }
+}
+
 /// A server that records: one that goes on from where an older record leads, if there is one and it can be had, or one that starts
-/// anew. Where it goes on, `last` is the last step of that record; what it records isn't in it.
+/// anew. The older record may be the input, which is read up to its end then. Where it goes on, `last` is the last step of that record;
+/// what it records isn't in it.
 #[tactic(auto, using(crate::proofs::Beginnings::begins_again, crate::proofs::Beginnings::begins_anew, crate::proofs::Beginnings::begins_alone))]
-pub fn begin<'a, T: Timers, P: Rules, R: Files + AllocGlobal, W: Rng, C: Write>(
+pub fn begin<'a, T: Timers, P: Rules, R: Files + AllocGlobal, I: TellingReader, W: Rng, C: Write>(
     beginning: &Beginning<'a, R>,
+    input: &mut I,
     words: &mut W,
     complaints: &mut C,
 ) -> Result<Begun<'a, T, P, R>, Exit>
-    ensures begins { IfOk result (λ begun. Begins beginning.now.stated.now.bytes.items beginning.now.stated.now.digest (W.stream words.old)
+    ensures begins { IfOk result (λ begun. Begins (Places.reads_input (option_map (λ old. string_bytes old) beginning.now.place.old))
+        (I.remaining input.old) beginning.now.stated.now.bytes.items beginning.now.stated.now.digest (W.stream words.old)
         begun.engine.server begun.engine.state begun.last (W.stream words.new)) }
     ensures alone { beginning.now.place.old ≡ None → IfOk result (λ begun. StartsAnew beginning.now.stated.now.bytes.items
         (W.stream words.old) begun.engine.server begun.engine.state begun.last) }
@@ -363,17 +450,18 @@ pub fn begin<'a, T: Timers, P: Rules, R: Files + AllocGlobal, W: Rng, C: Write>(
         return begin_anew(beginning, words);
     };
     let old = old.as_str();
-    match begin_again(beginning, old, words) {
+    match begin_again(beginning, old, input, words) {
         Ok(GoneOn { begun, lines }) => {
             leave(beginning.rt, old, complaints);
-            let _ = writeln!(complaints, "sipd: goes on behind {lines} lines of {old}");
+            let name = name_of_old(old);
+            let _ = writeln!(complaints, "sipd: goes on behind {lines} lines of {name}");
             Ok(begun)
         }
         Err(Stop::NotResumed(why)) => {
-            let _ = writeln!(
-                complaints,
-                "sipd: {old} isn't resumed: {why}; bindings, dialogs, open calls and nonces are lost"
-            );
+            say_lost(old, why, complaints);
+            if is_input(old) {
+                read_out(input);
+            }
             begin_anew(beginning, words)
         }
         Err(Stop::Exits(exit)) => Err(exit),

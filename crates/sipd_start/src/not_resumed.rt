@@ -2,11 +2,13 @@ ghost use Rattle.std.specs.Prelude.{◌≡◌};
 ghost use Rattle.sipd_start.specs.Stops;
 ghost use Rattle.sipd_start.specs.declared.not_resumed.Stop.TheVariants.{Exits};
 
-use sip_resume::ResumeError;
-use sipd_arguments::Exit;
+use sip_config::ConfigError;
+use sip_config_change::FrameKey;
+use sip_resume::RecordError;
+use sipd_arguments::{DeviceFault, Exit};
 use std::fmt;
 
-/// Why a server doesn't go on from where a record leads.
+/// Why a server doesn't go on from where a record leads. Its lines are counted from 1, the first one too.
 #[derive(Clone, Copy)]
 pub enum NotResumed {
     Unreadable,
@@ -14,8 +16,14 @@ pub enum NotResumed {
     OtherConfiguration,
     Broken,
     Left,
-    /// What is left from this line of it on, the first counted as 1, is damaged.
+    /// What is left from this line of it on is damaged.
     Damaged(u64),
+    /// Its configuration that begins with this line has more bytes than are read of one.
+    TooLong(u64),
+    /// Its text that begins with this line states no configuration.
+    NoConfiguration(u64, ConfigError),
+    /// By this key, its configuration that begins with this line is that of another server than the file's.
+    OtherFrame(u64, FrameKey),
     /// It says events that a server doesn't take.
     Unlawful,
 }
@@ -28,7 +36,16 @@ impl fmt::Display for NotResumed {
             NotResumed::OtherConfiguration => write!(f, "it was made with another configuration"),
             NotResumed::Broken => write!(f, "its writing failed: it lacks events"),
             NotResumed::Left => write!(f, "another start went on from it"),
-            NotResumed::Damaged(line) => write!(f, "its line {line} begins no event"),
+            NotResumed::Damaged(line) => {
+                write!(f, "its line {line} begins no event and no configuration")
+            }
+            NotResumed::TooLong(line) => write!(f, "its configuration at line {line} is too long"),
+            NotResumed::NoConfiguration(line, e) => {
+                write!(f, "its configuration at line {line} is refused: {e}")
+            }
+            NotResumed::OtherFrame(line, key) => {
+                write!(f, "its configuration at line {line} has another {key}")
+            }
             NotResumed::Unlawful => write!(f, "its events aren't those of a server"),
         }
     }
@@ -51,28 +68,40 @@ impl From<Exit> for Stop {
     }
 }
 
-/// Why a file isn't read as a record of this configuration.
+/// Why a file isn't read as a record.
 pub fn unread(exit: Exit) -> Stop
     ensures { result ≡ Stops.unread exit }
 {
     match exit {
         Exit::NoRecord => Stop::NotResumed(NotResumed::NoRecord),
-        Exit::OtherConfiguration => Stop::NotResumed(NotResumed::OtherConfiguration),
         Exit::Device(_) => Stop::NotResumed(NotResumed::Unreadable),
         exit => Stop::Exits(exit),
     }
 }
 
-/// Why the events of a record weren't taken.
-pub fn untaken(e: ResumeError) -> Stop
+/// A line of what stands behind the first one, which isn't counted where that is read.
+fn behind_first(line: u64) -> u64
+    ensures { result ≡ Stops.behind_first line }
+{
+    line.saturating_add(1)
+}
+
+/// Why what stands behind the first line of a record isn't taken.
+pub fn untaken(e: RecordError) -> Stop
     ensures { result ≡ Stops.untaken e }
 {
-    match e {
-        // The first line isn't counted there.
-        ResumeError::Damaged(line) => Stop::NotResumed(NotResumed::Damaged(line.saturating_add(1))),
-        ResumeError::Read => Stop::NotResumed(NotResumed::Unreadable),
-        ResumeError::Step => Stop::NotResumed(NotResumed::Unlawful),
-        ResumeError::NoMemory => Stop::Exits(Exit::Memory),
-        ResumeError::Journal => Stop::Exits(Exit::Recording),
-    }
+    let why = match e {
+        RecordError::NoMemory => return Stop::Exits(Exit::Memory),
+        RecordError::Journal => return Stop::Exits(Exit::Recording),
+        RecordError::Write => return Stop::Exits(Exit::Device(DeviceFault::Other)),
+        RecordError::Read => NotResumed::Unreadable,
+        RecordError::Step => NotResumed::Unlawful,
+        RecordError::Damaged(line) => NotResumed::Damaged(behind_first(line)),
+        RecordError::TooLong(line) => NotResumed::TooLong(behind_first(line)),
+        RecordError::NoConfiguration(line, e) => {
+            NotResumed::NoConfiguration(behind_first(line), e)
+        }
+        RecordError::OtherFrame(line, key) => NotResumed::OtherFrame(behind_first(line), key),
+    };
+    Stop::NotResumed(why)
 }

@@ -3,7 +3,7 @@ ghost use Rattle.std.specs.Io.KnownBytes.{Keeps};
 ghost use Rattle.std.specs.IoError.{error_kind};
 ghost use Rattle.sip_replay_script.specs.Devices.{IsFault};
 ghost use Rattle.sipd_arguments.specs.declared.exit.Exit.TheVariants.{Memory};
-ghost use Rattle.sipd_start.specs.OldRecords.{IsFirstLine, IsOfConfiguration, IsReaderFault, IsRefused, IsRefusedFrom, ReadsByte, WasOpened};
+ghost use Rattle.sipd_start.specs.OldRecords.{IsFirstLine, IsReaderFault, IsRefused, ReadsByte, SaysHead, WasSaid};
 
 use sip_record::{RecordHead, read_head};
 use sip_replay_script::TellingReader;
@@ -72,40 +72,15 @@ fn first_line<I: TellingReader>(alloc: Global, reader: &mut I) -> Result<Vec<u8>
     Ok(line)
 }
 
-/// What the first line of a record says that was made with the configuration of this digest, whatever became of it. Refusals:
-/// `NoRecord`, `OtherConfiguration`; `Memory`; a fault of the reader.
-fn head_in<I: TellingReader>(
-    alloc: Global,
-    reader: &mut I,
-    digest: &[u8; 32],
-) -> Result<RecordHead, Exit>
-    ensures head { IfOk result (IsOfConfiguration (I.remaining reader.old) (I.remaining reader.new) digest.now) }
-    ensures refused { IfErr result (IsRefused (I.remaining reader.old) (I.remaining reader.new) (I.has_failed reader.new) digest.now) }
+/// What the first line of a record says, whatever became of it. Refusals: `NoRecord`; `Memory`; a fault of the reader.
+pub(crate) fn head_in<I: TellingReader>(alloc: Global, reader: &mut I) -> Result<RecordHead, Exit>
+    ensures head { IfOk result (SaysHead (I.remaining reader.old) (I.remaining reader.new)) }
+    ensures refused { IfErr result (IsRefused (I.remaining reader.old) (I.remaining reader.new) (I.has_failed reader.new)) }
 {
     let line = first_line(alloc, reader)?;
-    let Some(head) = read_head(line.as_slice()) else {
-        return Err(Exit::NoRecord);
-    };
-    if head.digest == *digest {
-        Ok(head)
-    } else {
-        Err(Exit::OtherConfiguration)
-    }
-}
-
-/// A record that is read by a reader, if it was made with the configuration of this digest, whatever became of it. Refused as `head_in`
-/// says.
-pub(crate) fn old_record<I: TellingReader + Drop>(
-    alloc: Global,
-    mut events: I,
-    digest: &[u8; 32],
-) -> Result<OldRecord<I>, Exit>
-    ensures taken { IfOk result (λ old. IsOfConfiguration (I.remaining events) (I.remaining old.events) digest.now old.head) }
-    ensures refused { IfErr result (IsRefusedFrom (I.remaining events) digest.now) }
-{
-    match head_in(alloc, &mut events, digest) {
-        Ok(head) => Ok(OldRecord { head, events }),
-        Err(exit) => Err(exit),
+    match read_head(line.as_slice()) {
+        Some(head) => Ok(head),
+        None => Err(Exit::NoRecord),
     }
 }
 
@@ -119,16 +94,16 @@ pub(crate) fn open_file<R: Files>(
     Ok(BufReader::new(alloc, file)?)
 }
 
-/// The record in a file, if it was made with the configuration of this digest, whatever became of it. What a file holds no clause can
-/// say: whatever it held, its first line says that head.
-pub fn open_record<R: Files>(
+/// The record in a file, whatever became of it, and with whatever configuration it was made. What a file holds no clause can say: whatever
+/// it held, its first line says that head.
+pub fn open_any_record<R: Files>(
     rt: &R,
     alloc: Global,
     path: &str,
-    digest: &[u8; 32],
 ) -> Result<OldRecord<BufReader<R::File>>, Exit>
-    ensures { IfOk result (λ old. WasOpened digest.now old.head) }
+    ensures { IfOk result (λ old. WasSaid old.head) }
 {
-    let events = open_file(rt, alloc, path)?;
-    old_record(alloc, events, digest)
+    let mut events = open_file(rt, alloc, path)?;
+    let head = head_in(alloc, &mut events)?;
+    Ok(OldRecord { head, events })
 }

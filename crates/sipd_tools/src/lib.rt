@@ -2,10 +2,11 @@
 //! made.
 //!
 //! - Used: `sipd_command`.
-//! - Not here: what is said (`sipd_mistakes`, `sipd_questions`, `sipd_changes`, `sipd_report`).
-//! - Tried: `test_server`, `tests/mistakes.py`, `tests/changes.py`, `tests/faults.py`.
+//! - Not here: what is said (`sipd_mistakes`, `sipd_questions`, `sipd_changes`, `sipd_report`), and what a record holds (`sip_segments`).
+//! - Tried: `test_server`, `tests/mistakes.py`, `tests/changes.py`, `tests/serve.py`, `tests/faults.py`.
 #![tactic(auto)]
 
+mod against;
 mod tools;
 
 pub use tools::{check, decide, make_report, make_user};

@@ -1,3 +1,7 @@
+ghost use Rattle.std.specs.Prelude.{OnOk};
+ghost use Rattle.sipd_tools.specs.Against.{TellsChange};
+
+use crate::against::config_before;
 use sip_config::{ConfigError, read_config};
 use sip_config_types::Config;
 use sip_policy::minute_of;
@@ -207,29 +211,17 @@ fn show_config<W: Write>(alloc: Global, bytes: &[u8], output: &mut W) -> Result<
     }
 }
 
-/// The configuration of a file, from which a change is told; where it is refused, that is complained of.
-fn config_before<R: Files + AllocGlobal, C: Write>(
-    rt: &R,
-    path: &str,
-    complaints: &mut C,
-) -> Result<Config, Exit> {
-    match config_of(rt, Some(path)) {
-        Ok(config) => Ok(config),
-        Err(exit) => {
-            let _ = writeln!(complaints, "sipd: of --against");
-            Err(exit)
-        }
-    }
-}
-
-/// Prints what a change from the configuration of a file would do. A server that runs has to be able to take it.
+/// Prints what a change from the configuration of a file, or from the last one of a record, would do. A server that runs has to be able to
+/// take it.
 fn tell_changes<R: Files + AllocGlobal, W: Write, C: Write>(
     rt: &R,
     path: &str,
     new: &Config,
     output: &mut W,
     complaints: &mut C,
-) -> Result<(), Exit> {
+) -> Result<(), Exit>
+    ensures { OnOk result (TellsChange (W.contents output.old) (W.contents output.new) new.now) }
+{
     let alloc = rt.alloc();
     let old = config_before(rt, path, complaints)?;
     let changes = changes_of(alloc, &old, new)?;

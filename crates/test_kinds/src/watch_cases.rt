@@ -9,6 +9,9 @@ use std::rt::Files;
 /// What is in force at first.
 const OLD: &str = "the configuration in force";
 
+/// What is refused.
+const BAD: &str = "what is no configuration";
+
 /// What a file holds.
 #[derive(Clone, Copy)]
 enum Held {
@@ -180,50 +183,16 @@ pub(crate) fn gone_and_back(alloc: Global) -> bool {
 
 /// What is refused isn't offered again until the file held other bytes.
 pub(crate) fn refused_once(alloc: Global) -> bool {
+    let fault = FileFault::Device;
     let rows = [
-        (
-            1000,
-            1,
-            Held::Text("what is no configuration"),
-            Wanted::Unsettled,
-        ),
-        (
-            2000,
-            1,
-            Held::Text("what is no configuration"),
-            Wanted::Refused("what is no configuration"),
-        ),
-        (
-            3000,
-            3,
-            Held::Text("what is no configuration"),
-            Wanted::Nothing,
-        ),
-        (
-            4000,
-            3,
-            Held::Fault(FileFault::Device),
-            Wanted::Unread(FileFault::Device),
-        ),
-        (
-            5000,
-            3,
-            Held::Text("what is no configuration"),
-            Wanted::Nothing,
-        ),
+        (1000, 1, Held::Text(BAD), Wanted::Unsettled),
+        (2000, 1, Held::Text(BAD), Wanted::Refused(BAD)),
+        (3000, 3, Held::Text(BAD), Wanted::Nothing),
+        (4000, 3, Held::Fault(fault), Wanted::Unread(fault)),
+        (5000, 3, Held::Text(BAD), Wanted::Nothing),
         (6000, 6, Held::Text(OLD), Wanted::Nothing),
-        (
-            7000,
-            7,
-            Held::Text("what is no configuration"),
-            Wanted::Unsettled,
-        ),
-        (
-            8000,
-            7,
-            Held::Text("what is no configuration"),
-            Wanted::Refused("what is no configuration"),
-        ),
+        (7000, 7, Held::Text(BAD), Wanted::Unsettled),
+        (8000, 7, Held::Text(BAD), Wanted::Refused(BAD)),
     ];
     holds(alloc, &rows)
 }

@@ -1,9 +1,8 @@
 //! What a recorder writes of configurations, and of what is taken under them, read again.
 
 use sip_record::{Journal, OnFault, Recorder};
-use sip_replay_script::{
-    ConfigurationStop, Lines, Upcoming, look_ahead, next_configuration, next_recorded,
-};
+use sip_replay_script::{Lines, next_recorded};
+use sip_segment_text::{ConfigurationStop, Upcoming, look_ahead, next_configuration};
 use sip_text::Buffer;
 use std::alloc::{AllocError, Global};
 

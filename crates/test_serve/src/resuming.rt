@@ -7,7 +7,7 @@ use sip_config::ConfigError;
 use sip_config_change::FrameKey;
 use sip_loop_link::Sending;
 use sip_loop_link::Sending::Went;
-use sip_resume::{RecordError, ResumeError};
+use sip_resume::RecordError;
 use std::alloc::{AllocError, Global};
 
 /// One moment at which nothing is due yet, and that of the first copies.
@@ -43,7 +43,7 @@ pub fn call_goes_on(alloc: Global) -> bool {
 }
 
 /// What a record comes to.
-fn resumed(alloc: Global, record: &[u8]) -> Result<Result<u64, ResumeError>, AllocError> {
+fn resumed(alloc: Global, record: &[u8]) -> Result<Result<u64, RecordError>, AllocError> {
     let mut trial = over_memory(alloc, 1, &[], &[], &[], &LATER)?;
     Ok(trial.resume(record))
 }
@@ -55,7 +55,7 @@ fn is_taken(alloc: Global, record: &[u8], lines: u64) -> bool {
 
 /// Whether a record is refused as damaged from this line on.
 fn is_damaged(alloc: Global, record: &[u8], line: u64) -> bool {
-    resumed(alloc, record) == Ok(Err(ResumeError::Damaged(line)))
+    resumed(alloc, record) == Ok(Err(RecordError::Damaged(line)))
 }
 
 /// A record that was cut in its last event is taken up to the last whole one: in its word, its moment, its digits, or its lines.

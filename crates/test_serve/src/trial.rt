@@ -7,10 +7,14 @@ use sip_loop::{AuditLog, NoAudit, ServeError, serve};
 use sip_loop_link::{Given, Link, MemoryClock, MemoryLink, Sending};
 use sip_policy_index::IndexedRules;
 use sip_record::{Journal, OnFault, Recorder};
+use sip_replay_print::NoSink;
 use sip_replay_script::Lines;
-use sip_resume::{RecordError, ResumeError, resume, resume_record};
+use sip_resume::{RecordError, resume_record};
 use sip_timers_wheel::WheelTimers;
 use std::alloc::{AllocError, Global};
+
+/// The most bytes of a configuration in a record, where a trial names no others.
+const LONGEST: usize = 65_536;
 
 /// The engine of the program.
 type Server = Engine<WheelTimers, IndexedRules>;
@@ -87,10 +91,9 @@ impl<L: Link> Trial<L> {
         )
     }
 
-    /// Takes the events of a record; how many of its lines were taken.
-    pub fn resume(&mut self, mut record: &[u8]) -> Result<u64, ResumeError> {
-        let resumed = resume(self.alloc, &mut self.engine, &mut record, &mut self.record)?;
-        Ok(resumed.lines)
+    /// Takes a record; how many of its lines were taken.
+    pub fn resume(&mut self, record: &[u8]) -> Result<u64, RecordError> {
+        self.resume_record(record, LONGEST)
     }
 
     /// Takes a record that may hold configurations, of at most so many bytes each; how many of its lines were taken.
@@ -105,6 +108,7 @@ impl<L: Link> Trial<L> {
             &mut record,
             longest,
             &mut self.record,
+            &mut NoSink,
         )?;
         Ok(resumed.lines)
     }

@@ -1,8 +1,18 @@
 use Rattle.sip_replay.specs.Replays.{server_with}
-use Rattle.sip_recorded.proofs.Recorded.{prints_served, replayed}
+use Rattle.sip_recorded.proofs.Recorded.{prints_served}
+use Rattle.sip_recorded.proofs.Replayed.{replayed_whole}
 use Rattle.sip_recorded.proofs.laws.replay_prints_what_was_served.Goals as goal
 
 pub returns : goal.returns
-returns c = λ config word first text steps last old new h replay.
-    prints_served (server_with config word) first steps replay.steps last replay.last old new replay.written
-    (c.records_are_one.ensures (server_with config word) first text steps replay.steps last replay.last h (replayed config word first text old new replay))
+returns c = λ config word first now text steps last lines old new h replay.
+    prints_served (server_with config word) first steps replay.taken.takes.runs.steps last replay.state old new replay.taken.shown
+    (c.records_are_one.ensures.steps (server_with config word) now replay.server_then first text steps replay.taken.takes.runs.steps last replay.state h
+    (replayed_whole
+    (record {
+      one = c.next_event_is_one.ensures.one;
+      something = c.next_event_is_one.ensures.something;
+      recorded = c.written_event_is_recorded.ensures.one;
+      one_configuration = c.next_configuration_is_one.ensures.one;
+      no_event = c.next_configuration_is_one.ensures.no_event;
+    })
+    config word first now text steps last lines old new h replay))

@@ -1,4 +1,4 @@
-use Rattle.sip_recorded.proofs.Recorded.{unserved_on}
+use Rattle.sip_recorded.proofs.Cut.{unserved_on}
 use Rattle.sip_recorded.proofs.laws.unserved_is_recorded.Goals as goal
 
 pub returns : goal.returns

@@ -32,7 +32,7 @@ returns-clause-exact c =
     let found = c.in-Ok.ensures.matches (ap is_simple is ∙ is_simple_for faults words) in
     exact_ok words faults (app_of c.in_ok-commands_for.field-0) (Err c.complaint.result) is c.in-Ok.ensures.kinds
     (none c.in-Err-call_of.why c.complaint.result (subst (λ (named : Option (Text × List Row)). IsUncalledOf named c.in-Err-call_of.why) found.1 c.in-Err-call_of.ensures.refused)
-    c.complaint.ensures.complaint c.complaint.ensures.memory)
+    c.complaint.ensures.memory)
 
 pub returns-in-Err-clause-exact : goal.returns-in-Err-clause-exact
 returns-in-Err-clause-exact c =

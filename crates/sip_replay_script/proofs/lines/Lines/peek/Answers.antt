@@ -1,4 +1,4 @@
-use Rattle.sip_replay_script.proofs.FirstBytes.{first_byte}
+use Rattle.sip_replay_script.proofs.Unread.{first_byte}
 use Rattle.sip_replay_script.proofs.lines.Lines.peek.Goals as goal
 
 pub returns-clause-byte : goal.returns-clause-byte

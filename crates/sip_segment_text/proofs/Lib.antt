@@ -1,0 +1,3 @@
+pub mod Configurations
+pub mod FirstBytes
+pub mod Segments

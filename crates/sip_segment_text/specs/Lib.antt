@@ -1,0 +1,2 @@
+pub mod Configurations
+pub mod Segments

@@ -1,0 +1,81 @@
+-- Which configuration a record is replayed with, and what is printed then.
+use Rattle.std.specs.Prelude.{◌≡◌, ◌≢◌, ◌⊎◌, ℕ, List, [], Option, Some, None, IfSome}
+use Rattle.std.specs.Borrow.{Bor}
+use Rattle.std.specs.Io.KnownBytes.{Keeps}
+use Rattle.sip_config_types.specs.declared.config.Config.{Config}
+use Rattle.sip_record.specs.declared.record_head.RecordHead.{RecordHead}
+use Rattle.sip_replay.specs.Records.{IsRecordReplay}
+use Rattle.sip_replay_script.specs.Lines.{Reading, pending}
+use Rattle.sip_segment_text.specs.Configurations.{IsDamagedConfiguration}
+use Rattle.sip_segments.specs.Stops.{ReadStops}
+use Rattle.sip_segments.specs.Takes.{GivesStated}
+use Rattle.sip_segments.specs.declared.stop.SegmentStop.{SegmentStop}
+use Rattle.sipd_arguments.specs.Files.{States, StatesNone}
+use Rattle.sipd_arguments.specs.declared.exit.Exit.{Exit}
+use Rattle.sipd_arguments.specs.declared.exit.Exit.TheVariants.{Memory, NoConfiguration, OtherConfiguration}
+use Rattle.sipd_arguments.specs.declared.files.Stated.{Stated}
+use Rattle.sipd_command.specs.Exits.{exit_of_segment}
+
+-- the text that comes next in a record says a configuration, and its bytes state this one
+pub record GivesOwn (old new : Reading) (before after : Option (List ℕ)) (config : Config) : Type 0 where
+  pub text : List ℕ
+  pub gives : GivesStated old new before after text config
+
+-- no configuration comes next: nothing does, or what begins with none and is no front of one's text; none of it was passed
+pub record HoldsNone (old new : Reading) (before after : Option (List ℕ)) : Type 0 where
+  pub kept : Keeps (pending old before) (pending new after)
+  pub none : IfSome (pending old before) (λ bytes. (bytes ≡ []) ⊎ IsDamagedConfiguration bytes)
+
+-- a file that is named has this digest
+abbrev pub HasDigest : List ℕ → Option (Bor Stated) → Type 0
+HasDigest digest named = IfSome named (λ file. file.now.digest ≡ digest)
+
+-- a file is named, and its bytes state this configuration
+abbrev pub StatesNamed : Option (Bor Stated) → Config → Type 0
+StatesNamed None config = ⊥
+StatesNamed (Some file) config = States file.now.bytes.items config
+
+-- The configuration with which a record begins whose first line has this digest: its own; or of one that holds none that of the file that is
+-- named. A file that is named has that digest.
+pub data BeginsWith (digest : List ℕ) (named : Option (Bor Stated)) (old new : Reading) (before after : Option (List ℕ)) (config : Config) : Type 0 where
+  Own : HasDigest digest named → GivesOwn old new before after config → BeginsWith digest named old new before after config
+  OfFile : HasDigest digest named → HoldsNone old new before after → StatesNamed named config → BeginsWith digest named old new before after config
+
+-- why its own isn't read: as `read_configuration` says, of at most 16 MiB
+pub record OwnStops (spent : Type 0) (old : Reading) (before : Option (List ℕ)) (exit : Exit) : Type 0 where
+  pub stop : SegmentStop
+  pub same : exit ≡ exit_of_segment stop
+  pub stops : ReadStops 16777216 spent (pending old before) old.number stop
+
+-- why the file's isn't: none is named; or its bytes state none; or memory ran out
+abbrev pub UnnamedStops : Option (Bor Stated) → Exit → Type 0
+UnnamedStops None exit = exit ≡ NoConfiguration
+UnnamedStops (Some file) exit = (exit ≡ Memory) ⊎ StatesNone file.now.bytes.items exit
+
+-- a file is named, of another digest
+abbrev pub IsOfAnother : List ℕ → Option (Bor Stated) → Exit → Type 0
+IsOfAnother digest None exit = ⊥
+IsOfAnother digest (Some file) exit = (exit ≡ OtherConfiguration) × (file.now.digest ≢ digest)
+
+-- it holds no configuration, and none is taken of the file either
+pub record IsUnnamed (named : Option (Bor Stated)) (old : Reading) (before : Option (List ℕ)) (exit : Exit) : Type 0 where
+  pub none : IfSome (pending old before) (λ bytes. (bytes ≡ []) ⊎ IsDamagedConfiguration bytes)
+  pub stops : UnnamedStops named exit
+
+-- why a record isn't replayed at all
+abbrev pub IsUnconfigured : List ℕ → Option (Bor Stated) → Type 0 → Reading → Option (List ℕ) → Exit → Type 0
+IsUnconfigured digest named spent old before exit =
+    IsOfAnother digest named exit ⊎ OwnStops spent old before exit ⊎ IsUnnamed named old before exit
+
+-- nothing is read of what a reader gives
+abbrev pub unread : Reading
+unread = record { unread = []; asks = 4294967295; number = 0 }
+
+-- A server with the configuration with which the record begins, and with the word and the number of its first line, takes what stands behind
+-- that, and what is printed of its steps was written.
+pub record IsReplayed (head : RecordHead) (named : Option (Bor Stated)) (behind : Option (List ℕ)) (old new : Option (List ℕ)) : Type 0 where
+  pub config : Config
+  pub reading : Reading
+  pub rest : Option (List ℕ)
+  pub begins : BeginsWith head.digest named unread reading behind rest config
+  pub replay : IsRecordReplay config head.word head.first (pending reading rest) reading.number old new

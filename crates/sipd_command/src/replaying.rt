@@ -1,0 +1,225 @@
+ghost use Rattle.std.specs.Prelude.{◌≡◌, IfErr, IfNone, IfOk, IfSome, OnOk};
+ghost use Rattle.sip_replay_script.specs.Devices.{later};
+ghost use Rattle.sip_replay_script.specs.Lines.{IsSpent};
+ghost use Rattle.sipd_command.specs.Exits;
+ghost use Rattle.sipd_command.specs.Replays.{BeginsWith, GivesOwn, HasDigest, HoldsNone, IsOfAnother, IsReplayed, IsUnconfigured, OwnStops, StatesNamed, UnnamedStops};
+
+use sip_config_types::Config;
+use sip_event::Boot;
+use sip_policy::Rules;
+use sip_record::{RecordHead, RecordMark};
+use sip_replay_print::Printer;
+use sip_replay_script::{Lines, PrintStop, TellingReader, TellingWriter, hand_on};
+use sip_resume::RecordError;
+use sip_segment_text::{Upcoming, look_ahead};
+use sip_segments::{SegmentStop, read_configuration};
+use sip_timers::Timers;
+use sipd_arguments::{DeviceFault, Exit, Stated, config_of_bytes, stated_in};
+use sipd_reload::MOST_BYTES;
+use sipd_start::open_any_record;
+use std::alloc::Global;
+use std::io::Write;
+use std::rt::Files;
+
+/// The line of a record's file that is this one behind its first line.
+fn line_of_file(line: u64) -> u64
+    ensures { result ≡ Exits.line_of_file line }
+{
+    line.saturating_add(1)
+}
+
+/// How the program ends where the configuration isn't read with which a record begins.
+fn exit_of_segment(stop: SegmentStop) -> Exit
+    ensures { result ≡ Exits.exit_of_segment stop }
+{
+    match stop {
+        SegmentStop::NoMemory => Exit::Memory,
+        SegmentStop::Damaged(line) => Exit::Script(line_of_file(line)),
+        SegmentStop::Cut(line) => Exit::Script(line_of_file(line)),
+        SegmentStop::TooLong(line) => Exit::Script(line_of_file(line)),
+        SegmentStop::NoConfiguration(line, _) => Exit::Script(line_of_file(line)),
+        SegmentStop::OtherFrame(line, _) => Exit::Script(line_of_file(line)),
+        SegmentStop::Read => Exit::Device(DeviceFault::Other),
+    }
+}
+
+/// How the program ends where the replay of a record is refused, of which so many lines behind the first one were read.
+fn exit_of_record(e: RecordError, lines: u64) -> Exit
+    ensures { result ≡ Exits.exit_of_record e lines }
+{
+    match e {
+        RecordError::NoMemory => Exit::Memory,
+        RecordError::Damaged(line) => Exit::Script(line_of_file(line)),
+        RecordError::TooLong(line) => Exit::Script(line_of_file(line)),
+        RecordError::NoConfiguration(line, _) => Exit::Script(line_of_file(line)),
+        RecordError::OtherFrame(line, _) => Exit::Script(line_of_file(line)),
+        RecordError::Step => Exit::Script(line_of_file(lines)),
+        RecordError::Read | RecordError::Write => Exit::Device(DeviceFault::Other),
+        RecordError::Journal => Exit::Recording,
+    }
+}
+
+/// How the program ends where what was printed isn't handed on.
+fn exit_of_print(stop: PrintStop) -> Exit
+    ensures { result ≡ Exits.exit_of_print stop }
+{
+    match stop {
+        PrintStop::NoMemory => Exit::Memory,
+        PrintStop::Write => Exit::Device(DeviceFault::Other),
+    }
+}
+
+/// The configuration of its own with which a record begins; none where it holds none. Refusals: `Script`, where what comes may be one and
+/// isn't; `Memory`; `Device`, where the reader failed.
+fn own_configuration<I: TellingReader>(
+    alloc: Global,
+    lines: &mut Lines,
+    reader: &mut I,
+) -> Result<Option<Config>, Exit>
+    ensures own { IfOk result (λ found. IfSome found (GivesOwn lines.old lines.new (I.remaining reader.old) (I.remaining reader.new))) }
+    ensures none { IfOk result (λ found. IfNone found (HoldsNone lines.old lines.new (I.remaining reader.old) (I.remaining reader.new))) }
+    ensures refused { IfErr result (OwnStops (IsSpent (I.has_failed reader.new) lines.new.asks) lines.old (I.remaining reader.old)) }
+    ensures asked { later lines.new.asks (I.asked reader.new) ≡ later lines.old.asks (I.asked reader.old) }
+{
+    match look_ahead(lines, reader) {
+        Ok(Upcoming::Configuration) => {}
+        Ok(Upcoming::Event) => return Ok(None),
+        Ok(Upcoming::Over) => return Ok(None),
+        Err(_) => return Err(Exit::Device(DeviceFault::Other)),
+    }
+    match read_configuration(alloc, lines, reader, MOST_BYTES) {
+        Ok(Some(held)) => Ok(Some(held.config)),
+        Ok(None) => Ok(None),
+        Err(stop) => Err(exit_of_segment(stop)),
+    }
+}
+
+/// The configuration of the file that is named, for a record that holds none. Refusals: `NoConfiguration`, where none is named; `Memory`,
+/// and `Configuration`, where its bytes state none.
+fn named_configuration(alloc: Global, named: Option<&Stated>) -> Result<Config, Exit>
+    ensures stated { IfOk result (StatesNamed named.entry) }
+    ensures refused { IfErr result (UnnamedStops named.entry) }
+{
+    match named {
+        Some(file) => config_of_bytes(alloc, file.bytes.as_slice()),
+        None => Err(Exit::NoConfiguration),
+    }
+}
+
+/// That a file that is named has the digest of a record's first line. `OtherConfiguration` is the only refusal.
+fn check_digest(head: &RecordHead, named: Option<&Stated>) -> Result<(), Exit>
+    ensures same { OnOk result (HasDigest head.now.digest named.entry) }
+    ensures other { IfErr result (IsOfAnother head.now.digest named.entry) }
+{
+    let Some(file) = named else {
+        return Ok(());
+    };
+    if file.digest == head.digest {
+        Ok(())
+    } else {
+        Err(Exit::OtherConfiguration)
+    }
+}
+
+/// The configuration with which a record begins whose first line says this head: its own; or of one that holds none that of the file that is
+/// named. A file that is named has to have the digest of the head, in either case: `OtherConfiguration` is the refusal else. Refused as
+/// `own_configuration` and `named_configuration`, too.
+fn configuration_of<I: TellingReader>(
+    alloc: Global,
+    head: &RecordHead,
+    named: Option<&Stated>,
+    lines: &mut Lines,
+    reader: &mut I,
+) -> Result<Config, Exit>
+    ensures begins { IfOk result (BeginsWith head.now.digest named.entry lines.old lines.new (I.remaining reader.old) (I.remaining reader.new)) }
+    ensures refused { IfErr result (IsUnconfigured head.now.digest named.entry (IsSpent (I.has_failed reader.new) lines.new.asks) lines.old (I.remaining reader.old)) }
+    ensures asked { later lines.new.asks (I.asked reader.new) ≡ later lines.old.asks (I.asked reader.old) }
+{
+    check_digest(head, named)?;
+    match own_configuration(alloc, lines, reader)? {
+        Some(config) => Ok(config),
+        None => Ok(named_configuration(alloc, named)?),
+    }
+}
+
+/// Replays what a reader gives behind the first line of a record, which says this head, under the configuration with which it begins, and
+/// under each that comes into force in it. What was printed before a refusal stays.
+fn replay_behind<T: Timers, P: Rules, I: TellingReader, W: TellingWriter + Drop>(
+    alloc: Global,
+    head: &RecordHead,
+    named: Option<&Stated>,
+    reader: &mut I,
+    printer: &mut Printer<W>,
+) -> Result<(), Exit>
+    ensures { OnOk result (IsReplayed head.now named.entry (I.remaining reader.old) (W.contents printer.old.writer) (W.contents printer.new.writer)) }
+{
+    let mut lines = Lines::new(alloc)?;
+    let config = configuration_of(alloc, head, named, &mut lines, reader)?;
+    let boot = Boot {
+        word: head.word,
+        first: head.first,
+        keys: 0,
+    };
+    match sip_replay::replay_record::<T, P, I, W>(
+        alloc, config, boot, &mut lines, reader, MOST_BYTES, printer,
+    ) {
+        Ok(()) => Ok(()),
+        Err(e) => Err(exit_of_record(e, lines.number())),
+    }
+}
+
+/// The same, and hands on what was printed.
+fn replay_whole<T: Timers, P: Rules, I: TellingReader, W: TellingWriter + Drop>(
+    alloc: Global,
+    head: &RecordHead,
+    named: Option<&Stated>,
+    reader: &mut I,
+    printer: &mut Printer<W>,
+) -> Result<(), Exit>
+    ensures { OnOk result (W.is_flushed printer.new.writer) }
+{
+    replay_behind::<T, P, I, W>(alloc, head, named, reader, printer)?;
+    match hand_on(&mut printer.writer) {
+        Ok(()) => Ok(()),
+        Err(stop) => Err(exit_of_print(stop)),
+    }
+}
+
+/// The file that is named, if one is.
+fn named_file<R: Files + AllocGlobal>(
+    rt: &R,
+    config: Option<&str>,
+) -> Result<Option<Stated>, Exit> {
+    match config {
+        Some(path) => Ok(Some(stated_in(rt, path)?)),
+        None => Ok(None),
+    }
+}
+
+/// Replays a record, whatever became of it, with the configurations that it holds; one of before, which holds none, with that of the file
+/// with which it was made. Complains where it lacks events.
+pub(crate) fn replay_record<T: Timers, P: Rules, R: Files + AllocGlobal, W: Write, C: Write>(
+    rt: &R,
+    config: Option<&str>,
+    path: &str,
+    output: &mut W,
+    complaints: &mut C,
+) -> Result<(), Exit> {
+    let alloc = rt.alloc();
+    let named = named_file(rt, config)?;
+    let mut record = open_any_record(rt, alloc, path)?;
+    if record.head.mark == RecordMark::Broken {
+        let _ = writeln!(
+            complaints,
+            "sipd: the writing of {path} failed: it lacks what came behind"
+        );
+    }
+    let mut printer = Printer::new(alloc, output);
+    replay_whole::<T, P, _, _>(
+        alloc,
+        &record.head,
+        named.as_ref(),
+        &mut record.events,
+        &mut printer,
+    )
+}
