@@ -41,8 +41,8 @@ def listed():
 
 def seconds_of(crates):
     page = open("docs/GATE.md", encoding="utf-8").read()
-    found = {name: int(number) for name, number in re.findall(r"(?m)^\| `(\w+)` \| (\d+) \|$", page)}
-    rest = re.search(r"(?m)^\| (\d+) others, [^|]*\| (\d+) \|$", page)
+    found = {name: int(number) for name, number in re.findall(r"\| `(\w+)` \| (\d+) (?=\|)", page)}
+    rest = re.search(r"(?m)^\| (\d+) others, [^|]*\| (\d+) \|", page)
     each = int(rest[2]) / int(rest[1]) if rest else 60
     return {it: found.get(it, each) for it in crates}
 

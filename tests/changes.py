@@ -173,10 +173,10 @@ class Day:
         self.carol = phone.Phone("carol", phone.md5("carol:office:tea"), self.alice.server)
         self.carol.again = False
 
-    def under(self, before, now):
-        """The file with a text in place of another one, once it is in force."""
+    def under(self, before, now, words):
+        """The file with a text in place of another one, once it is in force, which says in these words what changed."""
         serve.rewritten(self.config, lambda text: changed(text, [(before, now)]))
-        serve.says(self.server, serve.IN_FORCE)
+        serve.comes_into_force(self.server, self.config, words)
 
     def registers(self, name, it, proven):
         self.tally.expect(f"{it.name} registers, {name}", it.register(), [401, 200] if proven else [401, 401])
@@ -195,17 +195,17 @@ def live_day(day):
     day.registers("at first", bob, True)
     day.registers("unknown", carol, False)
     stands = serve.established(alice, bob)
-    day.under("# A hop:", carol_is + "# A hop:")
+    day.under("# A hop:", carol_is + "# A hop:", "1 user more")
     day.registers("known", carol, True)
     serve.hung_up(carol, alice, serve.established(carol, alice))
-    day.under('a1 = "dbcb', 'a1 = "0bcb')
+    day.under('a1 = "dbcb', 'a1 = "0bcb', "1 user changed")
     day.registers("with another password", bob, False)
-    day.under('a1 = "0bcb', 'a1 = "dbcb')
+    day.under('a1 = "0bcb', 'a1 = "dbcb', "1 user changed")
     day.registers("with his password", bob, True)
-    day.under('target = "@127.0.0.1"\nverdict = "allow"', 'target = "@127.0.0.1"\nverdict = "deny"')
+    day.under('target = "@127.0.0.1"\nverdict = "allow"', 'target = "@127.0.0.1"\nverdict = "deny"', "rule 7 changed")
     day.is_called("where a rule denies it", 403)
-    day.under('target = "@127.0.0.1"\nverdict = "deny"', 'target = "@127.0.0.1"\nverdict = "allow"')
-    day.under('name = "bob"', 'name = "bert"')
+    day.under('target = "@127.0.0.1"\nverdict = "deny"', 'target = "@127.0.0.1"\nverdict = "allow"', "rule 7 changed")
+    day.under('name = "bob"', 'name = "bert"', "1 user more, 1 user fewer")
     day.is_called("who is gone", 404)
     serve.hung_up(alice, bob, stands)
 

@@ -21,7 +21,7 @@ sys.dont_write_bytecode = True
 import phone
 from phone import Phone, free_port, md5, office
 from program import PROGRAM, Server, address, changed, contents, ended, goes_apart, new, packets_to, read, running_first
-from program import serving, small_disk, two_hops, write
+from program import serving, small_disk, two_hops, until, write
 
 FAR = "10.9.0.2"  # an address that is there only while a trial wants it
 
@@ -258,6 +258,32 @@ def damaged_or_cut(folder, expect):
             expect(said in server.complaints(), f"{end} is told: {server.complaints()}")
 
 
+def configuration_damaged_or_cut(folder, expect):
+    """A record of which a byte of a configuration was changed is damaged from that one's first line on, for replay and for check --against; one
+    that was cut in its second configuration is replayed up to that, one that was cut in its first isn't."""
+    port = free_port()
+    config, record = office(folder, port), new(folder)
+    old = recorded(folder, config, port)
+    with open(config, "a", encoding="ascii") as more:
+        more.write(f'\n[[user]]\nname = "carol"\na1 = "{"1" * 32}"\n')
+    with serving(folder, config, "--record", record, "--resume", old) as server:
+        assert server.serves(), server.complaints()
+    good = read(record)
+    lines, (status, whole, _) = good.splitlines(keepends=True), ended("replay", "--record", record)
+    firsts = [place for place, line in enumerate(lines) if line.startswith(b"= ") and not lines[place - 1].startswith(b"= ")]
+    expect(status == 0 and len(firsts) == 2, f"status {status}, {len(firsts)} configurations")
+    for first in firsts:
+        start = len(b"".join(lines[:first]))
+        for place in range(start + 1, good.index(b"\nconfiguration ", start) + 79, 397):
+            damaged = write(new(folder), good[:place] + bytes([good[place] ^ 1]) + good[place + 1 :])
+            for words in (["replay", "--record", damaged], ["check", "--config", config, "--against", damaged]):
+                status, _, complaints = ended(*words)
+                expect(status == 3 and complaints.endswith(f"sipd: script line {first + 1}\n"), f"{words[0]}, byte {place}: {status} {complaints}")
+            status, printed, complaints = ended("replay", "--record", write(new(folder), good[:place]))
+            wanted = (0, "") if first > 1 else (3, "sipd: script line 2\n")
+            expect((status, complaints) == wanted and whole.startswith(printed), f"cut at byte {place}: {status} {complaints}")
+
+
 def kept(data):
     """What nothing may change: all of a record but its first word, all of another file."""
     return data[7:] if re.match(rb"(record|broken|left  ) [0-9a-f]{16} ", data) else data
@@ -475,16 +501,25 @@ def printed_before_it_is_sent(folder, expect):
 
 
 def hops_are_heard(folder, expect):
-    """--per-source hears all of 40 INVITEs of a hop's address, and not all of another's."""
+    """--per-source hears all of 40 INVITEs of a hop's address, and not all of another's; with --reload so it is of the hop that the file names then."""
     port = free_port()
-    config = changed(folder, port, ("127.0.0.1:5090", "127.0.0.9:5090"))
-    with serving(folder, config, "--per-source", "10"):
-        for ip, is_hop in (("127.0.0.9", True), ("127.0.0.8", False)):
-            it = somebody(port, ip, timeout=0.3)
-            for number in range(40):
-                it.request("INVITE", "sip:bob@127.0.0.1", "sip:bob@127.0.0.1", f"{number}of{ip}", 1, [it.contact()])
-            heard = {message["Call-ID"] for message in messages(it)}
-            expect((len(heard) == 40) == is_hop, f"{len(heard)} of 40 of {ip} are heard")
+    config, other = (changed(folder, port, ("127.0.0.1:5090", f"{ip}:5090")) for ip in ("127.0.0.9", "127.0.0.7"))
+
+    def heard_of(ip, is_hop, when):
+        it = somebody(port, ip, timeout=0.3)
+        for number in range(40):
+            it.request("INVITE", "sip:bob@127.0.0.1", "sip:bob@127.0.0.1", f"{number}of{ip}{when}", 1, [it.contact()])
+        heard = {message["Call-ID"] for message in messages(it)}
+        expect((len(heard) == 40) == is_hop, f"{len(heard)} of 40 of {ip} are heard {when}")
+
+    with serving(folder, config, "--per-source", "10", "--reload") as server:
+        heard_of("127.0.0.9", True, "before")
+        heard_of("127.0.0.8", False, "before")
+        os.replace(other, config)
+        told = until(lambda: re.search(f"{config} is in force from datagram [0-9]+ on .hop changed.\n", server.complaints()), 10)
+        expect(told, f"that the hop changed isn't told: {server.complaints()}")
+        heard_of("127.0.0.7", True, "then")
+        heard_of("127.0.0.9", False, "then")
 
 
 def small_stack(folder, expect):
@@ -662,8 +697,8 @@ def address_everywhere(folder, expect):
 
 TRIALS = (
     port_0_goes_on, port_0_ends, full_while_taken, full_while_taken_ends, full_at_the_start, full_in_service, full_and_ends, damaged_or_cut,
-    records_folder, newest_of_a_folder, left, removed, replaced, cut_under_it, replays_what_it_served, due_is_recorded, each_line_is_printed,
-    printed_before_it_is_sent, hops_are_heard, small_stack, causes, ignored_options, long_password, user_of_a_file, uneven_digests,
+    configuration_damaged_or_cut, records_folder, newest_of_a_folder, left, removed, replaced, cut_under_it, replays_what_it_served,
+    due_is_recorded, each_line_is_printed, printed_before_it_is_sent, hops_are_heard, small_stack, causes, ignored_options, long_password, user_of_a_file, uneven_digests,
     decides_before_policy, seldom_meant, wrong_files, unit, address_everywhere,
 )  # fmt: skip
 # each waits for 45 seconds, so they are done beside the others

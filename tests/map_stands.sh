@@ -1,6 +1,7 @@
 #!/bin/sh
 # Whether each name in the tables of docs/MAP.md stands where the page says: a room in crates.txt, a file, a function,
-# constant or type in that file, a definition in its module of specs. Proves nothing and takes a second.
+# constant or type in that file, a definition in its module of specs, a stored run, a test or a trial. Proves nothing and takes a
+# second.
 cd "$(dirname "$0")/.." || exit 2
 exec python3 - <<'PY'
 import os
@@ -8,12 +9,15 @@ import re
 import sys
 
 PAGE = "docs/MAP.md"
+RUNS = "crates/test_server/data"
 TABLES = {
     "Section": ["Section", "About", "Room", "Decided by", "File", "Definition"],
     "To change": ["To change", "Room", "Go to", "File", "Definition"],
+    "Tried": ["Tried", "About", "Stored runs", "Tests and trials"],
 }
 LONGEST = 300
 NAME = re.compile(r"`([^`]+)`")
+TRIALS = re.compile(r"`([\w/.]+)`: ((?:`\w+`(?:, )?)+)")
 DEFINITION = re.compile(r"`(\w+) (specs/\w+)`: ((?:`\w+`(?:, )?)+)")
 ROOMS = {line.split(":")[0].strip() for line in open("crates.txt", encoding="utf-8")}
 texts = {}
@@ -63,6 +67,26 @@ def check(number, good, what):
     need(number, good, what)
 
 
+def code_of(place):
+    """The code of a crate, or the text of a file."""
+    if place not in ROOMS:
+        return text(place) or ""
+    found = [os.path.join(folder, name) for folder, _, names in os.walk(f"crates/{place}/src") for name in names]
+    return "\n".join(text(path) for path in found if path.endswith(".rt"))
+
+
+def check_trials(number, runs, trials):
+    """Whether stored runs have files, and a crate or a file has the functions that try."""
+    for name in NAME.findall(runs):
+        check(number, any(file.rpartition(".")[0] == name for file in os.listdir(RUNS)), f"{RUNS}: without {name}")
+    found = TRIALS.findall(trials)
+    need(number, "; ".join(f"`{of}`: {listed}" for of, listed in found) == trials, "a trial that isn't written as `CRATE`: `name`, or `tests/FILE`: `name`")
+    need(number, runs or trials, "nothing that tries it")
+    for of, listed in found:
+        for name in NAME.findall(listed):
+            check(number, re.search(r"(?m)^(?:pub(?:\(\w+\))? )?(?:fn|def) " + name + r"\b", code_of(of)), f"{of}: without {name}")
+
+
 rows = {kind: 0 for kind in TABLES}
 kind = None
 for number, line in enumerate(open(PAGE, encoding="utf-8"), 1):
@@ -83,6 +107,9 @@ for number, line in enumerate(open(PAGE, encoding="utf-8"), 1):
     for cell in row:
         need(number, len(cell) <= LONGEST, f"a cell of {len(cell)} characters")
     of = dict(zip(TABLES[kind], row))
+    if kind == "Tried":
+        check_trials(number, of["Stored runs"], of["Tests and trials"])
+        continue
     room, path = of["Room"].strip("`"), of["File"].strip("`")
     check(number, room in ROOMS, f"{room}: not in crates.txt")
     need(number, path.startswith(f"crates/{room}/src/"), f"{path}: not of {room}")

@@ -1,5 +1,5 @@
 #!/bin/sh
-# Whether each sentence of five pages that says "always", "never", "exactly" or "before" stands in the table at the end of
+# Whether each sentence of six pages that says "always", "never", "exactly" or "before" stands in the table at the end of
 # docs/PROVED.md, or in the list behind it of what is no promise; whether each of these still fits a sentence; and whether each
 # clause, law and test that the table names is there, and each place that docs/PROMISES.md leads to. Proves nothing.
 cd "$(dirname "$0")/.." || exit 2
@@ -9,7 +9,7 @@ import re
 import sys
 
 PAGES = {"PROVED": "docs/PROVED.md", "SPECIFICATION": "docs/SPECIFICATION.md", "OPERATING": "docs/OPERATING.md",
-    "README": "README.md", "DECISIONS": "docs/DECISIONS.md"}
+    "README": "README.md", "DECISIONS": "docs/DECISIONS.md", "DESIGN": "docs/DESIGN.md"}
 PROMISES = "docs/PROMISES.md"
 OWN = "Sentences, and what carries them"
 HEADER = ["Page", "Place", "Sentence", "Carried by"]

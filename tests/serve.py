@@ -17,7 +17,7 @@ import phone
 from phone import Phone, free_port, office, started, tag_of, uri_in
 from served import (
     PROGRAM, audit_of, drawn, ended, established, first_word, goes_again, hears, hung_up, is_of_event, killed, made_in, marked, phones,
-    replayed, rewritten, says, stopped, waited, without_configurations,
+    replayed, rewritten, says, stopped, until, without_configurations,
 )
 
 LONGEST = 60  # seconds that a trial may take
@@ -242,7 +242,7 @@ def record(folder):
         made.write(source.read() + "\n# another\n")
     assert replayed(path, config) == replayed(bare, config) == (0, again, "")
     assert replayed(path, other) == replayed(bare, other) == OTHER
-    assert replayed(bare) == (3, "", "sipd: the record doesn't hold its configuration: name it with --config\n")
+    assert replayed(bare) == (3, "", "sipd: an older record: name its file with --config\nsipd: the record doesn't hold its configuration\n")
 
 
 def restart(folder):
@@ -319,20 +319,25 @@ def standby(folder):
     first, second = (os.path.join(folder, "standby_" + name) for name in ("first", "second"))
     server, port = started(PROGRAM, config, "--record", first)
     alice, bob = phones(port)
+
+    def has_come():
+        return os.path.exists(second + ".part") and os.stat(second + ".part").st_size > os.stat(first).st_size - 200
+
     with subprocess.Popen(["tail", "-c", "+1", "-f", first], stdout=subprocess.PIPE) as tail:
-        words = [PROGRAM, "serve", "--config", config, "--record", second, "--resume", "-"]
-        waiting = subprocess.Popen(words, stdin=tail.stdout, stdout=subprocess.PIPE, stderr=subprocess.PIPE)
-        phone.SERVERS.append(waiting)
-        tail.stdout.close()
-        assert alice.register() == [401, 200] and bob.register() == [401, 200]
-        dialog = established(alice, bob)
-        time.sleep(1.5)
-        assert waiting.poll() is None and not os.path.exists(second) and os.stat(second + ".part").st_size > os.stat(first).st_size - 200
-        killed(server)
-        with open(first, "a") as cut:
-            cut.write("time 18")
-        time.sleep(1.5)
-        tail.kill()
+        try:
+            words = [PROGRAM, "serve", "--config", config, "--record", second, "--resume", "-"]
+            waiting = subprocess.Popen(words, stdin=tail.stdout, stdout=subprocess.PIPE, stderr=subprocess.PIPE)
+            phone.SERVERS.append(waiting)
+            tail.stdout.close()
+            assert alice.register() == [401, 200] and bob.register() == [401, 200]
+            dialog = established(alice, bob)
+            assert until(lambda: waiting.poll() is not None or has_come()) and waiting.poll() is None and not os.path.exists(second)
+            killed(server)
+            with open(first, "a") as cut:
+                cut.write("time 18")
+            time.sleep(1.5)
+        finally:
+            tail.kill()
     line = waiting.stdout.readline().decode()
     assert line == f"sipd: serving 127.0.0.1:{port}\n", line
     hung_up(alice, bob, dialog)
@@ -581,7 +586,19 @@ def guard(folder):
     assert 40 <= len(scanned) <= 40 + 20 * (passed + 2), (len(scanned), passed)
 
 
-IN_FORCE = "sipd: the configuration's file is in force\n"
+def in_force(config, words):
+    """What is said of a file that is in force, with the words on what changed."""
+    return re.compile(rf"sipd: {re.escape(config)} is in force from datagram (\d+) on \({re.escape(words)}\)\n")
+
+
+def comes_into_force(server, config, words):
+    """Waits until a server says that of its file and nothing else, and gives the number of the datagram from which on."""
+    said = says(server, " on (")
+    while not said.endswith("\n"):
+        said += says(server, "\n")
+    found = in_force(config, words).fullmatch(said)
+    assert found, said
+    return int(found.group(1))
 
 
 def changed(folder):
@@ -597,7 +614,7 @@ def changed(folder):
     bob_is = re.compile(r'\[\[user\]\]\nname = "bob"\na1 = "\w+"\n')
     carol_is = f'[[user]]\nname = "carol"\na1 = "{phone.md5("carol:office:tea")}"\n'
     rewritten(config, lambda text: bob_is.sub(carol_is, text))
-    says(server, IN_FORCE)
+    number = comes_into_force(server, config, "1 user more, 1 user fewer")
     assert carol.register() == [401, 200]
     refused = bob.register()
     assert refused == [401, 401], refused
@@ -610,6 +627,8 @@ def changed(folder):
     assert complaints == "", complaints
     lines = [re.sub(r"^\d+ \d+ ", "", line) for line in printed.splitlines()]
     assert lines.count("REGISTER carol carol@127.0.0.1 register 1 answer 200") == 2, lines
+    numbers = [int(line.split()[1]) for line in printed.splitlines() if " REGISTER carol " in line or " REGISTER - carol@" in line]
+    assert sorted(numbers) == numbers and [it for it in numbers if it < number] == numbers[:2] and numbers[2] == number, (number, printed)
 
 
 def not_taken(folder):
@@ -621,17 +640,17 @@ def not_taken(folder):
     with open(config) as source:
         text = source.read()
     rewritten(config, lambda text: text.replace('realm = "office"', 'realm = "home"'))
-    says(server, "sipd: the configuration's file isn't taken: realm can't change while the server runs; what was in force stays\n")
+    says(server, f"sipd: {config} isn't taken: realm can't change while the server runs; what was in force stays\n")
     rewritten(config, lambda text: "version = \n")
-    says(server, "; what was in force stays\n")
+    said = says(server, "; what was in force stays\n")
+    assert said.startswith(f"sipd: {config} isn't taken: "), said
     os.remove(config)
     says(server, "sipd: the configuration's file is gone; what was in force stays\n")
     for number in range(10):
         with open(config, "w") as made:
             made.write(text + f"# {number}\n")
         time.sleep(0.3)
-    said = says(server, IN_FORCE)
-    assert said == IN_FORCE, said
+    assert comes_into_force(server, config, "nothing differs") == 1
     assert alice.register() == [401, 200]
     time.sleep(2.5)
     _, complaints = stopped(server, by=signal.SIGHUP)
@@ -640,7 +659,8 @@ def not_taken(folder):
 
 def changed_record(folder):
     """A record whose configuration changed holds both files whole, each in front of what was taken under it; it is replayed whole, without
-    either file, and is gone on from under either: who came by the change calls whom the record knows."""
+    either file, and is gone on from under either: who came by the change calls whom the record knows. What goes on from it holds all of it, and
+    begins with the same file."""
     config, old, path, copy = office(folder, free_port()), *(os.path.join(folder, name) for name in ("before.toml", "changed", "changed_copy"))
     os.link(config, old)
     server, port = started(PROGRAM, config, "--reload", "--record", path)
@@ -648,7 +668,7 @@ def changed_record(folder):
     carol = Phone("carol", phone.md5("carol:office:tea"), alice.server)
     assert alice.register() == [401, 200]
     rewritten(config, lambda text: text + f'\n[[user]]\nname = "carol"\na1 = "{carol.key}"\n')
-    says(server, IN_FORCE)
+    comes_into_force(server, config, "1 user more")
     assert carol.register() == [401, 200]
     printed, complaints = killed(server)
     assert complaints == "", complaints
@@ -678,11 +698,14 @@ def changed_record(folder):
         assert [answer[-1] == 200 for answer in answers] == [True, who == 2], answers
         _, complaints = killed(server)
         assert re.fullmatch(f"sipd: goes on behind \\d+ lines of {record}\n", complaints), complaints
+        status, on, complaints = replayed(by + ".record", old)
+        assert (status, complaints) == (0, "") and on.startswith(again), (status, complaints, on)
+        assert replayed(by + ".record", config) == OTHER
 
 
 def told_against(folder):
     """What a change from the last configuration of a record would do is told as from its file, also where the record was cut, and without one
-    it isn't told."""
+    it isn't told; a pipe is a file's."""
     config, new, path, later, cut, bare, bad = (os.path.join(folder, "against_" + name) for name in ("config", "new", "first", "second", "cut", "bare", "bad"))
     os.rename(office(folder, free_port()), config)
     with open(config) as source:
@@ -699,6 +722,8 @@ def told_against(folder):
 
     comes = (0, "user carol comes\na server that runs can take it\n", "")
     assert told(new, config) == told(new, path) == comes, (told(new, config), told(new, path))
+    piped = subprocess.run([PROGRAM, "check", "--config", new, "--against", "/dev/stdin"], input=text.encode(), capture_output=True, timeout=20)
+    assert (piped.returncode, piped.stdout.decode(), piped.stderr.decode()) == comes, piped
     server, _ = started(PROGRAM, new, "--record", later, "--resume", path)
     assert alice.register() == [401, 200]
     killed(server)
@@ -711,7 +736,7 @@ def told_against(folder):
         with open(name, "w") as made:
             made.writelines(held)
     assert told(new, cut) == comes, told(new, cut)
-    none = "sipd: of --against\nsipd: the record doesn't hold its configuration: name it with --config\n"
+    none = "sipd: of --against\nsipd: the record doesn't hold its configuration\n"
     assert told(new, bare) == (3, "", none), told(new, bare)
     assert told(new, bad) == (3, "", f"sipd: of --against\nsipd: script line {first + 1}\n"), told(new, bad)
     digest = hashlib.sha256(b"version =\n").hexdigest()

@@ -197,6 +197,16 @@ def says(server, wanted, seconds=10):
     return said.decode()
 
 
+def until(holds, seconds=20):
+    """Whether something holds within so many seconds."""
+    end = time.monotonic() + seconds
+    while not holds():
+        if time.monotonic() > end:
+            return False
+        time.sleep(0.05)
+    return True
+
+
 def rewritten(config, change):
     """Writes a file anew, in the place of the old one."""
     with open(config) as source:

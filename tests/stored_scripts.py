@@ -1,5 +1,5 @@
 #!/usr/bin/env python3
-"""Makes the stored runs `damaged_datagrams_*` and `size_limits` of crates/test_server/data, by rules of its own.
+"""Makes the stored runs `damaged_datagrams_*` and `size_limits` of crates/test_server/data, and those of a record, by rules of its own.
 
 Says whether the stored files are what it makes; with the word `write` writes them; with `script NAME` or `print NAME`
 prints the script of a run, or what `sipd replay` must print of it, whole, so that a difference can be looked at.
@@ -7,6 +7,10 @@ prints the script of a run, or what `sipd replay` must print of it, whole, so th
 What is answered is told here from the grammar of messages (RFC 3261 25.1 within this project's limits), the table of checks
 and the sample configuration, in a few lines each that share nothing with the server. They know only what damage to the
 three datagrams below can bring about: no folded line, no dialog, no credential, no binding.
+
+A record is the two REGISTERs of Mufasa, of which the second answers the challenge of the first: with no configuration, with the one
+of `check_sample.toml`, or with that and, between them, one in which Mufasa has another key. Its lines are those of docs/SCRIPTS.md,
+its credential is RFC 2617's.
 """
 
 import hashlib
@@ -184,10 +188,15 @@ def via_of(text):
 # ---- what a request is answered
 
 REASONS = {
-    400: "Bad Request", 401: "Unauthorized", 403: "Forbidden", 404: "Not Found", 407: "Proxy Authentication Required", 416: "Unsupported URI Scheme",
+    200: "OK", 400: "Bad Request", 401: "Unauthorized", 403: "Forbidden", 404: "Not Found", 407: "Proxy Authentication Required", 416: "Unsupported URI Scheme",
     480: "Temporarily Unavailable", 481: "Call/Transaction Does Not Exist", 482: "Loop Detected", 483: "Too Many Hops", 503: "Service Unavailable",
 }
 USERS = ["Mufasa", "alice", "help"]
+REALM = "testrealm@host.com"
+
+
+def challenge(word):
+    return f'Digest realm="{REALM}", nonce="{word}", algorithm=MD5, qop="auth"'
 
 
 def is_malformed(method, uri, fields):
@@ -222,17 +231,16 @@ def ruling(method, uri, fields):
     user = re.sub("%(..)", lambda digits: chr(int(digits[1], 16)), target["user"] or "")
     host = target["host"].lower()
     own = host == "host.com"
-    challenge = f'Digest realm="testrealm@host.com", nonce="{WORD}", algorithm=MD5, qop="auth"'
     denial = ("0", 403, ("Warning", '399 sip.host.com "policy rule 0"'))
     if method == "REGISTER":
         # a rule on the own address asks who it is; no other rule is on registering
-        return user, host, "register", *(("-", 401, ("WWW-Authenticate", challenge)) if own and user in USERS else denial)
+        return user, host, "register", *(("-", 401, ("WWW-Authenticate", challenge(WORD))) if own and user in USERS else denial)
     if own and user == "vault":
         return user, host, "send", "3", 403, ("Warning", '399 sip.host.com "policy rule 3"')
     if own and user == "help":
         # nobody has a binding here
         return user, host, "send", "4", 480, None
-    return user, host, "send", *(("-", 407, ("Proxy-Authenticate", challenge)) if own else denial)
+    return user, host, "send", *(("-", 407, ("Proxy-Authenticate", challenge(WORD))) if own else denial)
 
 
 def judged(method, uri, version, fields):
@@ -359,9 +367,82 @@ def line_script(events):
     return text
 
 
+# ---- records
+
+
+def md5(text):
+    return hashlib.md5(text.encode()).hexdigest()
+
+
+def word_of(number):
+    return f"{number:032x}"
+
+
+def proving(key):
+    """The REGISTER that answers the challenge of the first one by a user's key."""
+    nonce, cnonce, uri = word_of(1), "0a4f113b", "sip:host.com"
+    digest = md5(f"{key}:{nonce}:00000001:{cnonce}:auth:{md5(f'REGISTER:{uri}')}")
+    second = REGISTER.replace(b"z9hG4bKreg1", b"z9hG4bKreg2").replace(b"CSeq: 1 ", b"CSeq: 2 ")
+    credential = f'username="Mufasa", realm="{REALM}", nonce="{nonce}", uri="{uri}", response="{digest}", qop=auth, nc=00000001, cnonce="{cnonce}"'
+    return with_lines(second, f"Authorization: Digest {credential}\r\n".encode())
+
+
+def sha256(text):
+    return hashlib.sha256(text.encode()).hexdigest()
+
+
+def first_line(digest):
+    return f"record {0:016x} 1 {digest}\n"
+
+
+def held(text):
+    """The lines by which a record holds a configuration whose last line has its end."""
+    return "".join(f"= {line}\n" for line in text.removesuffix("\n").split("\n")) + f"configuration {sha256(text)}\n"
+
+
+def events_recorded(datagrams):
+    return [f"hex {1000 * number} 127.0.0.1:5062 {word_of(number)} {datagram.hex()}\n" for number, datagram in enumerate(datagrams, 1)]
+
+
+def answered(number, datagram, status, more, record):
+    answer, port = response(status, more, read(datagram)[1], number)
+    return f"packet {1000 * number} 127.0.0.1:{port} {number}/0 first {len(answer)}\n{answer}\naudit {1000 * number} {number} REGISTER {record}\n"
+
+
+def challenged(number, datagram):
+    return answered(number, datagram, 401, ("WWW-Authenticate", challenge(word_of(number))), "- Mufasa@host.com register - challenge 401")
+
+
+def of_records():
+    """The runs of records, by the names of their files."""
+    with open(os.path.join(DATA, "check_sample.toml"), encoding="ascii") as file:
+        sample = file.read()
+    key = md5(f"Mufasa:{REALM}:Circle Of Life")
+    other = sample.replace(key, "3" * 32)
+    assert other != sample
+    datagrams = [REGISTER, proving(key)]
+    first, second = events_recorded(datagrams)
+    head, refused = first_line(sha256(sample)), challenged(1, REGISTER)
+    taken = answered(2, datagrams[1], 200, ("Contact", "<sip:Mufasa@127.0.0.1:5062>;expires=3600"), "Mufasa Mufasa@host.com register 1 answer 200")
+    named = "replay --config check_sample.toml --record"
+    for name, call, record, output in (
+        ("replay_of_a_record", named, head + first + second, refused + taken),
+        ("replay_of_another_configuration", named, first_line("0" * 64) + first + second, None),
+        ("replay_of_a_whole_record", "replay --record", head + held(sample) + first + second, refused + taken),
+        # by the other key the credential proves nobody
+        ("replay_of_a_changed_record", "replay --record", head + held(sample) + first + held(other) + second, refused + challenged(2, datagrams[1])),
+    ):
+        yield f"{name}.args", "\n".join([*call.split(" "), f"{name}.record", ""])
+        yield f"{name}.record", record
+        if output is not None:
+            yield f"{name}.out", output
+    yield "check_against_a_record.args", "check\n--config\ncheck_sample.toml\n--against\nreplay_of_a_changed_record.record\n"
+    yield "check_against_a_record.out", "user Mufasa has another a1\na server that runs can take it\n"
+
+
 def made():
     """Each file by its name, and its bytes."""
-    files = {}
+    files = {name: text.encode("ascii") for name, text in of_records()}
     for name, datagram in DAMAGED.items():
         output = printed(events_of(damages(datagram)))
         files[f"{name}.args"] = b"replay\n"

@@ -1,4 +1,4 @@
--- An INVITE and a REGISTER that pass every check.
+-- Two INVITEs and a REGISTER that pass every check.
 use Rattle.std.proofs.Common.{◌≡◌, ℕ, Bool, true, false, List, codes, Some, None, Ok, Err, Result, refl}
 use Rattle.std.specs.Fmt.{digits}
 use Rattle.sip_uri.specs.Reading as Uris
@@ -15,7 +15,7 @@ use Rattle.sip_edit_response.specs.Examples.{register}
 use Rattle.sip_edit.specs.OnwardExamples.{invite}
 use Rattle.sip_model.specs.state.State.{first_state}
 use Rattle.sip_model.specs.verdict_model.Verdict.{message_in, is_outside}
-use Rattle.sip_model.specs.steps_model.Examples.{sample}
+use Rattle.sip_model.specs.steps_model.Examples.{sample, to_vault}
 use Rattle.model_meanings.specs.Valid.{SaysNewRequest}
 
 -- ---- the INVITE
@@ -71,6 +71,46 @@ new_invite =
         is_no_ack = refl;
         is_no_cancel = refl;
         is_valid = invite_valid;
+        has_room = refl;
+        core_is = has.is_core;
+        is_outside_dialog = has.is_out;
+      };
+    }
+
+-- ---- the INVITE to vault@host.com
+
+pub vault_said : message_in (Bytes.reading_of (text_of to_vault)) ≡ Some (to_vault, false)
+unfolding digits Bytes.reading_of Bytes.datagram_of Bytes.message_from
+vault_said = refl
+
+vault_valid : refusal_of sample.config.own to_vault false ≡ None
+unfolding digits Uris.rest_of Uris.reading_of core_in
+vault_valid = refl
+
+vault_outside : outside_in (codes "INVITE") (core_of to_vault) ≡ true
+unfolding outside_in digits Uris.rest_of Uris.reading_of core_in
+vault_outside = refl
+
+vault_keyed : key_of to_vault ≡ Some invite_key
+unfolding invite_key digits
+vault_keyed = refl
+
+pub new_vault : SaysNewRequest sample (first_state 1) (text_of to_vault) to_vault (codes "INVITE")
+new_vault =
+    let has : HasCore to_vault (codes "INVITE") = core_there to_vault (codes "INVITE") (core_of to_vault) refl vault_outside in
+    record {
+      core = has.core;
+      is_new = record {
+        uri = codes "sip:vault@host.com";
+        version = codes "SIP/2.0";
+        key = invite_key;
+        says = vault_said;
+        is_request = refl;
+        key_is = vault_keyed;
+        is_new = refl;
+        is_no_ack = refl;
+        is_no_cancel = refl;
+        is_valid = vault_valid;
         has_room = refl;
         core_is = has.is_core;
         is_outside_dialog = has.is_out;

@@ -43,3 +43,11 @@ pub mod Folding
 pub mod NotAsked
 pub mod TwoRuns
 pub mod OwnRules
+mod Heads
+mod Checks
+mod Naming
+mod Places
+mod Owners
+mod Keeping
+mod Counts
+mod WrongWays

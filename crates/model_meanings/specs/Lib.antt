@@ -18,3 +18,5 @@ pub mod WrongSilence
 pub mod TwoConfigurations
 pub mod TwoPeriods
 pub mod WrongRules
+pub mod Headline
+pub mod WrongHeadlines

@@ -7,6 +7,7 @@ pub mod Places
 pub mod Keys
 pub mod Limits
 pub mod Configuration
+pub mod Stated
 pub mod Examples
 pub mod Configured
 pub mod ConfigError

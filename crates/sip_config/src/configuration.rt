@@ -1,7 +1,9 @@
-ghost use Rattle.std.specs.Prelude.{◌≡◌};
+ghost use Rattle.std.specs.Prelude.{◌≡◌, ◌⊎◌, IfOk, IfErr};
 ghost use Rattle.toml.specs.View.{table_view};
 ghost use Rattle.sip_config.specs.Refusals.{Reads};
 ghost use Rattle.sip_config.specs.Configuration as Definitions;
+ghost use Rattle.sip_config.specs.Stated.{States, StatesNone};
+ghost use Rattle.sip_config.specs.declared.error.ConfigError.TheVariants.{NoMemory};
 
 use crate::ConfigError;
 use crate::head::head_of;
@@ -66,5 +68,17 @@ pub fn read_config(alloc: Global, text: &str) -> Result<Config, ConfigError>
                 Err(ConfigError::BadToml)
             }
         }
+    }
+}
+
+/// The configuration that the bytes of a file state: what `read_config` makes of them as UTF-8; refused as there, and with `BadToml`
+/// where they aren't UTF-8.
+pub fn read_config_bytes(alloc: Global, bytes: &[u8]) -> Result<Config, ConfigError>
+    ensures stated { IfOk result (States bytes.now) }
+    ensures refused { IfErr result (λ e. (e ≡ NoMemory) ⊎ StatesNone bytes.now e) }
+{
+    match str::from_utf8(bytes) {
+        Ok(text) => read_config(alloc, text),
+        Err(_) => Err(ConfigError::BadToml),
     }
 }

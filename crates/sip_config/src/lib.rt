@@ -3,7 +3,8 @@
 //! is a definition over its keys; a file that states nothing is refused by the first fault, in the order of a table of
 //! keys.
 //!
-//! - Used: `sipd_arguments`, once, before the server is, and for the words of a complaint.
+//! - Used: `sipd_arguments`, once, before the server is, and for the words of a complaint; of the bytes of a file that changed, and of
+//!   the configurations of a record, `sipd_command` and `sip_segments`.
 //! - Not here: anything that runs while the server does.
 //! - Tried: worked examples in `src/examples.rt`, as contracts that compute; `test_parts`.
 //!
@@ -30,7 +31,7 @@ mod users;
 mod values;
 mod words;
 
-pub use configuration::read_config;
+pub use configuration::{read_config, read_config_bytes};
 pub use error::ConfigError;
 pub use grammar::Grammar;
 pub use names::Names;

@@ -112,6 +112,22 @@ impl<T: Timers, R: Rules> Engine<T, R> {
         let _judge = &self.judge;
     }
 
+    /// The configuration in force.
+    pub fn config(&self) -> &Config
+        ensures { result.now ≡ self.now.server.config }
+    {
+        let _proxy = &self.proxy;
+        &self.judge.server().config
+    }
+
+    /// The number of the next datagram.
+    pub fn next_number(&self) -> u64
+        ensures { result ≡ self.now.state.next }
+    {
+        let _judge = &self.judge;
+        self.proxy.next()
+    }
+
     /// The last moment, in milliseconds.
     pub fn moment(&self) -> u64
         ensures value { result ≡ self.now.state.moment }

@@ -60,6 +60,10 @@ allowances_of always limit = record { limit = limit; always = always; present = 
 abbrev pub told_all : AllowanceState → AllowanceState
 told_all allowances = record allowances { unheard = none_unheard }
 
+-- the same, hearing these IP addresses always, and no others
+abbrev pub hearing : List (List ℕ) → AllowanceState → AllowanceState
+hearing always allowances = record allowances { always = always }
+
 -- the same at a reading, unless that is earlier than the latest moment
 abbrev pub reached : AllowanceState → ℕ → AllowanceState
 reached allowances reading = record allowances { present = max allowances.present reading }

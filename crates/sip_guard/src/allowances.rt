@@ -1,5 +1,5 @@
 ghost use Rattle.std.specs.Prelude.{◌≡◌, true, false, IfOk};
-ghost use Rattle.sip_guard.specs.Guard.{allowances_of, is_among, reached, told_all, IsBounded, is_within, IsAdmitted};
+ghost use Rattle.sip_guard.specs.Guard.{allowances_of, hearing, is_among, reached, told_all, IsBounded, is_within, IsAdmitted};
 ghost use Rattle.sip_guard.specs.Unheard.{noted};
 
 use crate::limit::Limit;
@@ -87,6 +87,13 @@ impl Allowances {
         ensures { result.now ≡ self.now.unheard }
     {
         &self.unheard
+    }
+
+    /// These IP addresses are heard always from now on, and no others.
+    pub(crate) fn hear_always(&mut self, always: Vec<[u8; 4]>)
+        ensures { self.new ≡ hearing always.items self.old }
+    {
+        self.always = always;
     }
 
     /// Counts of the unheard begin anew.

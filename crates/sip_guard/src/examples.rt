@@ -4,7 +4,7 @@ ghost use Rattle.sip_guard.specs.Limits.{limit_of};
 ghost use Rattle.sip_guard.specs.Rates.{handed_on, used_by};
 ghost use Rattle.sip_guard.specs.Sources.{finds_room, used_of};
 ghost use Rattle.sip_guard.specs.Unheard.{none_unheard, noted};
-ghost use Rattle.sip_guard.specs.Guard.{is_within};
+ghost use Rattle.sip_guard.specs.Guard.{hearing, is_within};
 ghost use Rattle.sip_guard.specs.Examples.{one_a_second, six_moments, desk, scanner, full, desk_always};
 
 /// Twenty a second, and forty at once; neither none nor more than a million a second.
@@ -45,8 +45,11 @@ pub fn unheard_example()
         ≡ record { total = 3; sources = record { ip = scanner; count = 2 } ∷ record { ip = desk; count = 1 } ∷ [] } }
 {}
 
-/// Of two sources that used up their allowance, the one that is heard always is heard.
+/// Of two sources that used up their allowance, the one that is heard always is heard; and where that is to be the other one from now on,
+/// that one alone.
 pub fn always_example()
     ensures desk { is_within desk_always desk ≡ true }
     ensures scanner { is_within desk_always scanner ≡ false }
+    ensures scanner_then { is_within (hearing (scanner ∷ []) desk_always) scanner ≡ true }
+    ensures desk_then { is_within (hearing (scanner ∷ []) desk_always) desk ≡ false }
 {}

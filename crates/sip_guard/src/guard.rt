@@ -1,7 +1,7 @@
 ghost use Rattle.std.specs.Prelude.{◌≡◌, true, None, IfOk, IfSome, OnOk, OnErr, option_map};
 ghost use Rattle.sip_loop_link.specs.Told.{counted, heard_of, and_then, GrewBy, IsWritable, SetsAside};
 ghost use Rattle.sip_guard.specs.Guard as Guarding;
-ghost use Rattle.sip_guard.specs.Guard.{allowances_of, told_all, IsBounded, Hears, Guards};
+ghost use Rattle.sip_guard.specs.Guard.{allowances_of, hearing, told_all, IsBounded, Hears, Guards};
 
 use crate::allowances::Allowances;
 use crate::limit::Limit;
@@ -150,6 +150,16 @@ impl<L: Link, C: Clock> Guard<L, C> {
     {
         if let Some(allowances) = &mut self.allowances {
             allowances.clear_unheard();
+        }
+    }
+
+    /// Of these IP addresses it hears always all from now on, at whatever port, and of no others; each keeps the number that it has. Without a
+    /// limit nothing changes. Takes no memory.
+    pub fn hear_always(&mut self, always: Vec<[u8; 4]>)
+        ensures { self.new ≡ record self.old { allowances = option_map (hearing always.items) self.old.allowances } }
+    {
+        if let Some(allowances) = &mut self.allowances {
+            allowances.hear_always(always);
         }
     }
 

@@ -15,8 +15,8 @@ use Rattle.model_bounds.specs.model.Run.{Link, IsChain, IsPaced, IsRun, IsUnder,
 use Rattle.model_bounds.specs.model.Periods.{IsRunUnder, Period, until_of}
 use Rattle.model_bounds.proofs.SendingLists.{all_before, all_behind, all_joined}
 use Rattle.model_ties.specs.Ties.{ArePrompt}
-use Rattle.sip_resume.specs.Resumes.{Runs}
-use Rattle.sip_resume.specs.Whole.{AreStated, KeepsFrame, config_behind}
+use Rattle.sip_replay.specs.resume.Resumes.{Runs}
+use Rattle.sip_replay.specs.resume.Whole.{AreStated, KeepsFrame, config_behind}
 use Rattle.sip_loop.specs.Serving.{Doing, IsUnserved, Told, ahead, event_told, gathered, steps_taken, untold_in}
 use Rattle.sip_loop.specs.declared.served.ServeError.{ServeError}
 use Rattle.sip_recorded.specs.Recorded.{IsRecordedUnder, RecordsFront}

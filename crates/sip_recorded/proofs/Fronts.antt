@@ -6,7 +6,7 @@ use Rattle.sip_replay_script.specs.Events.{SaysEvent, ended}
 use Rattle.sip_replay_script.specs.Recorded.{IsCutRecord, SaysRecord, SaysRecorded}
 use Rattle.sip_segment_text.specs.Configurations.{IsCutConfiguration}
 use Rattle.sip_segment_text.specs.Segments.{SaysConfiguration, SaysSegments, SaysWhole, Segment, configuration_line}
-use Rattle.sip_resume.specs.Whole.{EndsWhole}
+use Rattle.sip_segment_config.specs.Last.{EndsCut}
 use Rattle.sip_recorded.proofs.Joining.{grown, joined}
 
 -- how a text is read: what comes next is one event, or one configuration, and no event is a configuration
@@ -185,14 +185,14 @@ no_cut_configuration r text c (inr f) =
     let same = r.one_configuration f.first (text ++ c.more) (f.rest ++ c.more) [] f.configuration c.configuration f.says c.says (first_cut text f.first f.rest c.more f.cut) in
     c.cut (nothing_behind f.first f.rest c.more (same.0 ∙ ap (λ (l : List ℕ). l ++ c.more) f.cut))
 
-ends_by : Readings → (text : List ℕ) → (text ≡ []) ⊎ (FirstEvent text ⊎ FirstConfiguration text) → EndsWhole text → text ≡ []
+ends_by : Readings → (text : List ℕ) → (text ≡ []) ⊎ (FirstEvent text ⊎ FirstConfiguration text) → EndsCut text → text ≡ []
 ends_by r text (inl none) ends = none
-ends_by r text (inr f) (inl (inl none)) = none
-ends_by r text (inr f) (inl (inr c)) = absurd (no_cut_event r text c f)
-ends_by r text (inr f) (inr c) = absurd (no_cut_configuration r text c f)
+ends_by r text (inr f) (inl none) = none
+ends_by r text (inr f) (inr (inl c)) = absurd (no_cut_event r text c f)
+ends_by r text (inr f) (inr (inr c)) = absurd (no_cut_configuration r text c f)
 
 -- a text that says events and segments is taken whole: it has no cut end
-pub taken_whole : Readings → (events all : List Event) (segments whole : List Segment) (text further : List ℕ) → SaysWhole events segments text → SaysWhole all whole (text ++ further) → EndsWhole further → further ≡ []
+pub taken_whole : Readings → (events all : List Event) (segments whole : List Segment) (text further : List ℕ) → SaysWhole events segments text → SaysWhole all whole (text ++ further) → EndsCut further → further ≡ []
 taken_whole r events all segments whole text further h k ends =
     let on : GoesOn events segments all whole further = says_on r events all segments whole text further h k in
     ends_by r further (first_of r on.more on.others further on.says) ends

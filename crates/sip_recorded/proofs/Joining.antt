@@ -13,9 +13,9 @@ use Rattle.model_bounds.specs.model.Run.{Link, IsRun, first_moment, under}
 use Rattle.model_bounds.specs.model.Periods.{IsRunUnder, Period, until_of}
 use Rattle.model_bounds.proofs.SendingLists.{all_joined}
 use Rattle.model_ties.specs.Ties.{ArePrompt}
-use Rattle.sip_run.proofs.RunOn.{run_on}
-use Rattle.sip_resume.specs.Whole.{AreStated, KeepsFrame, TakesWhole, config_behind}
-use Rattle.sip_resume.proofs.UnderRuns.{frames_of, run_back}
+use Rattle.sip_replay.proofs.of_run.{run_on}
+use Rattle.sip_replay.specs.resume.Whole.{AreStated, KeepsFrame, TakesWhole, config_behind}
+use Rattle.sip_replay.proofs.of_resume.{frames_of, run_back}
 use Rattle.sip_recorded.specs.Recorded.{IsRecordedUnder}
 
 -- ---- lists

@@ -18,8 +18,8 @@ use Rattle.model_bounds.specs.steps_model.Step.{Act, Given, Passing}
 use Rattle.model_bounds.specs.model.Run.{Link, IsChain, IsRun, IsUnder, first_moment, under}
 use Rattle.model_bounds.specs.model.Periods.{IsRunUnder, Period}
 use Rattle.model_ties.specs.Ties.{AreOne, ArePrompt, IsPrompt, PartAtTie}
-use Rattle.sip_run.specs.Runs.{AreTurns, IsAtEnd, IsRunOver, IsTurn, IsUnopened}
-use Rattle.sip_resume.specs.Whole.{AreStated, config_behind}
+use Rattle.sip_replay.specs.run.Runs.{AreTurns, IsAtEnd, IsRunOver, IsTurn, IsUnopened}
+use Rattle.sip_replay.specs.resume.Whole.{AreStated, config_behind}
 use Rattle.sip_replay.specs.Refusals.{BeginsWith, StopsAtLine, moment_ahead}
 use Rattle.sip_replay.specs.Replays.{IsReplay, server_with}
 use Rattle.sip_recorded.specs.Recorded.{IsRecordedUnder, PrintsFront}

@@ -10,7 +10,7 @@ use Rattle.sip_event.specs.declared.event.StepOut.{StepOut}
 use Rattle.sip_replay_script.specs.Events.{SaysEvents}
 use Rattle.sip_replay_script.specs.Recorded.{SaysRecord}
 use Rattle.sip_segment_text.specs.Segments.{SaysConfiguration, SaysWhole, Segment}
-use Rattle.sip_segments.specs.Stated.{States}
+use Rattle.sip_config.specs.Stated.{States}
 use Rattle.sip_replay_print.specs.Print.{printed}
 use Rattle.sip_record.specs.Record.{GrewBy, Notes, NotesConfiguration, NotesSegments, NotesText}
 use Rattle.model_bounds.specs.state.declared.proxy_state.ProxyState.{ProxyState}
@@ -21,10 +21,10 @@ use Rattle.model_bounds.specs.steps_model.Step.{Act, Given, Passing}
 use Rattle.model_bounds.specs.model.Run.{Link, IsChain, IsUnder, under}
 use Rattle.model_bounds.specs.model.Periods.{IsRunUnder, Period}
 use Rattle.model_ties.specs.Ties.{AreOne, ArePrompt, IsPrompt, PartAtTie}
-use Rattle.sip_resume.specs.Outputs.{Outputs}
-use Rattle.sip_resume.specs.Resumes.{Runs}
-use Rattle.sip_resume.specs.Whole.{AreStated, IsRecordResumed, TakesWhole, config_behind}
-use Rattle.sip_resume.proofs.UnderRuns.{runs_one}
+use Rattle.sip_replay.specs.resume.Outputs.{Outputs}
+use Rattle.sip_replay.specs.resume.Resumes.{Runs}
+use Rattle.sip_replay.specs.resume.Whole.{AreStated, IsRecordResumed, TakesWhole, config_behind}
+use Rattle.sip_replay.proofs.of_resume.{runs_one}
 use Rattle.sip_loop.specs.Replays.{ReplaysTo}
 use Rattle.sip_loop.specs.Serving.{AreInTurn, IsTurnOf}
 use Rattle.sip_recorded.specs.Recorded.{IsRecordedUnder}

@@ -10,7 +10,7 @@ use Rattle.model_bounds.specs.state.declared.proxy_state.ProxyState.{ProxyState}
 use Rattle.model_bounds.specs.state.declared.server.Server.{Server}
 use Rattle.model_bounds.specs.state.State.{first_state}
 use Rattle.model_ties.specs.Ties.{AreOne, PartAtTie}
-use Rattle.sip_resume.specs.Whole.{TakesWhole}
+use Rattle.sip_replay.specs.resume.Whole.{TakesWhole}
 use Rattle.sip_replay.specs.Records.{IsRecordReplay}
 use Rattle.sip_replay.specs.Replays.{server_with}
 use Rattle.sip_recorded.specs.Recorded.{IsRecordedUnder, PrintsFront, RecordsFront}

@@ -13,7 +13,7 @@ use Rattle.model_bounds.specs.state.State.{first_state}
 use Rattle.model_bounds.specs.model.Run.{Link}
 use Rattle.model_bounds.specs.model.Periods.{IsRunUnder, Period}
 use Rattle.model_ties.specs.Ties.{ArePrompt, PartAtTie}
-use Rattle.sip_resume.specs.Whole.{AreStated, KeepsFrame, config_behind}
+use Rattle.sip_replay.specs.resume.Whole.{AreStated, KeepsFrame, config_behind}
 
 -- A text says events, and segments behind them, and these steps are a run over exactly these, from the first state to this one: the events
 -- under the server's configuration, those of each segment under the one that its text states, by which it is the same server to others. All

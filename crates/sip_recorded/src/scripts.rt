@@ -10,7 +10,7 @@ ghost use Rattle.model_bounds.specs.state.declared.proxy_state.ProxyState.{Proxy
 ghost use Rattle.model_bounds.specs.state.declared.server.Server.{Server};
 ghost use Rattle.model_bounds.specs.state.State.{first_state};
 ghost use Rattle.model_ties.specs.Ties.{AreOne, PartAtTie};
-ghost use Rattle.sip_run.specs.Runs.{IsRunOver};
+ghost use Rattle.sip_replay.specs.run.Runs.{IsRunOver};
 ghost use Rattle.sip_replay.specs.Refusals.{StopsAtLine};
 ghost use Rattle.sip_replay.specs.Replays.{IsReplay, server_with};
 ghost use Rattle.sip_recorded.specs.Recorded.{IsRecordedUnder, PrintsFront};

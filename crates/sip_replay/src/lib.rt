@@ -30,3 +30,8 @@ pub mod engine {
 pub mod run {
     pub use sip_run::{event_moment, fire_next, run, take_event};
 }
+
+/// Of `sip_resume`.
+pub mod resume {
+    pub use sip_resume::RecordError;
+}

@@ -25,7 +25,7 @@ pub trait StepSink {
 }
 
 /// Steps aren't shown. It tells nothing, and never stops.
-#[derive(Clone, Copy, Drop)]
+#[derive(Drop)]
 pub struct NoSink;
 
 impl StepSink for NoSink {

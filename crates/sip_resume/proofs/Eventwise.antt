@@ -18,7 +18,7 @@ use Rattle.sip_replay_script.proofs.Written.{keeps_consumes}
 use Rattle.sip_record.specs.Record.{Notes}
 use Rattle.sip_record.proofs.Noting.{notes_nothing, notes_both}
 use Rattle.sip_resume.specs.Outputs.{Outputs}
-use Rattle.sip_resume.specs.Resumes.{EndsHere, IsNext, JournalAt, ResumeStops, StopsAmong, TakesNext}
+use Rattle.sip_resume.specs.Resumes.{EndsHere, IsNext, JournalAt, ResumeStops, RunsOut, StopsAmong, TakesNext}
 use Rattle.sip_resume.specs.Parts.{NextStops, SaysNoneAt, EndsAt, TakesEvents}
 use Rattle.sip_resume.specs.declared.error.ResumeError.{ResumeError}
 use Rattle.sip_resume.specs.declared.error.ResumeError.TheVariants as errors
@@ -35,12 +35,16 @@ next_kept : (a b : Option (List ℕ)) (event : Event) → Keeps a b → IsNext b
 next_kept a b event kept h = record { text = h.text; says = h.says; begins = if_kept (λ bytes. (further : List ℕ) × (bytes ≡ h.text ++ further)) a b kept h.begins }
 
 among_kept : (server : Server) (old new : ProxyState) (a b : Option (List ℕ)) (outs outs_then : Outputs) → Keeps a b → StopsAmong server old new b outs outs_then → StopsAmong server old new a outs outs_then
-among_kept server old new a b outs outs_then kept (inl h) = inl h
+among_kept server old new a b outs outs_then kept (inl h) = inl (record { event = h.event; next = next_kept a b h.event kept h.next; part = h.part })
 among_kept server old new a b outs outs_then kept (inr h) = inr (record { event = h.event; next = next_kept a b h.event kept h.next; part = h.part })
+
+out_kept : (server : Server) (old new : ProxyState) (a b : Option (List ℕ)) (outs outs_then : Outputs) → Keeps a b → RunsOut server old new b outs outs_then → RunsOut server old new a outs outs_then
+out_kept server old new a b outs outs_then kept (inl h) = inl h
+out_kept server old new a b outs outs_then kept (inr h) = inr (among_kept server old new a b outs outs_then kept h)
 
 stops_kept : (server : Server) (old new : ProxyState) (spent : Type 0) (a b : Option (List ℕ)) (lines : ℕ) (outs outs_then : Outputs) (e : ResumeError) → Keeps a b → ResumeStops server old new spent b lines outs outs_then e
     → ResumeStops server old new spent a lines outs outs_then e
-stops_kept server old new spent a b lines outs outs_then errors.NoMemory kept h = among_kept server old new a b outs outs_then kept h
+stops_kept server old new spent a b lines outs outs_then errors.NoMemory kept h = out_kept server old new a b outs outs_then kept h
 stops_kept server old new spent a b lines outs outs_then (errors.Damaged line) kept h = (h.0, if_kept IsDamagedRecord a b kept h.1, h.2, h.3)
 stops_kept server old new spent a b lines outs outs_then errors.Read kept h = h
 stops_kept server old new spent a b lines outs outs_then errors.Step kept h = record { event = h.event; next = next_kept a b h.event kept h.next; runs = h.runs; shown = h.shown; refused = h.refused }

@@ -14,16 +14,16 @@ use Rattle.sip_run.specs.Refusals.{RefusesStep, refusal_of_event}
 use Rattle.sip_replay_script.specs.Lines.{Reading, pending}
 use Rattle.sip_replay_script.specs.Recorded.{GivesRecorded}
 use Rattle.sip_replay_print.specs.Print.{printed}
-use Rattle.sip_replay_script.proofs.Fronts.{front_all, front_none}
+use Rattle.sip_replay_script.proofs.Fronts.{front_all}
 use Rattle.sip_replay_script.specs.declared.print_stop.PrintStop.{PrintStop}
 use Rattle.sip_replay_script.specs.declared.print_stop.PrintStop.TheVariants as prints
 use Rattle.sip_event.specs.declared.event.StepOut.{StepOut}
 use Rattle.sip_resume.specs.Errors.{error_of_print, error_of_step}
 use Rattle.sip_resume.specs.Outputs.{Outputs}
-use Rattle.sip_resume.specs.Resumes.{FiringStops, IsNext, JournalAt, PassesTime, ResumeStops, RunsPart, RunsShown, StepStops, StopsAmong, StopsAround, TakesOwn, TurnStops, UnreadStops}
+use Rattle.sip_resume.specs.Resumes.{FiringStops, IsNext, JournalAt, ResumeStops, RunsPart, RunsShown, StaysAsItWas, StepStops, StopsAmong, StopsAround, TakesOwn, TurnStops, UnreadStops}
 use Rattle.sip_resume.specs.declared.error.ResumeError.{ResumeError}
 use Rattle.sip_resume.specs.declared.error.ResumeError.TheVariants as errors
-use Rattle.sip_resume.proofs.Running.{runs_nothing, shown_by}
+use Rattle.sip_resume.proofs.Running.{shown_by}
 
 -- ---- a step that is refused
 
@@ -105,12 +105,12 @@ is_next part rest m r event g = record { text = g.given.text; says = g.recorded;
 
 among : (server : Server) (old new : ProxyState) (part rest : Reading) (m r : Option (List ℕ)) (event : Event) (outs outs_then : Outputs) → GivesRecorded part rest m r event → StopsAround server old new event outs.shown outs_then.shown
     → StopsAmong server old new (pending part m) outs outs_then
-among server old new part rest m r event outs outs_then given (inl h) = inl (record { until = Some (event_moment event); part = h })
+among server old new part rest m r event outs outs_then given (inl h) = inl (record { event = event; next = is_next part rest m r event given; part = h })
 among server old new part rest m r event outs outs_then given (inr h) = inr (record { event = event; next = is_next part rest m r event given; part = h })
 
 pub turn_refused : (F : Type 0) (server : Server) (old new : ProxyState) (part rest : Reading) (m r : Option (List ℕ)) (event : Event) (number : ℕ) (outs outs_then : Outputs) (e : ResumeError) → GivesRecorded part rest m r event
     → TurnStops server old new event outs.shown outs_then.shown e → ResumeStops server old new F (pending part m) number outs outs_then e
-turn_refused F server old new part rest m r event number outs outs_then errors.NoMemory given h = among server old new part rest m r event outs outs_then given h
+turn_refused F server old new part rest m r event number outs outs_then errors.NoMemory given h = inr (among server old new part rest m r event outs outs_then given h)
 turn_refused F server old new part rest m r event number outs outs_then (errors.Damaged line) given h = absurd h
 turn_refused F server old new part rest m r event number outs outs_then errors.Read given h = absurd h
 turn_refused F server old new part rest m r event number outs outs_then errors.Step given h = record { event = event; next = is_next part rest m r event given; runs = h.due.runs; shown = h.due.all; refused = h.refused }
@@ -137,13 +137,12 @@ untold_at old new e is failed = subst (λ (x : ResumeError). JournalAt old new x
 
 -- ---- no event that comes next
 
--- no time passed, and nothing was shown
-pub nothing_shown : (server : Server) (state : ProxyState) (outs : Outputs) → PassesTime server state state outs outs
-nothing_shown server state outs = record { until = None; part = record { runs = runs_nothing server state None; front = front_none outs.shown [] } }
+pub stays : (state : ProxyState) (outs : Outputs) → StaysAsItWas state state outs outs
+stays state outs = record { state = refl; shown = refl }
 
 pub unread : (F : Type 0) (server : Server) (state : ProxyState) (number : ℕ) (script : Option (List ℕ)) (outs : Outputs) (e : ResumeError) → UnreadStops F script number e
     → ResumeStops server state state F script number outs outs e
-unread F server state number script outs errors.NoMemory h = inl (nothing_shown server state outs)
+unread F server state number script outs errors.NoMemory h = inl (stays state outs)
 unread F server state number script outs (errors.Damaged line) h = (refl, h.0, h.1, refl)
 unread F server state number script outs errors.Read h = (refl, h, refl)
 unread F server state number script outs errors.Step h = absurd h

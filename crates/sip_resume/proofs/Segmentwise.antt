@@ -16,41 +16,43 @@ use Rattle.sip_segment_text.specs.Configurations.{IsCutConfiguration, IsDamagedC
 use Rattle.sip_replay_script.proofs.Written.{keeps_consumes}
 use Rattle.sip_record.specs.Record.{Notes, NotesConfiguration, NotesSegments, GrewKnown}
 use Rattle.sip_record.proofs.Noting.{SegmentBegins as SegmentTextBegins}
-use Rattle.sip_segments.specs.declared.stop.SegmentStop.{SegmentStop}
-use Rattle.sip_segments.specs.declared.stop.SegmentStop.TheVariants as stops
-use Rattle.sip_segments.specs.Stated.{States, StatesNone}
-use Rattle.sip_segments.specs.Stops.{NextIs, SegmentStops, StatesOther}
+use Rattle.sip_segment_config.specs.declared.stop.SegmentStop.{SegmentStop}
+use Rattle.sip_segment_config.specs.declared.stop.SegmentStop.TheVariants as stops
+use Rattle.sip_config.specs.Stated.{States, StatesNone}
+use Rattle.sip_segment_config.specs.Last.{EndsCut, IsDamagedPart}
+use Rattle.sip_segment_config.specs.Stops.{NextIs}
+use Rattle.sip_segments.specs.Stops.{SegmentStops, StatesOther}
 use Rattle.sip_segments.specs.Takes.{TakesConfiguration}
 use Rattle.sip_resume.specs.Outputs.{Outputs, outputs_of}
 use Rattle.sip_resume.specs.Resumes.{EndsHere}
 use Rattle.sip_resume.specs.RecordErrors.{end_of, record_error_of}
-use Rattle.sip_resume.specs.Whole.{EndsWhole, IsDamagedWhole, RecordStops}
+use Rattle.sip_resume.specs.Whole.{RecordStops}
 use Rattle.sip_resume.specs.Parts.{EventsStop, NextStops, ReachesEnd, ReachesNext, SegmentsStop, TakesEvents, TakesSegments, UnbegunStops}
 use Rattle.sip_resume.specs.declared.error.ResumeError.{ResumeError}
 use Rattle.sip_resume.specs.declared.error.ResumeError.TheVariants as events
 use Rattle.sip_resume.specs.declared.record_error.RecordError.{RecordError}
 use Rattle.sip_resume.specs.declared.record_error.RecordError.TheVariants as errors
 use Rattle.sip_resume.proofs.Eventwise.{if_kept, noted_at, numbers_add}
-use Rattle.sip_resume.proofs.Refused.{next_bytes, nothing_shown}
+use Rattle.sip_resume.proofs.Refused.{next_bytes, stays}
 use Rattle.sip_resume.proofs.UnderRuns.{runs_none, runs_one}
 
 -- ---- where no configuration is taken
 
-empty_of : (a b : Option (List ℕ)) → Keeps a b → IsAtEnd b → IfSome a EndsWhole
+empty_of : (a b : Option (List ℕ)) → Keeps a b → IsAtEnd b → IfSome a EndsCut
 empty_of None b k e = tt
 empty_of (Some xs) None k e = absurd k
-empty_of (Some xs) (Some ys) k e = inl (inl (sym k ∙ e))
+empty_of (Some xs) (Some ys) k e = inl (sym k ∙ e)
 
-over_ends : {X : Type 0} (found : Option X) (old new : Reading) (before after : Option (List ℕ)) → IfNone found (IsOver old new before after) → IfNone found (IfSome (pending old before) EndsWhole)
+over_ends : {X : Type 0} (found : Option X) (old new : Reading) (before after : Option (List ℕ)) → IfNone found (IsOver old new before after) → IfNone found (IfSome (pending old before) EndsCut)
 over_ends None old new before after h = empty_of (pending old before) (pending new after) h.kept h.at_end
 over_ends (Some x) old new before after h = tt
 
-cut_ends : (rest : Option (List ℕ)) → IfSome rest IsCutConfiguration → IfSome rest EndsWhole
+cut_ends : (rest : Option (List ℕ)) → IfSome rest IsCutConfiguration → IfSome rest EndsCut
 cut_ends None h = tt
-cut_ends (Some rest) h = inr h
+cut_ends (Some rest) h = inr (inr h)
 
 -- the record ends there
-pub ends_so : (server : Server) (longest : ℕ) (F : Type 0) (script : Option (List ℕ)) (lines : ℕ) (stop : SegmentStop) (u : Unit {0}) → SegmentStops server longest F script lines stop → Ok u ≡ end_of stop → IfSome script EndsWhole
+pub ends_so : (server : Server) (longest : ℕ) (F : Type 0) (script : Option (List ℕ)) (lines : ℕ) (stop : SegmentStop) (u : Unit {0}) → SegmentStops server longest F script lines stop → Ok u ≡ end_of stop → IfSome script EndsCut
 ends_so server longest F script lines stops.NoMemory u h e = absurd cc
 ends_so server longest F script lines (stops.Damaged line) u h e = absurd cc
 ends_so server longest F script lines (stops.Cut line) u h e = cut_ends script h.0
@@ -97,7 +99,7 @@ segments_nothing server state before lines outs = record {
   noted = noted_none outs.written;
 }
 
-reaches_over : (server : Server) (state : ProxyState) (known : Option (List ℕ)) (part rest : Reading) (after : Option (List ℕ)) (outs : Outputs) → IfSome known EndsWhole
+reaches_over : (server : Server) (state : ProxyState) (known : Option (List ℕ)) (part rest : Reading) (after : Option (List ℕ)) (outs : Outputs) → IfSome known EndsCut
     → ReachesNext server server state state known part rest after outs outs part.number None true
 reaches_over server state known part rest after outs ends = record {
   left_then = known;
@@ -110,23 +112,29 @@ reaches_over server state known part rest after outs ends = record {
 }
 
 pub reaches_end : (old new : Engine) (known : Option (List ℕ)) (part rest : Reading) (before after : Option (List ℕ)) (outs : Outputs) (lines : ℕ) (last : Option StepOut) (is_over : Bool) → Keeps known (pending part before) → new ≡ old
-    → IfSome (pending part before) EndsWhole → lines ≡ part.number → last ≡ None → is_over ≡ true → ReachesNext old.server new.server old.state new.state known part rest after outs outs lines last is_over
+    → IfSome (pending part before) EndsCut → lines ≡ part.number → last ≡ None → is_over ≡ true → ReachesNext old.server new.server old.state new.state known part rest after outs outs lines last is_over
 reaches_end old new known part rest before after outs lines last is_over kept same ends number none over =
     subst (λ (e : Engine). ReachesNext old.server e.server old.state e.state known part rest after outs outs lines last is_over) (sym same)
     (subst (λ (n : ℕ). ReachesNext old.server old.server old.state old.state known part rest after outs outs n last is_over) (sym number)
     (subst (λ (out : Option StepOut). ReachesNext old.server old.server old.state old.state known part rest after outs outs part.number out is_over) (sym none)
     (subst (λ (b : Bool). ReachesNext old.server old.server old.state old.state known part rest after outs outs part.number None b) (sym over)
-    (reaches_over old.server old.state known part rest after outs (if_kept EndsWhole known (pending part before) kept ends)))))
+    (reaches_over old.server old.state known part rest after outs (if_kept EndsCut known (pending part before) kept ends)))))
+
+-- where events end, no configuration was cut off
+pub events_end : (rest : Option (List ℕ)) → IfSome rest EndsHere → IfSome rest EndsCut
+events_end None h = tt
+events_end (Some rest) (inl none) = inl none
+events_end (Some rest) (inr cut) = inr (inl cut)
 
 -- ---- why none begins
 
-both_none : (rest : Option (List ℕ)) → IfSome rest IsDamagedRecord → IfSome rest IsDamagedConfiguration → IfSome rest IsDamagedWhole
+both_none : (rest : Option (List ℕ)) → IfSome rest IsDamagedRecord → IfSome rest IsDamagedConfiguration → IfSome rest IsDamagedPart
 both_none None h k = tt
 both_none (Some rest) h k = record { no_event = h; no_configuration = k }
 
 unbegun_stops : (server : Server) (state : ProxyState) (longest : ℕ) (F : Type 0) (rest : Option (List ℕ)) (lines : ℕ) (outs : Outputs) (e : RecordError) → IfSome rest IsDamagedRecord → UnbegunStops server longest F rest lines e
     → RecordStops server server state state longest F rest lines outs outs e
-unbegun_stops server state longest F rest lines outs errors.NoMemory none h = (refl, inl (nothing_shown server state outs))
+unbegun_stops server state longest F rest lines outs errors.NoMemory none h = (refl, inl (stays state outs))
 unbegun_stops server state longest F rest lines outs (errors.Damaged line) none h = record { in_force = refl; state = refl; shown = refl; why = both_none rest none h.0; at = h.1 }
 unbegun_stops server state longest F rest lines outs errors.Read none h = (refl, refl, h, refl)
 unbegun_stops server state longest F rest lines outs errors.Step none h = absurd h
@@ -231,10 +239,6 @@ reaches_next said noted old mid then_server new known part half rest before midd
   where
     less_behind : (a b c : ℕ) → a ≤ b → b < c → a < c
     less_behind a b c h k = omega (arith, h, k)
-
-    events_end : (rest : Option (List ℕ)) → IfSome rest EndsHere → IfSome rest EndsWhole
-    events_end None h = tt
-    events_end (Some rest) h = inl h
 
 -- ---- why no more of it is taken
 

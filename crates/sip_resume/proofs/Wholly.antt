@@ -15,19 +15,20 @@ use Rattle.model_bounds.specs.model.Periods.{Period}
 use Rattle.model_bounds.proofs.SendingLists.{all_joined}
 use Rattle.sip_replay_script.specs.Lines.{Reading, is_end, pending}
 use Rattle.sip_replay_script.specs.Recorded.{IsDamagedRecord}
+use Rattle.sip_segment_config.specs.Last.{EndsCut}
 use Rattle.sip_segment_text.specs.Segments.{Segment, SaysSegments, SaysWhole}
 use Rattle.sip_record.specs.Record.{NotesSegments}
 use Rattle.sip_resume.specs.Outputs.{Outputs, Shows}
-use Rattle.sip_resume.specs.Resumes.{EndsHere, newest_step}
+use Rattle.sip_resume.specs.Resumes.{newest_step}
 use Rattle.sip_resume.specs.RecordErrors.{record_error_of}
-use Rattle.sip_resume.specs.Whole.{AreStated, EndsWhole, KeepsFrame, IsRecordResumed, IsRecordUnresumed, NotesWhole, RecordStops, RunsUnder, config_behind}
+use Rattle.sip_resume.specs.Whole.{AreStated, KeepsFrame, IsRecordResumed, IsRecordUnresumed, NotesWhole, RecordStops, RunsUnder, config_behind}
 use Rattle.sip_resume.specs.Parts.{EventsStop, ReachesEnd, ReachesNext, SegmentsStop, TakesEvents, TakesSegments, newest_of}
 use Rattle.sip_resume.specs.declared.error.ResumeError.{ResumeError}
 use Rattle.sip_resume.specs.declared.record_error.RecordError.{RecordError}
 use Rattle.sip_resume.proofs.Eventwise.{noted_at, numbers_add}
 use Rattle.sip_resume.proofs.Retaken.{left_of}
 use Rattle.sip_resume.proofs.Running.{shown_both}
-use Rattle.sip_resume.proofs.Segmentwise.{event_stops, noted_none}
+use Rattle.sip_resume.proofs.Segmentwise.{event_stops, events_end, noted_none}
 use Rattle.sip_resume.proofs.UnderRuns.{config_both, frames_of, newest_is, runs_back, runs_both, runs_one, stated_both}
 
 abbrev pub SegmentTextsJoin : Type 0
@@ -58,7 +59,7 @@ pub record TakesRecord (server server_then : Server) (old new : ProxyState) (bef
 pub record RecordSoFar (old new : Engine) (part rest : Reading) (before after : Option (List ℕ)) (outs outs_then : Outputs) (lines : ℕ) (last : Option StepOut) (is_over : Bool) : Type 0 where
   pub left_then : Option (List ℕ)
   pub takes : TakesRecord old.server new.server old.state new.state (pending part before) left_then part.number lines outs outs_then last
-  pub over : is_over ≡ true → IfSome left_then EndsWhole
+  pub over : is_over ≡ true → IfSome left_then EndsCut
   pub kept : is_over ≡ false → Keeps left_then (pending rest after)
   pub no_event : is_over ≡ false → IfSome left_then IsDamagedRecord
   pub number : is_over ≡ false → rest.number ≡ lines
@@ -168,10 +169,7 @@ front_reached old new part rest before after outs outs_then lines last is_over s
   kept = h.kept;
   no_event = h.no_event;
   number = h.number;
-} where
-  events_end : (rest : Option (List ℕ)) → IfSome rest EndsHere → IfSome rest EndsWhole
-  events_end None h = tt
-  events_end (Some rest) h = inl h
+}
 
 -- of what stands in the loop
 pub further_reached : SegmentTextsJoin → NotedJoin → (old mid new : Engine) (part half rest : Reading) (before middle after : Option (List ℕ)) (outs told whole : Outputs) (lines_mid lines lines_then : ℕ) (newest further last : Option StepOut)
@@ -193,8 +191,8 @@ further_reached join noted old mid new part half rest before middle after outs t
 
 -- ---- the end
 
-ends_of : (rest : Option (List ℕ)) → IfSome rest EndsWhole → EndsWhole (left_of rest)
-ends_of None h = inl (inl refl)
+ends_of : (rest : Option (List ℕ)) → IfSome rest EndsCut → EndsCut (left_of rest)
+ends_of None h = inl refl
 ends_of (Some rest) h = h
 
 whole_of : (before rest : Option (List ℕ)) (text : List ℕ) → Consumes before rest text → IfSome before (λ bytes. bytes ≡ text ++ left_of rest)
@@ -203,7 +201,7 @@ whole_of (Some xs) None text h = absurd h
 whole_of (Some xs) (Some ys) text h = h
 
 pub record_resumed : (server server_then : Server) (old new : ProxyState) (before rest : Option (List ℕ)) (lines lines_then : ℕ) (outs outs_then : Outputs) (last : Option StepOut)
-    → TakesRecord server server_then old new before rest lines lines_then outs outs_then last → IfSome rest EndsWhole → IsRecordResumed server server_then old new before lines outs outs_then lines_then last
+    → TakesRecord server server_then old new before rest lines lines_then outs outs_then last → IfSome rest EndsCut → IsRecordResumed server server_then old new before lines outs outs_then lines_then last
 record_resumed server server_then old new before rest lines lines_then outs outs_then last h ends = record {
   text = h.text;
   further = left_of rest;

@@ -7,16 +7,7 @@ use Rattle.sip_replay_script.specs.declared.print_stop.PrintStop.TheVariants as 
 use Rattle.sip_replay_script.specs.declared.read_stop.ReadStop.{ReadStop}
 use Rattle.sip_replay_script.specs.declared.read_stop.ReadStop.TheVariants as stops
 use Rattle.sip_resume.specs.declared.error.ResumeError.{ResumeError}
-use Rattle.sip_resume.specs.declared.error.ResumeError.TheVariants.{NoMemory, Damaged, Read, Step, Journal, Write}
-
--- this project's profile
-abbrev pub number_of_error : ResumeError → ℕ
-number_of_error NoMemory = 1
-number_of_error (Damaged line) = 2
-number_of_error Read = 3
-number_of_error Step = 4
-number_of_error Journal = 5
-number_of_error Write = 6
+use Rattle.sip_resume.specs.declared.error.ResumeError.TheVariants.{NoMemory, Damaged, Read, Step, Write}
 
 -- what a refused step is to it
 abbrev pub error_of_step : StepError → ResumeError

@@ -13,11 +13,13 @@ use Rattle.sip_replay_script.specs.Recorded.{SaysRecord, IsDamagedRecord}
 use Rattle.sip_segment_text.specs.Segments.{SaysSegments, Segment}
 use Rattle.sip_segment_text.specs.Configurations.{IsDamagedConfiguration, IsLongConfiguration}
 use Rattle.sip_record.specs.Record.{Notes, NotesSegments}
-use Rattle.sip_segments.specs.Stated.{StatesNone}
-use Rattle.sip_segments.specs.Stops.{NextIs, StatesOther}
+use Rattle.sip_config.specs.Stated.{StatesNone}
+use Rattle.sip_segment_config.specs.Last.{EndsCut}
+use Rattle.sip_segment_config.specs.Stops.{NextIs}
+use Rattle.sip_segments.specs.Stops.{StatesOther}
 use Rattle.sip_resume.specs.Outputs.{Outputs, Shows}
 use Rattle.sip_resume.specs.Resumes.{EndsHere, JournalAt, ResumeStops, Runs, TakesNext, newest_step}
-use Rattle.sip_resume.specs.Whole.{AreStated, EndsWhole, KeepsFrame, RecordStops, RunsUnder, config_behind}
+use Rattle.sip_resume.specs.Whole.{AreStated, KeepsFrame, RecordStops, RunsUnder, config_behind}
 use Rattle.sip_resume.specs.declared.error.ResumeError.{ResumeError}
 use Rattle.sip_resume.specs.declared.error.ResumeError.TheVariants as errors
 use Rattle.sip_resume.specs.declared.record_error.RecordError.{RecordError}
@@ -133,7 +135,7 @@ pub record ReachesNext (server server_then : Server) (old new : ProxyState) (bef
     (outs outs_then : Outputs) (lines : ℕ) (last : Option StepOut) (is_over : Bool) : Type 0 where
   pub left_then : Option (List ℕ)
   pub takes : TakesSegments server server_then old new before left_then part.number lines outs outs_then last
-  pub over : is_over ≡ true → IfSome left_then EndsWhole
+  pub over : is_over ≡ true → IfSome left_then EndsCut
   pub kept : is_over ≡ false → Keeps left_then (pending rest after)
   pub no_event : is_over ≡ false → IfSome left_then IsDamagedRecord
   pub number : is_over ≡ false → rest.number ≡ lines

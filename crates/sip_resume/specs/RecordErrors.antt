@@ -1,23 +1,11 @@
 -- Why a server isn't brought to where a record with its configurations leads.
-use Rattle.std.specs.Prelude.{ℕ, Result, Ok, Err}
-use Rattle.sip_segments.specs.declared.stop.SegmentStop.{SegmentStop}
-use Rattle.sip_segments.specs.declared.stop.SegmentStop.TheVariants as stops
+use Rattle.std.specs.Prelude.{Result, Ok, Err}
+use Rattle.sip_segment_config.specs.declared.stop.SegmentStop.{SegmentStop}
+use Rattle.sip_segment_config.specs.declared.stop.SegmentStop.TheVariants as stops
 use Rattle.sip_resume.specs.declared.error.ResumeError.{ResumeError}
 use Rattle.sip_resume.specs.declared.error.ResumeError.TheVariants as events
 use Rattle.sip_resume.specs.declared.record_error.RecordError.{RecordError}
 use Rattle.sip_resume.specs.declared.record_error.RecordError.TheVariants.{NoMemory, Damaged, Read, Step, Journal, TooLong, NoConfiguration, OtherFrame, Write}
-
--- this project's profile
-abbrev pub number_of_error : RecordError → ℕ
-number_of_error NoMemory = 1
-number_of_error (Damaged line) = 2
-number_of_error Read = 3
-number_of_error Step = 4
-number_of_error Journal = 5
-number_of_error (TooLong line) = 6
-number_of_error (NoConfiguration line e) = 7
-number_of_error (OtherFrame line key) = 8
-number_of_error Write = 9
 
 -- where events are refused
 abbrev pub record_error_of : ResumeError → RecordError

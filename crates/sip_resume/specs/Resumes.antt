@@ -64,10 +64,11 @@ pub record RunsPart (server : Server) (old new : ProxyState) (events : List Even
   pub runs : Runs server old new events until
   pub front : ShowsFront shown shown_then runs.steps
 
--- time passed, and no event was taken
-pub record PassesTime (server : Server) (old new : ProxyState) (outs outs_then : Outputs) : Type 0 where
-  pub until : Option ℕ
-  pub part : RunsPart server old new [] until outs.shown outs_then.shown
+-- an event comes next, time passed up to its moment at most, and it wasn't taken
+pub record PassesTime (server : Server) (old new : ProxyState) (rest : Option (List ℕ)) (outs outs_then : Outputs) : Type 0 where
+  pub event : Event
+  pub next : IsNext rest event
+  pub part : RunsPart server old new [] (Some (event_moment event)) outs.shown outs_then.shown
 
 -- the event that comes next was taken, and its steps weren't all shown
 pub record TakesUnshown (server : Server) (old new : ProxyState) (rest : Option (List ℕ)) (outs outs_then : Outputs) : Type 0 where
@@ -75,9 +76,18 @@ pub record TakesUnshown (server : Server) (old new : ProxyState) (rest : Option 
   pub next : IsNext rest event
   pub part : RunsPart server old new (event ∷ []) None outs.shown outs_then.shown
 
--- it stopped as time passed, or where the steps of the event that comes next were shown
+-- it stopped as time passed up to the event that comes next, or where the steps of that event were shown
 abbrev pub StopsAmong : Server → ProxyState → ProxyState → Option (List ℕ) → Outputs → Outputs → Type 0
-StopsAmong server old new rest outs outs_then = PassesTime server old new outs outs_then ⊎ TakesUnshown server old new rest outs outs_then
+StopsAmong server old new rest outs outs_then = PassesTime server old new rest outs outs_then ⊎ TakesUnshown server old new rest outs outs_then
+
+-- it is as it was, and nothing was shown
+pub record StaysAsItWas (old new : ProxyState) (outs outs_then : Outputs) : Type 0 where
+  pub state : new ≡ old
+  pub shown : outs_then.shown ≡ outs.shown
+
+-- memory ran out: before any event was read that comes next, or for that event
+abbrev pub RunsOut : Server → ProxyState → ProxyState → Option (List ℕ) → Outputs → Outputs → Type 0
+RunsOut server old new rest outs outs_then = StaysAsItWas old new outs outs_then ⊎ StopsAmong server old new rest outs outs_then
 
 -- An event comes next, time passed up to its moment, and the server refuses its step then. A moment that is too large for what is due
 -- is so for the event, too.
@@ -97,11 +107,11 @@ pub record TakesUntold (server : Server) (old new : ProxyState) (rest : Option (
   pub failed : outs_then.written ≡ None
 
 -- Why an event isn't taken of what is still to come of a record, behind so many lines, and where the server stands then: memory ran
--- out, wherever it was, or what steps are shown to stopped; or it is as it was, since what is left is damaged from the next line on (it
--- begins with no text that says an event as a record does, and is no front of one), or the reader stopped; or the server refuses the step;
--- or the journal failed behind it.
+-- out, before an event was read or at it, or what steps are shown to stopped; or it is as it was, since what is left is damaged from the next
+-- line on (it begins with no text that says an event as a record does, and is no front of one), or the reader stopped; or the server refuses
+-- the step; or the journal failed behind it.
 abbrev pub ResumeStops : Server → ProxyState → ProxyState → Type 0 → Option (List ℕ) → ℕ → Outputs → Outputs → ResumeError → Type 0
-ResumeStops server old new spent rest lines outs outs_then NoMemory = StopsAmong server old new rest outs outs_then
+ResumeStops server old new spent rest lines outs outs_then NoMemory = RunsOut server old new rest outs outs_then
 ResumeStops server old new spent rest lines outs outs_then (Damaged line) =
     (new ≡ old) × IfSome rest IsDamagedRecord × (line ≡ lines + 1) × (outs_then.shown ≡ outs.shown)
 ResumeStops server old new spent rest lines outs outs_then Read = (new ≡ old) × spent × (outs_then.shown ≡ outs.shown)

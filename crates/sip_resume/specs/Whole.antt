@@ -13,14 +13,15 @@ use Rattle.model_bounds.specs.model.Access.{Access}
 use Rattle.model_bounds.specs.Bounds.{IsBounded}
 use Rattle.model_ties.specs.Ties.{ArePrompt}
 use Rattle.sip_replay_script.specs.Lines.{is_end}
-use Rattle.sip_replay_script.specs.Recorded.{IsDamagedRecord}
 use Rattle.sip_segment_text.specs.Segments.{SaysWhole, Segment}
-use Rattle.sip_segment_text.specs.Configurations.{IsCutConfiguration, IsDamagedConfiguration, IsLongConfiguration}
+use Rattle.sip_segment_text.specs.Configurations.{IsLongConfiguration}
 use Rattle.sip_record.specs.Record.{Notes, NotesSegments}
-use Rattle.sip_segments.specs.Stated.{States, StatesNone}
-use Rattle.sip_segments.specs.Stops.{NextIs, StatesOther}
+use Rattle.sip_config.specs.Stated.{States, StatesNone}
+use Rattle.sip_segment_config.specs.Last.{EndsCut, IsDamagedPart}
+use Rattle.sip_segment_config.specs.Stops.{NextIs}
+use Rattle.sip_segments.specs.Stops.{StatesOther}
 use Rattle.sip_resume.specs.Outputs.{Outputs, Shows}
-use Rattle.sip_resume.specs.Resumes.{EndsHere, RefusesNext, StopsAmong, TakesUntold, newest_step}
+use Rattle.sip_resume.specs.Resumes.{RefusesNext, RunsOut, StopsAmong, TakesUntold, newest_step}
 use Rattle.sip_resume.specs.declared.record_error.RecordError.{RecordError}
 use Rattle.sip_resume.specs.declared.record_error.RecordError.TheVariants.{NoMemory, Damaged, Read, Step, Journal, TooLong, NoConfiguration, OtherFrame, Write}
 
@@ -74,10 +75,6 @@ pub record NotesWhole (written written_then : Option (Option (List ℕ))) (event
 
 -- ---- a record that is taken whole
 
--- a record ends here: nothing is left, or the front of what says one event or one configuration, of which the rest was cut off
-abbrev pub EndsWhole : List ℕ → Type 0
-EndsWhole rest = EndsHere rest ⊎ IsCutConfiguration rest
-
 -- What is to come of a record, where it is known, is a text that says events and segments, and behind it nothing, or the front of what says one
 -- more event or configuration. The server took them in their order: the state is where a run under these configurations leads, and the last
 -- of them is in force; exactly what is printed of the steps was shown, the journal was told the events and segments, and so many lines were
@@ -90,7 +87,7 @@ pub record IsRecordResumed (server server_then : Server) (old new : ProxyState) 
   pub segments : List Segment
   pub whole : IfSome record_bytes (λ bytes. bytes ≡ text ++ further)
   pub says : SaysWhole events segments text
-  pub ends : EndsWhole further
+  pub ends : EndsCut further
   pub takes : TakesWhole server server_then old new events segments
   pub shown : Shows outs.shown outs_then.shown takes.runs.steps
   pub noted : NotesWhole outs.written outs_then.written events segments
@@ -116,19 +113,14 @@ pub record IsUntaken (server server_then : Server) (old new : ProxyState) (Why :
   pub why : Why
   pub at : line ≡ lines + 1
 
--- what is left begins with no text that says an event or a configuration, and is no front of one
-pub record IsDamagedWhole (rest : List ℕ) : Type 0 where
-  pub no_event : IsDamagedRecord rest
-  pub no_configuration : IsDamagedConfiguration rest
-
 -- Why nothing more is taken of what is still to come of a record, behind so many lines, by a server under the configuration in force, and how it
--- stands then: memory ran out, wherever it was, or what steps are shown to stopped; or it is as it was, since what is left is damaged, the reader stopped, or the
--- configuration that comes next is too long, none, or another server's; or it refuses the step of the event that comes next; or the journal
--- failed behind an event or a configuration.
+-- stands then: memory ran out, before an event was read or at it, or what steps are shown to stopped; or it is as it was, since what is left is
+-- damaged, the reader stopped, or the configuration that comes next is too long, none, or another server's; or it refuses the step of the event
+-- that comes next; or the journal failed behind an event or a configuration.
 abbrev pub RecordStops : Server → Server → ProxyState → ProxyState → ℕ → Type 0 → Option (List ℕ) → ℕ → Outputs → Outputs → RecordError → Type 0
-RecordStops server server_then old new longest spent rest lines outs outs_then NoMemory = (server_then ≡ server) × StopsAmong server old new rest outs outs_then
+RecordStops server server_then old new longest spent rest lines outs outs_then NoMemory = (server_then ≡ server) × RunsOut server old new rest outs outs_then
 RecordStops server server_then old new longest spent rest lines outs outs_then (Damaged line) =
-    IsUntaken server server_then old new (IfSome rest IsDamagedWhole) lines line outs outs_then
+    IsUntaken server server_then old new (IfSome rest IsDamagedPart) lines line outs outs_then
 RecordStops server server_then old new longest spent rest lines outs outs_then Read =
     (server_then ≡ server) × (new ≡ old) × spent × (outs_then.shown ≡ outs.shown)
 RecordStops server server_then old new longest spent rest lines outs outs_then Step = (server_then ≡ server) × RefusesNext server old new rest outs outs_then

@@ -1,16 +1,14 @@
 ghost use Rattle.std.specs.Prelude.{◌≡◌};
-ghost use Rattle.sip_resume.specs.Errors.{error_of_print, error_of_step, number_of_error};
+ghost use Rattle.sip_resume.specs.Errors.{error_of_print, error_of_step};
 ghost use Rattle.sip_resume.specs.declared.error.ResumeError.TheVariants.{NoMemory, Journal};
 
 use sip_record::JournalFault;
 use sip_replay_script::PrintStop;
 use sip_run::engine::StepError;
 use std::alloc::{AllocError, AllocFailed};
-use std::error::Error;
-use std::fmt;
 
 /// Why a server wasn't brought to where a record leads.
-#[derive(Clone, Copy, Debug, PartialEq, Eq)]
+#[derive(Clone, Copy)]
 pub enum ResumeError {
     /// Memory ran out.
     NoMemory,
@@ -26,37 +24,6 @@ pub enum ResumeError {
     /// What the steps are shown to gave up.
     Write,
 }
-
-impl ResumeError {
-    /// The number of this refusal.
-    pub fn number(&self) -> u8
-        ensures { result ≡ number_of_error self.now }
-    {
-        match self {
-            ResumeError::NoMemory => 1,
-            ResumeError::Damaged(_) => 2,
-            ResumeError::Read => 3,
-            ResumeError::Step => 4,
-            ResumeError::Journal => 5,
-            ResumeError::Write => 6,
-        }
-    }
-}
-
-impl fmt::Display for ResumeError {
-    fn fmt<W: fmt::Write>(&self, f: &mut fmt::Formatter<W>) -> fmt::Result {
-        match self {
-            ResumeError::NoMemory => write!(f, "out of memory"),
-            ResumeError::Damaged(line) => write!(f, "line {line} begins no event"),
-            ResumeError::Read => write!(f, "the record could not be read"),
-            ResumeError::Step => write!(f, "moments or numbers are worn out"),
-            ResumeError::Journal => write!(f, "the journal failed"),
-            ResumeError::Write => write!(f, "the steps could not be written"),
-        }
-    }
-}
-
-impl Error for ResumeError {}
 
 impl From<AllocError> for ResumeError {
     ghost from_gives = { λ _ e. e ≡ NoMemory };

@@ -21,11 +21,10 @@ mod resuming;
 mod segments;
 mod whole;
 
-pub use error::ResumeError;
 pub use record_error::RecordError;
 pub use whole::{Resumed, resume_record};
 
 /// Of `sip_engine`.
 pub mod engine {
-    pub use sip_run::engine::Engine;
+    pub use sip_run::engine::{ChangeError, Engine};
 }

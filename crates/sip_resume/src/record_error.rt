@@ -1,5 +1,5 @@
 ghost use Rattle.std.specs.Prelude.{◌≡◌};
-ghost use Rattle.sip_resume.specs.RecordErrors.{number_of_error, record_error_of};
+ghost use Rattle.sip_resume.specs.RecordErrors.{record_error_of};
 ghost use Rattle.sip_resume.specs.declared.record_error.RecordError.TheVariants.{Journal};
 
 use crate::error::ResumeError;
@@ -30,25 +30,6 @@ pub enum RecordError {
     OtherFrame(u64, FrameKey),
     /// What the steps are shown to gave up.
     Write,
-}
-
-impl RecordError {
-    /// The number of this refusal.
-    pub fn number(&self) -> u8
-        ensures { result ≡ number_of_error self.now }
-    {
-        match self {
-            RecordError::NoMemory => 1,
-            RecordError::Damaged(_) => 2,
-            RecordError::Read => 3,
-            RecordError::Step => 4,
-            RecordError::Journal => 5,
-            RecordError::TooLong(_) => 6,
-            RecordError::NoConfiguration(..) => 7,
-            RecordError::OtherFrame(..) => 8,
-            RecordError::Write => 9,
-        }
-    }
 }
 
 impl fmt::Display for RecordError {

@@ -3,10 +3,10 @@ ghost use Rattle.std.specs.Io.KnownBytes.{Keeps};
 ghost use Rattle.sip_replay_script.specs.Devices.{later};
 ghost use Rattle.sip_replay_script.specs.Lines.{pending, IsSpent};
 ghost use Rattle.sip_replay_script.specs.Recorded.{IsDamagedRecord};
+ghost use Rattle.sip_segment_config.specs.Last.{EndsCut};
 ghost use Rattle.sip_segments.specs.Takes.{TakesConfiguration};
 ghost use Rattle.sip_resume.specs.Outputs.{outputs_of};
 ghost use Rattle.sip_resume.specs.RecordErrors;
-ghost use Rattle.sip_resume.specs.Whole.{EndsWhole};
 ghost use Rattle.sip_resume.specs.Parts.{ReachesNext, SegmentsStop, UnbegunStops};
 ghost use Rattle.sip_resume.specs.declared.record_error.RecordError.TheVariants as Refusal;
 
@@ -19,8 +19,9 @@ use sip_record::laws::noted_segments_join;
 use sip_replay_print::StepSink;
 use sip_replay_script::{Lines, TellingReader};
 use sip_run::engine::Engine;
+use sip_segment_config::SegmentStop;
 use sip_segment_text::laws::segments_join;
-use sip_segments::{SegmentStop, take_configuration};
+use sip_segments::take_configuration;
 use sip_text::Buffer;
 use sip_timers::Timers;
 use std::alloc::Global;
@@ -50,7 +51,7 @@ fn begin_segment<T: Timers, R: Rules, I: TellingReader>(
 ) -> Result<Option<Buffer>, RecordError>
     ensures taken { IfOk result (λ found. IfSome found (λ text. TakesConfiguration engine.old engine.new lines.old lines.new
         (I.remaining reader.old) (I.remaining reader.new) text)) }
-    ensures over { IfOk result (λ found. IfNone found (IfSome (pending lines.old (I.remaining reader.old)) EndsWhole)) }
+    ensures over { IfOk result (λ found. IfNone found (IfSome (pending lines.old (I.remaining reader.old)) EndsCut)) }
     ensures waits { IfOk result (λ found. IfNone found (engine.new ≡ engine.old)) }
     ensures refused { IfErr result (UnbegunStops engine.old.server longest (IsSpent (I.has_failed reader.new) lines.new.asks)
         (pending lines.old (I.remaining reader.old)) lines.old.number) }

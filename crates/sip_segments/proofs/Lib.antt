@@ -1,2 +1,1 @@
-pub mod SoFar
 pub mod Stopping

@@ -1,4 +1,2 @@
-pub mod Last
-pub mod Stated
 pub mod Stops
 pub mod Takes

@@ -5,7 +5,7 @@ use Rattle.sip_engine.specs.Engine.{Engine}
 use Rattle.sip_engine.specs.model.Run.{under}
 use Rattle.sip_replay_script.specs.Lines.{Reading}
 use Rattle.sip_segment_text.specs.Configurations.{GivesConfiguration}
-use Rattle.sip_segments.specs.Stated.{States}
+use Rattle.sip_config.specs.Stated.{States}
 
 -- it is under another configuration, to others the same server, and nothing else of it has changed
 pub record ChangesTo (old new : Engine) (config : Config) : Type 0 where
@@ -24,8 +24,3 @@ pub record Changes (old new : Engine) (text : List ℕ) : Type 0 where
 pub record TakesConfiguration (old new : Engine) (part rest : Reading) (before after : Option (List ℕ)) (text : List ℕ) : Type 0 where
   pub gives : GivesConfiguration part rest before after text
   pub taken : Changes old new text
-
--- the next text of the record says these bytes, and they state that configuration
-pub record GivesStated (part rest : Reading) (before after : Option (List ℕ)) (text : List ℕ) (config : Config) : Type 0 where
-  pub gives : GivesConfiguration part rest before after text
-  pub states : States text config

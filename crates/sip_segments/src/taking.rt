@@ -4,12 +4,11 @@ ghost use Rattle.sip_replay_script.specs.Lines.{pending, IsOver, IsSpent};
 ghost use Rattle.sip_segments.specs.Stops.{ChangeStops, SegmentStops};
 ghost use Rattle.sip_segments.specs.Takes.{ChangesTo, TakesConfiguration};
 
-use crate::reading::{Held, read_configuration};
-use crate::stop::SegmentStop;
 use sip_config_types::Config;
 use sip_engine::{ChangeError, Engine};
 use sip_policy::Rules;
 use sip_replay_script::{Lines, TellingReader};
+use sip_segment_config::{Held, SegmentStop, read_configuration};
 use sip_text::Buffer;
 use sip_timers::Timers;
 use std::alloc::Global;

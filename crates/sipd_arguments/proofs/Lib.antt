@@ -1,4 +1,4 @@
 pub mod Faults
 pub mod Found
 pub mod Building
-pub mod Naming
+pub mod Ending

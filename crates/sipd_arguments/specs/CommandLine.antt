@@ -1,9 +1,9 @@
 -- The command line: the commands that the program knows, with their options, and what each asks for (this project's profile).
-use Rattle.std.specs.Prelude.{◌≡◌, ⊤, ℕ, pos, ◌^◌, Bool, true, false, ◌&&◌, not, nat_lt, if◌then◌else◌, List, [], ◌∷◌, codes, Option, Some, None, IfSome, unwrap_or, option_map, option_and_then, is_some, slice_get, string_bytes, Result, Ok, Err}
+use Rattle.std.specs.Prelude.{◌≡◌, ◌⊎◌, ⊤, ℕ, pos, ◌^◌, Bool, true, false, ◌&&◌, ◌||◌, not, nat_lt, if◌then◌else◌, List, [], ◌∷◌, ◌++◌, codes, Option, Some, None, find, unwrap_or, option_map, option_and_then, is_some, string_bytes, Result, Ok, Err}
+use Rattle.std.specs.List.{list_any}
 use Rattle.std.specs.Str.{bytes_eq}
 use Rattle.std.specs.Str.Parse.{digits_value, without_leading_plus}
 use Rattle.std.specs.Option.{option_map_or}
-use Rattle.std.specs.Borrow.{Bor}
 use Rattle.clap.specs.Words.{App, Row, Rule, Shape, Text, new_app, new_rule, first_of, one_of, subcommand_of}
 use Rattle.clap.specs.Faults.{fault_of}
 use Rattle.clap.specs.Kinds.{IsAmong, Kinds}
@@ -29,6 +29,8 @@ use Rattle.sipd_arguments.specs.declared.commands.Parsed.{Parsed}
 use Rattle.sipd_arguments.specs.declared.commands.Parsed.TheVariants as parsed
 use Rattle.sipd_arguments.specs.declared.exit.Exit.{Exit}
 use Rattle.sipd_arguments.specs.declared.exit.Exit.TheVariants.{Usage, Memory}
+use Rattle.sipd_arguments.specs.declared.misuse.Misuse.{Misuse}
+use Rattle.sipd_arguments.specs.declared.misuse.Misuse.TheVariants.{NoCommand, TwoRecords, NoNewRecord, NoRecord, NoSuchWord, NoRealm, Sha256Said}
 
 -- ---- the options of each command
 
@@ -48,17 +50,9 @@ word name place = record (new_rule name) { index = Some place; value_names = 1; 
 abbrev pub needed : Rule → Rule
 needed r = record r { required = true }
 
--- it is there with another one alone, or without it alone
-abbrev pub tied : Rule → Rule
-tied r = record r { is_free = false }
-
 -- its value is a number, from one to another
 abbrev pub number_from : ℕ → ℕ → Rule → Rule
 number_from low high r = record r { parser = Some (parsers.Signed (pos low) (pos high)) }
-
--- its value is one of these words
-abbrev pub among : Bor (List (Bor Text)) → Rule → Rule
-among words r = record r { parser = Some (parsers.Names words) }
 
 abbrev pub command : Text → List Rule → Shape
 command name rules = record (new_app name).top { rules = rules }
@@ -69,15 +63,14 @@ check_command = command (codes "check") (needed (option (codes "config")) ∷ fl
 abbrev pub replay_command : Shape
 replay_command = command (codes "replay") (option (codes "config") ∷ option (codes "record") ∷ [])
 
--- the words are those of `--record-fault`
-abbrev pub serve_command : Bor (List (Bor Text)) → Shape
-serve_command words = command (codes "serve")
+abbrev pub serve_command : Shape
+serve_command = command (codes "serve")
     (needed (option (codes "config"))
     ∷ number_from 0 4294967295 (option (codes "turns"))
     ∷ option (codes "record")
-    ∷ tied (option (codes "records"))
-    ∷ among words (option (codes "record-fault"))
-    ∷ tied (option (codes "resume"))
+    ∷ option (codes "records")
+    ∷ option (codes "record-fault")
+    ∷ option (codes "resume")
     ∷ number_from 1 1000000 (option (codes "per-source"))
     ∷ flag (codes "reload")
     ∷ [])
@@ -104,46 +97,30 @@ abbrev pub user_command : Shape
 user_command = command (codes "user")
     (word (codes "NAME") 1
     ∷ option (codes "config")
-    ∷ tied (option (codes "realm"))
-    ∷ tied (flag (codes "sha256"))
+    ∷ option (codes "realm")
+    ∷ flag (codes "sha256")
     ∷ [])
 
 -- the program without its commands: one has to be there
 abbrev pub no_commands : App
 no_commands = record (new_app (codes "sipd")) { top = record (new_app (codes "sipd")).top { has_version = true; subcommand_required = true } }
 
--- the program with commands
-abbrev pub with_commands : List Shape → App
-with_commands commands = record { top = record no_commands.top { is_leaf = false }; subs = commands }
-
 -- the program
-abbrev pub program : Bor (List (Bor Text)) → App
-program words = with_commands
-    (check_command ∷ replay_command ∷ serve_command words ∷ decide_command ∷ report_command ∷ user_command ∷ [])
-
--- the program with one command alone
-abbrev pub alone : Shape → App
-alone only = with_commands (only ∷ [])
-
--- the command of a name, of those none of whose options is tied to another
-abbrev pub free_command : Text → Option Shape
-free_command name =
-    if bytes_eq name (codes "check") then Some check_command else (if bytes_eq name (codes "replay") then Some replay_command
-    else (if bytes_eq name (codes "decide") then Some decide_command else (if bytes_eq name (codes "report") then Some report_command else None)))
-
--- the one of these that a command line names, behind the program's own name
-abbrev pub free_command_in : List Text → Option Shape
-free_command_in words = option_and_then free_command (slice_get words 1)
-
--- what a command line is read by: that one alone, or else all
-abbrev pub app_for : Bor (List (Bor Text)) → List Text → App
-app_for faults words = option_map_or alone (free_command_in words) (program faults)
+abbrev pub program : App
+program = record {
+  top = record no_commands.top { is_leaf = false };
+  subs = check_command ∷ replay_command ∷ serve_command ∷ decide_command ∷ report_command ∷ user_command ∷ [];
+}
 
 -- ---- what is said of an option
 
 -- its text; none where it isn't there
 abbrev pub text_at : Text → List Row → Option Text
 text_at = first_of
+
+-- whether it is there, with a text
+abbrev pub is_there : Text → List Row → Bool
+is_there name rows = is_some (text_at name rows)
 
 -- the text of one that has to be there
 abbrev pub needed_text : Text → List Row → Text
@@ -159,7 +136,7 @@ number_in bits text =
 abbrev pub number_at : ℕ → Text → List Row → Option ℕ
 number_at bits name rows = option_and_then (number_in bits) (one_of name rows)
 
--- whether it is there
+-- whether it is there, without a text
 abbrev pub is_on : Text → List Row → Bool
 is_on name rows = option_map_or (λ text. bytes_eq text (codes "true")) (one_of name rows) false
 
@@ -184,23 +161,19 @@ IsPlace None (Some file) resume (Some (File path old)) = (string_bytes path ≡ 
 IsPlace None (Some file) resume place = ⊥
 IsPlace None None resume place = place ≡ None
 
--- whether it ends where its record can't be written
-abbrev pub ends : List Row → Bool
-ends rows = option_map_or (λ text. bytes_eq text (codes "end")) (first_of (codes "record-fault") rows) false
+-- what becomes of the server where its record can't be written: it goes on, if nothing is said
+abbrev pub fault_named : Text → Option RecordFault
+fault_named word = if bytes_eq word (codes "go-on") then Some GoOn else (if bytes_eq word (codes "end") then Some End else None)
 
-abbrev pub fault_said : List Row → RecordFault
-fault_said rows = if ends rows then End else GoOn
-
--- whether a word on the record stands where there is none
-abbrev pub lacks_record : List Row → Bool
-lacks_record rows = is_some (text_at (codes "record-fault") rows) && not (is_some (text_at (codes "record") rows)) && not (is_some (text_at (codes "records") rows))
+abbrev pub fault_said : List Row → Option RecordFault
+fault_said rows = option_map_or fault_named (text_at (codes "record-fault") rows) (Some GoOn)
 
 -- `serve`
 pub record IsServe (rows : List Row) (call : ServeCall) : Type 0 where
   pub config : string_bytes call.config ≡ needed_text (codes "config") rows
   pub turns : call.turns ≡ number_at 32 (codes "turns") rows
   pub place : IsPlace (text_at (codes "records") rows) (text_at (codes "record") rows) (text_at (codes "resume") rows) call.«record»
-  pub fault : call.record_fault ≡ fault_said rows
+  pub fault : fault_said rows ≡ Some call.record_fault
   pub per_source : call.per_source ≡ number_at 32 (codes "per-source") rows
   pub reload : call.reload ≡ is_on (codes "reload") rows
 
@@ -227,11 +200,11 @@ pub record IsUser (rows : List Row) (call : UserCall) : Type 0 where
   pub realm : option_map string_bytes call.realm ≡ text_at (codes "realm") rows
   pub sha256 : call.sha256 ≡ is_on (codes "sha256") rows
 
--- what a command with its options asks for; a word on the record stands beside a record
+-- what a command with its options asks for
 abbrev pub IsCall : Text → List Row → Call → Type 0
 IsCall name rows (calls.Check call) = (name ≡ codes "check") × IsCheck rows call
 IsCall name rows (calls.Replay call) = (name ≡ codes "replay") × IsReplay rows call
-IsCall name rows (calls.Serve call) = (name ≡ codes "serve") × IsServe rows call × (lacks_record rows ≡ false)
+IsCall name rows (calls.Serve call) = (name ≡ codes "serve") × IsServe rows call
 IsCall name rows (calls.Decide call) = (name ≡ codes "decide") × IsDecide rows call
 IsCall name rows (calls.Report call) = (name ≡ codes "report") × IsReport rows call
 IsCall name rows (calls.User call) = (name ≡ codes "user") × IsUser rows call
@@ -240,6 +213,60 @@ IsCall name rows (calls.User call) = (name ≡ codes "user") × IsUser rows call
 abbrev pub IsCallOf : Option (Text × List Row) → Call → Type 0
 IsCallOf None call = ⊥
 IsCallOf (Some named) call = IsCall named.0 named.1 call
+
+-- ---- what doesn't stand together
+
+-- the first of some cases that holds
+abbrev pub first_case : List (Bool × Misuse) → Option Misuse
+first_case cases = option_map (λ c. c.1) (find (λ c. c.0) cases)
+
+abbrev pub serve_misuse : List Row → Option Misuse
+serve_misuse rows =
+    let file = is_there (codes "record") rows in
+    let folder = is_there (codes "records") rows in
+    first_case
+    ((file && folder, TwoRecords)
+    ∷ (is_there (codes "resume") rows && not file, NoNewRecord)
+    ∷ (is_there (codes "record-fault") rows && not (file || folder), NoRecord)
+    ∷ (not (is_some (fault_said rows)), NoSuchWord)
+    ∷ [])
+
+abbrev pub user_misuse : List Row → Option Misuse
+user_misuse rows =
+    let config = is_there (codes "config") rows in
+    first_case
+    ((not (config || is_there (codes "realm") rows), NoRealm)
+    ∷ (config && is_on (codes "sha256") rows, Sha256Said)
+    ∷ [])
+
+-- the commands whose options all stand together
+abbrev pub is_free : Text → Bool
+is_free name = list_any (bytes_eq name) (codes "check" ∷ codes "replay" ∷ codes "decide" ∷ codes "report" ∷ [])
+
+abbrev pub misuse_in : Text → List Row → Option Misuse
+misuse_in name rows =
+    if bytes_eq name (codes "serve") then serve_misuse rows else (if bytes_eq name (codes "user") then user_misuse rows
+    else (if is_free name then None else Some NoCommand))
+
+-- why the command that a line names is no call with its options
+abbrev pub misuse_of : Option (Text × List Row) → Option Misuse
+misuse_of None = Some NoCommand
+misuse_of (Some named) = misuse_in named.0 named.1
+
+abbrev pub line_of : Misuse → Text
+line_of NoCommand = codes "error: no command"
+line_of TwoRecords = codes "error: '--record <FILE>' and '--records <FOLDER>' don't stand together"
+line_of NoNewRecord = codes "error: '--resume <OLD>' is for a new record: '--record <FILE>'"
+line_of NoRecord = codes "error: '--record-fault <WORD>' is for a record: '--record <FILE>' or '--records <FOLDER>'"
+line_of NoSuchWord = codes "error: '--record-fault <WORD>' is 'go-on' or 'end'"
+line_of NoRealm = codes "error: no realm: '--realm <R>', or '--config <FILE>' that states it"
+line_of Sha256Said = codes "error: '--sha256' isn't for '--config <FILE>', whose users say whether"
+
+-- what is complained about
+abbrev pub complaint_of : Misuse → Text
+complaint_of why = line_of why ++ codes "\n\nFor more information, try '--help'.\n"
+
+-- ---- how a command line ends
 
 -- whether a kind of error is an answer to who asks for help or the version
 abbrev pub asks_text : ErrorKind → Bool
@@ -253,20 +280,16 @@ pub record HasFault (asks : Bool) (kinds : Kinds) : Type 0 where
   pub among : IsAmong kind kinds
   pub is_so : asks_text kind ≡ asks
 
--- How a line ends in which these are the first faults: it is a call exactly where there is none; what is asked for help or the version is
--- a text, and all else is complained about. Memory may run out.
-abbrev pub EndsBy : Kinds → Result Parsed Exit → Type 0
-EndsBy kinds (Ok (parsed.Call call)) = kinds ≡ []
-EndsBy kinds (Ok (parsed.Text text)) = HasFault true kinds
-EndsBy kinds (Err (Usage text)) = HasFault false kinds
-EndsBy kinds (Err Memory) = ⊤
-EndsBy kinds (Err exit) = ⊥
+-- How a line ends that has these first faults, and names this command. Without a fault it is the call that the command and its options ask
+-- for, or it is complained about what doesn't stand together. Where help or the version is asked for it is a text, and any other fault is
+-- complained about. Memory may run out.
+abbrev pub EndsBy : Kinds → Option (Text × List Row) → Result Parsed Exit → Type 0
+EndsBy kinds named (Ok (parsed.Call call)) = (kinds ≡ []) × (misuse_of named ≡ None) × IsCallOf named call
+EndsBy kinds named (Ok (parsed.Text text)) = HasFault true kinds
+EndsBy kinds named (Err (Usage text)) = HasFault false kinds ⊎ ((kinds ≡ []) × (option_map complaint_of (misuse_of named) ≡ Some (string_bytes text)))
+EndsBy kinds named (Err Memory) = ⊤
+EndsBy kinds named (Err exit) = ⊥
 
--- a line that names a command none of whose options is tied to another ends by the first faults of it (`fault_of` of clap)
+-- each line ends by the faults that clap's table finds in it, and by the command with its options that it names (`fault_of`, `subcommand_of` of clap)
 abbrev pub EndsExactly : List Text → Result Parsed Exit → Type 0
-EndsExactly words result = IfSome (free_command_in words) (λ only. EndsBy (fault_of (alone only) words) result)
-
--- what the words of a command line ask for: a call, by the program's commands and options, or a text
-abbrev pub Asks : List Text → Parsed → Type 0
-Asks words (parsed.Text text) = ⊤
-Asks words (parsed.Call call) = (faults : Bor (List (Bor Text))) × IsCallOf (subcommand_of (program faults) words) call
+EndsExactly words = EndsBy (fault_of program words) (subcommand_of program words)

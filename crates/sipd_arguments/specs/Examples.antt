@@ -1,26 +1,79 @@
--- Lines, and the first faults of them.
-use Rattle.std.specs.Prelude.{◌≡◌, List, [], ◌∷◌, codes, Option, Some, None, option_map}
+-- Lines, the first faults of them, and what doesn't stand together.
+use Rattle.std.specs.Prelude.{◌≡◌, ℕ, Bool, true, false, List, [], ◌∷◌, codes, Option, Some, None, option_map}
 use Rattle.clap.specs.Faults.{fault_of}
 use Rattle.clap.specs.Kinds.{Kinds}
-use Rattle.clap.specs.Words.{Text}
+use Rattle.clap.specs.Words.{Row, Text, subcommand_of}
 use Rattle.clap.specs.declared.error.kind.ErrorKind.TheVariants as kinds
-use Rattle.sipd_arguments.specs.CommandLine.{alone, free_command_in}
+use Rattle.sipd_arguments.specs.CommandLine.{fault_said, is_on, misuse_of, number_at, program, text_at}
+use Rattle.sipd_arguments.specs.declared.call.RecordFault.{RecordFault}
+use Rattle.sipd_arguments.specs.declared.call.RecordFault.TheVariants.{GoOn, End}
+use Rattle.sipd_arguments.specs.declared.misuse.Misuse.{Misuse}
+use Rattle.sipd_arguments.specs.declared.misuse.Misuse.TheVariants.{TwoRecords, NoNewRecord, NoRecord, NoSuchWord, NoRealm, Sha256Said}
 
--- the first faults of a line that names a command none of whose options is tied to another
-abbrev pub faults_in : List Text → Option Kinds
-faults_in words = option_map (λ only. fault_of (alone only) words) (free_command_in words)
+-- words behind the program's own name
+abbrev pub line : List Text → List Text
+line words = codes "sipd" ∷ words
+
+abbrev pub serving : List Text → List Text
+serving words = line (codes "serve" ∷ codes "--config" ∷ codes "a.toml" ∷ words)
+
+abbrev pub deciding : Text → List Text
+deciding minute = line (codes "decide" ∷ codes "--config" ∷ codes "a.toml" ∷ codes "--minute" ∷ minute ∷ codes "INVITE" ∷ codes "a@b" ∷ [])
+
+abbrev pub faults_in : List Text → Kinds
+faults_in = fault_of program
+
+abbrev pub misuse_in_line : List Text → Option Misuse
+misuse_in_line words = misuse_of (subcommand_of program words)
 
 -- what is taken, and what isn't
 pub record AreLines : Type 0 where
-  pub check : faults_in (codes "sipd" ∷ codes "check" ∷ codes "--config" ∷ codes "a.toml" ∷ codes "--show" ∷ []) ≡ Some []
-  pub joined : faults_in (codes "sipd" ∷ codes "replay" ∷ codes "--config=a.toml" ∷ []) ≡ Some []
-  pub decide : faults_in (codes "sipd" ∷ codes "decide" ∷ codes "INVITE" ∷ codes "--config" ∷ codes "a.toml" ∷ codes "a@b" ∷ []) ≡ Some []
-  pub no_option : faults_in (codes "sipd" ∷ codes "report" ∷ []) ≡ Some []
-  pub nothing_named : faults_in (codes "sipd" ∷ codes "check" ∷ []) ≡ Some (kinds.MissingRequiredArgument ∷ [])
-  pub no_value : faults_in (codes "sipd" ∷ codes "check" ∷ codes "--config" ∷ []) ≡ Some (kinds.InvalidValue ∷ [])
-  pub twice : faults_in (codes "sipd" ∷ codes "report" ∷ codes "--csv" ∷ codes "--csv" ∷ []) ≡ Some (kinds.ArgumentConflict ∷ [])
-  pub unknown : faults_in (codes "sipd" ∷ codes "report" ∷ codes "--rules" ∷ codes "7" ∷ []) ≡ Some (kinds.UnknownArgument ∷ [])
-  pub no_number : faults_in (codes "sipd" ∷ codes "report" ∷ codes "--rule" ∷ codes "x" ∷ []) ≡ Some (kinds.ValueValidation ∷ [])
-  pub one_word_more : faults_in (codes "sipd" ∷ codes "replay" ∷ codes "x" ∷ []) ≡ Some (kinds.UnknownArgument ∷ [])
-  pub help : faults_in (codes "sipd" ∷ codes "check" ∷ codes "--help" ∷ []) ≡ Some (kinds.DisplayHelp ∷ [])
-  pub tied : faults_in (codes "sipd" ∷ codes "serve" ∷ codes "--config" ∷ codes "a.toml" ∷ []) ≡ None
+  pub check : faults_in (line (codes "check" ∷ codes "--config" ∷ codes "a.toml" ∷ codes "--show" ∷ [])) ≡ []
+  pub joined : faults_in (line (codes "replay" ∷ codes "--config=a.toml" ∷ [])) ≡ []
+  pub serve : faults_in (serving (codes "--turns" ∷ codes "3" ∷ codes "--record" ∷ codes "day" ∷ [])) ≡ []
+  pub decide : faults_in (line (codes "decide" ∷ codes "INVITE" ∷ codes "--config" ∷ codes "a.toml" ∷ codes "a@b" ∷ [])) ≡ []
+  pub no_option : faults_in (line (codes "report" ∷ [])) ≡ []
+  pub user : faults_in (line (codes "user" ∷ codes "carol" ∷ codes "--realm" ∷ codes "office" ∷ codes "--sha256" ∷ [])) ≡ []
+  pub no_command : faults_in (line []) ≡ kinds.MissingSubcommand ∷ []
+  pub other_command : faults_in (line (codes "serv" ∷ [])) ≡ kinds.UnknownArgument ∷ kinds.InvalidSubcommand ∷ []
+  pub nothing_named : faults_in (line (codes "serve" ∷ [])) ≡ kinds.MissingRequiredArgument ∷ []
+  pub nobody : faults_in (line (codes "user" ∷ codes "--realm" ∷ codes "office" ∷ [])) ≡ kinds.MissingRequiredArgument ∷ []
+  pub no_value : faults_in (line (codes "check" ∷ codes "--config" ∷ [])) ≡ kinds.InvalidValue ∷ []
+  pub twice : faults_in (line (codes "report" ∷ codes "--csv" ∷ codes "--csv" ∷ [])) ≡ kinds.ArgumentConflict ∷ []
+  pub unknown : faults_in (line (codes "report" ∷ codes "--rules" ∷ codes "7" ∷ [])) ≡ kinds.UnknownArgument ∷ []
+  pub no_number : faults_in (serving (codes "--turns" ∷ codes "x" ∷ [])) ≡ kinds.ValueValidation ∷ []
+  pub too_few : faults_in (serving (codes "--per-source" ∷ codes "0" ∷ [])) ≡ kinds.ValueValidation ∷ []
+  pub most : faults_in (serving (codes "--per-source" ∷ codes "1000000" ∷ [])) ≡ []
+  pub too_many : faults_in (serving (codes "--per-source" ∷ codes "1000001" ∷ [])) ≡ kinds.ValueValidation ∷ []
+  pub last_minute : faults_in (deciding (codes "1439")) ≡ []
+  pub no_minute : faults_in (deciding (codes "1440")) ≡ kinds.ValueValidation ∷ []
+  pub one_word_more : faults_in (line (codes "replay" ∷ codes "x" ∷ [])) ≡ kinds.UnknownArgument ∷ []
+  pub help : faults_in (line (codes "check" ∷ codes "--help" ∷ [])) ≡ kinds.DisplayHelp ∷ []
+  pub version : faults_in (line (codes "--version" ∷ [])) ≡ kinds.DisplayVersion ∷ []
+
+-- what stands together, and what doesn't
+pub record AreMisuses : Type 0 where
+  pub plain : misuse_in_line (serving []) ≡ None
+  pub resumed : misuse_in_line (serving (codes "--record" ∷ codes "b" ∷ codes "--resume" ∷ codes "a" ∷ [])) ≡ None
+  pub in_folder : misuse_in_line (serving (codes "--records" ∷ codes "days" ∷ codes "--record-fault" ∷ codes "go-on" ∷ [])) ≡ None
+  pub two : misuse_in_line (serving (codes "--record" ∷ codes "b" ∷ codes "--records" ∷ codes "days" ∷ [])) ≡ Some TwoRecords
+  pub not_new : misuse_in_line (serving (codes "--records" ∷ codes "days" ∷ codes "--resume" ∷ codes "a" ∷ [])) ≡ Some NoNewRecord
+  pub no_record : misuse_in_line (serving (codes "--record-fault" ∷ codes "end" ∷ [])) ≡ Some NoRecord
+  pub no_such_word : misuse_in_line (serving (codes "--record" ∷ codes "b" ∷ codes "--record-fault" ∷ codes "stop" ∷ [])) ≡ Some NoSuchWord
+  pub with_file : misuse_in_line (line (codes "user" ∷ codes "carol" ∷ codes "--config" ∷ codes "a.toml" ∷ [])) ≡ None
+  pub no_realm : misuse_in_line (line (codes "user" ∷ codes "carol" ∷ [])) ≡ Some NoRealm
+  pub said : misuse_in_line (line (codes "user" ∷ codes "carol" ∷ codes "--config" ∷ codes "a.toml" ∷ codes "--sha256" ∷ [])) ≡ Some Sha256Said
+
+-- what is said of an option of the command that a line names
+abbrev pub of_line : {X : Type 0} → (List Row → X) → List Text → Option X
+of_line of words = option_map (λ named. of named.1) (subcommand_of program words)
+
+-- what is said where an option is there, and where it isn't
+pub record AreSaid : Type 0 where
+  pub turns : of_line (number_at 32 (codes "turns")) (serving (codes "--turns" ∷ codes "3" ∷ [])) ≡ Some (Some 3)
+  pub no_turns : of_line (number_at 32 (codes "turns")) (serving []) ≡ Some None
+  pub file : of_line (text_at (codes "config")) (serving []) ≡ Some (Some (codes "a.toml"))
+  pub reload : of_line (is_on (codes "reload")) (serving (codes "--reload" ∷ [])) ≡ Some true
+  pub no_reload : of_line (is_on (codes "reload")) (serving []) ≡ Some false
+  pub ends : of_line fault_said (serving (codes "--record-fault" ∷ codes "end" ∷ [])) ≡ Some (Some End)
+  pub goes_on : of_line fault_said (serving []) ≡ Some (Some GoOn)

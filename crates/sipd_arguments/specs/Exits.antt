@@ -7,7 +7,7 @@ use Rattle.sip_config.specs.declared.error.ConfigError.TheVariants as configurat
 use Rattle.sipd_arguments.specs.declared.device_fault.DeviceFault.{DeviceFault}
 use Rattle.sipd_arguments.specs.declared.device_fault.DeviceFault.TheVariants.{PortTaken, NoSuchAddress, NoFile, NoRightToRead, DiskFull, OutputClosed, Other}
 use Rattle.sipd_arguments.specs.declared.exit.Exit.{Exit}
-use Rattle.sipd_arguments.specs.declared.exit.Exit.TheVariants.{Usage, Configuration, Script, Device, Memory, Stack, Question, NoRecord, OtherConfiguration, NoConfiguration, OtherFrame, NewRecord, Recording}
+use Rattle.sipd_arguments.specs.declared.exit.Exit.TheVariants.{Usage, Configuration, Script, Device, Memory, Stack, Question, NoRecord, OtherConfiguration, BareRecord, OtherFrame, NewRecord, Recording}
 
 -- exit statuses (this project's profile)
 abbrev pub status_of : Exit → ℕ
@@ -20,7 +20,7 @@ status_of (Stack bytes needed) = 5
 status_of (Question text) = 1
 status_of NoRecord = 3
 status_of OtherConfiguration = 3
-status_of NoConfiguration = 3
+status_of BareRecord = 3
 status_of OtherFrame = 3
 status_of NewRecord = 4
 status_of Recording = 4

@@ -1,28 +1,19 @@
-ghost use Rattle.std.specs.Prelude.{◌≡◌, List, false, map, codes, IfOk, IfErr, string_bytes};
-ghost use Rattle.std.specs.Borrow.{Bor};
-ghost use Rattle.clap.specs.Words.{Text, app_of, kind_of, rule_of};
+ghost use Rattle.std.specs.Prelude.{◌≡◌, false, map, codes, IfOk, string_bytes};
+ghost use Rattle.clap.specs.Words.{app_of, kind_of, rule_of};
 ghost use Rattle.sipd_arguments.specs.CommandLine as Definitions;
-ghost use Rattle.sipd_arguments.specs.CommandLine.{Asks, EndsExactly, no_commands};
-ghost use Rattle.sipd_arguments.specs.Commands.{Answers, IsCommand, IsComplaint, IsMade};
-ghost use Rattle.sipd_arguments.specs.declared.exit.Exit.TheVariants.{Memory};
-ghost use Rattle.sipd_arguments.specs.declared.matches.Uncalled.TheVariants.{NoMemory};
+ghost use Rattle.sipd_arguments.specs.CommandLine.{EndsExactly, no_commands};
+ghost use Rattle.sipd_arguments.specs.Commands.{Answers, IsCommand};
 
 use crate::call::Call;
 use crate::exit::Exit;
 use crate::matches::{Uncalled, call_of};
+use crate::misuse::Misuse;
 use clap::error::ErrorKind;
 use clap::{Arg, ArgAction, Command, value_parser};
 use std::alloc::{AllocError, Global};
 
-/// The words of `--record-fault`.
-const RECORD_FAULTS: &[&str] = &["go-on", "end"];
-
-/// What is said of that option where no record is made.
-const NO_RECORD: &str =
-    "error: '--record-fault <WORD>' is for a record: '--record <FILE>' or '--records <FOLDER>'\n\nFor more information, try '--help'.\n";
-
-/// What is said of a line that names no command. The parse says so itself.
-const NO_COMMAND: &str = "error: no command\n\nFor more information, try '--help'.\n";
+/// What is said behind a complaint of this crate's own.
+const MORE: &str = "\n\nFor more information, try '--help'.\n";
 
 /// What a command line says.
 #[derive(Drop)]
@@ -126,32 +117,31 @@ fn record_argument<'a>(alloc: Global) -> Arg<'a>
     option(alloc, "record", "FILE", help)
 }
 
-/// `--records FOLDER`, which is never beside `--record`.
-fn records_argument<'a>(alloc: Global) -> Result<Arg<'a>, AllocError>
-    ensures { IfOk result (λ arg. (rule_of arg ≡ Definitions.tied (Definitions.option (codes "records"))) × (arg.global ≡ false)) }
+/// `--records FOLDER`.
+fn records_argument<'a>(alloc: Global) -> Arg<'a>
+    ensures rule { rule_of result ≡ Definitions.option (codes "records") }
+    ensures local { result.global ≡ false }
 {
     let help = "Record it in a new file of this folder, and go on from the newest record there";
-    option(alloc, "records", "FOLDER", help).conflicts_with("record")
+    option(alloc, "records", "FOLDER", help)
 }
 
-/// `--record-fault WORD`. That a record is made is looked at behind the parse (`lacks_record`): a group of these options would
-/// keep the parse from saying what it found.
+/// `--record-fault WORD`.
 fn record_fault_argument<'a>(alloc: Global) -> Arg<'a>
-    ensures rule { (words : Bor (List (Bor Text))) × (rule_of result ≡ Definitions.among words (Definitions.option (codes "record-fault"))) }
+    ensures rule { rule_of result ≡ Definitions.option (codes "record-fault") }
     ensures local { result.global ≡ false }
 {
     let help = "What to do where it can't be written: go-on without it, or end";
-    option(alloc, "record-fault", "WORD", help).value_parser(RECORD_FAULTS)
+    option(alloc, "record-fault", "WORD", help)
 }
 
 /// `--resume OLD`.
-fn resume_argument<'a>(alloc: Global) -> Result<Arg<'a>, AllocError>
-    ensures { IfOk result (λ arg. (rule_of arg ≡ Definitions.tied (Definitions.option (codes "resume"))) × (arg.global ≡ false)) }
+fn resume_argument<'a>(alloc: Global) -> Arg<'a>
+    ensures rule { rule_of result ≡ Definitions.option (codes "resume") }
+    ensures local { result.global ≡ false }
 {
-    let help = "Go on from where this record leads";
+    let help = "Go on from where this record leads, with --record";
     option(alloc, "resume", "OLD", help)
-        .requires_arg("record")?
-        .conflicts_with("records")
 }
 
 /// `--per-source N`.
@@ -164,7 +154,7 @@ fn per_source_argument<'a>(alloc: Global) -> Arg<'a>
 }
 
 fn serve_command<'a>(alloc: Global) -> Result<Command<'a>, AllocError>
-    ensures { IfOk result (λ c. (words : Bor (List (Bor Text))) × IsCommand (Definitions.serve_command words) c) }
+    ensures { IfOk result (IsCommand Definitions.serve_command) }
 {
     let reload = "Take the configuration anew when its file changes";
     Command::new(alloc, "serve")
@@ -172,9 +162,9 @@ fn serve_command<'a>(alloc: Global) -> Result<Command<'a>, AllocError>
         .arg(config_argument(alloc).required(true))?
         .arg(turns_argument(alloc))?
         .arg(record_argument(alloc))?
-        .arg(records_argument(alloc)?)?
+        .arg(records_argument(alloc))?
         .arg(record_fault_argument(alloc))?
-        .arg(resume_argument(alloc)?)?
+        .arg(resume_argument(alloc))?
         .arg(per_source_argument(alloc))?
         .arg(flag(alloc, "reload", reload))
 }
@@ -223,19 +213,21 @@ fn report_command<'a>(alloc: Global) -> Result<Command<'a>, AllocError>
 }
 
 /// `--realm R`.
-fn realm_argument<'a>(alloc: Global) -> Result<Arg<'a>, AllocError>
-    ensures { IfOk result (λ arg. (rule_of arg ≡ Definitions.tied (Definitions.option (codes "realm"))) × (arg.global ≡ false)) }
+fn realm_argument<'a>(alloc: Global) -> Arg<'a>
+    ensures rule { rule_of result ≡ Definitions.option (codes "realm") }
+    ensures local { result.global ≡ false }
 {
     let help = "The realm of the configuration; needed without --config alone";
-    option(alloc, "realm", "R", help).required_unless_present("config")
+    option(alloc, "realm", "R", help)
 }
 
 /// `--sha256`.
-fn sha256_argument<'a>(alloc: Global) -> Result<Arg<'a>, AllocError>
-    ensures { IfOk result (λ arg. (rule_of arg ≡ Definitions.tied (Definitions.flag (codes "sha256"))) × (arg.global ≡ false)) }
+fn sha256_argument<'a>(alloc: Global) -> Arg<'a>
+    ensures rule { rule_of result ≡ Definitions.flag (codes "sha256") }
+    ensures local { result.global ≡ false }
 {
     let help = "The digest by SHA-256, too; with --config its users say whether";
-    flag(alloc, "sha256", help).conflicts_with("config")
+    flag(alloc, "sha256", help)
 }
 
 fn user_command<'a>(alloc: Global) -> Result<Command<'a>, AllocError>
@@ -245,8 +237,8 @@ fn user_command<'a>(alloc: Global) -> Result<Command<'a>, AllocError>
         .about("Makes a user's table, with the password from standard input")
         .arg(word(alloc, "NAME", 1, "The user"))?
         .arg(config_argument(alloc))?
-        .arg(realm_argument(alloc)?)?
-        .arg(sha256_argument(alloc)?)
+        .arg(realm_argument(alloc))?
+        .arg(sha256_argument(alloc))
 }
 
 /// The program without its commands.
@@ -259,9 +251,10 @@ fn program<'a>(alloc: Global) -> Command<'a>
         .subcommand_required(true)
 }
 
-/// The commands that the program knows.
+/// The commands that the program knows. None of their options is tied to another, and none has a list of words: of such commands alone the
+/// parse says of each line whether it takes it. What doesn't stand together is looked at behind it (`Misuse`).
 fn commands<'a>(alloc: Global) -> Result<Command<'a>, AllocError>
-    ensures { IfOk result (λ c. (words : Bor (List (Bor Text))) × (app_of c ≡ Definitions.program words)) }
+    ensures { IfOk result (λ c. app_of c ≡ Definitions.program) }
 {
     program(alloc)
         .subcommand(check_command(alloc)?)?
@@ -270,40 +263,6 @@ fn commands<'a>(alloc: Global) -> Result<Command<'a>, AllocError>
         .subcommand(decide_command(alloc)?)?
         .subcommand(report_command(alloc)?)?
         .subcommand(user_command(alloc)?)
-}
-
-/// The command of a name, if none of its options is tied to another.
-fn free_command<'a>(alloc: Global, name: &str) -> Result<Option<Command<'a>>, AllocError>
-    ensures { IfOk result (IsMade (Definitions.free_command name.now)) }
-{
-    Ok(match name {
-        "check" => Some(check_command(alloc)?),
-        "replay" => Some(replay_command(alloc)?),
-        "decide" => Some(decide_command(alloc)?),
-        "report" => Some(report_command(alloc)?),
-        _ => None,
-    })
-}
-
-/// The one of these commands that a line names.
-fn free_command_in<'a>(alloc: Global, words: &[String]) -> Result<Option<Command<'a>>, AllocError>
-    ensures { IfOk result (IsMade (Definitions.free_command_in (map string_bytes words.now))) }
-{
-    match words.get(1) {
-        Some(name) => free_command(alloc, name.as_str()),
-        None => Ok(None),
-    }
-}
-
-/// What a line is read by: the command without tied options that it names, alone, or else all. Where no option of a program is tied to
-/// another, the parse says of each line whether it takes it; and what it says to a line of one command doesn't depend on the others.
-fn commands_for<'a>(alloc: Global, words: &[String]) -> Result<Command<'a>, AllocError>
-    ensures { IfOk result (λ c. (faults : Bor (List (Bor Text))) × (app_of c ≡ Definitions.app_for faults (map string_bytes words.now))) }
-{
-    match free_command_in(alloc, words)? {
-        Some(command) => program(alloc).subcommand(command),
-        None => commands(alloc),
-    }
 }
 
 /// Why a command line isn't taken, or the text that it asks for.
@@ -318,42 +277,27 @@ fn answer_to(alloc: Global, e: &clap::Error) -> Result<Parsed, Exit>
     }
 }
 
-/// A complaint about a line.
-fn usage(alloc: Global, text: &str) -> Exit
-    ensures { IsComplaint result }
+/// What is complained about where a line is no call.
+fn complaint_of(alloc: Global, why: Misuse) -> Result<String, AllocError>
+    ensures { IfOk result (λ text. string_bytes text ≡ Definitions.complaint_of why) }
 {
-    match String::from_str(alloc, text) {
-        Ok(text) => Exit::Usage(text),
-        Err(_) => Exit::Memory,
-    }
+    let mut text = String::from_str(alloc, why.line())?;
+    text.push_str(MORE)?;
+    Ok(text)
 }
 
-/// What is complained about where what a line says is no call.
-fn complaint(alloc: Global, why: Uncalled) -> Exit
-    ensures complaint { IsComplaint result }
-    ensures memory { why ≡ NoMemory → result ≡ Memory }
-{
-    match why {
-        Uncalled::NoMemory => Exit::Memory,
-        Uncalled::NoRecord => usage(alloc, NO_RECORD),
-        Uncalled::NoCommand => usage(alloc, NO_COMMAND),
-    }
-}
-
-/// What the words say, the program's own name first: a call, by the commands and options that the program has
-/// (`specs/CommandLine`), or the text of help or of the version. Refusals: `Memory`; `Usage`, with a complaint. Which lines are taken of
-/// `check`, `replay`, `decide` and `report` is said exactly, for each of them.
+/// What the words say, the program's own name first, by the commands and options that the program has (`specs/CommandLine`): a call, or
+/// the text of help or of the version. Refusals: `Usage`, with a complaint; `Memory`. Of each line it is said exactly which of these it is.
 pub fn parse(alloc: Global, words: &[String]) -> Result<Parsed, Exit>
-    ensures asked { IfOk result (Asks (map string_bytes words.now)) }
-    ensures refused { IfErr result IsComplaint }
-    ensures exact { EndsExactly (map string_bytes words.now) result }
+    ensures { EndsExactly (map string_bytes words.now) result }
 {
-    let matches = match commands_for(alloc, words)?.try_get_matches_from(words) {
+    let matches = match commands(alloc)?.try_get_matches_from(words) {
         Ok(matches) => matches,
         Err(e) => return answer_to(alloc, &e),
     };
     match call_of(alloc, &matches) {
         Ok(call) => Ok(Parsed::Call(call)),
-        Err(why) => Err(complaint(alloc, why)),
+        Err(Uncalled::NoMemory) => Err(Exit::Memory),
+        Err(Uncalled::Misused(why)) => Err(Exit::Usage(complaint_of(alloc, why)?)),
     }
 }

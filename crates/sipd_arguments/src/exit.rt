@@ -28,8 +28,8 @@ pub enum Exit {
     NoRecord,
     /// A record was made with another configuration.
     OtherConfiguration,
-    /// A record doesn't hold its configuration, and no file is named that does.
-    NoConfiguration,
+    /// A record doesn't hold its configuration.
+    BareRecord,
     /// A server that runs can't take a configuration in the place of another.
     OtherFrame,
     /// The file of a new record can't be made.
@@ -49,7 +49,7 @@ impl Exit {
             Exit::Script(_)
             | Exit::NoRecord
             | Exit::OtherConfiguration
-            | Exit::NoConfiguration
+            | Exit::BareRecord
             | Exit::OtherFrame => 3,
             Exit::Device(_) | Exit::NewRecord | Exit::Recording => 4,
             Exit::Memory | Exit::Stack { .. } => 5,
@@ -75,10 +75,7 @@ impl fmt::Display for Exit {
             Exit::OtherConfiguration => {
                 write!(f, "sipd: the record was made with another configuration")
             }
-            Exit::NoConfiguration => write!(
-                f,
-                "sipd: the record doesn't hold its configuration: name it with --config"
-            ),
+            Exit::BareRecord => write!(f, "sipd: the record doesn't hold its configuration"),
             Exit::OtherFrame => write!(f, "sipd: a server that runs can't take it"),
             Exit::NewRecord => write!(
                 f,

@@ -1,18 +1,16 @@
 ghost use Rattle.std.specs.Prelude.{◌≡◌, ◌⊎◌, IfOk, IfErr, MatchResult};
 ghost use Rattle.sha2.specs.Sha256.{sha256};
-ghost use Rattle.sipd_arguments.specs.Files.{IsInForce, States, StatesNone};
+ghost use Rattle.sip_config.specs.Stated.{States};
+ghost use Rattle.sipd_arguments.specs.Files.{IsInForce, IsRefusedWith};
 ghost use Rattle.sipd_arguments.specs.declared.exit.Exit.TheVariants.{Memory};
 
 use crate::exit::Exit;
 use sha2::{Digest, Sha256};
-use sip_config::read_config;
+use sip_config::read_config_bytes;
 use sip_config_types::{Config, sample};
 use std::alloc::Global;
 use std::fs;
 use std::rt::Files;
-
-/// The number of a configuration that isn't TOML; a file that isn't UTF-8 has it, too.
-const BAD_TOML: u8 = 2;
 
 /// The file that states a configuration, and its SHA-256.
 #[derive(Drop)]
@@ -37,16 +35,12 @@ pub fn bytes_in<R: Files + AllocGlobal>(rt: &R, path: &str) -> Result<Vec<u8>, E
     Ok(fs::read(rt, path)?)
 }
 
-/// The configuration that the bytes of a file state: what `read_config` makes of them as UTF-8. A refusal has the number of the
-/// configuration's error, or is want of memory.
+/// The configuration that the bytes of a file state. A refusal has the number of the configuration's error, or is want of memory.
 pub fn config_of_bytes(alloc: Global, bytes: &[u8]) -> Result<Config, Exit>
     ensures stated { IfOk result (States bytes.now) }
-    ensures refused { IfErr result (λ exit. (exit ≡ Memory) ⊎ StatesNone bytes.now exit) }
+    ensures refused { IfErr result (λ exit. (exit ≡ Memory) ⊎ IsRefusedWith bytes.now exit) }
 {
-    match str::from_utf8(bytes) {
-        Ok(text) => Ok(read_config(alloc, text)?),
-        Err(_) => Err(Exit::Configuration(BAD_TOML)),
-    }
+    Ok(read_config_bytes(alloc, bytes)?)
 }
 
 /// A file that states a configuration, with the digest of the bytes that are handed out.

@@ -13,6 +13,7 @@ pub mod examples;
 mod exit;
 mod files;
 mod matches;
+mod misuse;
 mod printing;
 mod summary;
 

@@ -1,13 +1,14 @@
-ghost use Rattle.std.specs.Prelude.{◌≡◌, false, codes, IfErr, IfOk, is_some, option_map, string_bytes};
+ghost use Rattle.std.specs.Prelude.{◌≡◌, Some, None, codes, IfErr, IfOk, is_some, option_map, string_bytes};
 ghost use Rattle.clap.specs.Words.{found_of, rows_of, subcommand_rows_of};
 ghost use Rattle.sipd_arguments.specs.CommandLine as Definitions;
 ghost use Rattle.sipd_arguments.specs.CommandLine.{IsCall, IsCallOf, IsPlace};
-ghost use Rattle.sipd_arguments.specs.Commands.{IsUncalled, IsUncalledOf, IsUnserved};
+ghost use Rattle.sipd_arguments.specs.Commands.{IsWhy};
 
 use crate::call::{
     Call, CheckCall, DecideCall, RecordFault, RecordPlace, ReplayCall, ReportCall, ServeCall,
     UserCall,
 };
+use crate::misuse::Misuse;
 use clap::ArgMatches;
 use std::alloc::{AllocError, Global};
 
@@ -15,10 +16,7 @@ use std::alloc::{AllocError, Global};
 #[derive(Clone, Copy)]
 pub(crate) enum Uncalled {
     NoMemory,
-    /// A word on the record stands where there is none.
-    NoRecord,
-    /// No command is named.
-    NoCommand,
+    Misused(Misuse),
 }
 
 impl From<AllocError> for Uncalled {
@@ -28,6 +26,16 @@ impl From<AllocError> for Uncalled {
 
     fn from(_e: AllocError) -> Uncalled {
         Uncalled::NoMemory
+    }
+}
+
+impl From<Misuse> for Uncalled {
+    ghost use Rattle.sipd_arguments.specs.declared.matches.Uncalled.TheVariants.{Misused};
+
+    ghost from_gives = { λ misuse why. why ≡ Misused misuse };
+
+    fn from(misuse: Misuse) -> Uncalled {
+        Uncalled::Misused(misuse)
     }
 }
 
@@ -98,22 +106,24 @@ fn replay_call(alloc: Global, matches: &ArgMatches<'_>) -> Result<ReplayCall, Al
     })
 }
 
-/// What becomes of the server where its record can't be written.
+/// What becomes of the server where its record can't be written, if it is a word that is known.
 #[tactic(auto, using(crate::proofs::Found::text_found))]
-fn record_fault_of(matches: &ArgMatches<'_>) -> RecordFault
+fn fault_said(matches: &ArgMatches<'_>) -> Option<RecordFault>
     ensures { result ≡ Definitions.fault_said (rows_of (found_of matches.now)) }
 {
     let Some(text) = matches.get_str("record-fault") else {
-        return RecordFault::GoOn;
+        return Some(RecordFault::GoOn);
     };
-    if text == "end" {
-        RecordFault::End
-    } else {
-        RecordFault::GoOn
+    if text == "go-on" {
+        return Some(RecordFault::GoOn);
     }
+    if text == "end" {
+        return Some(RecordFault::End);
+    }
+    None
 }
 
-/// Where a server is to record; two places at once aren't taken.
+/// Where a server is to record.
 fn record_place(alloc: Global, matches: &ArgMatches<'_>) -> Result<Option<RecordPlace>, AllocError>
     ensures { IfOk result (IsPlace (Definitions.text_at (codes "records") (rows_of (found_of matches.now)))
         (Definitions.text_at (codes "record") (rows_of (found_of matches.now))) (Definitions.text_at (codes "resume") (rows_of (found_of matches.now)))) }
@@ -136,26 +146,36 @@ fn has(matches: &ArgMatches<'_>, name: &str) -> bool
     matches.get_str(name).is_some()
 }
 
-/// Whether a word on the record stands where there is none.
-fn lacks_record(matches: &ArgMatches<'_>) -> bool
-    ensures { result ≡ Definitions.lacks_record (rows_of (found_of matches.now)) }
+/// What becomes of the server where its record can't be written, where what is said of records stands together.
+fn record_fault(matches: &ArgMatches<'_>) -> Result<RecordFault, Misuse>
+    ensures fault { IfOk result (λ fault. (Definitions.fault_said (rows_of (found_of matches.now)) ≡ Some fault) × (Definitions.serve_misuse (rows_of (found_of matches.now)) ≡ None)) }
+    ensures misuse { IfErr result (λ why. Definitions.serve_misuse (rows_of (found_of matches.now)) ≡ Some why) }
 {
-    has(matches, "record-fault") && !has(matches, "record") && !has(matches, "records")
+    let file = has(matches, "record");
+    let folder = has(matches, "records");
+    if file && folder {
+        return Err(Misuse::TwoRecords);
+    }
+    if has(matches, "resume") && !file {
+        return Err(Misuse::NoNewRecord);
+    }
+    if has(matches, "record-fault") && !(file || folder) {
+        return Err(Misuse::NoRecord);
+    }
+    fault_said(matches).ok_or(Misuse::NoSuchWord)
 }
 
-/// How phones are served. A word on the record stands beside one alone: else `NoRecord` is the refusal.
+/// How phones are served.
 fn serve_call(alloc: Global, matches: &ArgMatches<'_>) -> Result<ServeCall, Uncalled>
-    ensures call { IfOk result (λ call. Definitions.IsServe (rows_of (found_of matches.now)) call × (Definitions.lacks_record (rows_of (found_of matches.now)) ≡ false)) }
-    ensures refused { IfErr result (IsUnserved (rows_of (found_of matches.now))) }
+    ensures call { IfOk result (λ call. Definitions.IsServe (rows_of (found_of matches.now)) call × (Definitions.serve_misuse (rows_of (found_of matches.now)) ≡ None)) }
+    ensures refused { IfErr result (IsWhy (Definitions.serve_misuse (rows_of (found_of matches.now)))) }
 {
-    if lacks_record(matches) {
-        return Err(Uncalled::NoRecord);
-    }
+    let record_fault = record_fault(matches)?;
     Ok(ServeCall {
         config: needed_text(alloc, matches, "config")?,
         turns: number_of(matches, "turns"),
         record: record_place(alloc, matches)?,
-        record_fault: record_fault_of(matches),
+        record_fault,
         per_source: number_of(matches, "per-source"),
         reload: is_on(matches, "reload"),
     })
@@ -185,9 +205,27 @@ fn report_call(alloc: Global, matches: &ArgMatches<'_>) -> Result<ReportCall, Al
     })
 }
 
-fn user_call(alloc: Global, matches: &ArgMatches<'_>) -> Result<UserCall, AllocError>
-    ensures { IfOk result (Definitions.IsUser (rows_of (found_of matches.now))) }
+/// Why these options of `user` don't stand together.
+fn user_misuse(matches: &ArgMatches<'_>) -> Option<Misuse>
+    ensures { result ≡ Definitions.user_misuse (rows_of (found_of matches.now)) }
 {
+    let config = has(matches, "config");
+    if !(config || has(matches, "realm")) {
+        return Some(Misuse::NoRealm);
+    }
+    if config && is_on(matches, "sha256") {
+        return Some(Misuse::Sha256Said);
+    }
+    None
+}
+
+fn user_call(alloc: Global, matches: &ArgMatches<'_>) -> Result<UserCall, Uncalled>
+    ensures call { IfOk result (λ call. Definitions.IsUser (rows_of (found_of matches.now)) call × (Definitions.user_misuse (rows_of (found_of matches.now)) ≡ None)) }
+    ensures refused { IfErr result (IsWhy (Definitions.user_misuse (rows_of (found_of matches.now)))) }
+{
+    if let Some(why) = user_misuse(matches) {
+        return Err(Uncalled::Misused(why));
+    }
     Ok(UserCall {
         name: needed_text(alloc, matches, "NAME")?,
         config: text_of(alloc, matches, "config")?,
@@ -198,8 +236,8 @@ fn user_call(alloc: Global, matches: &ArgMatches<'_>) -> Result<UserCall, AllocE
 
 /// What a command with its options asks for.
 fn call_named(alloc: Global, name: &str, matches: &ArgMatches<'_>) -> Result<Call, Uncalled>
-    ensures call { IfOk result (IsCall name.now (rows_of (found_of matches.now))) }
-    ensures refused { IfErr result (IsUncalled name.now (rows_of (found_of matches.now))) }
+    ensures call { IfOk result (λ call. IsCall name.now (rows_of (found_of matches.now)) call × (Definitions.misuse_in name.now (rows_of (found_of matches.now)) ≡ None)) }
+    ensures refused { IfErr result (IsWhy (Definitions.misuse_in name.now (rows_of (found_of matches.now)))) }
 {
     match name {
         "check" => Ok(Call::Check(check_call(alloc, matches)?)),
@@ -208,17 +246,17 @@ fn call_named(alloc: Global, name: &str, matches: &ArgMatches<'_>) -> Result<Cal
         "decide" => Ok(Call::Decide(decide_call(alloc, matches)?)),
         "report" => Ok(Call::Report(report_call(alloc, matches)?)),
         "user" => Ok(Call::User(user_call(alloc, matches)?)),
-        _ => Err(Uncalled::NoCommand),
+        _ => Err(Uncalled::Misused(Misuse::NoCommand)),
     }
 }
 
 /// What the command asks for that the words name.
 pub(crate) fn call_of(alloc: Global, matches: &ArgMatches<'_>) -> Result<Call, Uncalled>
-    ensures call { IfOk result (IsCallOf (subcommand_rows_of matches.now)) }
-    ensures refused { IfErr result (IsUncalledOf (subcommand_rows_of matches.now)) }
+    ensures call { IfOk result (λ call. IsCallOf (subcommand_rows_of matches.now) call × (Definitions.misuse_of (subcommand_rows_of matches.now) ≡ None)) }
+    ensures refused { IfErr result (IsWhy (Definitions.misuse_of (subcommand_rows_of matches.now))) }
 {
     match matches.subcommand() {
         Some((name, inner)) => call_named(alloc, name, inner),
-        None => Err(Uncalled::NoCommand),
+        None => Err(Uncalled::Misused(Misuse::NoCommand)),
     }
 }

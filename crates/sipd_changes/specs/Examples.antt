@@ -1,5 +1,5 @@
 -- What is told of changes of the sample configuration.
-use Rattle.std.specs.Prelude.{ℕ, pos, negsuc, List, [], ◌∷◌, ◌++◌, codes, Some}
+use Rattle.std.specs.Prelude.{ℕ, pos, negsuc, List, [], ◌∷◌, ◌++◌, codes, map, Some}
 use Rattle.sip_policy.specs.declared.rule.Rule.{Rule}
 use Rattle.sip_policy.specs.declared.rule_verdict.RuleVerdict.{RuleVerdict}
 use Rattle.sip_policy.specs.declared.user.User.{User}
@@ -11,10 +11,15 @@ use Rattle.sip_config_types.specs.declared.config.Config.{Config}
 use Rattle.sip_config_types.specs.Sample.{sample}
 use Rattle.sipd_changes.specs.Changes.{changes_of}
 use Rattle.sipd_changes.specs.Telling as Text
+use Rattle.sipd_changes.specs.Summary.{summed_up}
 
 -- what is told where the sample becomes another configuration
 abbrev pub told_of : Config → List ℕ
 told_of new = Text.told (changes_of sample new)
+
+-- and what is said of that in a few words
+abbrev pub summed_of : Config → List ℕ
+summed_of new = summed_up (changes_of sample new)
 
 -- with other users
 abbrev pub with_users : List User → Config
@@ -53,3 +58,15 @@ by_second = record rule_5 { verdict = RuleVerdict.Via 1 }
 -- `PC.host.com`, port 5060: 127.0.0.1 and a port
 abbrev pub pc_at : ℕ → List HostAddress
 pc_at port = record { host = codes "PC.host.com"; port = 5060; address = local port } ∷ []
+
+-- the sample's rules, and behind them more of these numbers
+abbrev pub and_numbers : List ℕ → List Rule
+and_numbers ids = rule_1 ∷ rule_2 ∷ rule_3 ∷ rule_4 ∷ rule_5 ∷ rule_6 ∷ map (λ id. record rule_6 { id = id }) ids
+
+-- twelve numbers
+abbrev pub twelve : List ℕ
+twelve = 7 ∷ 8 ∷ 9 ∷ 10 ∷ 11 ∷ 12 ∷ 13 ∷ 14 ∷ 15 ∷ 16 ∷ 17 ∷ 18 ∷ []
+
+-- another realm and another address, at which another port is bound
+abbrev pub moved : Config
+moved = record sample { own = record sample.own { ip = 127 ∷ 0 ∷ 0 ∷ 2 ∷ [] }; bound_port = 5070; realm = codes "office" }

@@ -1,3 +1,4 @@
 pub mod Changes
 pub mod Telling
+pub mod Summary
 pub mod Examples

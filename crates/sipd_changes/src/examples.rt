@@ -4,7 +4,7 @@ ghost use Rattle.sip_policy.specs.declared.rule_verdict.RuleVerdict.{RuleVerdict
 ghost use Rattle.sip_hops.specs.Examples.{local};
 ghost use Rattle.sip_config_types.specs.Sample.{sample};
 ghost use Rattle.sipd_changes.specs.Changes.{changes_of, can_be_taken};
-ghost use Rattle.sipd_changes.specs.Examples.{told_of, with_users, same_names, zazu_for_help, with_rules, far_first, by_second, pc_at};
+ghost use Rattle.sipd_changes.specs.Examples.{told_of, summed_of, with_users, same_names, zazu_for_help, with_rules, far_first, by_second, pc_at, and_numbers, twelve, moved};
 
 /// Of the same configuration nothing is told, and a server that runs can take it.
 pub fn nothing_differs()
@@ -75,4 +75,30 @@ pub fn rules_are_told()
         ++ codes "rule 4 goes: anyone, send *, help@host.com: allow\na server that runs can take it\n" }
     ensures order { told_of (with_rules (rule_1 ∷ rule_2 ∷ rule_4 ∷ rule_3 ∷ rule_5 ∷ rule_6 ∷ []))
         ≡ codes "rules in another order: 1 2 4 3 5 6\na server that runs can take it\n" }
+{}
+
+/// In a few words: how many users come, go and change, each once, and which keys changed, each once.
+pub fn changes_are_summed_up()
+    ensures none { summed_of sample ≡ codes "nothing differs" }
+    ensures users { summed_of (with_users zazu_for_help) ≡ codes "1 user more, 1 user fewer, 1 user changed" }
+    ensures same_users { summed_of (with_users same_names) ≡ codes "2 users changed" }
+    ensures nobody { summed_of (with_users []) ≡ codes "3 users fewer" }
+    ensures places { summed_of (record sample { hops = far_first; rules = rule_1 ∷ rule_2 ∷ rule_3 ∷ rule_4 ∷ by_second ∷ rule_6 ∷ []; addresses = pc_at 5092; offset = negsuc 299 })
+        ≡ codes "offset changed, hop changed, host_address changed" }
+    ensures frame { summed_of moved ≡ codes "address changed, realm changed" }
+{}
+
+/// And rules by their numbers, twelve at most; one of which all is told twice is named once.
+pub fn rules_are_summed_up()
+    ensures goes { summed_of (with_rules (rule_1 ∷ rule_2 ∷ rule_4 ∷ rule_5 ∷ rule_6 ∷ [])) ≡ codes "rule 3 gone" }
+    ensures comes { summed_of (with_rules (record rule_6 { id = 7 } ∷ rule_1 ∷ record rule_3 { id = 8 } ∷ rule_2 ∷ rule_3 ∷ rule_4 ∷ rule_5 ∷ rule_6 ∷ []))
+        ≡ codes "rules 7 and 8 new" }
+    ensures again { summed_of (with_rules (rule_1 ∷ rule_2 ∷ record rule_4 { id = 3 } ∷ record rule_5 { verdict = RuleVerdict.Deny } ∷ rule_6 ∷ []))
+        ≡ codes "rule 4 gone, rules 3 and 5 changed" }
+    ensures order { summed_of (with_rules (rule_1 ∷ rule_2 ∷ rule_4 ∷ rule_3 ∷ rule_5 ∷ rule_6 ∷ [])) ≡ codes "order of rules changed" }
+    ensures three { summed_of (with_rules (and_numbers (7 ∷ 9 ∷ 8 ∷ []))) ≡ codes "rules 7, 9 and 8 new" }
+    ensures dozen { summed_of (with_rules (and_numbers twelve)) ≡ codes "rules 7, 8, 9, 10, 11, 12, 13, 14, 15, 16, 17 and 18 new" }
+    ensures many { summed_of (with_rules (and_numbers (twelve ++ 19 ∷ 20 ∷ [])))
+        ≡ codes "rules 7, 8, 9, 10, 11, 12, 13, 14, 15, 16, 17, 18 and 2 more new" }
+    ensures all { summed_of (record sample { users = []; rules = [] }) ≡ codes "3 users fewer, rules 1, 2, 3, 4, 5 and 6 gone" }
 {}

@@ -1,5 +1,5 @@
 -- How the program ends where a replay is refused, or a server can't go on.
-use Rattle.std.specs.Prelude.{◌≡◌, ◌+◌, ◌-◌, ◌^◌, ℕ, min}
+use Rattle.std.specs.Prelude.{◌≡◌, ℕ}
 use Rattle.sip_loop.specs.declared.audit_log.AuditFault.{AuditFault}
 use Rattle.sip_loop.specs.declared.audit_log.AuditFault.TheVariants as audits
 use Rattle.sip_loop.specs.declared.served.ServeError.{ServeError}
@@ -8,15 +8,16 @@ use Rattle.sip_replay.specs.declared.error.ReplayError.{ReplayError}
 use Rattle.sip_replay.specs.declared.error.ReplayError.TheVariants as replays
 use Rattle.sip_replay_script.specs.declared.print_stop.PrintStop.{PrintStop}
 use Rattle.sip_replay_script.specs.declared.print_stop.PrintStop.TheVariants as prints
-use Rattle.sip_resume.specs.declared.record_error.RecordError.{RecordError}
-use Rattle.sip_resume.specs.declared.record_error.RecordError.TheVariants as records
-use Rattle.sip_segments.specs.declared.stop.SegmentStop.{SegmentStop}
-use Rattle.sip_segments.specs.declared.stop.SegmentStop.TheVariants as segments
+use Rattle.sip_replay.specs.resume.declared.record_error.RecordError.{RecordError}
+use Rattle.sip_replay.specs.resume.declared.record_error.RecordError.TheVariants as records
+use Rattle.sip_segment_config.specs.declared.stop.SegmentStop.{SegmentStop}
+use Rattle.sip_segment_config.specs.declared.stop.SegmentStop.TheVariants as segments
 use Rattle.sipd_arguments.specs.Exits.{IsPrintFault}
 use Rattle.sipd_arguments.specs.declared.device_fault.DeviceFault.{DeviceFault}
 use Rattle.sipd_arguments.specs.declared.device_fault.DeviceFault.TheVariants.{Other}
 use Rattle.sipd_arguments.specs.declared.exit.Exit.{Exit}
 use Rattle.sipd_arguments.specs.declared.exit.Exit.TheVariants.{Script, Device, Memory, Recording}
+use Rattle.sipd_old_record.specs.OldRecord.{line_of_file}
 
 -- what a refused replay is to the program
 abbrev pub exit_of_replay : ReplayError → Exit
@@ -24,10 +25,6 @@ exit_of_replay replays.NoMemory = Memory
 exit_of_replay (replays.Script line) = Script line
 exit_of_replay replays.Read = Device Other
 exit_of_replay replays.Write = Device Other
-
--- the line of a record's file that is this one behind its first line
-abbrev pub line_of_file : ℕ → ℕ
-line_of_file line = min (line + 1) (2 ^ 64 - 1)
 
 -- what it is where the configuration isn't read with which a record begins
 abbrev pub exit_of_segment : SegmentStop → Exit

@@ -1,10 +1,12 @@
 -- What becomes of the bytes that the configuration's file holds, between two turns.
-use Rattle.std.specs.Prelude.{◌≡◌, ℕ, List, Option, Some, None}
+use Rattle.std.specs.Prelude.{◌≡◌, ◌⊎◌, ℕ, List, Option, Some, None, option_map}
 use Rattle.sip_config_types.specs.declared.config.Config.{Config}
 use Rattle.sip_config_change.specs.Frame.{frame_key_of}
 use Rattle.model_bounds.specs.state.declared.server.Server.{Server}
 use Rattle.sip_record.specs.Record.{NotesConfiguration}
-use Rattle.sip_segments.specs.Stated.{States}
+use Rattle.sip_config.specs.Stated.{States}
+use Rattle.sip_guard.specs.Guard.{GuardState, hearing}
+use Rattle.sipd_command.specs.Starts.{hop_addresses}
 use Rattle.sipd_reload.specs.Watch.{WatchState, Looks, with_refused, with_taken}
 use Rattle.sipd_reload.specs.declared.look.Look.{Look}
 use Rattle.sipd_reload.specs.declared.look.Look.TheVariants.{Settled}
@@ -62,3 +64,21 @@ abbrev pub MayChange : ℕ → ℕ → Server → Server → Option WatchState �
 MayChange port now server next None after written written_then = (next ≡ server) × (after ≡ None) × (written_then ≡ written)
 MayChange port now server next (Some watch) None written written_then = ⊥
 MayChange port now server next (Some watch) (Some after) written written_then = IsReloaded port now server next watch after written written_then
+
+-- ---- whom its guard hears always
+
+-- a guard that hears the hops of a configuration always from now on
+abbrev pub hearing_hops : Config → GuardState → GuardState
+hearing_hops config guard = record guard { allowances = option_map (hearing (hop_addresses config)) guard.allowances }
+
+-- It hears the hops of the configuration that comes into force always, and else whom it heard: where none did, nothing of it changed.
+abbrev pub FollowsHops : Server → Server → GuardState → GuardState → Type 0
+FollowsHops server next before after = (after ≡ hearing_hops next.config before) ⊎ ((next ≡ server) × (after ≡ before))
+
+-- whom a guard hears always, where it has a limit
+abbrev pub always_of : GuardState → Option (List (List ℕ))
+always_of guard = option_map (λ allowances. allowances.always) guard.allowances
+
+-- the same of whom it hears
+abbrev pub HearsHops : Server → Server → Option (List (List ℕ)) → Option (List (List ℕ)) → Type 0
+HearsHops server next before after = (after ≡ option_map (λ always. hop_addresses next.config) before) ⊎ ((next ≡ server) × (after ≡ before))

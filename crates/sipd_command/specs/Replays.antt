@@ -4,17 +4,23 @@ use Rattle.std.specs.Borrow.{Bor}
 use Rattle.std.specs.Io.KnownBytes.{Keeps}
 use Rattle.sip_config_types.specs.declared.config.Config.{Config}
 use Rattle.sip_record.specs.declared.record_head.RecordHead.{RecordHead}
-use Rattle.sip_replay.specs.Records.{IsRecordReplay}
-use Rattle.sip_replay_script.specs.Lines.{Reading, pending}
+use Rattle.sip_replay.specs.Records.{IsRecordReplay, IsRecordUnreplayed}
+use Rattle.sip_replay_script.specs.Devices.{later}
+use Rattle.sip_replay_script.specs.Lines.{IsSpent, Reading, pending}
+use Rattle.sip_replay.specs.resume.declared.record_error.RecordError.{RecordError}
+use Rattle.sip_replay.specs.resume.declared.record_error.RecordError.TheVariants.{Write}
 use Rattle.sip_segment_text.specs.Configurations.{IsDamagedConfiguration}
-use Rattle.sip_segments.specs.Stops.{ReadStops}
-use Rattle.sip_segments.specs.Takes.{GivesStated}
-use Rattle.sip_segments.specs.declared.stop.SegmentStop.{SegmentStop}
-use Rattle.sipd_arguments.specs.Files.{States, StatesNone}
+use Rattle.sip_segment_config.specs.Stops.{ReadStops}
+use Rattle.sip_segment_config.specs.Reads.{GivesStated}
+use Rattle.sip_segment_config.specs.declared.stop.SegmentStop.{SegmentStop}
+use Rattle.sip_config.specs.Stated.{States}
+use Rattle.sipd_arguments.specs.Files.{IsRefusedWith}
 use Rattle.sipd_arguments.specs.declared.exit.Exit.{Exit}
-use Rattle.sipd_arguments.specs.declared.exit.Exit.TheVariants.{Memory, NoConfiguration, OtherConfiguration}
+use Rattle.sipd_arguments.specs.declared.exit.Exit.TheVariants.{BareRecord, Device, Memory, OtherConfiguration}
 use Rattle.sipd_arguments.specs.declared.files.Stated.{Stated}
-use Rattle.sipd_command.specs.Exits.{exit_of_segment}
+use Rattle.sipd_arguments.specs.declared.device_fault.DeviceFault.TheVariants.{Other}
+use Rattle.sipd_command.specs.Exits.{exit_of_record, exit_of_segment}
+use Rattle.sipd_reload.specs.File.{most_bytes}
 
 -- the text that comes next in a record says a configuration, and its bytes state this one
 pub record GivesOwn (old new : Reading) (before after : Option (List ℕ)) (config : Config) : Type 0 where
@@ -41,16 +47,16 @@ pub data BeginsWith (digest : List ℕ) (named : Option (Bor Stated)) (old new :
   Own : HasDigest digest named → GivesOwn old new before after config → BeginsWith digest named old new before after config
   OfFile : HasDigest digest named → HoldsNone old new before after → StatesNamed named config → BeginsWith digest named old new before after config
 
--- why its own isn't read: as `read_configuration` says, of at most 16 MiB
+-- why its own isn't read: as `read_configuration` says, of at most as many bytes as are read of one that changes
 pub record OwnStops (spent : Type 0) (old : Reading) (before : Option (List ℕ)) (exit : Exit) : Type 0 where
   pub stop : SegmentStop
   pub same : exit ≡ exit_of_segment stop
-  pub stops : ReadStops 16777216 spent (pending old before) old.number stop
+  pub stops : ReadStops most_bytes spent (pending old before) old.number stop
 
 -- why the file's isn't: none is named; or its bytes state none; or memory ran out
 abbrev pub UnnamedStops : Option (Bor Stated) → Exit → Type 0
-UnnamedStops None exit = exit ≡ NoConfiguration
-UnnamedStops (Some file) exit = (exit ≡ Memory) ⊎ StatesNone file.now.bytes.items exit
+UnnamedStops None exit = exit ≡ BareRecord
+UnnamedStops (Some file) exit = (exit ≡ Memory) ⊎ IsRefusedWith file.now.bytes.items exit
 
 -- a file is named, of another digest
 abbrev pub IsOfAnother : List ℕ → Option (Bor Stated) → Exit → Type 0
@@ -79,3 +85,44 @@ pub record IsReplayed (head : RecordHead) (named : Option (Bor Stated)) (behind 
   pub rest : Option (List ℕ)
   pub begins : BeginsWith head.digest named unread reading behind rest config
   pub replay : IsRecordReplay config head.word head.first (pending reading rest) reading.number old new
+
+-- nothing was printed: memory ran out, or it has no configuration
+pub record IsUnprinted (head : RecordHead) (named : Option (Bor Stated)) (spent : Type 0) (behind old new : Option (List ℕ)) (exit : Exit) : Type 0 where
+  pub silent : new ≡ old
+  pub why : (exit ≡ Memory) ⊎ IsUnconfigured head.digest named spent unread behind exit
+
+-- It was refused behind a front of it, which the server took: exactly what is printed of the steps of that front was written, or some of what is
+-- printed of what comes next, too, as `IsRecordUnreplayed` says. Where printing stopped, the writer gave up.
+pub record IsPartlyPrinted (head : RecordHead) (named : Option (Bor Stated)) (spent writer_gave_up : Type 0) (behind old new : Option (List ℕ))
+    (exit : Exit) : Type 0 where
+  pub config : Config
+  pub reading : Reading
+  pub rest : Option (List ℕ)
+  pub begins : BeginsWith head.digest named unread reading behind rest config
+  pub why : RecordError
+  pub lines : ℕ
+  pub stopped : IsRecordUnreplayed config head.word head.first most_bytes spent (pending reading rest) reading.number old new why
+  pub gave_up : why ≡ Write → writer_gave_up
+  pub exit_is : exit ≡ exit_of_record why lines
+
+-- Why not all of it was replayed, by a reader that may have failed, and had been asked so often before and so often then, where it tells that.
+pub record IsUnreplayed (head : RecordHead) (named : Option (Bor Stated)) (has_failed : Type 0) (asked asked_then : Option ℕ) (writer_gave_up : Type 0)
+    (behind old new : Option (List ℕ)) (exit : Exit) : Type 0 where
+  pub asks : ℕ
+  pub left_of : later asks asked_then ≡ later unread.asks asked
+  pub why : IsUnprinted head named (IsSpent has_failed asks) behind old new exit
+      ⊎ IsPartlyPrinted head named (IsSpent has_failed asks) writer_gave_up behind old new exit
+
+-- ---- and handed on
+
+-- it was replayed, and what was written then stays
+pub record IsReplayedOn (head : RecordHead) (named : Option (Bor Stated)) (behind old new : Option (List ℕ)) : Type 0 where
+  pub written : Option (List ℕ)
+  pub replayed : IsReplayed head named behind old written
+  pub kept : Keeps written new
+
+-- it was, and the writer gave up when it was to hand that on
+pub record IsKeptBack (head : RecordHead) (named : Option (Bor Stated)) (writer_gave_up : Type 0) (behind old new : Option (List ℕ)) (exit : Exit) : Type 0 where
+  pub replayed : IsReplayedOn head named behind old new
+  pub gave_up : writer_gave_up
+  pub exit_is : exit ≡ Device Other

@@ -5,9 +5,9 @@ use Rattle.std.specs.Io.KnownBytes.{Appends}
 use Rattle.rand_core.specs.Stream.{Stream}
 use Rattle.sip_audit.specs.declared.record.Record.{Record}
 use Rattle.sip_loop_link.specs.Told.{and_counted, GrewBy}
-use Rattle.sip_run.specs.engine.Engine.{Engine}
-use Rattle.sip_run.specs.engine.engine_time.Next.{IsNext}
-use Rattle.sip_run.specs.engine.engine_time.fork.Due.{IsNothingDue}
+use Rattle.sip_replay.specs.run.engine.Engine.{Engine}
+use Rattle.sip_replay.specs.run.engine.engine_time.Next.{IsNext}
+use Rattle.sip_replay.specs.run.engine.engine_time.fork.Due.{IsNothingDue}
 use Rattle.sip_guard.specs.Guard.{GuardState}
 use Rattle.sip_record.specs.Record.{Notes}
 use Rattle.sip_record.specs.Recorder.{told}
@@ -20,16 +20,17 @@ use Rattle.sipd_arguments.specs.declared.exit.Exit.{Exit}
 use Rattle.sipd_arguments.specs.declared.exit.Exit.TheVariants.{Recording}
 use Rattle.sipd_command.specs.Exits.{exit_of_serve}
 use Rattle.sipd_command.specs.Printing.{start_text, turns_text}
-use Rattle.sipd_command.specs.Reloads.{IsUnnoted, MayChange}
+use Rattle.sipd_command.specs.Reloads.{HearsHops, IsUnnoted, MayChange, always_of}
 use Rattle.sipd_command.specs.Waits.{wait_before}
 use Rattle.sip_uri.specs.declared.addr.Addr.{Addr}
 
--- A service as it is seen: its engine, the port that it has bound, and what is known of its configuration's file, where that is watched; what
--- its devices tell; and how many milliseconds its link was let wait, time by time.
+-- A service as it is seen: its engine, the port that it has bound, and what is known of its configuration's file, where that is watched; whom
+-- its guard hears always, where it has a limit; what its devices tell; and how many milliseconds its link was let wait, time by time.
 pub record ServiceSeen : Type 0 where
   pub engine : Engine
   pub port : ℕ
   pub file : Option WatchState
+  pub always : Option (List (List ℕ))
   pub devices : Told
   pub waits : Option (List ℕ)
 
@@ -40,6 +41,7 @@ service_seen engine port file guard readings written faulted words has_failed co
   engine = engine;
   port = port;
   file = file;
+  always = always_of guard;
   devices = told_by guard.link.heard guard.link.given readings (kept written faulted) (kept (told has_failed contents) has_failed) words;
   waits = guard.link.waits;
 }
@@ -49,14 +51,15 @@ pub record IsLookedAt (before after : Told) : Type 0 where
   pub others : after ≡ record before { journal = after.journal }
   pub noted : Notes before.journal.bytes after.journal.bytes []
 
--- A turn begins: the clock is read, the journal and the configuration's file are looked at, what the file holds may come into force, and
--- the link is let wait as long as nothing is due, a second at most.
+-- A turn begins: the clock is read, the journal and the configuration's file are looked at, what the file holds may come into force, with
+-- the hops that are heard always, and the link is let wait as long as nothing is due, a second at most.
 pub record Begins (before first : ServiceSeen) : Type 0 where
   pub now : ℕ
   pub due : Option ℕ
   pub seen : Told
   pub looked : IsLookedAt (record before.devices { readings = and_counted before.devices.readings now }) seen
   pub changed : MayChange before.port now before.engine.server first.engine.server before.file first.file seen.journal.bytes first.devices.journal.bytes
+  pub hears : HearsHops before.engine.server first.engine.server before.always first.always
   pub others : first.devices ≡ record seen { journal = first.devices.journal }
   pub still : first.engine.state ≡ before.engine.state
   pub same_port : first.port ≡ before.port
@@ -101,6 +104,7 @@ pub record EndsUnnoted (before after : ServiceSeen) (exit : Exit) : Type 0 where
   pub watch : WatchState
   pub watched : before.file ≡ Some watch
   pub unnoted : IsUnnoted before.port now before.engine.server after.engine.server watch
+  pub hears : HearsHops before.engine.server after.engine.server before.always after.always
   pub failed : after.devices.journal.bytes ≡ None
   pub others : after.devices ≡ record before.devices { readings = and_counted before.devices.readings now; journal = after.devices.journal }
   pub still : after.engine.state ≡ before.engine.state

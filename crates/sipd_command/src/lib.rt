@@ -5,6 +5,7 @@
 //! - Tried: `test_server`, `tests/serve.py`, `tests/faults.py`.
 #![tactic(auto)]
 
+mod hops;
 mod line_printer;
 mod printing;
 mod program;

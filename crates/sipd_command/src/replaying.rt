@@ -1,32 +1,25 @@
-ghost use Rattle.std.specs.Prelude.{◌≡◌, IfErr, IfNone, IfOk, IfSome, OnOk};
-ghost use Rattle.sip_replay_script.specs.Devices.{later};
+ghost use Rattle.std.specs.Prelude.{◌≡◌, ◌⊎◌, IfErr, IfNone, IfOk, IfSome, OnOk};
+ghost use Rattle.sip_replay_script.specs.Devices.{later, GaveUp};
 ghost use Rattle.sip_replay_script.specs.Lines.{IsSpent};
 ghost use Rattle.sipd_command.specs.Exits;
-ghost use Rattle.sipd_command.specs.Replays.{BeginsWith, GivesOwn, HasDigest, HoldsNone, IsOfAnother, IsReplayed, IsUnconfigured, OwnStops, StatesNamed, UnnamedStops};
+ghost use Rattle.sipd_command.specs.Replays.{BeginsWith, GivesOwn, HasDigest, HoldsNone, IsKeptBack, IsOfAnother, IsReplayed, IsReplayedOn, IsUnconfigured, IsUnreplayed, OwnStops, StatesNamed, UnnamedStops};
 
 use sip_config_types::Config;
 use sip_event::Boot;
 use sip_policy::Rules;
 use sip_record::{RecordHead, RecordMark};
+use sip_replay::resume::RecordError;
 use sip_replay_print::Printer;
 use sip_replay_script::{Lines, PrintStop, TellingReader, TellingWriter, hand_on};
-use sip_resume::RecordError;
+use sip_segment_config::{SegmentStop, read_configuration};
 use sip_segment_text::{Upcoming, look_ahead};
-use sip_segments::{SegmentStop, read_configuration};
 use sip_timers::Timers;
 use sipd_arguments::{DeviceFault, Exit, Stated, config_of_bytes, stated_in};
+use sipd_old_record::{line_of_file, open_any_record};
 use sipd_reload::MOST_BYTES;
-use sipd_start::open_any_record;
 use std::alloc::Global;
 use std::io::Write;
 use std::rt::Files;
-
-/// The line of a record's file that is this one behind its first line.
-fn line_of_file(line: u64) -> u64
-    ensures { result ≡ Exits.line_of_file line }
-{
-    line.saturating_add(1)
-}
 
 /// How the program ends where the configuration isn't read with which a record begins.
 fn exit_of_segment(stop: SegmentStop) -> Exit
@@ -34,11 +27,11 @@ fn exit_of_segment(stop: SegmentStop) -> Exit
 {
     match stop {
         SegmentStop::NoMemory => Exit::Memory,
-        SegmentStop::Damaged(line) => Exit::Script(line_of_file(line)),
-        SegmentStop::Cut(line) => Exit::Script(line_of_file(line)),
-        SegmentStop::TooLong(line) => Exit::Script(line_of_file(line)),
-        SegmentStop::NoConfiguration(line, _) => Exit::Script(line_of_file(line)),
-        SegmentStop::OtherFrame(line, _) => Exit::Script(line_of_file(line)),
+        SegmentStop::Damaged(line)
+        | SegmentStop::Cut(line)
+        | SegmentStop::TooLong(line)
+        | SegmentStop::NoConfiguration(line, _)
+        | SegmentStop::OtherFrame(line, _) => Exit::Script(line_of_file(line)),
         SegmentStop::Read => Exit::Device(DeviceFault::Other),
     }
 }
@@ -49,10 +42,10 @@ fn exit_of_record(e: RecordError, lines: u64) -> Exit
 {
     match e {
         RecordError::NoMemory => Exit::Memory,
-        RecordError::Damaged(line) => Exit::Script(line_of_file(line)),
-        RecordError::TooLong(line) => Exit::Script(line_of_file(line)),
-        RecordError::NoConfiguration(line, _) => Exit::Script(line_of_file(line)),
-        RecordError::OtherFrame(line, _) => Exit::Script(line_of_file(line)),
+        RecordError::Damaged(line)
+        | RecordError::TooLong(line)
+        | RecordError::NoConfiguration(line, _)
+        | RecordError::OtherFrame(line, _) => Exit::Script(line_of_file(line)),
         RecordError::Step => Exit::Script(line_of_file(lines)),
         RecordError::Read | RecordError::Write => Exit::Device(DeviceFault::Other),
         RecordError::Journal => Exit::Recording,
@@ -83,8 +76,7 @@ fn own_configuration<I: TellingReader>(
 {
     match look_ahead(lines, reader) {
         Ok(Upcoming::Configuration) => {}
-        Ok(Upcoming::Event) => return Ok(None),
-        Ok(Upcoming::Over) => return Ok(None),
+        Ok(Upcoming::Event | Upcoming::Over) => return Ok(None),
         Err(_) => return Err(Exit::Device(DeviceFault::Other)),
     }
     match read_configuration(alloc, lines, reader, MOST_BYTES) {
@@ -94,7 +86,7 @@ fn own_configuration<I: TellingReader>(
     }
 }
 
-/// The configuration of the file that is named, for a record that holds none. Refusals: `NoConfiguration`, where none is named; `Memory`,
+/// The configuration of the file that is named, for a record that holds none. Refusals: `BareRecord`, where none is named; `Memory`,
 /// and `Configuration`, where its bytes state none.
 fn named_configuration(alloc: Global, named: Option<&Stated>) -> Result<Config, Exit>
     ensures stated { IfOk result (StatesNamed named.entry) }
@@ -102,7 +94,7 @@ fn named_configuration(alloc: Global, named: Option<&Stated>) -> Result<Config, 
 {
     match named {
         Some(file) => config_of_bytes(alloc, file.bytes.as_slice()),
-        None => Err(Exit::NoConfiguration),
+        None => Err(Exit::BareRecord),
     }
 }
 
@@ -143,7 +135,8 @@ fn configuration_of<I: TellingReader>(
 }
 
 /// Replays what a reader gives behind the first line of a record, which says this head, under the configuration with which it begins, and
-/// under each that comes into force in it. What was printed before a refusal stays.
+/// under each that comes into force in it. What was printed before a refusal stays. Refused as `configuration_of` and
+/// `sip_replay::replay_record`, too.
 fn replay_behind<T: Timers, P: Rules, I: TellingReader, W: TellingWriter + Drop>(
     alloc: Global,
     head: &RecordHead,
@@ -151,7 +144,9 @@ fn replay_behind<T: Timers, P: Rules, I: TellingReader, W: TellingWriter + Drop>
     reader: &mut I,
     printer: &mut Printer<W>,
 ) -> Result<(), Exit>
-    ensures { OnOk result (IsReplayed head.now named.entry (I.remaining reader.old) (W.contents printer.old.writer) (W.contents printer.new.writer)) }
+    ensures replayed { OnOk result (IsReplayed head.now named.entry (I.remaining reader.old) (W.contents printer.old.writer) (W.contents printer.new.writer)) }
+    ensures refused { IfErr result (IsUnreplayed head.now named.entry (I.has_failed reader.new) (I.asked reader.old) (I.asked reader.new)
+        (GaveUp (W.has_failed printer.new.writer) (W.called printer.new.writer)) (I.remaining reader.old) (W.contents printer.old.writer) (W.contents printer.new.writer)) }
 {
     let mut lines = Lines::new(alloc)?;
     let config = configuration_of(alloc, head, named, &mut lines, reader)?;
@@ -176,7 +171,12 @@ fn replay_whole<T: Timers, P: Rules, I: TellingReader, W: TellingWriter + Drop>(
     reader: &mut I,
     printer: &mut Printer<W>,
 ) -> Result<(), Exit>
-    ensures { OnOk result (W.is_flushed printer.new.writer) }
+    ensures replayed { OnOk result (IsReplayedOn head.now named.entry (I.remaining reader.old) (W.contents printer.old.writer) (W.contents printer.new.writer)) }
+    ensures flushed { OnOk result (W.is_flushed printer.new.writer) }
+    ensures refused { IfErr result (λ exit. IsUnreplayed head.now named.entry (I.has_failed reader.new) (I.asked reader.old) (I.asked reader.new)
+        (GaveUp (W.has_failed printer.new.writer) (W.called printer.new.writer)) (I.remaining reader.old) (W.contents printer.old.writer) (W.contents printer.new.writer) exit
+        ⊎ IsKeptBack head.now named.entry (GaveUp (W.has_failed printer.new.writer) (W.called printer.new.writer)) (I.remaining reader.old)
+        (W.contents printer.old.writer) (W.contents printer.new.writer) exit) }
 {
     replay_behind::<T, P, I, W>(alloc, head, named, reader, printer)?;
     match hand_on(&mut printer.writer) {
@@ -215,11 +215,18 @@ pub(crate) fn replay_record<T: Timers, P: Rules, R: Files + AllocGlobal, W: Writ
         );
     }
     let mut printer = Printer::new(alloc, output);
-    replay_whole::<T, P, _, _>(
+    let replayed = replay_whole::<T, P, _, _>(
         alloc,
         &record.head,
         named.as_ref(),
         &mut record.events,
         &mut printer,
-    )
+    );
+    if let Err(Exit::BareRecord) = &replayed {
+        let _ = writeln!(
+            complaints,
+            "sipd: an older record: name its file with --config"
+        );
+    }
+    replayed
 }

@@ -4,7 +4,7 @@ ghost use Rattle.sip_record.specs.Record.{Notes};
 ghost use Rattle.sipd_arguments.specs.Exits.{IsPrintFault};
 ghost use Rattle.sipd_command.specs.Exits;
 ghost use Rattle.sipd_command.specs.Printing.{PrintsServed, start_text};
-ghost use Rattle.sipd_command.specs.Reloads.{IsUnnoted, MayChange};
+ghost use Rattle.sipd_command.specs.Reloads.{FollowsHops, IsUnnoted, MayChange};
 ghost use Rattle.sipd_command.specs.Turns.{AreTurns, EndsCounted, EndsEarly, EndsTurn, EndsWithin, IsTurn, Serves, ServesCounted, service_seen};
 ghost use Rattle.sipd_command.specs.Waits;
 
@@ -19,6 +19,7 @@ use sip_loop_link::{Clock, Link};
 use sip_policy::Rules;
 use sip_record::JournalFault;
 use sip_replay::engine::Engine;
+use sip_text::Bytes;
 use sip_timers::Timers;
 use sip_uri::Addr;
 use sipd_arguments::{DeviceFault, Exit};
@@ -56,6 +57,8 @@ pub struct Service<
     pub watch: Option<Watch<F>>,
     /// The port that is bound.
     pub port: u16,
+    /// The path of that file, as it was given.
+    pub path: Bytes,
     pub said: Said,
 }
 
@@ -156,17 +159,21 @@ fn say_fault<J: WatchedJournal, M: Write>(journal: &mut J, said: &mut Said, comp
     }
 }
 
-/// Lets the configuration change, where its file is watched. The journal's fault is the only refusal.
-fn change<T: Timers, P: Rules, F: WatchedFile, J: WatchedJournal, M: Write>(
+/// Lets the configuration change, where its file is watched, and the hops that the guard hears always with it. The journal's fault is the
+/// only refusal.
+fn change<T: Timers, P: Rules, L: Link, C: Clock, F: WatchedFile, J: WatchedJournal, M: Write>(
     alloc: Global,
     engine: &mut Engine<T, P>,
+    link: &mut Guard<L, C>,
     port: u16,
+    path: &[u8],
     watch: &mut Option<Watch<F>>,
     journal: &mut J,
     now: u64,
     complaints: &mut M,
 ) -> Result<(), JournalFault>
     ensures changed { OnOk result (MayChange port now engine.old.server engine.new.server watch.old watch.new (J.written journal.old) (J.written journal.new)) }
+    ensures hears { FollowsHops engine.old.server engine.new.server link.old link.new }
     ensures unnoted { OnErr result (IfSome watch.old (λ watched. IsUnnoted port now engine.old.server engine.new.server watched)) }
     ensures watched { OnErr result (IsSome watch.old) }
     ensures failed { OnErr result (J.written journal.new ≡ None) }
@@ -174,7 +181,9 @@ fn change<T: Timers, P: Rules, F: WatchedFile, J: WatchedJournal, M: Write>(
     ensures timers { engine.new.timers ≡ engine.old.timers }
 {
     match watch {
-        Some(watch) => reload(alloc, engine, port, watch, journal, now, complaints),
+        Some(watch) => reload(
+            alloc, engine, link, port, path, watch, journal, now, complaints,
+        ),
         None => Ok(()),
     }
 }
@@ -228,7 +237,9 @@ fn do_turn<
     let changed = change(
         alloc,
         &mut service.engine,
+        &mut service.link,
         service.port,
+        service.path.as_slice(),
         &mut service.watch,
         &mut service.journal,
         now,

@@ -1,9 +1,10 @@
-ghost use Rattle.std.specs.Prelude.{◌≡◌, is_some, IfOk, IfSome, OnOk};
+ghost use Rattle.std.specs.Prelude.{◌≡◌, is_some, IfOk, IfSome, OnOk, string_bytes};
 ghost use Rattle.sip_guard.specs.Guard.{link_told};
 ghost use Rattle.sipd_start.specs.Boots.{behind_secret};
 ghost use Rattle.sipd_command.specs.Printing.{PrintsServed};
 ghost use Rattle.sipd_command.specs.Starts.{bound_address, guard_over, hop_addresses};
 
+use crate::hops::hops_of;
 use crate::line_printer::LinePrinter;
 use crate::service::{Said, Service, Serving, serve_turns};
 use rand::rngs::StdRng;
@@ -33,6 +34,8 @@ use std::rt::Files;
 struct Start<L: Link, N: Rng + Drop> {
     link: L,
     address: Addr,
+    /// The path of the configuration's file, as the command line says it.
+    path: Bytes,
     /// The IP addresses of the configured hops, which are heard however much they send.
     hops: Vec<[u8; 4]>,
     words: N,
@@ -48,17 +51,6 @@ fn address_of(config: &Config) -> Addr
         ip: config.own.ip,
         port: config.bound_port,
     }
-}
-
-/// The IP addresses of the hops of a configuration, in their order.
-fn hops_of(alloc: Global, config: &Config) -> Result<Vec<[u8; 4]>, AllocError>
-    ensures { IfOk result (λ hops. hops.items ≡ hop_addresses config.now) }
-{
-    let mut hops = Vec::new(alloc);
-    for hop in config.hops.as_slice() {
-        hops.push(hop.address.ip)?;
-    }
-    Ok(hops)
 }
 
 /// A socket that is bound to an address.
@@ -80,12 +72,13 @@ fn start_of<L: Link, N: Rng + Drop>(
     link: L,
     words: N,
 ) -> Result<Start<L, N>, AllocError>
-    ensures { IfOk result (λ start. (start.link ≡ link) × (start.address ≡ bound_address config.now) × (start.hops.items ≡ hop_addresses config.now)
-        × (start.words ≡ words) × (start.per_source ≡ call.now.per_source) × (start.turns ≡ call.now.turns)) }
+    ensures { IfOk result (λ start. (start.link ≡ link) × (start.address ≡ bound_address config.now)
+        × (start.path ≡ string_bytes call.now.config) × (start.hops.items ≡ hop_addresses config.now) × (start.words ≡ words) × (start.per_source ≡ call.now.per_source) × (start.turns ≡ call.now.turns)) }
 {
     Ok(Start {
         link,
         address: address_of(config),
+        path: Bytes::copy(alloc, call.config.as_bytes())?,
         hops: hops_of(alloc, config)?,
         words,
         per_source: call.per_source,
@@ -135,11 +128,12 @@ fn service_of<
     ensures words { IfOk result (λ service. N.stream service.words ≡ behind_secret (N.stream start.words)) }
     ensures guard { IfOk result (λ service. service.link ≡ guard_over start.hops.items start.per_source (link_told (L.heard start.link) (L.fresh start.link) (L.aside start.link)
         (L.given start.link) (L.held start.link) (L.waits start.link) (L.receives start.link) (L.failures start.link)) (C.readings aside)) }
-    ensures watch { IfOk result (λ service. (service.watch ≡ watch) × (service.port ≡ start.address.port)) }
+    ensures watch { IfOk result (λ service. (service.watch ≡ watch) × (service.port ≡ start.address.port) × (service.path ≡ start.path)) }
 {
     let Start {
         link,
         address,
+        path,
         hops,
         mut words,
         per_source,
@@ -156,6 +150,7 @@ fn service_of<
         words,
         watch,
         port: address.port,
+        path,
         said: Said::new(),
     })
 }

@@ -15,10 +15,11 @@ use Rattle.sip_record.specs.declared.record_head.RecordHead.{RecordHead}
 use Rattle.sip_record.specs.declared.record_mark.RecordMark.TheVariants.{Whole}
 use Rattle.sip_resume.specs.Outputs.{Outputs}
 use Rattle.sip_resume.specs.Whole.{IsRecordResumed}
-use Rattle.sipd_arguments.specs.Files.{States}
+use Rattle.sip_config.specs.Stated.{States}
 use Rattle.sipd_start.specs.Begins.{IsServerOf, IsOpened, StartsAnew, Written, NotesFirst, TakesOld, LeadsTo, GoesOn, GoesOnFrom, IsLeftBehind, GoesOnFromFile, Begins}
 use Rattle.sipd_start.specs.Boots.{boot_again, behind_boot, behind_secret}
-use Rattle.sipd_start.specs.OldRecords.{IsOurs, SaysHead}
+use Rattle.sipd_old_record.specs.OldRecord.{SaysHead}
+use Rattle.sipd_start.specs.OldRecords.{IsOurs}
 use Rattle.sipd_start.proofs.FirstLines.{was_so}
 
 -- ---- the server of a file
@@ -27,7 +28,7 @@ abbrev config_in : Config → Result Config ConfigError → Config
 config_in other (Ok config) = config
 config_in other (Err e) = other
 
-states_one : (bytes : List ℕ) (one other : Config) → States bytes one → States bytes other → other ≡ one
+pub states_one : (bytes : List ℕ) (one other : Config) → States bytes one → States bytes other → other ≡ one
 states_one bytes one other a b = ap (config_in one) (sym b.stated ∙ a.stated)
 
 abbrev server_with : Config → ℕ → Server
@@ -57,9 +58,8 @@ takes_old has_own bytes server middle server_then old new new_then events number
     }
 
 pub leads : (has_own : Bool) (bytes : List ℕ) (server server_then : Server) (old new : ProxyState) (events : Option (List ℕ)) (lines : ℕ) (last : Option StepOut) (written written_then : Written)
-    → TakesOld has_own bytes server server_then old new events lines last written written_then → LeadsTo server old events new lines last
-leads has_own bytes server server_then old new events lines last written written_then h =
-    record { in_force = h.in_force; outs = h.begun; outs_then = h.taken; resumed = h.resumed }
+    → TakesOld has_own bytes server server_then old new events lines last written written_then → LeadsTo has_own bytes server server_then old events new lines last
+leads has_own bytes server server_then old new events lines last written written_then h = record { written = written; written_then = written_then; takes = h }
 
 -- it stood there before it was looked at
 resumed_before : (server server_then : Server) (old new : ProxyState) (a b : Option (List ℕ)) (number lines : ℕ) (outs outs_then : Outputs) (last : Option StepOut) → Keeps a b
@@ -79,38 +79,47 @@ resumed_before server server_then old new a b number lines outs outs_then last k
   last_is = h.last_is;
 }
 
-leads_before : (server : Server) (old new : ProxyState) (a b : Option (List ℕ)) (lines : ℕ) (last : Option StepOut) → Keeps a b → LeadsTo server old b new lines last → LeadsTo server old a new lines last
-leads_before server old new a b lines last k h = record {
-  in_force = h.in_force;
-  outs = h.outs;
-  outs_then = h.outs_then;
-  resumed = resumed_before server h.in_force old new a b 0 lines h.outs h.outs_then last k h.resumed;
+leads_before : (has_own : Bool) (bytes : List ℕ) (server server_then : Server) (old new : ProxyState) (a b : Option (List ℕ)) (lines : ℕ) (last : Option StepOut) → Keeps a b
+    → LeadsTo has_own bytes server server_then old b new lines last → LeadsTo has_own bytes server server_then old a new lines last
+leads_before has_own bytes server server_then old new a b lines last k h = record {
+  written = h.written;
+  written_then = h.written_then;
+  takes = record {
+    in_force = h.takes.in_force;
+    begun = h.takes.begun;
+    taken = h.takes.taken;
+    told_first = h.takes.told_first;
+    resumed = resumed_before server h.takes.in_force old new a b 0 lines h.takes.begun h.takes.taken last k h.takes.resumed;
+    told_last = h.takes.told_last;
+    is_under = h.takes.is_under;
+  };
 }
 
 -- ---- it goes on
 
-pub goes_on : (bytes digest : List ℕ) (head : RecordHead) (words : Stream) (boot : Boot) (events behind : Option (List ℕ)) (server engine : Server) (old new : ProxyState) (lines : ℕ) (last : Option StepOut)
-    → boot ≡ boot_again head words → IsOpened bytes boot server old → IsOurs digest head events → Keeps events behind → IsServerOf bytes server.word engine → LeadsTo server old behind new lines last
+pub goes_on : (has_own : Bool) (bytes digest : List ℕ) (head : RecordHead) (words : Stream) (boot : Boot) (events behind : Option (List ℕ)) (server engine : Server) (old new : ProxyState) (lines : ℕ) (last : Option StepOut)
+    → boot ≡ boot_again head words → IsOpened bytes boot server old → IsOurs digest head events has_own → Keeps events behind → LeadsTo has_own bytes server engine old behind new lines last
     → GoesOn bytes digest head events engine new lines last
-goes_on bytes digest head words boot events behind server engine old new lines last is opened ours k under h =
+goes_on has_own bytes digest head words boot events behind server engine old new lines last is opened ours k h =
     let here : IsOpened bytes (boot_again head words) server old = subst (λ b. IsOpened bytes b server old) is opened in
-    let of_head : IsServerOf bytes head.word engine = subst (λ w. IsServerOf bytes w engine) here.is_server.word_is under in
-    let first : LeadsTo server (first_state head.first) behind new lines last = subst (λ s. LeadsTo server s behind new lines last) here.is_first h in
+    let of_head : IsServerOf bytes head.word engine = subst (λ w. IsServerOf bytes w engine) here.is_server.word_is h.takes.is_under in
+    let first : LeadsTo has_own bytes server engine (first_state head.first) behind new lines last = subst (λ s. LeadsTo has_own bytes server engine s behind new lines last) here.is_first h in
     record {
+      has_own = has_own;
       is_ours = ours;
       is_server = of_head;
-      leads = subst (λ s. LeadsTo s (first_state head.first) events new lines last) (sym (same_server bytes head.word server engine here.is_server of_head))
-          (leads_before server (first_state head.first) new events behind lines last k first);
+      leads = subst (λ s. LeadsTo has_own bytes s engine (first_state head.first) events new lines last) (sym (same_server bytes head.word server engine here.is_server of_head))
+          (leads_before has_own bytes server engine (first_state head.first) new events behind lines last k first);
     }
 
 pub went_on : {A E : Type 0} (result : Result A E) (server_of : A → Server) (state_of : A → ProxyState) (lines_of : A → ℕ) (last_of : A → Option StepOut)
-    (bytes digest : List ℕ) (head : RecordHead) (words : Stream) (boot : Boot) (events behind : Option (List ℕ)) (server : Server) (old : ProxyState)
-    → boot ≡ boot_again head words → IsOpened bytes boot server old → IsOurs digest head events → Keeps events behind → IfOk result (λ a. IsServerOf bytes server.word (server_of a))
-    → IfOk result (λ a. LeadsTo server old behind (state_of a) (lines_of a) (last_of a))
+    (has_own : Bool) (bytes digest : List ℕ) (head : RecordHead) (words : Stream) (boot : Boot) (events behind : Option (List ℕ)) (server : Server) (old : ProxyState)
+    → boot ≡ boot_again head words → IsOpened bytes boot server old → IsOurs digest head events has_own → Keeps events behind
+    → IfOk result (λ a. LeadsTo has_own bytes server (server_of a) old behind (state_of a) (lines_of a) (last_of a))
     → IfOk result (λ a. GoesOn bytes digest head events (server_of a) (state_of a) (lines_of a) (last_of a))
-went_on (Ok a) server_of state_of lines_of last_of bytes digest head words boot events behind server old is opened ours k under h =
-    goes_on bytes digest head words boot events behind server (server_of a) old (state_of a) (lines_of a) (last_of a) is opened ours k under h
-went_on (Err e) server_of state_of lines_of last_of bytes digest head words boot events behind server old is opened ours k under h = tt
+went_on (Ok a) server_of state_of lines_of last_of has_own bytes digest head words boot events behind server old is opened ours k h =
+    goes_on has_own bytes digest head words boot events behind server (server_of a) old (state_of a) (lines_of a) (last_of a) is opened ours k h
+went_on (Err e) server_of state_of lines_of last_of has_own bytes digest head words boot events behind server old is opened ours k h = tt
 
 pub goes_on_from : (bytes digest : List ℕ) (head : RecordHead) (whole events : Option (List ℕ)) (server : Server) (state : ProxyState) (lines : ℕ) (last : Option StepOut)
     → SaysHead whole events head → head.mark ≡ Whole → GoesOn bytes digest head events server state lines last → GoesOnFrom bytes digest whole server state lines last

@@ -13,12 +13,15 @@ use Rattle.sip_record.specs.Record.{NotesConfiguration}
 use Rattle.sip_resume.specs.Outputs.{Outputs}
 use Rattle.sip_resume.specs.Whole.{IsRecordResumed, IsRecordUnresumed}
 use Rattle.sip_resume.specs.declared.record_error.RecordError.{RecordError}
-use Rattle.sipd_arguments.specs.Files.{States}
+use Rattle.sip_config.specs.Stated.{States}
 use Rattle.sipd_arguments.specs.declared.exit.Exit.{Exit}
+use Rattle.sipd_arguments.specs.declared.exit.Exit.TheVariants.{Memory}
 use Rattle.sipd_start.specs.Boots.{new_boot, behind_boot, behind_secret}
-use Rattle.sipd_start.specs.OldRecords.{IsOfAnother, IsOurs, IsRefusedFrom, SaysHead}
+use Rattle.sipd_old_record.specs.OldRecord.{IsRefused, IsSystemFault, SaysHead}
+use Rattle.sipd_old_record.specs.Readers.{HasStopped, most_asks}
+use Rattle.sipd_start.specs.OldRecords.{IsOfAnother, IsOurs}
 use Rattle.sipd_reload.specs.File.{most_bytes}
-use Rattle.sipd_start.specs.Stops.{unread, untaken}
+use Rattle.sipd_start.specs.Stops.{EndsStart, IsUnmade, unread, untaken}
 use Rattle.sipd_start.specs.declared.not_resumed.NotResumed.{NotResumed as Reason}
 use Rattle.sipd_start.specs.declared.not_resumed.NotResumed.TheVariants as why
 use Rattle.sipd_start.specs.declared.not_resumed.Stop.{Stop}
@@ -63,22 +66,23 @@ pub record TakesOld (has_own : Bool) (bytes : List ℕ) (server server_then : Se
   pub told_last : NotesConfiguration taken.written written_then bytes
   pub is_under : IsServerOf bytes server.word server_then
 
--- What stands there leads from one state to another, whether it was told to a new record or not, under whatever configuration it says last; so
--- many lines say it, and that is the last step.
-pub record LeadsTo (server : Server) (old : ProxyState) (events : Option (List ℕ)) (new : ProxyState) (lines : ℕ) (last : Option StepOut) : Type 0 where
-  pub in_force : Server
-  pub outs : Outputs
-  pub outs_then : Outputs
-  pub resumed : IsRecordResumed server in_force old new events 0 outs outs_then lines last
+-- What stands there leads from one state to another, whatever journal is told it, and under whatever configuration it says last, behind which
+-- the server is under that of these bytes; so many lines say it, and that is the last step.
+pub record LeadsTo (has_own : Bool) (bytes : List ℕ) (server server_then : Server) (old : ProxyState) (events : Option (List ℕ)) (new : ProxyState)
+    (lines : ℕ) (last : Option StepOut) : Type 0 where
+  pub written : Written
+  pub written_then : Written
+  pub takes : TakesOld has_own bytes server server_then old new events lines last written written_then
 
 -- It goes on, with the configuration of bytes of this digest, from where that leads what stands behind the first line of a record, which says
 -- that head: the server has the same word, it took that from a state that knew nothing, whose first datagram had the same number, and by its
 -- own configuration up to where the record says another one; and behind it, it is under its own again.
 pub record GoesOn (bytes digest : List ℕ) (head : RecordHead) (events : Option (List ℕ)) (server : Server) (state : ProxyState) (lines : ℕ)
     (last : Option StepOut) : Type 0 where
-  pub is_ours : IsOurs digest head events
+  pub has_own : Bool
+  pub is_ours : IsOurs digest head events has_own
   pub is_server : IsServerOf bytes head.word server
-  pub leads : LeadsTo server (first_state head.first) events state lines last
+  pub leads : LeadsTo has_own bytes server server (first_state head.first) events state lines last
 
 -- It goes on from a record that is whole.
 pub record GoesOnFrom (bytes digest : List ℕ) (whole : Option (List ℕ)) (server : Server) (state : ProxyState) (lines : ℕ)
@@ -92,43 +96,49 @@ pub record GoesOnFrom (bytes digest : List ℕ) (whole : Option (List ℕ)) (ser
 -- ---- why it doesn't
 
 -- What stands behind the first line wasn't taken, by a server in that state, and why; a configuration has so many bytes at most as are read of
--- one that changes.
-pub record EventsStop (server : Server) (old : ProxyState) (events : Option (List ℕ)) (stop : Stop) : Type 0 where
+-- one that changes. The record can't be read where its reader is spent.
+pub record EventsStop (has_own : Bool) (bytes : List ℕ) (spent : Type 0) (server : Server) (old : ProxyState) (events : Option (List ℕ)) (stop : Stop) : Type 0 where
   pub in_force : Server
   pub reached : ProxyState
+  pub written : Written
   pub outs : Outputs
   pub outs_then : Outputs
   pub error : RecordError
-  pub refused : IsRecordUnresumed server in_force old reached most_bytes ⊤ events 0 outs outs_then error
+  pub told_first : NotesFirst has_own bytes written outs.written
+  pub refused : IsRecordUnresumed server in_force old reached most_bytes spent events 0 outs outs_then error
   pub same : stop ≡ untaken error
 
--- that is why it starts anew; where nothing is begun, nothing is said
-abbrev pub StopsAt : Server → ProxyState → Option (List ℕ) → Stop → Type 0
-StopsAt server old events (Exits exit) = ⊤
-StopsAt server old events (NotResumed reason) = EventsStop server old events (NotResumed reason)
+-- That is why it starts anew. Nothing is begun, where the server had the configuration of these bytes, for want of memory or of a record alone:
+-- whatever configuration was in force last, it can come under its own again.
+abbrev pub StopsAt : Bool → List ℕ → Type 0 → Server → ProxyState → Option (List ℕ) → Stop → Type 0
+StopsAt has_own bytes spent server old events (Exits exit) = States bytes server.config → IsUnmade exit
+StopsAt has_own bytes spent server old events (NotResumed reason) = EventsStop has_own bytes spent server old events (NotResumed reason)
 
 -- and so it is of a server with that configuration, and with word and first number of the record's first line
-pub record IsStopped (bytes digest : List ℕ) (head : RecordHead) (events : Option (List ℕ)) (stop : Stop) : Type 0 where
-  pub is_ours : IsOurs digest head events
+pub record IsStopped (bytes digest : List ℕ) (spent : Type 0) (head : RecordHead) (events : Option (List ℕ)) (stop : Stop) : Type 0 where
+  pub has_own : Bool
+  pub is_ours : IsOurs digest head events has_own
   pub server : Server
   pub is_server : IsServerOf bytes head.word server
-  pub stops : EventsStop server (first_state head.first) events stop
+  pub stops : EventsStop has_own bytes spent server (first_state head.first) events stop
 
 -- why nothing is taken of what stands there: it can't be read, or the record is one of another configuration, which it doesn't hold
-abbrev pub IsUnbegun : List ℕ → RecordHead → Option (List ℕ) → Stop → Type 0
-IsUnbegun digest head events (Exits exit) = ⊤
-IsUnbegun digest head events (NotResumed reason) = (reason ≡ why.Unreadable) ⊎ ((reason ≡ why.OtherConfiguration) × IsOfAnother digest head events)
+abbrev pub IsUnbegun : Type 0 → List ℕ → RecordHead → Option (List ℕ) → Stop → Type 0
+IsUnbegun spent digest head events (Exits exit) = exit ≡ Memory
+IsUnbegun spent digest head events (NotResumed reason) =
+    ((reason ≡ why.Unreadable) × spent) ⊎ ((reason ≡ why.OtherConfiguration) × IsOfAnother digest head events)
 
 -- why it isn't gone on from a record whose first line says that head
-abbrev pub IsNotGoneOn : List ℕ → List ℕ → RecordHead → Option (List ℕ) → Stop → Type 0
-IsNotGoneOn bytes digest head events (Exits exit) = ⊤
-IsNotGoneOn bytes digest head events (NotResumed reason) =
-    IsUnbegun digest head events (NotResumed reason) ⊎ IsStopped bytes digest head events (NotResumed reason)
+abbrev pub IsNotGoneOn : List ℕ → List ℕ → Type 0 → RecordHead → Option (List ℕ) → Stop → Type 0
+IsNotGoneOn bytes digest spent head events (Exits exit) = EndsStart bytes exit
+IsNotGoneOn bytes digest spent head events (NotResumed reason) =
+    IsUnbegun spent digest head events (NotResumed reason) ⊎ IsStopped bytes digest spent head events (NotResumed reason)
 
 -- no first line of a record was read, and why
-pub record IsUnread (whole : Option (List ℕ)) (stop : Stop) : Type 0 where
+pub record IsUnread (has_failed : Type 0) (before now : Option ℕ) (whole : Option (List ℕ)) (stop : Stop) : Type 0 where
+  pub rest : Option (List ℕ)
   pub exit : Exit
-  pub refused : IsRefusedFrom whole exit
+  pub refused : IsRefused whole rest has_failed before now exit
   pub same : stop ≡ unread exit
 
 -- why a record isn't gone on from whose first line has that mark
@@ -145,19 +155,34 @@ pub record IsMarked (whole : Option (List ℕ)) (reason : Reason) : Type 0 where
   pub marked : reason_of head.mark ≡ Some reason
 
 -- it says that the record is whole, but what stands behind it wasn't taken
-pub record IsWholeAndStopped (bytes digest : List ℕ) (whole : Option (List ℕ)) (stop : Stop) : Type 0 where
+pub record IsWholeAndStopped (bytes digest : List ℕ) (spent : Type 0) (whole : Option (List ℕ)) (stop : Stop) : Type 0 where
   pub head : RecordHead
   pub events : Option (List ℕ)
   pub says : SaysHead whole events head
   pub is_whole : head.mark ≡ Whole
-  pub stopped : IsNotGoneOn bytes digest head events stop
+  pub stopped : IsNotGoneOn bytes digest spent head events stop
 
--- Why a server starts anew in place of going on from a record: no first line of one is read; or that says that it lacks events, or that another
--- start went on from it; or what stands behind it isn't taken.
-abbrev pub IsNotResumed : List ℕ → List ℕ → Option (List ℕ) → Stop → Type 0
-IsNotResumed bytes digest whole (Exits exit) = ⊤
-IsNotResumed bytes digest whole (NotResumed reason) =
-    IsUnread whole (NotResumed reason) ⊎ IsMarked whole reason ⊎ IsWholeAndStopped bytes digest whole (NotResumed reason)
+-- Why a server starts anew in place of going on from a record that a reader gives: no first line of one is read; or that says that it lacks
+-- events, or that another start went on from it; or what stands behind it isn't taken. Of the reader it is known whether it failed, and how
+-- often it was asked before and by then.
+abbrev pub IsNotResumed : List ℕ → List ℕ → Type 0 → Option ℕ → Option ℕ → Option (List ℕ) → Stop → Type 0
+IsNotResumed bytes digest has_failed before now whole (Exits exit) = EndsStart bytes exit
+IsNotResumed bytes digest has_failed before now whole (NotResumed reason) =
+    IsUnread has_failed before now whole (NotResumed reason) ⊎ IsMarked whole reason
+    ⊎ IsWholeAndStopped bytes digest (HasStopped has_failed most_asks before now) whole (NotResumed reason)
+
+-- the file of a record can't be opened
+pub record IsUnopened (stop : Stop) : Type 0 where
+  pub exit : Exit
+  pub fault : IsSystemFault exit
+  pub same : stop ≡ unread exit
+
+-- Why a server starts anew in place of going on from the record of a file, or nothing is begun: where that is the input, what the input had isn't
+-- gone on from; else the file can't be opened, or what it held isn't, of whose reader nothing is known.
+abbrev pub IsFileNotResumed : Bool → Option (List ℕ) → Type 0 → Option ℕ → Option ℕ → List ℕ → List ℕ → Stop → Type 0
+IsFileNotResumed true input has_failed before now bytes digest stop = IsNotResumed bytes digest has_failed before now input stop
+IsFileNotResumed false input has_failed before now bytes digest stop =
+    IsUnopened stop ⊎ ((whole : Option (List ℕ)) × IsNotResumed bytes digest ⊤ None None whole stop)
 
 -- ---- how it begins
 

@@ -1,72 +1,18 @@
--- What the first line of a file says that is to be a record, and what stands behind it.
-use Rattle.std.specs.Prelude.{◌≡◌, ◌≢◌, ◌⊎◌, ℕ, List, [], ◌∷◌, ◌++◌, length, count_by, ⊤, Option, Some, None, IfSome}
-use Rattle.std.specs.Io.KnownBytes.{Consumes, IsAtEnd, Keeps}
-use Rattle.std.specs.declared.io.ErrorKind.{ErrorKind}
-use Rattle.sip_replay_script.specs.Devices.{IsFault}
-use Rattle.sip_replay_script.specs.Lines.{is_end}
+-- What stands behind the first line of a record, and whose configuration it is.
+use Rattle.std.specs.Prelude.{◌≡◌, ◌≢◌, ◌⊎◌, ℕ, List, [], Bool, true, false, Option, IfSome}
+use Rattle.sip_record.specs.declared.record_head.RecordHead.{RecordHead}
 use Rattle.sip_replay_script.specs.Recorded.{IsDamagedRecord}
 use Rattle.sip_segment_text.specs.Configurations.{IsDamagedConfiguration}
-use Rattle.sip_record.specs.RecordHead.{head_of}
-use Rattle.sip_record.specs.declared.record_head.RecordHead.{RecordHead}
-use Rattle.sipd_arguments.specs.Exits.{exit_of_kind}
-use Rattle.sipd_arguments.specs.declared.exit.Exit.{Exit}
-use Rattle.sipd_arguments.specs.declared.exit.Exit.TheVariants.{Memory, NoRecord}
-
--- a byte was read, or a reader is at its end and stays so
-abbrev pub ReadsByte : Option (List ℕ) → Option (List ℕ) → Option ℕ → Type 0
-ReadsByte old new None = Keeps old new × IsAtEnd new
-ReadsByte old new (Some byte) = Consumes old new (byte ∷ [])
-
--- a line was read of what a reader had, and the LF that ends it; or it is all that the reader had; or as much as is read of a line
-abbrev pub IsLineRead : Option (List ℕ) → Option (List ℕ) → List ℕ → Type 0
-IsLineRead old new line = Consumes old new (line ++ 10 ∷ []) ⊎ (Consumes old new line × (IsAtEnd new ⊎ (length line ≡ 200)))
-
--- the first line of what a reader had, without its LF; of one of more than 200 bytes these alone
-pub record IsFirstLine (old new : Option (List ℕ)) (line : List ℕ) : Type 0 where
-  pub single : count_by is_end line ≡ 0
-  pub read : IsLineRead old new line
-
--- that line says a head
-pub record SaysHead (old new : Option (List ℕ)) (head : RecordHead) : Type 0 where
-  pub line : List ℕ
-  pub first : IsFirstLine old new line
-  pub says : head_of line ≡ Some head
-
--- it says none
-pub record SaysNoHead (old new : Option (List ℕ)) : Type 0 where
-  pub line : List ℕ
-  pub first : IsFirstLine old new line
-  pub none : head_of line ≡ None
-
--- a reader failed, which is said as that fault, or was interrupted again and again
-pub record IsReaderFault (has_failed : Type 0) (exit : Exit) : Type 0 where
-  pub kind : ErrorKind
-  pub same : exit ≡ exit_of_kind kind
-  pub failed : IsFault kind → has_failed
-
--- Why no head is taken of what a reader had: memory ran out; or the reader failed; or its first line is none of a record.
-abbrev pub IsRefused : Option (List ℕ) → Option (List ℕ) → Type 0 → Exit → Type 0
-IsRefused old new has_failed exit = (exit ≡ Memory) ⊎ IsReaderFault has_failed exit ⊎ ((exit ≡ NoRecord) × SaysNoHead old new)
-
--- so it was refused, whatever became of the reader
-pub record IsRefusedFrom (whole : Option (List ℕ)) (exit : Exit) : Type 0 where
-  pub rest : Option (List ℕ)
-  pub refused : IsRefused whole rest ⊤ exit
-
--- what some reader had began with a line that says this head
-abbrev pub WasSaid : RecordHead → Type 0
-WasSaid head = (old : Option (List ℕ)) × (new : Option (List ℕ)) × SaysHead old new head
-
--- ---- what stands behind the first line
 
 -- no configuration stands there: nothing does, or what is no front of one's text either
 abbrev pub HoldsNone : List ℕ → Type 0
 HoldsNone bytes = (bytes ≡ []) ⊎ IsDamagedConfiguration bytes
 
--- A record may be gone on from with the configuration of this digest: it was made with that one, or no event stands behind its first line, as
--- it is where its own configuration does.
-abbrev pub IsOurs : List ℕ → RecordHead → Option (List ℕ) → Type 0
-IsOurs digest head events = (head.digest ≡ digest) ⊎ IfSome events IsDamagedRecord
+-- Whether the configuration of the first events stands there, where the record may be gone on from with the configuration of this digest: no
+-- event stands there, as where that configuration does; or no configuration stands there, and the record was made with the one of the digest.
+abbrev pub IsOurs : List ℕ → RecordHead → Option (List ℕ) → Bool → Type 0
+IsOurs digest head events true = IfSome events IsDamagedRecord
+IsOurs digest head events false = (head.digest ≡ digest) × IfSome events HoldsNone
 
 -- it was made with another one, and doesn't hold that
 pub record IsOfAnother (digest : List ℕ) (head : RecordHead) (events : Option (List ℕ)) : Type 0 where

@@ -1,10 +1,16 @@
 -- Why a server doesn't go on from where a record leads.
-use Rattle.std.specs.Prelude.{ℕ, ◌+◌, ◌-◌, ◌^◌, min}
+use Rattle.std.specs.Prelude.{◌≡◌, ◌⊎◌, ℕ, List, Option, Some}
+use Rattle.sip_config.specs.Stated.{States}
+use Rattle.sip_config_change.specs.declared.key.FrameKey.{FrameKey}
+use Rattle.sip_config_change.specs.Frame.{frame_key_of}
+use Rattle.sip_config_types.specs.declared.config.Config.{Config}
 use Rattle.sip_resume.specs.declared.record_error.RecordError.{RecordError}
 use Rattle.sip_resume.specs.declared.record_error.RecordError.TheVariants as resuming
+use Rattle.sipd_arguments.specs.Files.{IsRefusedWith}
 use Rattle.sipd_arguments.specs.declared.device_fault.DeviceFault.TheVariants.{Other}
 use Rattle.sipd_arguments.specs.declared.exit.Exit.{Exit}
 use Rattle.sipd_arguments.specs.declared.exit.Exit.TheVariants as exits
+use Rattle.sipd_old_record.specs.OldRecord.{line_of_file}
 use Rattle.sipd_start.specs.declared.not_resumed.NotResumed.TheVariants.{Unreadable, NoRecord, Damaged, TooLong, NoConfiguration, OtherFrame, Unlawful}
 use Rattle.sipd_start.specs.declared.not_resumed.Stop.{Stop}
 use Rattle.sipd_start.specs.declared.not_resumed.Stop.TheVariants.{NotResumed, Exits}
@@ -15,18 +21,35 @@ unread exits.NoRecord = NotResumed NoRecord
 unread (exits.Device fault) = NotResumed Unreadable
 unread exit = Exits exit
 
--- a line of what stands behind the first one, which isn't counted where that is read
-abbrev pub behind_first : ℕ → ℕ
-behind_first line = min (line + 1) (2 ^ 64 - 1)
-
 -- what it is that what stands behind the first line isn't taken
 abbrev pub untaken : RecordError → Stop
 untaken resuming.NoMemory = Exits exits.Memory
-untaken (resuming.Damaged line) = NotResumed (Damaged (behind_first line))
+untaken (resuming.Damaged line) = NotResumed (Damaged (line_of_file line))
 untaken resuming.Read = NotResumed Unreadable
 untaken resuming.Step = NotResumed Unlawful
 untaken resuming.Journal = Exits exits.Recording
 untaken resuming.Write = Exits (exits.Device Other)
-untaken (resuming.TooLong line) = NotResumed (TooLong (behind_first line))
-untaken (resuming.NoConfiguration line e) = NotResumed (NoConfiguration (behind_first line) e)
-untaken (resuming.OtherFrame line key) = NotResumed (OtherFrame (behind_first line) key)
+untaken (resuming.TooLong line) = NotResumed (TooLong (line_of_file line))
+untaken (resuming.NoConfiguration line e) = NotResumed (NoConfiguration (line_of_file line) e)
+untaken (resuming.OtherFrame line key) = NotResumed (OtherFrame (line_of_file line) key)
+
+-- ---- how a start ends
+
+-- it makes no record: memory ran out, or a file of the record can't be made, or can't be written
+abbrev pub IsUnmade : Exit → Type 0
+IsUnmade exit = (exit ≡ exits.Memory) ⊎ (exit ≡ exits.NewRecord) ⊎ (exit ≡ exits.Recording)
+
+-- or the bytes of its configuration's file state none
+abbrev pub EndsStart : List ℕ → Exit → Type 0
+EndsStart bytes exit = IsUnmade exit ⊎ IsRefusedWith bytes exit
+
+-- bytes state a configuration of another frame than the one in force has
+pub record StatesOtherFrame (bytes : List ℕ) (in_force : Config) : Type 0 where
+  pub config : Config
+  pub states : States bytes config
+  pub key : FrameKey
+  pub other : frame_key_of in_force config ≡ Some key
+
+-- why a server under some configuration doesn't come under that of these bytes
+abbrev pub IsNotUnder : List ℕ → Config → Exit → Type 0
+IsNotUnder bytes in_force exit = (exit ≡ exits.Memory) ⊎ IsRefusedWith bytes exit ⊎ ((exit ≡ exits.OtherFrame) × StatesOtherFrame bytes in_force)

@@ -1,16 +1,17 @@
-ghost use Rattle.std.specs.Prelude.{◌≡◌, codes, false, option_map, string_bytes, IfErr, IfNone, IfOk, IfSome, None, Ok, OnErr, OnOk};
+ghost use Rattle.std.specs.Prelude.{◌≡◌, codes, false, option_map, string_bytes, Err, IfErr, IfNone, IfOk, IfSome, None, Ok, OnErr, OnOk};
 ghost use Rattle.sip_replay_script.specs.Lines.{pending};
 ghost use Rattle.sipd_arguments.specs.declared.call.RecordFault.TheVariants.{GoOn};
-ghost use Rattle.sipd_start.specs.Begins.{Begins, GoesOn, GoesOnFrom, GoesOnFromFile, IsLeftBehind, IsNotGoneOn};
-ghost use Rattle.sipd_start.specs.Begins.{IsNotResumed, IsOpened, IsServerOf, LeadsTo, StartsAnew, StopsAt};
+ghost use Rattle.sipd_start.specs.Begins.{Begins, GoesOn, GoesOnFrom, GoesOnFromFile, IsFileNotResumed, IsLeftBehind, IsNotGoneOn};
+ghost use Rattle.sipd_start.specs.Begins.{IsNotResumed, IsOpened, LeadsTo, StartsAnew, StopsAt};
 ghost use Rattle.sipd_start.specs.Boots;
 ghost use Rattle.sipd_start.specs.Places;
 ghost use Rattle.sipd_start.specs.Places.{IsPlaceOf};
+ghost use Rattle.sipd_old_record.specs.Readers.{HasStopped, most_asks};
+ghost use Rattle.sipd_start.specs.Stops.{EndsStart, IsUnmade};
 
 use crate::making::{Place, check_free, make_part, name_part, place_of, remove_part};
 use crate::not_resumed::{NotResumed, Stop, unread};
 use crate::old_lines::OldLines;
-use crate::old_record::{head_in, open_file};
 use crate::record_file::{RecordFile, mark_file};
 use crate::taking::{old_lines, take_old, tell};
 use rand_core::Rng;
@@ -23,6 +24,7 @@ use sip_resume::engine::Engine;
 use sip_text::same_bytes;
 use sip_timers::Timers;
 use sipd_arguments::{Exit, RecordFault, RecordPlace, Stated, config_of_bytes};
+use sipd_old_record::{head_in, open_file};
 use std::io::{ErrorKind, Write};
 use std::rt::{Clock, Files};
 
@@ -143,7 +145,8 @@ fn open<T: Timers, P: Rules, R: AllocGlobal>(
     beginning: &Beginning<'_, R>,
     boot: Boot,
 ) -> Result<Engine<T, P>, Exit>
-    ensures { IfOk result (λ engine. IsOpened beginning.now.stated.now.bytes.items boot engine.server engine.state) }
+    ensures opened { IfOk result (λ engine. IsOpened beginning.now.stated.now.bytes.items boot engine.server engine.state) }
+    ensures refused { IfErr result (EndsStart beginning.now.stated.now.bytes.items) }
 {
     let alloc = beginning.rt.alloc();
     let config = config_of_bytes(alloc, beginning.stated.bytes.as_slice())?;
@@ -156,7 +159,8 @@ fn make<'a, R: Files + AllocGlobal>(
     boot: Boot,
     digest: [u8; 32],
 ) -> Result<Recorder<RecordFile<'a, R>>, Exit>
-    ensures { IfOk result (λ r. r.has_failed ≡ false) }
+    ensures whole { IfOk result (λ r. r.has_failed ≡ false) }
+    ensures refused { IfErr result IsUnmade }
 {
     let head = RecordHead {
         mark: RecordMark::Whole,
@@ -178,7 +182,8 @@ fn name<'a, R: Files + AllocGlobal>(
     beginning: &Beginning<'a, R>,
     mut recorder: Recorder<RecordFile<'a, R>>,
 ) -> Result<Recorder<RecordFile<'a, R>>, Exit>
-    ensures { IfOk result (λ r. r.has_failed ≡ false) }
+    ensures whole { IfOk result (λ r. r.has_failed ≡ false) }
+    ensures refused { IfErr result IsUnmade }
 {
     if recorder.has_failed() {
         return Err(Exit::Recording);
@@ -195,6 +200,7 @@ fn settle<'a, R: Files + AllocGlobal>(
 ) -> Result<Option<Recorder<RecordFile<'a, R>>>, Exit>
     ensures same { IfOk result (λ settled. IfSome settled (λ r. made.entry ≡ Ok r)) }
     ensures none { IfOk result (λ settled. IfNone settled (beginning.now.fault ≡ GoOn)) }
+    ensures refused { IfErr result (λ exit. made.entry ≡ Err exit) }
 {
     let exit = match made {
         Ok(record) => return Ok(Some(record)),
@@ -212,7 +218,8 @@ fn make_anew<'a, R: Files + AllocGlobal>(
     beginning: &Beginning<'a, R>,
     boot: Boot,
 ) -> Result<Recorder<RecordFile<'a, R>>, Exit>
-    ensures { IfOk result (λ r. r.has_failed ≡ false) }
+    ensures whole { IfOk result (λ r. r.has_failed ≡ false) }
+    ensures refused { IfErr result IsUnmade }
 {
     let mut recorder = make(beginning, boot, beginning.stated.digest)?;
     tell(beginning.stated, &mut recorder)?;
@@ -229,6 +236,7 @@ fn begin_anew<'a, T: Timers, P: Rules, R: Files + AllocGlobal, W: Rng>(
     ensures left { W.stream words.new ≡ Boots.behind_boot (W.stream words.old) }
     ensures whole { IfOk result (λ begun. IfSome begun.record (λ r. r.has_failed ≡ false)) }
     ensures unrecorded { IfOk result (λ begun. IfNone begun.record (beginning.now.fault ≡ GoOn)) }
+    ensures refused { IfErr result (EndsStart beginning.now.stated.now.bytes.items) }
 {
     let boot = new_boot(words);
     let engine = open(beginning, boot)?;
@@ -248,11 +256,12 @@ fn go_on_alone<'a, T: Timers, P: Rules, R: Files + AllocGlobal, I: TellingReader
     old: OldLines,
     reader: &mut I,
 ) -> Result<GoneOn<'a, T, P, R>, Stop>
-    ensures server { IfOk result (λ gone_on. IsServerOf beginning.now.stated.now.bytes.items engine.server.word gone_on.begun.engine.server) }
-    ensures resumed { IfOk result (λ gone_on. LeadsTo engine.server engine.state (pending old.lines (I.remaining reader.old))
-        gone_on.begun.engine.state gone_on.lines gone_on.begun.last) }
+    ensures resumed { IfOk result (λ gone_on. LeadsTo old.has_own beginning.now.stated.now.bytes.items engine.server gone_on.begun.engine.server
+        engine.state (pending old.lines (I.remaining reader.old)) gone_on.begun.engine.state gone_on.lines gone_on.begun.last) }
     ensures unrecorded { IfOk result (λ gone_on. gone_on.begun.record ≡ None) }
-    ensures stops { IfErr result (StopsAt engine.server engine.state (pending old.lines (I.remaining reader.old))) }
+    ensures stops { IfErr result (StopsAt old.has_own beginning.now.stated.now.bytes.items
+        (HasStopped (I.has_failed reader.new) old.lines.asks (I.asked reader.old) (I.asked reader.new)) engine.server engine.state
+        (pending old.lines (I.remaining reader.old))) }
 {
     let alloc = beginning.rt.alloc();
     let stated = beginning.stated;
@@ -282,12 +291,13 @@ fn go_on_recorded<'a, T: Timers, P: Rules, R: Files + AllocGlobal, I: TellingRea
     old: OldLines,
     reader: &mut I,
 ) -> Result<GoneOn<'a, T, P, R>, Stop>
-    ensures server { IfOk result (λ gone_on. IsServerOf beginning.now.stated.now.bytes.items engine.server.word gone_on.begun.engine.server) }
-    ensures resumed { IfOk result (λ gone_on. LeadsTo engine.server engine.state (pending old.lines (I.remaining reader.old))
-        gone_on.begun.engine.state gone_on.lines gone_on.begun.last) }
+    ensures resumed { IfOk result (λ gone_on. LeadsTo old.has_own beginning.now.stated.now.bytes.items engine.server gone_on.begun.engine.server
+        engine.state (pending old.lines (I.remaining reader.old)) gone_on.begun.engine.state gone_on.lines gone_on.begun.last) }
     ensures whole { IfOk result (λ gone_on. IfSome gone_on.begun.record (λ r. r.has_failed ≡ false)) }
     ensures unrecorded { IfOk result (λ gone_on. IfNone gone_on.begun.record (beginning.now.fault ≡ GoOn)) }
-    ensures stops { IfErr result (StopsAt engine.server engine.state (pending old.lines (I.remaining reader.old))) }
+    ensures stops { IfErr result (StopsAt old.has_own beginning.now.stated.now.bytes.items
+        (HasStopped (I.has_failed reader.new) old.lines.asks (I.asked reader.old) (I.asked reader.new)) engine.server engine.state
+        (pending old.lines (I.remaining reader.old))) }
 {
     let alloc = beginning.rt.alloc();
     let stated = beginning.stated;
@@ -321,8 +331,8 @@ fn go_on<'a, T: Timers, P: Rules, R: Files + AllocGlobal, I: TellingReader, W: R
     ensures left { W.stream words.new ≡ Boots.behind_secret (W.stream words.old) }
     ensures whole { IfOk result (λ gone_on. IfSome gone_on.begun.record (λ r. r.has_failed ≡ false)) }
     ensures unrecorded { IfOk result (λ gone_on. IfNone gone_on.begun.record (beginning.now.fault ≡ GoOn)) }
-    ensures stopped { IfErr result (IsNotGoneOn beginning.now.stated.now.bytes.items beginning.now.stated.now.digest head.now
-        (I.remaining reader.old)) }
+    ensures stopped { IfErr result (IsNotGoneOn beginning.now.stated.now.bytes.items beginning.now.stated.now.digest
+        (HasStopped (I.has_failed reader.new) most_asks (I.asked reader.old) (I.asked reader.new)) head.now (I.remaining reader.old)) }
 {
     let boot = boot_again(head, words);
     let alloc = beginning.rt.alloc();
@@ -349,7 +359,7 @@ fn begin_from<'a, T: Timers, P: Rules, R: Files + AllocGlobal, I: TellingReader,
     ensures whole { IfOk result (λ gone_on. IfSome gone_on.begun.record (λ r. r.has_failed ≡ false)) }
     ensures unrecorded { IfOk result (λ gone_on. IfNone gone_on.begun.record (beginning.now.fault ≡ GoOn)) }
     ensures refused { IfErr result (IsNotResumed beginning.now.stated.now.bytes.items beginning.now.stated.now.digest
-        (I.remaining reader.old)) }
+        (I.has_failed reader.new) (I.asked reader.old) (I.asked reader.new) (I.remaining reader.old)) }
 {
     let head = match head_in(beginning.rt.alloc(), reader) {
         Ok(head) => head,
@@ -363,7 +373,7 @@ fn begin_from<'a, T: Timers, P: Rules, R: Files + AllocGlobal, I: TellingReader,
 }
 
 /// A server that goes on from where the record of a file leads, or of the input, where it can. What the file holds no clause can say.
-#[tactic(auto, using(crate::proofs::Beginnings::goes_on_from_input, crate::proofs::Beginnings::goes_on_from_file))]
+#[tactic(auto, using(crate::proofs::Beginnings::goes_on_from_input, crate::proofs::Beginnings::goes_on_from_file, crate::proofs::Refusals::input_not_resumed, crate::proofs::Refusals::file_not_resumed, crate::proofs::Refusals::unopened))]
 fn begin_again<'a, T: Timers, P: Rules, R: Files + AllocGlobal, I: TellingReader, W: Rng>(
     beginning: &Beginning<'a, R>,
     old: &str,
@@ -376,6 +386,8 @@ fn begin_again<'a, T: Timers, P: Rules, R: Files + AllocGlobal, I: TellingReader
     ensures left_behind { OnErr result (IsLeftBehind (W.stream words.old) (W.stream words.new)) }
     ensures whole { IfOk result (λ gone_on. IfSome gone_on.begun.record (λ r. r.has_failed ≡ false)) }
     ensures unrecorded { IfOk result (λ gone_on. IfNone gone_on.begun.record (beginning.now.fault ≡ GoOn)) }
+    ensures refused { IfErr result (IsFileNotResumed (Places.is_input old.now) (I.remaining input.old) (I.has_failed input.new)
+        (I.asked input.old) (I.asked input.new) beginning.now.stated.now.bytes.items beginning.now.stated.now.digest) }
 {
     if is_input(old) {
         return begin_from(beginning, input, words);
@@ -430,7 +442,7 @@ fn read_out<I: TellingReader>(input: &mut I) {
 /// A server that records: one that goes on from where an older record leads, if there is one and it can be had, or one that starts
 /// anew. The older record may be the input, which is read up to its end then. Where it goes on, `last` is the last step of that record;
 /// what it records isn't in it.
-#[tactic(auto, using(crate::proofs::Beginnings::begins_again, crate::proofs::Beginnings::begins_anew, crate::proofs::Beginnings::begins_alone))]
+#[tactic(auto, using(crate::proofs::Beginnings::begins_again, crate::proofs::Beginnings::begins_anew, crate::proofs::Beginnings::begins_alone, crate::proofs::Refusals::file_exits))]
 pub fn begin<'a, T: Timers, P: Rules, R: Files + AllocGlobal, I: TellingReader, W: Rng, C: Write>(
     beginning: &Beginning<'a, R>,
     input: &mut I,
@@ -444,6 +456,7 @@ pub fn begin<'a, T: Timers, P: Rules, R: Files + AllocGlobal, I: TellingReader, 
         (W.stream words.old) begun.engine.server begun.engine.state begun.last) }
     ensures whole { IfOk result (λ begun. IfSome begun.record (λ r. r.has_failed ≡ false)) }
     ensures unrecorded { IfOk result (λ begun. IfNone begun.record (beginning.now.fault ≡ GoOn)) }
+    ensures refused { IfErr result (EndsStart beginning.now.stated.now.bytes.items) }
 {
     check_free(beginning.rt, &beginning.place)?;
     let Some(old) = &beginning.place.old else {

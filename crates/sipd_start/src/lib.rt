@@ -1,8 +1,8 @@
 //! How a server that records begins: anew, or from where an older record leads; the files of its record, and whether the process may
 //! have the stack that it needs.
 //!
-//! - Used: `sipd_command`, before it serves, and for the record that is replayed; `sipd_tools`, for one that a change is told against.
-//! - Not here: the serving; what stands in a record (`sip_record`).
+//! - Used: `sipd_command`, before it serves.
+//! - Not here: the serving; what stands in a record (`sip_record`), and the first line of an older one (`sipd_old_record`).
 //! - Tried: `tests/serve.py`, `tests/faults.py`.
 #![tactic(auto)]
 
@@ -10,7 +10,6 @@ mod beginning;
 mod making;
 mod not_resumed;
 mod old_lines;
-mod old_record;
 mod record_file;
 mod record_folder;
 mod recording;
@@ -18,7 +17,6 @@ mod stack_limit;
 mod taking;
 
 pub use beginning::{Beginning, Begun, begin, new_boot, secret};
-pub use old_record::{OldRecord, open_any_record};
 pub use record_file::RecordFile;
 pub use recording::{Unrecorded, WatchedJournal};
 pub use stack_limit::check_stack;

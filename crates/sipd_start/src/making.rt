@@ -1,6 +1,8 @@
 ghost use Rattle.std.specs.Prelude.{◌≡◌, false, Err, Ok, IfErr, IfOk, option_map, string_bytes};
 ghost use Rattle.std.specs.IoError.{error_kind};
+ghost use Rattle.sipd_arguments.specs.declared.exit.Exit.TheVariants.{Memory};
 ghost use Rattle.sipd_start.specs.Places;
+ghost use Rattle.sipd_start.specs.Stops.{IsUnmade};
 
 use crate::record_file::{RecordFile, new_file};
 use crate::record_folder::files_in;
@@ -29,7 +31,8 @@ pub struct Place {
 
 /// A copy of a text.
 fn copy_of<R: AllocGlobal>(rt: &R, text: &str) -> Result<String, Exit>
-    ensures { IfOk result (λ copy. string_bytes copy ≡ text.now) }
+    ensures same { IfOk result (λ copy. string_bytes copy ≡ text.now) }
+    ensures refused { IfErr result (λ exit. exit ≡ Memory) }
 {
     Ok(String::from_str(rt.alloc(), text)?)
 }
@@ -96,7 +99,8 @@ fn on_fault(fault: RecordFault) -> OnFault
 
 /// Why a file of a record isn't made: its name can't be had; or it can't be written, as anything might not be.
 fn exit_of_making(e: io::Error) -> Exit
-    ensures { result ≡ Places.exit_of_making (error_kind e) }
+    ensures exit { result ≡ Places.exit_of_making (error_kind e) }
+    ensures unmade { IsUnmade result }
 {
     match e.kind() {
         ErrorKind::OutOfMemory => Exit::Memory,
@@ -119,6 +123,7 @@ fn made<V: Drop>(outcome: io::Result<V>) -> Result<V, Exit>
     ensures same { IfOk result (λ value. outcome ≡ Ok value) }
     ensures done { IfOk outcome (λ value. result ≡ Ok value) }
     ensures refused { IfErr outcome (λ e. result ≡ Err (Places.exit_of_making (error_kind e))) }
+    ensures unmade { IfErr result IsUnmade }
 {
     match outcome {
         Ok(value) => Ok(value),
@@ -127,7 +132,9 @@ fn made<V: Drop>(outcome: io::Result<V>) -> Result<V, Exit>
 }
 
 /// Refuses a record whose name a file has.
-pub fn check_free<R: Files>(rt: &R, place: &Place) -> Result<(), Exit> {
+pub fn check_free<R: Files>(rt: &R, place: &Place) -> Result<(), Exit>
+    ensures { IfErr result IsUnmade }
+{
     if made(fs::exists(rt, place.record.path.as_str()))? {
         Err(Exit::NewRecord)
     } else {
@@ -153,6 +160,7 @@ pub fn make_part<'a, R: Files + AllocGlobal>(
 ) -> Result<Recorder<RecordFile<'a, R>>, Exit>
     ensures whole { IfOk result (λ recorder. recorder.has_failed ≡ false) }
     ensures on_fault { IfOk result (λ recorder. recorder.on_fault ≡ Places.on_fault fault) }
+    ensures refused { IfErr result IsUnmade }
 {
     remove_part(rt, place);
     if let Some(copy) = &place.copy {
@@ -177,14 +185,18 @@ fn sync_folder<R: Files>(rt: &R, path: &str) {
 }
 
 /// Gives a part its name, unless a file has that.
-fn name_file<R: Files>(rt: &R, file: &NewFile) -> Result<(), Exit> {
+fn name_file<R: Files>(rt: &R, file: &NewFile) -> Result<(), Exit>
+    ensures { IfErr result IsUnmade }
+{
     made(fs::hard_link(rt, file.part.as_str(), file.path.as_str()))?;
     let _ = fs::remove_file(rt, file.part.as_str());
     Ok(())
 }
 
 /// Gives the copy of the configuration its name, and then the record; or none of them.
-fn name_files<R: Files>(rt: &R, place: &Place) -> Result<(), Exit> {
+fn name_files<R: Files>(rt: &R, place: &Place) -> Result<(), Exit>
+    ensures { IfErr result IsUnmade }
+{
     let Some(copy) = &place.copy else {
         return name_file(rt, &place.record);
     };
@@ -201,7 +213,9 @@ pub fn name_part<R: Files + AllocGlobal>(
     rt: &R,
     place: &Place,
     file: &mut RecordFile<'_, R>,
-) -> Result<(), Exit> {
+) -> Result<(), Exit>
+    ensures { IfErr result IsUnmade }
+{
     let path = copy_of(rt, place.record.path.as_str())?;
     made(file.sync())?;
     name_files(rt, place)?;

@@ -6,6 +6,7 @@ use sip_config::ConfigError;
 use sip_config_change::FrameKey;
 use sip_resume::RecordError;
 use sipd_arguments::{DeviceFault, Exit};
+use sipd_old_record::line_of_file;
 use std::fmt;
 
 /// Why a server doesn't go on from where a record leads. Its lines are counted from 1, the first one too.
@@ -79,13 +80,6 @@ pub fn unread(exit: Exit) -> Stop
     }
 }
 
-/// A line of what stands behind the first one, which isn't counted where that is read.
-fn behind_first(line: u64) -> u64
-    ensures { result ≡ Stops.behind_first line }
-{
-    line.saturating_add(1)
-}
-
 /// Why what stands behind the first line of a record isn't taken.
 pub fn untaken(e: RecordError) -> Stop
     ensures { result ≡ Stops.untaken e }
@@ -96,12 +90,12 @@ pub fn untaken(e: RecordError) -> Stop
         RecordError::Write => return Stop::Exits(Exit::Device(DeviceFault::Other)),
         RecordError::Read => NotResumed::Unreadable,
         RecordError::Step => NotResumed::Unlawful,
-        RecordError::Damaged(line) => NotResumed::Damaged(behind_first(line)),
-        RecordError::TooLong(line) => NotResumed::TooLong(behind_first(line)),
+        RecordError::Damaged(line) => NotResumed::Damaged(line_of_file(line)),
+        RecordError::TooLong(line) => NotResumed::TooLong(line_of_file(line)),
         RecordError::NoConfiguration(line, e) => {
-            NotResumed::NoConfiguration(behind_first(line), e)
+            NotResumed::NoConfiguration(line_of_file(line), e)
         }
-        RecordError::OtherFrame(line, key) => NotResumed::OtherFrame(behind_first(line), key),
+        RecordError::OtherFrame(line, key) => NotResumed::OtherFrame(line_of_file(line), key),
     };
     Stop::NotResumed(why)
 }

@@ -1,24 +1,18 @@
 ghost use Rattle.std.specs.Prelude.{◌≡◌, IfErr, IfOk};
+ghost use Rattle.sipd_old_record.specs.Readers.{HasStopped, most_asks};
 ghost use Rattle.sipd_tools.specs.Against;
-ghost use Rattle.sipd_tools.specs.Against.{line_of_file, IsLastOf, IsStated, IsWithoutLast};
+ghost use Rattle.sipd_tools.specs.Against.{IsLastOf, IsStated, IsWithoutLast};
 
 use sip_config_types::Config;
 use sip_replay_script::{Lines, TellingReader};
-use sip_segments::{SegmentStop, last_configuration};
+use sip_segment_config::{SegmentStop, last_configuration};
 use sipd_arguments::{DeviceFault, Exit, config_of};
+use sipd_old_record::{line_of_file, open_any_record};
 use sipd_reload::MOST_BYTES;
-use sipd_start::open_any_record;
 use std::alloc::Global;
 use std::fs;
 use std::io::Write;
 use std::rt::Files;
-
-/// The line of a record's file that is this one behind its first line.
-fn line_of_file(line: u64) -> u64
-    ensures { result ≡ line_of_file line }
-{
-    line.saturating_add(1)
-}
 
 /// How the program ends where the last configuration of a record isn't read; one that is refused is as that of a file is.
 fn exit_of_last(stop: SegmentStop) -> Exit
@@ -35,17 +29,19 @@ fn exit_of_last(stop: SegmentStop) -> Exit
     }
 }
 
-/// The last configuration of a record, of which the first line was read. Refusals: `NoConfiguration`, where it holds none; `Script`, with
-/// the line of its file that is damaged, or begins a configuration that is too long; `Configuration`; `Memory`; `Device`.
+/// The last configuration of a record, of which the first line was read. Refusals: `BareRecord`, where it holds none; `Script`, with
+/// the line of its file that is damaged, or begins a configuration that is too long; `Configuration`; `Memory`; `Device`, where the reader
+/// failed or was asked as often as it may be.
 fn last_of<I: TellingReader>(alloc: Global, events: &mut I) -> Result<Config, Exit>
     ensures last { IfOk result (IsLastOf (I.remaining events.old)) }
     ensures stated { IfOk result IsStated }
-    ensures refused { IfErr result (IsWithoutLast (I.remaining events.old)) }
+    ensures refused { IfErr result (IsWithoutLast (HasStopped (I.has_failed events.new) most_asks (I.asked events.old) (I.asked events.new))
+        (I.remaining events.old)) }
 {
     let mut lines = Lines::new(alloc)?;
     match last_configuration(alloc, &mut lines, events, MOST_BYTES) {
         Ok(Some(held)) => Ok(held.config),
-        Ok(None) => Err(Exit::NoConfiguration),
+        Ok(None) => Err(Exit::BareRecord),
         Err(stop) => Err(exit_of_last(stop)),
     }
 }

@@ -1,6 +1,7 @@
 use Rattle.std.proofs.Common.{◌+◌, ap}
 use Rattle.std.proofs.lemmas.Result.{err_from_is_err_and}
 use Rattle.sip_replay_script.specs.Lines.{IsSpent, pending}
+use Rattle.sip_segment_config.specs.Reads.{GivesStated}
 use Rattle.sip_segments.proofs.Stopping.{change_stops, unread_stops}
 use Rattle.sip_segments.proofs.taking.take_configuration.Goals as goal
 
@@ -13,6 +14,6 @@ returns-in_err-held-clause-refused g c =
 pub returns-in_err-change_to-clause-refused : goal.returns-in_err-change_to-clause-refused
 returns-in_err-change_to-clause-refused g c =
     let p = err_from_is_err_and c.from_residual-in_err-change_to.result c.from_residual-in_err-change_to.ensures.1 in
-    rw (p.1, p.2) (change_stops c.args.engine.now.server c.args.longest (IsSpent (g.I.TellingReader.has_failed c.read_configuration.new.reader) c.read_configuration.new.lines.asks) c.args.lines.now c.read_configuration.new.lines
-    (g.I.TellingReader.remaining c.args.reader.now) (g.I.TellingReader.remaining c.read_configuration.new.reader) c.args.lines.now.number (c.number-first.result + 1) c.in-Some.held.text c.in-Some.held.config c.in_err-change_to.field-0.0
-    (ap (λ n. n + 1) c.number-first.ensures.value) (rw c.in-Some.is at c.in_ok-held.ensures.given) c.in_err-change_to.ensures.refused)
+    rw (p.1, p.2) (change_stops c.args.engine.now.server c.args.longest (IsSpent (g.I.TellingReader.has_failed c.read_configuration.new.reader) c.read_configuration.new.lines.asks)
+    (pending c.args.lines.now (g.I.TellingReader.remaining c.args.reader.now)) c.args.lines.now.number (c.number-first.result + 1) c.in-Some.held.text c.in-Some.held.config c.in_err-change_to.field-0.0
+    (ap (λ n. n + 1) c.number-first.ensures.value) (rw c.in-Some.is at c.in_ok-held.ensures.next) (let given : GivesStated c.args.lines.now c.read_configuration.new.lines (g.I.TellingReader.remaining c.args.reader.now) (g.I.TellingReader.remaining c.read_configuration.new.reader) c.in-Some.held.text c.in-Some.held.config = rw c.in-Some.is at c.in_ok-held.ensures.given in given.states) c.in_err-change_to.ensures.refused)

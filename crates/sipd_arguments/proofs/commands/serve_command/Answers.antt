@@ -9,23 +9,20 @@ use Rattle.sipd_arguments.proofs.commands.serve_command.Goals as goal
 
 pub returns : goal.returns
 returns c =
-    IfOk-weaker c.arg-8.result _ _ (λ r h. (
-      c.record_fault_argument.ensures.rule.0,
-      added _ _ r _ _
-          (added _ _ _ _ _
-          (added _ _ _ _ _
-          (added _ _ _ _ _
-          (added _ _ _ _ _
-          (added _ _ _ _ _
-          (added _ _ _ _ _
-          (added _ _ _ _ _
-          (begun _ (codes "serve") (ap app_of_fields c.about.ensures ∙ c.new.ensures.app) (ap (λ (f : Command-F Command). f.has_globals) c.about.ensures ∙ c.new.ensures.local))
-          c.in_ok-arg.ensures (needed_rule _ _ _ c.required.ensures c.config_argument.ensures.rule) (ap (λ (x : Arg). x.global) c.required.ensures ∙ c.config_argument.ensures.local))
-          c.in_ok-arg-2.ensures c.turns_argument.ensures.rule c.turns_argument.ensures.local)
-          c.in_ok-arg-3.ensures c.record_argument.ensures.rule c.record_argument.ensures.local)
-          c.in_ok-arg-4.ensures c.in_ok-records_argument.ensures.0 c.in_ok-records_argument.ensures.1)
-          c.in_ok-arg-5.ensures c.record_fault_argument.ensures.rule.1 c.record_fault_argument.ensures.local)
-          c.in_ok-arg-6.ensures c.in_ok-resume_argument.ensures.0 c.in_ok-resume_argument.ensures.1)
-          c.in_ok-arg-7.ensures c.per_source_argument.ensures.rule c.per_source_argument.ensures.local)
-          h c.flag.ensures.rule c.flag.ensures.local,
-    )) c.arg-8.ensures
+    IfOk-weaker c.arg-8.result _ _ (λ r h. added _ _ r _ _
+    (added _ _ _ _ _
+    (added _ _ _ _ _
+    (added _ _ _ _ _
+    (added _ _ _ _ _
+    (added _ _ _ _ _
+    (added _ _ _ _ _
+    (added _ _ _ _ _
+    (begun _ (codes "serve") (ap app_of_fields c.about.ensures ∙ c.new.ensures.app) (ap (λ (f : Command-F Command). f.has_globals) c.about.ensures ∙ c.new.ensures.local))
+    c.in_ok-arg.ensures (needed_rule _ _ _ c.required.ensures c.config_argument.ensures.rule) (ap (λ (x : Arg). x.global) c.required.ensures ∙ c.config_argument.ensures.local))
+    c.in_ok-arg-2.ensures c.turns_argument.ensures.rule c.turns_argument.ensures.local)
+    c.in_ok-arg-3.ensures c.record_argument.ensures.rule c.record_argument.ensures.local)
+    c.in_ok-arg-4.ensures c.records_argument.ensures.rule c.records_argument.ensures.local)
+    c.in_ok-arg-5.ensures c.record_fault_argument.ensures.rule c.record_fault_argument.ensures.local)
+    c.in_ok-arg-6.ensures c.resume_argument.ensures.rule c.resume_argument.ensures.local)
+    c.in_ok-arg-7.ensures c.per_source_argument.ensures.rule c.per_source_argument.ensures.local)
+    h c.flag.ensures.rule c.flag.ensures.local) c.arg-8.ensures

@@ -15,5 +15,5 @@ returns c =
     (begun _ (codes "user") (ap app_of_fields c.about.ensures ∙ c.new.ensures.app) (ap (λ (f : Command-F Command). f.has_globals) c.about.ensures ∙ c.new.ensures.local))
     c.in_ok-arg.ensures c.word.ensures.rule c.word.ensures.local)
     c.in_ok-arg-2.ensures c.config_argument.ensures.rule c.config_argument.ensures.local)
-    c.in_ok-arg-3.ensures c.in_ok-realm_argument.ensures.0 c.in_ok-realm_argument.ensures.1)
-    h c.in_ok-sha256_argument.ensures.0 c.in_ok-sha256_argument.ensures.1) c.arg-4.ensures
+    c.in_ok-arg-3.ensures c.realm_argument.ensures.rule c.realm_argument.ensures.local)
+    h c.sha256_argument.ensures.rule c.sha256_argument.ensures.local) c.arg-4.ensures

@@ -7,14 +7,24 @@ unfolding clap_on_literals
 returns c = record {
   check = refl;
   joined = refl;
+  serve = refl;
   decide = refl;
   no_option = refl;
+  user = refl;
+  no_command = refl;
+  other_command = refl;
   nothing_named = refl;
+  nobody = refl;
   no_value = refl;
   twice = refl;
   unknown = refl;
   no_number = refl;
+  too_few = refl;
+  most = refl;
+  too_many = refl;
+  last_minute = refl;
+  no_minute = refl;
   one_word_more = refl;
   help = refl;
-  tied = refl;
+  version = refl;
 }

@@ -1,3 +1,8 @@
+use Rattle.std.proofs.Common.{◌≡◌, ◌∙◌, ℕ, List, sym, ap, subst}
+use Rattle.std.specs.Prelude.{option_map}
+use Rattle.model_bounds.specs.state.declared.server.Server.{Server}
+use Rattle.sip_guard.specs.Guard.{GuardState, hearing}
+use Rattle.sipd_command.specs.Starts.{hop_addresses}
 use Rattle.sipd_command.proofs.Changing.{not_other}
 use Rattle.sipd_command.proofs.reloading.change_to.Goals as goal
 
@@ -11,3 +16,9 @@ returns-in-Ok-change-clause-under g c = record {
   };
   next_is = c.in-Ok-change.ensures.server;
 }
+
+pub returns-in-Ok-change-clause-hears : goal.returns-in-Ok-change-clause-hears
+returns-in-Ok-change-clause-hears g c =
+    let in_force = ap (λ (s : Server). s.config) c.in-Ok-change.ensures.server in
+    let hops : c.in-Ok-hops_of.hops.items ≡ hop_addresses c.change.new.self.server.config = c.in-Ok-hops_of.ensures ∙ ap hop_addresses (sym in_force) in
+    subst (λ (always : List (List ℕ)). c.hear_always.new.self ≡ record c.args.link.now { allowances = option_map (hearing always) c.args.link.now.allowances }) hops c.hear_always.ensures

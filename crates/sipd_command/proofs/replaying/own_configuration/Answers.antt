@@ -1,5 +1,5 @@
 use Rattle.std.proofs.Common.{refl}
-use Rattle.sip_segments.specs.declared.stop.SegmentStop.TheVariants.{Read}
+use Rattle.sip_segment_config.specs.declared.stop.SegmentStop.TheVariants.{Read}
 use Rattle.sipd_command.proofs.Ahead.{given_ahead}
 use Rattle.sipd_command.proofs.replaying.own_configuration.Goals as goal
 

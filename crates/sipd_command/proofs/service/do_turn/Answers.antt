@@ -1,18 +1,20 @@
-use Rattle.std.proofs.Common.{◌∙◌, inl, inr, ℕ, refl, sym, ap, subst, MatchOption}
+use Rattle.std.proofs.Common.{◌≡◌, ◌∙◌, inl, inr, ℕ, List, Option, refl, sym, ap, subst, MatchOption}
 use Rattle.sip_loop_link.specs.Told.{GrewBy, and_counted}
-use Rattle.sip_run.specs.engine.engine_time.Next.{IsNext}
-use Rattle.sip_run.specs.engine.engine_time.fork.Due.{IsNothingDue}
+use Rattle.sip_replay.specs.run.engine.engine_time.Next.{IsNext}
+use Rattle.sip_replay.specs.run.engine.engine_time.fork.Due.{IsNothingDue}
 use Rattle.model_bounds.specs.state.declared.proxy_state.ProxyState.{ProxyState}
 use Rattle.sipd_arguments.specs.declared.device_fault.DeviceFault.{DeviceFault}
 use Rattle.sipd_command.specs.Exits.{exit_of_serve}
+use Rattle.sipd_command.specs.Waits.{wait_before}
 use Rattle.sipd_command.specs.Turns.{Begins, IsLookedAt, IsServedOn, ServiceSeen, service_seen}
-use Rattle.sipd_command.proofs.Changing.{err_says, ok_says, stays_failed, watched_so, with_link, with_readings}
+use Rattle.sipd_command.proofs.Changing.{err_says, hears_hops, hears_still, ok_says, same_link, stays_failed, watched_so, with_link, with_readings, with_three}
 use Rattle.sipd_command.proofs.service.do_turn.Goals as goal
 
 pub returns-then-is_err-clause-ended : goal.returns-then-is_err-clause-ended
 returns-then-is_err-clause-ended g c =
     let is_err = sym c.is_err.ensures.value ∙ c.if-is_err.true in
-    let ended : ServiceSeen = service_seen c.change-changed.new.engine c.args.service.now.port c.change-changed.new.watch c.args.service.now.link (g.C.Clock.readings c.now-now.new.self) (g.J.Journal.written c.say_fault.new.journal) (g.J.Journal.faulted c.say_fault.new.journal) (g.N.Rng.stream c.args.service.now.words) c.args.printer.now.has_failed (g.O.Write.contents c.args.printer.now.output) in
+    let link : c.change-changed.new.link.link ≡ c.args.service.now.link.link = same_link c.args.service.now.engine.server c.change-changed.new.engine.server c.args.service.now.link c.change-changed.new.link c.change-changed.ensures.hears in
+    let ended : ServiceSeen = service_seen c.change-changed.new.engine c.args.service.now.port c.change-changed.new.watch c.change-changed.new.link (g.C.Clock.readings c.now-now.new.self) (g.J.Journal.written c.say_fault.new.journal) (g.J.Journal.faulted c.say_fault.new.journal) (g.N.Rng.stream c.args.service.now.words) c.args.printer.now.has_failed (g.O.Write.contents c.args.printer.now.output) in
     let watched = watched_so c.args.service.now.port c.now-now.result c.args.service.now.engine.server c.change-changed.new.engine.server c.args.service.now.watch
     (err_says c.change-changed.result is_err c.change-changed.ensures.watched) (err_says c.change-changed.result is_err c.change-changed.ensures.unnoted) in
     inr (record {
@@ -20,15 +22,18 @@ returns-then-is_err-clause-ended g c =
       watch = watched.0;
       watched = watched.1;
       unnoted = watched.2;
+      hears = hears_hops c.args.service.now.engine.server c.change-changed.new.engine.server c.args.service.now.link c.change-changed.new.link c.change-changed.ensures.hears;
       failed = stays_failed (g.J.Journal.written c.change-changed.new.journal) (g.J.Journal.written c.say_fault.new.journal) (err_says c.change-changed.result is_err c.change-changed.ensures.failed) c.say_fault.ensures.noted;
-      others = with_readings ended.devices (and_counted (g.C.Clock.readings c.args.service.now.clock) c.now-now.result) c.now-now.ensures;
+      others = with_three ended.devices c.args.service.now.link.link.heard c.args.service.now.link.link.given (and_counted (g.C.Clock.readings c.args.service.now.clock) c.now-now.result)
+          (ap (λ l. l.heard) link) (ap (λ l. l.given) link) c.now-now.ensures;
       still = c.change-changed.ensures.state;
-      same_waits = refl;
+      same_waits = ap (λ l. l.waits) link;
       exit_is = refl;
     })
 
 pub returns-in-Ok-clause-turn : goal.returns-in-Ok-clause-turn
 returns-in-Ok-clause-turn g c =
+    let link : c.change-changed.new.link.link ≡ c.args.service.now.link.link = same_link c.args.service.now.engine.server c.change-changed.new.engine.server c.args.service.now.link c.change-changed.new.link c.change-changed.ensures.hears in
     let first : ServiceSeen = service_seen c.change-changed.new.engine c.args.service.now.port c.change-changed.new.watch c.wait.new.self (g.C.Clock.readings c.now-now.new.self) (g.J.Journal.written c.change-changed.new.journal) (g.J.Journal.faulted c.change-changed.new.journal) (g.N.Rng.stream c.args.service.now.words) c.args.printer.now.has_failed (g.O.Write.contents c.args.printer.now.output) in
     let looked : ServiceSeen = service_seen c.args.service.now.engine c.args.service.now.port c.args.service.now.watch c.args.service.now.link (g.C.Clock.readings c.now-now.new.self) (g.J.Journal.written c.look.new.journal) (g.J.Journal.faulted c.look.new.journal) (g.N.Rng.stream c.args.service.now.words) c.args.printer.now.has_failed (g.O.Write.contents c.args.printer.now.output) in
     let last : ServiceSeen = service_seen c.serve-served.new.engine c.args.service.now.port c.change-changed.new.watch c.serve-served.new.link (g.C.Clock.readings c.serve-served.new.clock) (g.J.Journal.written c.serve-served.new.journal) (g.J.Journal.faulted c.serve-served.new.journal) (g.N.Rng.stream c.serve-served.new.words) c.serve-served.new.audit.has_failed (g.O.Write.contents c.serve-served.new.audit.output) in
@@ -39,11 +44,13 @@ returns-in-Ok-clause-turn g c =
       seen = looked.devices;
       looked = record { others = with_readings looked.devices (and_counted (g.C.Clock.readings c.args.service.now.clock) c.now-now.result) c.now-now.ensures; noted = c.look.ensures.noted };
       changed = ok_says c.change-changed.result (sym c.is_err.ensures.value ∙ c.if-is_err.false) c.change-changed.ensures.changed;
-      others = with_link first.devices c.args.service.now.link.link.heard c.args.service.now.link.link.given c.wait.ensures.heard c.wait.ensures.given;
+      hears = hears_still c.args.service.now.engine.server c.change-changed.new.engine.server c.args.service.now.link c.change-changed.new.link c.wait.new.self c.change-changed.ensures.hears c.wait.ensures.allowances;
+      others = with_link first.devices c.args.service.now.link.link.heard c.args.service.now.link.link.given (c.wait.ensures.heard ∙ ap (λ l. l.heard) link) (c.wait.ensures.given ∙ ap (λ l. l.given) link);
       still = c.change-changed.ensures.state;
       same_port = refl;
       next = subst (λ (s : ProxyState). MatchOption c.next_due.result (IsNothingDue s.requests) (IsNext s.requests)) c.change-changed.ensures.state c.next_due.ensures.first;
-      waited = subst (λ (n : ℕ). GrewBy n c.args.service.now.link.link.waits c.wait.new.self.link.waits) c.wait_before-wait.ensures c.wait.ensures.waited;
+      waited = subst (λ (w : Option (List ℕ)). GrewBy (wait_before c.next_due.result c.now-now.result) w c.wait.new.self.link.waits) (ap (λ l. l.waits) link)
+          (subst (λ (n : ℕ). GrewBy n c.change-changed.new.link.link.waits c.wait.new.self.link.waits) c.wait_before-wait.ensures c.wait.ensures.waited);
     } in
     let ends : IsLookedAt last.devices after.devices = record {
       others = with_link after.devices c.serve-served.new.link.link.heard c.serve-served.new.link.link.given (ap (λ l. l.heard) c.say_unheard.ensures.link) (ap (λ l. l.given) c.say_unheard.ensures.link);
@@ -59,6 +66,7 @@ returns-in-Ok-clause-turn g c =
 
 pub returns-in-Err-clause-ended : goal.returns-in-Err-clause-ended
 returns-in-Err-clause-ended g c =
+    let link : c.change-changed.new.link.link ≡ c.args.service.now.link.link = same_link c.args.service.now.engine.server c.change-changed.new.engine.server c.args.service.now.link c.change-changed.new.link c.change-changed.ensures.hears in
     let first : ServiceSeen = service_seen c.change-changed.new.engine c.args.service.now.port c.change-changed.new.watch c.wait.new.self (g.C.Clock.readings c.now-now.new.self) (g.J.Journal.written c.change-changed.new.journal) (g.J.Journal.faulted c.change-changed.new.journal) (g.N.Rng.stream c.args.service.now.words) c.args.printer.now.has_failed (g.O.Write.contents c.args.printer.now.output) in
     let looked : ServiceSeen = service_seen c.args.service.now.engine c.args.service.now.port c.args.service.now.watch c.args.service.now.link (g.C.Clock.readings c.now-now.new.self) (g.J.Journal.written c.look.new.journal) (g.J.Journal.faulted c.look.new.journal) (g.N.Rng.stream c.args.service.now.words) c.args.printer.now.has_failed (g.O.Write.contents c.args.printer.now.output) in
     let last : ServiceSeen = service_seen c.serve-served.new.engine c.args.service.now.port c.change-changed.new.watch c.serve-served.new.link (g.C.Clock.readings c.serve-served.new.clock) (g.J.Journal.written c.serve-served.new.journal) (g.J.Journal.faulted c.serve-served.new.journal) (g.N.Rng.stream c.serve-served.new.words) c.serve-served.new.audit.has_failed (g.O.Write.contents c.serve-served.new.audit.output) in
@@ -69,11 +77,13 @@ returns-in-Err-clause-ended g c =
       seen = looked.devices;
       looked = record { others = with_readings looked.devices (and_counted (g.C.Clock.readings c.args.service.now.clock) c.now-now.result) c.now-now.ensures; noted = c.look.ensures.noted };
       changed = ok_says c.change-changed.result (sym c.is_err.ensures.value ∙ c.if-is_err.false) c.change-changed.ensures.changed;
-      others = with_link first.devices c.args.service.now.link.link.heard c.args.service.now.link.link.given c.wait.ensures.heard c.wait.ensures.given;
+      hears = hears_still c.args.service.now.engine.server c.change-changed.new.engine.server c.args.service.now.link c.change-changed.new.link c.wait.new.self c.change-changed.ensures.hears c.wait.ensures.allowances;
+      others = with_link first.devices c.args.service.now.link.link.heard c.args.service.now.link.link.given (c.wait.ensures.heard ∙ ap (λ l. l.heard) link) (c.wait.ensures.given ∙ ap (λ l. l.given) link);
       still = c.change-changed.ensures.state;
       same_port = refl;
       next = subst (λ (s : ProxyState). MatchOption c.next_due.result (IsNothingDue s.requests) (IsNext s.requests)) c.change-changed.ensures.state c.next_due.ensures.first;
-      waited = subst (λ (n : ℕ). GrewBy n c.args.service.now.link.link.waits c.wait.new.self.link.waits) c.wait_before-wait.ensures c.wait.ensures.waited;
+      waited = subst (λ (w : Option (List ℕ)). GrewBy (wait_before c.next_due.result c.now-now.result) w c.wait.new.self.link.waits) (ap (λ l. l.waits) link)
+          (subst (λ (n : ℕ). GrewBy n c.change-changed.new.link.link.waits c.wait.new.self.link.waits) c.wait_before-wait.ensures c.wait.ensures.waited);
     } in
     let ends : IsLookedAt last.devices after.devices = record {
       others = with_link after.devices c.serve-served.new.link.link.heard c.serve-served.new.link.link.given (ap (λ l. l.heard) c.say_unheard.ensures.link) (ap (λ l. l.given) c.say_unheard.ensures.link);

@@ -1,7 +1,14 @@
-use Rattle.sipd_start.proofs.Refusals.{unread_so}
+use Rattle.sipd_start.proofs.Refusals.{stopped_behind_so, unread_so}
 use Rattle.sipd_start.proofs.beginning.begin_from.Goals as goal
 
 pub returns-in-Err-clause-refused : goal.returns-in-Err-clause-refused
 returns-in-Err-clause-refused g c =
-    unread_so c.args.beginning.now.stated.now.bytes.items c.args.beginning.now.stated.now.digest (g.I.TellingReader.remaining c.args.reader.now) (g.I.TellingReader.remaining c.head_in.new.reader)
-    (g.I.TellingReader.has_failed c.head_in.new.reader) c.in-Err.exit c.unread.result c.unread.ensures c.in-Err.ensures.refused
+    unread_so c.args.beginning.now.stated.now.bytes.items c.args.beginning.now.stated.now.digest (g.I.TellingReader.has_failed c.head_in.new.reader)
+    (g.I.TellingReader.asked c.args.reader.now) (g.I.TellingReader.asked c.head_in.new.reader) (g.I.TellingReader.remaining c.args.reader.now)
+    (g.I.TellingReader.remaining c.head_in.new.reader) c.in-Err.exit c.unread.result c.unread.ensures c.in-Err.ensures.refused
+
+pub returns-in-Whole-clause-refused : goal.returns-in-Whole-clause-refused
+returns-in-Whole-clause-refused g c =
+    stopped_behind_so c.go_on.result c.args.beginning.now.stated.now.bytes.items c.args.beginning.now.stated.now.digest (g.I.TellingReader.has_failed c.go_on.new.reader) (g.I.TellingReader.asked c.args.reader.now)
+    (g.I.TellingReader.asked c.head_in.new.reader) (g.I.TellingReader.asked c.go_on.new.reader) (g.I.TellingReader.remaining c.args.reader.now) (g.I.TellingReader.remaining c.head_in.new.reader) c.in-Ok.head c.in-Ok.ensures.head
+    c.in-Whole.is c.head_in.ensures.asked c.go_on.ensures.stopped

@@ -1,6 +1,6 @@
 use Rattle.std.proofs.Common.{◌≡◌, None, Some, arith, refl}
-use Rattle.sip_replay_script.specs.Lines.{IsSpent, pending}
-use Rattle.sipd_arguments.specs.declared.exit.Exit.TheVariants.{NoConfiguration}
+use Rattle.sip_replay_script.specs.Lines.{pending}
+use Rattle.sipd_arguments.specs.declared.exit.Exit.TheVariants.{BareRecord}
 use Rattle.sipd_tools.proofs.LastOnes.{last_is, last_stated, none_is, unread_is}
 use Rattle.sipd_tools.proofs.against.last_of.Goals as goal
 
@@ -17,9 +17,9 @@ returns-in-Ok-Some-clause-stated g c =
 pub returns-in-Ok-None-clause-refused : goal.returns-in-Ok-None-clause-refused
 returns-in-Ok-None-clause-refused g c =
     let there : c.in-Ok-None.field-0 ≡ None = grind (arith, c.in-Ok-None.is, c.in-Ok-None.field-0-is) in
-    none_is c.in_ok-lines.lines (g.I.TellingReader.remaining c.args.events.now) NoConfiguration c.in_ok-lines.ensures refl (rw there at c.in-Ok-None.ensures.none)
+    none_is _ c.in_ok-lines.lines (g.I.TellingReader.remaining c.args.events.now) BareRecord c.in_ok-lines.ensures refl (rw there at c.in-Ok-None.ensures.none)
 
 pub returns-clause-refused : goal.returns-clause-refused
 returns-clause-refused g c =
-    unread_is c.in_ok-lines.lines (g.I.TellingReader.remaining c.args.events.now) (IsSpent (g.I.TellingReader.has_failed c.last_configuration.new.reader) c.last_configuration.new.lines.asks) c.in-Err.stop c.exit_of_last.result c.in_ok-lines.ensures c.exit_of_last.ensures
-    c.in-Err.ensures.refused
+    unread_is c.in_ok-lines.lines (g.I.TellingReader.remaining c.args.events.now) (g.I.TellingReader.has_failed c.last_configuration.new.reader) c.last_configuration.new.lines.asks (g.I.TellingReader.asked c.args.events.now)
+    (g.I.TellingReader.asked c.last_configuration.new.reader) c.in-Err.stop c.exit_of_last.result c.in_ok-lines.ensures c.last_configuration.ensures.asked c.exit_of_last.ensures c.in-Err.ensures.refused

@@ -1,0 +1,3 @@
+pub mod Last
+pub mod Reads
+pub mod Stops

@@ -1,0 +1,46 @@
+ghost use Rattle.std.specs.Prelude.{◌≡◌};
+ghost use Rattle.sipd_arguments.specs.CommandLine as Definitions;
+
+/// Why a command line is no call, though each of its words is taken.
+#[derive(Clone, Copy)]
+pub(crate) enum Misuse {
+    /// No command is named.
+    NoCommand,
+    /// `--record` stands beside `--records`.
+    TwoRecords,
+    /// `--resume` stands without `--record`.
+    NoNewRecord,
+    /// `--record-fault` stands where no record is made.
+    NoRecord,
+    /// `--record-fault` has a word that it doesn't know.
+    NoSuchWord,
+    /// Neither `--realm` nor `--config` says the realm.
+    NoRealm,
+    /// `--sha256` stands beside `--config`, which says it.
+    Sha256Said,
+}
+
+impl Misuse {
+    /// What is complained about, in a line.
+    pub(crate) fn line(self) -> &'static str
+        ensures { result.now ≡ Definitions.line_of self }
+    {
+        match self {
+            Misuse::NoCommand => "error: no command",
+            Misuse::TwoRecords => {
+                "error: '--record <FILE>' and '--records <FOLDER>' don't stand together"
+            }
+            Misuse::NoNewRecord => "error: '--resume <OLD>' is for a new record: '--record <FILE>'",
+            Misuse::NoRecord => {
+                "error: '--record-fault <WORD>' is for a record: '--record <FILE>' or '--records <FOLDER>'"
+            }
+            Misuse::NoSuchWord => "error: '--record-fault <WORD>' is 'go-on' or 'end'",
+            Misuse::NoRealm => {
+                "error: no realm: '--realm <R>', or '--config <FILE>' that states it"
+            }
+            Misuse::Sha256Said => {
+                "error: '--sha256' isn't for '--config <FILE>', whose users say whether"
+            }
+        }
+    }
+}

@@ -1,0 +1,7 @@
+/// What becomes of users, or of rules.
+#[derive(Clone, Copy)]
+pub(crate) enum Fate {
+    More,
+    Fewer,
+    Changed,
+}

@@ -1,0 +1,2 @@
+pub mod OldRecord
+pub mod Readers

@@ -1,0 +1,17 @@
+use Rattle.std.proofs.Common.{◌≡◌, rules}
+use Rattle.std.proofs.lemmas.Result.{err_from_is_err_and}
+use Rattle.sip_replay_script.specs.Lines.{pending}
+use Rattle.sipd_start.proofs.Refusals.{stops_at, under_exits}
+use Rattle.sipd_start.proofs.taking.take_old.Goals as goal
+
+pub returns-in-Err-clause-stopped : goal.returns-in-Err-clause-stopped
+returns-in-Err-clause-stopped g c =
+    let zero : c.args.old.lines.number ≡ 0 = search rules in
+    stops_at c.resume_record.result c.args.old.has_own c.args.stated.now.bytes.items c.args.engine.now.server _ c.args.engine.now.state _ (g.I.TellingReader.has_failed c.resume_record.new.reader) c.resume_record.new.lines.asks
+    c.args.old.lines.asks (g.I.TellingReader.asked c.args.reader.now) (g.I.TellingReader.asked c.resume_record.new.reader) (pending c.args.old.lines (g.I.TellingReader.remaining c.args.reader.now)) _
+    (g.J.Journal.written c.args.journal.now) _ _ c.in-Err.e c.untaken.result c.in-Err.is c.resume_record.ensures.gave_up zero c.untaken.ensures c.in_ok-tell_first.ensures.noted c.resume_record.ensures.asked c.in-Err.ensures.refused
+
+pub returns-in_err-come_under-clause-stopped : goal.returns-in_err-come_under-clause-stopped
+returns-in_err-come_under-clause-stopped g c =
+    let p = err_from_is_err_and c.from_residual-in_err-come_under.result c.from_residual-in_err-come_under.ensures.1 in
+    rw p.1 (under_exits _ _ _ _ _ _ _ _ _ _ _ _ _ _ c.in_err-come_under.field-0.0 _ c.frame_is_place_and_realm.ensures c.in-Ok.ensures.resumed c.in_err-come_under.ensures.refused p.2)
