@@ -274,14 +274,56 @@ def configuration_damaged_or_cut(folder, expect):
     expect(status == 0 and len(firsts) == 2, f"status {status}, {len(firsts)} configurations")
     for first in firsts:
         start = len(b"".join(lines[:first]))
-        for place in range(start + 1, good.index(b"\nconfiguration ", start) + 79, 397):
+        for place in range(start, good.index(b"\nconfiguration ", start) + 79, 397):
             damaged = write(new(folder), good[:place] + bytes([good[place] ^ 1]) + good[place + 1 :])
             for words in (["replay", "--record", damaged], ["check", "--config", config, "--against", damaged]):
                 status, _, complaints = ended(*words)
                 expect(status == 3 and complaints.endswith(f"sipd: script line {first + 1}\n"), f"{words[0]}, byte {place}: {status} {complaints}")
+            if place == start:
+                continue
             status, printed, complaints = ended("replay", "--record", write(new(folder), good[:place]))
             wanted = (0, "") if first > 1 else (3, "sipd: script line 2\n")
             expect((status, complaints) == wanted and whole.startswith(printed), f"cut at byte {place}: {status} {complaints}")
+
+
+def starts_anew(folder, config, old, why):
+    """The record of a start that isn't to go on from an older one, and says why."""
+    made = new(folder)
+    with serving(folder, config, "--record", made, "--resume", old) as server:
+        assert server.serves() and f"isn't resumed: {why};" in server.complaints(), f"{why}: {server.complaints()}"
+    return made
+
+
+def holds_what_its_head_names(folder, expect):
+    """A record has the digest of the configuration that it begins with, also behind one that was cut in its own; one whose first line has another
+    digest isn't gone on from, nor replayed, nor compared; nor is one whose byte behind the first line begins nothing."""
+    port = free_port()
+    config = office(folder, port)
+    other = write(new(folder), read(config) + b"\n# another\n")
+    good = read(recorded(folder, config, port))
+    head, behind = good.index(b"\n") + 1, good.index(b"\nconfiguration ")
+    for by in (config, other):
+        made = starts_anew(folder, by, write(new(folder), good[: (head + behind) // 2]), "it was cut in its first configuration")
+        expect(hashlib.sha256(read(by)).hexdigest().encode() in read(made).splitlines()[0], "it has another digest than its configuration")
+        status, _, complaints = ended("replay", "--record", made, "--config", by)
+        expect((status, complaints) == (0, ""), f"the replay: {status} {complaints}")
+    digit = head - 10
+    turned = write(new(folder), good[:digit] + (b"1" if good[digit : digit + 1] == b"0" else b"0") + good[digit + 1 :])
+    begun = write(new(folder), good[:head] + b"<" + good[head + 1 :])
+    for old, line, why in ((turned, 1, "its line 1 has another digest than its first configuration"), (begun, 2, "its line 2 begins no event and no configuration")):
+        starts_anew(folder, config, old, why)
+        for words in (["replay", "--record", old], ["check", "--config", config, "--against", old]):
+            status, printed, complaints = ended(*words)
+            expect((status, printed) == (3, "") and complaints.endswith(f"sipd: script line {line}\n"), f"{words[0]}, line {line}: {status} {complaints}")
+
+
+def pipe_to_go_on_from(folder, expect):
+    """A named pipe isn't gone on from by its name: it is told at once, and no record is made."""
+    config, pipe, made = office(folder, free_port()), new(folder), new(folder)
+    os.mkfifo(pipe)
+    status, printed, complaints = ended("serve", "--config", config, "--record", made, "--resume", pipe, "--turns", "1")
+    expect((status, printed) == (4, "") and "--resume -" in complaints, f"{status} {printed} {complaints}")
+    expect(not os.path.exists(made), "a record was made")
 
 
 def kept(data):
@@ -565,6 +607,45 @@ def causes(folder, expect):
 # ---- the hand on it
 
 
+def fed_without_end(words, most):
+    """A call whose input gives bytes for as long as it reads, 64 MiB at most: its status, its complaints, and how many bytes it took."""
+    reader, writer = os.pipe()
+    call, taken = subprocess.Popen([PROGRAM, *words], stdin=reader, stdout=subprocess.DEVNULL, stderr=subprocess.PIPE), 0
+    os.close(reader)
+    with contextlib.suppress(BrokenPipeError):
+        while taken < most:
+            taken += os.write(writer, b"#" * 65536)
+    try:
+        _, complaints = call.communicate(timeout=20)
+    finally:
+        call.kill()
+        os.close(writer)
+    return call.returncode, complaints.decode(), taken
+
+
+def long_configurations(folder, expect):
+    """A file of over 16 MiB, or one without end, is no configuration of any command, and no more is read of it than that."""
+    most = 16 * 2**20
+    said = f"sipd: configuration refused: it has more than {most} bytes\n"
+    config = office(folder, free_port())
+    long = write(new(folder), read(config).ljust(most + 1, b"#"))
+    for words in (
+        ["serve", "--turns", "1", "--config"],
+        ["check", "--config"],
+        ["check", "--show", "--config"],
+        ["check", "--config", config, "--against"],
+        ["user", "carol", "--config"],
+        ["decide", "register", "alice@office.local", "--config"],
+        ["report", "--config"],
+        ["replay", "--config"],
+    ):
+        status, printed, complaints = ended(*words, long)
+        expect((status, printed) == (2, "") and complaints.endswith(said), f"{words}: {status} {printed} {complaints}")
+        status, complaints, taken = fed_without_end([*words, "/dev/stdin"], 4 * most)
+        expect(status == 2 and complaints.endswith(said), f"{words}, without end: {status} {complaints}")
+        expect(taken <= most + 2**20, f"{words}: {taken} bytes were read")
+
+
 def ignored_options(folder, expect):
     """An option that would be taken and ignored is a usage error (1)."""
     config, none = office(folder, free_port()), os.path.join(folder, "nowhere")
@@ -697,8 +778,8 @@ def address_everywhere(folder, expect):
 
 TRIALS = (
     port_0_goes_on, port_0_ends, full_while_taken, full_while_taken_ends, full_at_the_start, full_in_service, full_and_ends, damaged_or_cut,
-    configuration_damaged_or_cut, records_folder, newest_of_a_folder, left, removed, replaced, cut_under_it, replays_what_it_served,
-    due_is_recorded, each_line_is_printed, printed_before_it_is_sent, hops_are_heard, small_stack, causes, ignored_options, long_password, user_of_a_file, uneven_digests,
+    configuration_damaged_or_cut, holds_what_its_head_names, pipe_to_go_on_from, records_folder, newest_of_a_folder, left, removed, replaced, cut_under_it, replays_what_it_served,
+    due_is_recorded, each_line_is_printed, printed_before_it_is_sent, hops_are_heard, small_stack, causes, long_configurations, ignored_options, long_password, user_of_a_file, uneven_digests,
     decides_before_policy, seldom_meant, wrong_files, unit, address_everywhere,
 )  # fmt: skip
 # each waits for 45 seconds, so they are done beside the others

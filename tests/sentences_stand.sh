@@ -1,7 +1,8 @@
 #!/bin/sh
 # Whether each sentence of six pages that says "always", "never", "exactly" or "before" stands in the table at the end of
-# docs/PROVED.md, or in the list behind it of what is no promise; whether each of these still fits a sentence; and whether each
-# clause, law and test that the table names is there, and each place that docs/PROMISES.md leads to. Proves nothing.
+# docs/PROVED.md, or in the list behind it of what is no promise; whether each of these still fits a sentence; whether each
+# clause, law and test that the table names is there, and each place that docs/PROMISES.md leads to; and whether each promise of
+# PROVED is a line. Proves nothing.
 cd "$(dirname "$0")/.." || exit 2
 exec python3 - <<'PY'
 import os
@@ -11,11 +12,11 @@ import sys
 PAGES = {"PROVED": "docs/PROVED.md", "SPECIFICATION": "docs/SPECIFICATION.md", "OPERATING": "docs/OPERATING.md",
     "README": "README.md", "DECISIONS": "docs/DECISIONS.md", "DESIGN": "docs/DESIGN.md"}
 PROMISES = "docs/PROMISES.md"
+LONGEST = 300
 OWN = "Sentences, and what carries them"
 HEADER = ["Page", "Place", "Sentence", "Carried by"]
 WORD = re.compile(r"(?i)\b(?:always|never|exactly|before)\b")
 END = re.compile(r"(?<=[.?!])(?:\)|\*\*|\*|\")*\s+(?=[A-Z*`(\[>\"])")
-ROOM = re.compile(r"\*\*(`\w+`(?:, `\w+`)*)")
 CARRIERS = re.compile(r"`([\w/.]+)`: ((?:`[\w:]+`(?:, )?)+)")
 ROOMS = {line.split(":")[0].strip() for line in open("crates.txt", encoding="utf-8")}
 faults = names = 0
@@ -49,11 +50,8 @@ def sentences(path):
     for heading, line in lines_of(path):
         if heading == OWN:
             continue
-        room = ROOM.match(line) if path == PAGES["PROVED"] else None
         if line.startswith("#"):
             place = plain(line.lstrip("#"))
-        elif room:
-            place = plain(room.group(1))
         for part in [line] if line.startswith("|") else END.split(line):
             if not line.startswith("#") and WORD.search(part):
                 yield place, plain(part)
@@ -148,7 +146,7 @@ def check_promises():
     global names
     said = open(PROMISES, encoding="utf-8").read()
     ends = dict(re.findall(r"(?m)^\[(\w+)\]: (\S+)$", said))
-    rooms = {name for _, line in lines_of(PAGES["PROVED"]) for listed in ROOM.findall(line) for name in re.findall(r"\w+", listed)}
+    rooms = {name for _, line in lines_of(PAGES["PROVED"]) if line.startswith("#### ") for name in re.findall(r"\w+", line)}
     for promise in re.findall(r"(?m)^- (.*(?:\n  .*)*)", said):
         links = re.findall(r"\[([\w]+)\](?:\[(\w+)\])?", promise)
         trials = re.findall(r"`(\w+\.py): (\w+)`", promise)
@@ -165,6 +163,9 @@ def check_promises():
 
 
 check_promises()
+for _, line in lines_of(PAGES["PROVED"]):
+    if len(line) > LONGEST and not line.startswith("|"):
+        fault(f"{PAGES['PROVED']}: a line of {len(line)} characters: {line[:80]}")
 print(f"{count} sentences, {names} names, {faults} faults")
 sys.exit(1 if faults else 0)
 PY

@@ -1,9 +1,10 @@
 -- What holds of every configuration that a file states.
-use Rattle.std.proofs.Common.{◌≡◌, ℕ, ℤ, pos, negsuc, Bool, true, false, ◌&&◌, ◌||◌, ◌==◌, not, cond, nat_lt, nat_le, List, [], ◌∷◌, ◌++◌, length, codes, Option, Some, None, Result, Ok, Err, refl, sym, ap, ap₂, ◌∙◌, subst, if◌then◌else◌, arith}
+use Rattle.std.proofs.Common.{◌≡◌, ℕ, ℤ, pos, negsuc, Bool, true, false, ◌&&◌, ◌||◌, ◌==◌, not, cond, position, suc, ◌+◌, ◌≤◌, nat_lt, nat_le, List, [], ◌∷◌, ◌++◌, length, codes, Option, Some, None, Result, Ok, Err, refl, sym, ap, ap₂, ◌∙◌, subst, if◌then◌else◌, arith}
 use Rattle.std.specs.Str.{bytes_eq}
 use Rattle.std.specs.List.{list_all, list_any, position_or_len}
 use Rattle.std.proofs.lemmas.List.{map-append}
 use Rattle.std.proofs.lemmas.List.Folds.{list_all-append, list_any-append}
+use Rattle.std.proofs.lemmas.Bool.{ltb-false}
 use Rattle.std.proofs.lemmas.Bool.Decides.{nat_tests}
 use Rattle.toml.specs.Data.{Items, no_items, item, Members}
 use Rattle.sip_hops.specs.declared.hop.Hop.{Hop}
@@ -15,10 +16,16 @@ use Rattle.sip_policy.specs.Rule.{is_numbered}
 use Rattle.sip_policy.specs.Users.{have_own_names}
 use Rattle.sip_config_types.specs.declared.config.Config.{Config}
 use Rattle.sip_config.specs.declared.error.ConfigError.{ConfigError}
-use Rattle.sip_config.specs.declared.error.ConfigError.TheVariants.{BadValue, DuplicateRule, UnknownGroup, TooMany}
-use Rattle.sip_config.specs.Refusals.{◌>>=◌, confirmed, kept_if}
-use Rattle.sip_config.specs.Values.{needed, number_of, between, number_between, table_of, items_at, some_items_at}
-use Rattle.sip_config.specs.Rows.{rows_after, all_pass}
+use Rattle.sip_config.specs.declared.error.ConfigError.TheVariants.{BadValue, DuplicateRule, UnknownGroup}
+use Rattle.sip_config.specs.declared.key.Key.{Key}
+use Rattle.sip_config.specs.declared.key.Key.TheVariants as keys
+use Rattle.sip_config.specs.declared.keys.TableKind.{TableKind}
+use Rattle.sip_config.specs.declared.keys.TableKind.TheVariants as kinds
+use Rattle.sip_config.specs.declared.refusal.Refusal.{Refusal}
+use Rattle.sip_config.specs.declared.refusal.Refusal.TheVariants.{At}
+use Rattle.sip_config.specs.Refusals.{◌>>=◌, place, placed, confirmed, kept_if, none_found, error_alone}
+use Rattle.sip_config.specs.Values.{needed, number_of, between, number_between, items_at, some_items_at}
+use Rattle.sip_config.specs.Rows.{table_in, rows_after, all_pass}
 use Rattle.sip_config.specs.Words.{is_hop, hop_named, via_of, via_place, verdict_of}
 use Rattle.sip_config.specs.Rules.{id_at, verdict_text, verdict_at, window_at, who_at, operation_at, target_at, rule_lines, new_id, rule_at, names_known_group, rules_of}
 use Rattle.sip_config.specs.declared.head.Head.{Head}
@@ -27,22 +34,32 @@ use Rattle.sip_config.specs.Head.{head_of}
 use Rattle.sip_config.specs.Users.{new_name, user_line, user_at, users_of, users_at}
 use Rattle.sip_config.specs.Hops.{hops_at}
 use Rattle.sip_config.specs.HostAddresses.{host_addresses_at}
-use Rattle.sip_config.specs.Keys.{knows_all}
-use Rattle.sip_config.specs.Limits.{has_too_many}
-use Rattle.sip_config.specs.Configuration.{config_of, rules_at, stated_by, configuration_of}
+use Rattle.sip_config.specs.Keys.{all_known}
+use Rattle.sip_config.specs.Limits.{all_few}
+use Rattle.sip_config.specs.Configuration.{config_of, rules_at, placed_by, configuration_of}
 use Rattle.sip_config.specs.Configured.{numbers_differ, ids_of, is_hop_below, names_known_hop, IsConfigured}
 
 -- what came of a value that was not refused
-pub record Came {A B : Type 0} (r : Result A ConfigError) (next : A → Result B ConfigError) (b : B) : Type 0 where
+pub record Came {A B E F : Type 0} (r : Result A E) (next : A → Result B F) (b : B) : Type 0 where
   pub value : A
   pub is : r ≡ Ok value
   pub rest : next value ≡ Ok b
 
-pub came : {A B : Type 0} (r : Result A ConfigError) (next : A → Result B ConfigError) (b : B) → (r >>= next) ≡ Ok b → Came r next b
+pub came : {A B E : Type 0} (r : Result A E) (next : A → Result B E) (b : B) → (r >>= next) ≡ Ok b → Came r next b
 came (Ok value) next b e = record { value = value; is = refl; rest = e }
 came (Err refusal) next b e = absurd cc
 
-pub confirmed_ok : (t : Bool) (refusal : ConfigError) (u : Unit {0}) → confirmed t refusal ≡ Ok u → t ≡ true
+-- the same of a key that was read
+pub came_at : {A B : Type 0} (kind : TableKind) (before : ℕ) (key : Key) (r : Result A ConfigError) (next : A → Result B Refusal) (b : B) → (placed kind before key r >>= next) ≡ Ok b → Came r next b
+came_at kind before key (Ok value) next b e = record { value = value; is = refl; rest = e }
+came_at kind before key (Err error) next b e = absurd cc
+
+-- a value that stands without its place is one with it
+pub alone_ok : {A : Type 0} (r : Result A Refusal) (a : A) → error_alone r ≡ Ok a → r ≡ Ok a
+alone_ok (Ok value) a e = let same : value ≡ a = cc in ap Ok same
+alone_ok (Err refusal) a e = absurd cc
+
+pub confirmed_ok : (t : Bool) (refusal : Refusal) (u : Unit {0}) → confirmed t refusal ≡ Ok u → t ≡ true
 confirmed_ok true refusal u e = refl
 confirmed_ok false refusal u e = absurd cc
 
@@ -55,14 +72,14 @@ kept_passes true a b e = refl
 kept_passes false a b e = absurd cc
 
 -- what every next row keeps, all rows keep
-pub rows_keep : {A : Type 0} (Keeps : List A → Type 0) (read : List A → Members → Result A ConfigError)
+pub rows_keep : {A : Type 0} (Keeps : List A → Type 0) (list : Key) (read : List A → Members → Result A Refusal)
     → ((before : List A) (members : Members) (row : A) → Keeps before → read before members ≡ Ok row → Keeps (before ++ row ∷ []))
-    → (items : Items) (before rows : List A) → Keeps before → rows_after read before items ≡ Ok rows → Keeps rows
-rows_keep Keeps read step no_items before rows kept e = let same : before ≡ rows = cc in subst Keeps same kept
-rows_keep Keeps read step (item first items) before rows kept e =
-    let row = came (table_of first >>= read before) (λ r. rows_after read (before ++ r ∷ []) items) rows e in
-    let table = came (table_of first) (read before) row.value row.is in
-    rows_keep Keeps read step items (before ++ row.value ∷ []) rows (step before table.value row.value kept table.rest) row.rest
+    → (items : Items) (before rows : List A) → Keeps before → rows_after list read before items ≡ Ok rows → Keeps rows
+rows_keep Keeps list read step no_items before rows kept e = let same : before ≡ rows = cc in subst Keeps same kept
+rows_keep Keeps list read step (item first items) before rows kept e =
+    let row = came (table_in list first >>= read before) (λ r. rows_after list read (before ++ r ∷ []) items) rows e in
+    let table = came (table_in list first) (read before) row.value row.is in
+    rows_keep Keeps list read step items (before ++ row.value ∷ []) rows (step before table.value row.value kept table.rest) row.rest
 
 pub all_last : {A : Type 0} (p : A → Bool) (before : List A) (row : A) → list_all p before ≡ true → p row ≡ true → list_all p (before ++ row ∷ []) ≡ true
 all_last p before row all passes = list_all-append p before (row ∷ []) ∙ ap₂ (λ (x y : Bool). x && (y && true)) all passes
@@ -113,12 +130,13 @@ record IsNew (before : List ℕ) (members : Members) (id : ℕ) : Type 0 where
 
 new_is : (before : List ℕ) (members : Members) (id : ℕ) → new_id before members ≡ Ok id → IsNew before members id
 new_is before members id e =
-    let number = came (id_at members) (λ n. confirmed (not (list_any (λ (o : ℕ). o == n) before)) DuplicateRule >>= λ _. Ok n) id e in
-    let test = came (confirmed (not (list_any (λ (o : ℕ). o == number.value) before)) DuplicateRule) (λ _. Ok number.value) id number.rest in
+    let twice = At DuplicateRule (place kinds.Rule (length before) keys.Id) in
+    let number = came_at kinds.Rule (length before) keys.Id (id_at members) (λ n. confirmed (not (list_any (λ (o : ℕ). o == n) before)) twice >>= λ _. Ok n) id e in
+    let test = came (confirmed (not (list_any (λ (o : ℕ). o == number.value) before)) twice) (λ _. Ok number.value) id number.rest in
     let same : number.value ≡ id = cc in
     record {
       read = number.is ∙ ap Ok same;
-      new = subst (λ (n : ℕ). list_any (λ (o : ℕ). o == n) before ≡ false) same (not_is (list_any (λ (o : ℕ). o == number.value) before) (confirmed_ok (not (list_any (λ (o : ℕ). o == number.value) before)) DuplicateRule test.value test.is));
+      new = subst (λ (n : ℕ). list_any (λ (o : ℕ). o == n) before ≡ false) same (not_is (list_any (λ (o : ℕ). o == number.value) before) (confirmed_ok (not (list_any (λ (o : ℕ). o == number.value) before)) twice test.value test.is));
     }
 
 ids_keep : (before : List ℕ) (members : Members) (id : ℕ) → numbers_differ before ≡ true → new_id before members ≡ Ok id → numbers_differ (before ++ id ∷ []) ≡ true
@@ -131,24 +149,25 @@ record IsRead (hops : List Hop) (members : Members) (rule : Rule) : Type 0 where
   id_is : id_at members ≡ Ok rule.id
   verdict_is : verdict_at hops members ≡ Ok rule.verdict
 
-rule_is : (version : ℕ) (users : List User) (hops : List Hop) (members : Members) (rule : Rule) → rule_at version users hops members ≡ Ok rule → IsRead hops members rule
-rule_is version users hops members rule e =
-    let id = came (id_at members)
-    (λ id. verdict_at hops members >>= λ verdict. window_at version members >>= λ window. who_at users members >>= λ who. operation_at members >>= λ operation. target_at members >>= λ target.
+rule_is : (version : ℕ) (users : List User) (hops : List Hop) (before : List Rule) (members : Members) (rule : Rule) → rule_at version users hops before members ≡ Ok rule → IsRead hops members rule
+rule_is version users hops before members rule e =
+    let n = length before in
+    let id = came_at kinds.Rule n keys.Id (id_at members)
+    (λ id. placed kinds.Rule n keys.Verdict (verdict_at hops members) >>= λ verdict. window_at version n members >>= λ window. placed kinds.Rule n keys.WhoAsks (who_at users members) >>= λ who. placed kinds.Rule n keys.Operation (operation_at members) >>= λ operation. placed kinds.Rule n keys.Target (target_at members) >>= λ target.
     Ok (record { id = id; who = who; operation = operation; target = target; window = window; verdict = verdict })) rule e in
-    let verdict = came (verdict_at hops members)
-    (λ verdict. window_at version members >>= λ window. who_at users members >>= λ who. operation_at members >>= λ operation. target_at members >>= λ target.
+    let verdict = came_at kinds.Rule n keys.Verdict (verdict_at hops members)
+    (λ verdict. window_at version n members >>= λ window. placed kinds.Rule n keys.WhoAsks (who_at users members) >>= λ who. placed kinds.Rule n keys.Operation (operation_at members) >>= λ operation. placed kinds.Rule n keys.Target (target_at members) >>= λ target.
     Ok (record { id = id.value; who = who; operation = operation; target = target; window = window; verdict = verdict })) rule id.rest in
-    let window = came (window_at version members)
-    (λ window. who_at users members >>= λ who. operation_at members >>= λ operation. target_at members >>= λ target.
+    let window = came (window_at version n members)
+    (λ window. placed kinds.Rule n keys.WhoAsks (who_at users members) >>= λ who. placed kinds.Rule n keys.Operation (operation_at members) >>= λ operation. placed kinds.Rule n keys.Target (target_at members) >>= λ target.
     Ok (record { id = id.value; who = who; operation = operation; target = target; window = window; verdict = verdict.value })) rule verdict.rest in
-    let who = came (who_at users members)
-    (λ who. operation_at members >>= λ operation. target_at members >>= λ target.
+    let who = came_at kinds.Rule n keys.WhoAsks (who_at users members)
+    (λ who. placed kinds.Rule n keys.Operation (operation_at members) >>= λ operation. placed kinds.Rule n keys.Target (target_at members) >>= λ target.
     Ok (record { id = id.value; who = who; operation = operation; target = target; window = window.value; verdict = verdict.value })) rule window.rest in
-    let operation = came (operation_at members)
-    (λ operation. target_at members >>= λ target.
+    let operation = came_at kinds.Rule n keys.Operation (operation_at members)
+    (λ operation. placed kinds.Rule n keys.Target (target_at members) >>= λ target.
     Ok (record { id = id.value; who = who.value; operation = operation; target = target; window = window.value; verdict = verdict.value })) rule who.rest in
-    let target = came (target_at members)
+    let target = came_at kinds.Rule n keys.Target (target_at members)
     (λ target. Ok (record { id = id.value; who = who.value; operation = operation.value; target = target; window = window.value; verdict = verdict.value })) rule operation.rest in
     let made : Rule = record { id = id.value; who = who.value; operation = operation.value; target = target.value; window = window.value; verdict = verdict.value } in
     let same : made ≡ rule = cc in
@@ -180,16 +199,16 @@ verdict_known hops members verdict e =
 
 -- the numbers of rules are those that were read alone
 ids_same : (version : ℕ) (users : List User) (hops : List Hop) (items : Items) (before ids : List ℕ) (rows rules : List Rule) → ids_of rows ≡ before
-    → rows_after new_id before items ≡ Ok ids → rows_after (λ others. rule_at version users hops) rows items ≡ Ok rules → ids_of rules ≡ ids
+    → rows_after keys.Rules new_id before items ≡ Ok ids → rows_after keys.Rules (rule_at version users hops) rows items ≡ Ok rules → ids_of rules ≡ ids
 ids_same version users hops no_items before ids rows rules same e f =
     let one : before ≡ ids = cc in let other : rows ≡ rules = cc in sym (ap ids_of other) ∙ same ∙ one
 ids_same version users hops (item first items) before ids rows rules same e f =
-    let number = came (table_of first >>= new_id before) (λ n. rows_after new_id (before ++ n ∷ []) items) ids e in
-    let its = came (table_of first) (new_id before) number.value number.is in
-    let rule = came (table_of first >>= rule_at version users hops) (λ r. rows_after (λ others. rule_at version users hops) (rows ++ r ∷ []) items) rules f in
-    let table = came (table_of first) (rule_at version users hops) rule.value rule.is in
+    let number = came (table_in keys.Rules first >>= new_id before) (λ n. rows_after keys.Rules new_id (before ++ n ∷ []) items) ids e in
+    let its = came (table_in keys.Rules first) (new_id before) number.value number.is in
+    let rule = came (table_in keys.Rules first >>= rule_at version users hops rows) (λ r. rows_after keys.Rules (rule_at version users hops) (rows ++ r ∷ []) items) rules f in
+    let table = came (table_in keys.Rules first) (rule_at version users hops rows) rule.value rule.is in
     let tables : table.value ≡ its.value = cc in
-    let read : id_at table.value ≡ Ok rule.value.id = (rule_is version users hops table.value rule.value table.rest).id_is in
+    let read : id_at table.value ≡ Ok rule.value.id = (rule_is version users hops rows table.value rule.value table.rest).id_is in
     let wanted : id_at its.value ≡ Ok number.value = (new_is before its.value number.value its.rest).read in
     let equal : id_at table.value ≡ Ok number.value = ap id_at tables ∙ wanted in
     let number_is : rule.value.id ≡ number.value = cc in
@@ -203,36 +222,49 @@ record AreGood (users : List User) (hops : List Hop) (rules : List Rule) : Type 
   hops_known : list_all (names_known_hop hops) rules ≡ true
   groups_known : list_all (names_known_group users) rules ≡ true
 
+-- where none is found, all pass
+none_fails : {A : Type 0} (p : A → Bool) (xs : List A) → length xs ≤ position_or_len (λ x. not (p x)) xs → list_all p xs ≡ true
+none_fails p [] e = refl
+none_fails p (x ∷ xs) e = by (p x) e (none_fails p xs)
+  where
+    by : (b : Bool) → suc (length xs) ≤ cond (not (not b)) (1 + position_or_len (λ x. not (p x)) xs) 0 → (length xs ≤ position_or_len (λ x. not (p x)) xs → list_all p xs ≡ true) → (b && list_all p xs) ≡ true
+    by true e rest = rest (omega (arith, e))
+    by false e rest = absurd (omega (arith, e))
+
+not_found : (error : ConfigError) (kind : TableKind) (key : Key) (at count : ℕ) (within : Bool) (u : Unit {0}) → nat_lt at count ≡ within → none_found error kind key (cond within (Some at) None) ≡ Ok u → count ≤ at
+not_found error kind key at count true u lt e = absurd cc
+not_found error kind key at count false u lt e = ltb-false at count lt
+
 -- the rows that the rules of a list are
 pub rule_rows : (version : ℕ) (users : List User) (hops : List Hop) (items : Items) (rules : List Rule) → rules_of version users hops items ≡ Ok rules
-    → rows_after (λ others. rule_at version users hops) [] items ≡ Ok rules
+    → rows_after keys.Rules (rule_at version users hops) [] items ≡ Ok rules
 rule_rows version users hops items rules e =
-    let ids = came (rows_after new_id [] items)
-    (λ _. rows_after (λ others. rule_at version users hops) [] items >>= λ rows. confirmed (list_all (names_known_group users) rows) UnknownGroup >>= λ _. Ok rows) rules e in
-    let rows = came (rows_after (λ others. rule_at version users hops) [] items) (λ rows. confirmed (list_all (names_known_group users) rows) UnknownGroup >>= λ _. Ok rows) rules ids.rest in
-    let test = came (confirmed (list_all (names_known_group users) rows.value) UnknownGroup) (λ _. Ok rows.value) rules rows.rest in
+    let ids = came (rows_after keys.Rules new_id [] items)
+    (λ _. rows_after keys.Rules (rule_at version users hops) [] items >>= λ rows. none_found UnknownGroup kinds.Rule keys.WhoAsks (position (λ rule. not (names_known_group users rule)) rows) >>= λ _. Ok rows) rules e in
+    let rows = came (rows_after keys.Rules (rule_at version users hops) [] items) (λ rows. none_found UnknownGroup kinds.Rule keys.WhoAsks (position (λ rule. not (names_known_group users rule)) rows) >>= λ _. Ok rows) rules ids.rest in
+    let test = came (none_found UnknownGroup kinds.Rule keys.WhoAsks (position (λ rule. not (names_known_group users rule)) rows.value)) (λ _. Ok rows.value) rules rows.rest in
     let same : rows.value ≡ rules = cc in
     rows.is ∙ ap (λ (rs : List Rule). Ok rs) same
 
 rules_good : (version : ℕ) (users : List User) (hops : List Hop) (items : Items) (rules : List Rule) → rules_of version users hops items ≡ Ok rules → AreGood users hops rules
 rules_good version users hops items rules e =
-    let ids = came (rows_after new_id [] items)
-    (λ _. rows_after (λ others. rule_at version users hops) [] items >>= λ rows. confirmed (list_all (names_known_group users) rows) UnknownGroup >>= λ _. Ok rows) rules e in
-    let rows = came (rows_after (λ others. rule_at version users hops) [] items) (λ rows. confirmed (list_all (names_known_group users) rows) UnknownGroup >>= λ _. Ok rows) rules ids.rest in
-    let test = came (confirmed (list_all (names_known_group users) rows.value) UnknownGroup) (λ _. Ok rows.value) rules rows.rest in
+    let ids = came (rows_after keys.Rules new_id [] items)
+    (λ _. rows_after keys.Rules (rule_at version users hops) [] items >>= λ rows. none_found UnknownGroup kinds.Rule keys.WhoAsks (position (λ rule. not (names_known_group users rule)) rows) >>= λ _. Ok rows) rules e in
+    let rows = came (rows_after keys.Rules (rule_at version users hops) [] items) (λ rows. none_found UnknownGroup kinds.Rule keys.WhoAsks (position (λ rule. not (names_known_group users rule)) rows) >>= λ _. Ok rows) rules ids.rest in
+    let test = came (none_found UnknownGroup kinds.Rule keys.WhoAsks (position (λ rule. not (names_known_group users rule)) rows.value)) (λ _. Ok rows.value) rules rows.rest in
     let same : rows.value ≡ rules = cc in
     let good : AreGood users hops rows.value =
     record {
       ids_differ =
           ap numbers_differ (ids_same version users hops items [] ids.value [] rows.value refl ids.is rows.is)
-          ∙ rows_keep (λ ns. numbers_differ ns ≡ true) new_id ids_keep items [] ids.value refl ids.is;
+          ∙ rows_keep (λ ns. numbers_differ ns ≡ true) keys.Rules new_id ids_keep items [] ids.value refl ids.is;
       numbered =
-          rows_keep (λ rs. list_all is_numbered rs ≡ true) (λ others. rule_at version users hops)
-          (λ before members rule all read. all_last is_numbered before rule all (id_is_above members rule.id (rule_is version users hops members rule read).id_is)) items [] rows.value refl rows.is;
+          rows_keep (λ rs. list_all is_numbered rs ≡ true) keys.Rules (rule_at version users hops)
+          (λ before members rule all read. all_last is_numbered before rule all (id_is_above members rule.id (rule_is version users hops before members rule read).id_is)) items [] rows.value refl rows.is;
       hops_known =
-          rows_keep (λ rs. list_all (names_known_hop hops) rs ≡ true) (λ others. rule_at version users hops)
-          (λ before members rule all read. all_last (names_known_hop hops) before rule all (verdict_known hops members rule.verdict (rule_is version users hops members rule read).verdict_is)) items [] rows.value refl rows.is;
-      groups_known = confirmed_ok (list_all (names_known_group users) rows.value) UnknownGroup test.value test.is;
+          rows_keep (λ rs. list_all (names_known_hop hops) rs ≡ true) keys.Rules (rule_at version users hops)
+          (λ before members rule all read. all_last (names_known_hop hops) before rule all (verdict_known hops members rule.verdict (rule_is version users hops before members rule read).verdict_is)) items [] rows.value refl rows.is;
+      groups_known = none_fails (names_known_group users) rows.value (not_found UnknownGroup kinds.Rule keys.WhoAsks (position_or_len (λ rule. not (names_known_group users rule)) rows.value) (length rows.value) (nat_lt (position_or_len (λ rule. not (names_known_group users rule)) rows.value) (length rows.value)) test.value refl test.is);
     } in
     subst (λ (rs : List Rule). AreGood users hops rs) same good
 
@@ -244,39 +276,41 @@ pub record AreRules (version : ℕ) (users : List User) (hops : List Hop) (membe
 
 pub are_rules : (version : ℕ) (users : List User) (hops : List Hop) (members : Members) (rules : List Rule) → rules_at version users hops members ≡ Ok rules → AreRules version users hops members rules
 are_rules version users hops members rules e =
-    let items = came (items_at (codes "rule") members) (λ items. rule_lines version users items >>= λ _. confirmed (knows_all version members) BadValue >>= λ _. rules_of version users hops items) rules e in
-    let lines = came (rule_lines version users items.value) (λ _. confirmed (knows_all version members) BadValue >>= λ _. rules_of version users hops items.value) rules items.rest in
-    let keys = came (confirmed (knows_all version members) BadValue) (λ _. rules_of version users hops items.value) rules lines.rest in
-    record { items = items.value; items_are = items.is; rules_are = keys.rest }
+    let items = came_at kinds.Whole 0 keys.Rules (items_at (codes "rule") members) (λ items. rule_lines version users items >>= λ _. all_known version members >>= λ _. rules_of version users hops items) rules e in
+    let lines = came (rule_lines version users items.value) (λ _. all_known version members >>= λ _. rules_of version users hops items.value) rules items.rest in
+    let known = came (all_known version members) (λ _. rules_of version users hops items.value) rules lines.rest in
+    record { items = items.value; items_are = items.is; rules_are = known.rest }
 
 -- ---- users
 
 -- the rows that the users of a list are
 pub record AreUsers (items : Items) (users : List User) : Type 0 where
-  pub rows_are : rows_after (λ others. user_at) [] items ≡ Ok users
+  pub rows_are : rows_after keys.Users user_at [] items ≡ Ok users
   pub own : have_own_names users ≡ true
 
 pub are_users : (list : Items) (users : List User) → users_of list ≡ Ok users → AreUsers list users
 are_users list users e =
-    let names = came (rows_after new_name [] list)
-    (λ _. all_pass (user_line A1) list >>= λ _. all_pass (user_line A1Sha256) list >>= λ _. all_pass (user_line Groups) list >>= λ _. rows_after (λ others. user_at) [] list >>= λ rows. kept_if (have_own_names rows) rows) users e in
-    let first = came (all_pass (user_line A1) list)
-    (λ _. all_pass (user_line A1Sha256) list >>= λ _. all_pass (user_line Groups) list >>= λ _. rows_after (λ others. user_at) [] list >>= λ rows. kept_if (have_own_names rows) rows) users names.rest in
-    let second = came (all_pass (user_line A1Sha256) list)
-    (λ _. all_pass (user_line Groups) list >>= λ _. rows_after (λ others. user_at) [] list >>= λ rows. kept_if (have_own_names rows) rows) users first.rest in
-    let third = came (all_pass (user_line Groups) list) (λ _. rows_after (λ others. user_at) [] list >>= λ rows. kept_if (have_own_names rows) rows) users second.rest in
-    let rows = came (rows_after (λ others. user_at) [] list) (λ rows. kept_if (have_own_names rows) rows) users third.rest in
-    let same : rows.value ≡ users = kept_is (have_own_names rows.value) rows.value users rows.rest in
+    let bad = At BadValue (place kinds.Whole 0 keys.Users) in
+    let names = came (rows_after keys.Users new_name [] list)
+    (λ _. all_pass keys.Users (user_line A1) 0 list >>= λ _. all_pass keys.Users (user_line A1Sha256) 0 list >>= λ _. all_pass keys.Users (user_line Groups) 0 list >>= λ _. rows_after keys.Users user_at [] list >>= λ rows. confirmed (have_own_names rows) bad >>= λ _. Ok rows) users e in
+    let first = came (all_pass keys.Users (user_line A1) 0 list)
+    (λ _. all_pass keys.Users (user_line A1Sha256) 0 list >>= λ _. all_pass keys.Users (user_line Groups) 0 list >>= λ _. rows_after keys.Users user_at [] list >>= λ rows. confirmed (have_own_names rows) bad >>= λ _. Ok rows) users names.rest in
+    let second = came (all_pass keys.Users (user_line A1Sha256) 0 list)
+    (λ _. all_pass keys.Users (user_line Groups) 0 list >>= λ _. rows_after keys.Users user_at [] list >>= λ rows. confirmed (have_own_names rows) bad >>= λ _. Ok rows) users first.rest in
+    let third = came (all_pass keys.Users (user_line Groups) 0 list) (λ _. rows_after keys.Users user_at [] list >>= λ rows. confirmed (have_own_names rows) bad >>= λ _. Ok rows) users second.rest in
+    let rows = came (rows_after keys.Users user_at [] list) (λ rows. confirmed (have_own_names rows) bad >>= λ _. Ok rows) users third.rest in
+    let own = came (confirmed (have_own_names rows.value) bad) (λ _. Ok rows.value) users rows.rest in
+    let same : rows.value ≡ users = cc in
     record {
       rows_are = rows.is ∙ ap (λ (us : List User). Ok us) same;
-      own = subst (λ (us : List User). have_own_names us ≡ true) same (kept_passes (have_own_names rows.value) rows.value users rows.rest);
+      own = subst (λ (us : List User). have_own_names us ≡ true) same (confirmed_ok (have_own_names rows.value) bad own.value own.is);
     }
 
 -- ---- the whole
 
 -- the parts that a configuration comes of
 pub record Parts (members : Members) (config : Config) : Type 0 where
-  pub few : has_too_many members ≡ false
+  pub few : all_few members ≡ Ok tt
   pub head : Head
   pub head_is : head_of members ≡ Ok head
   pub user_list : Items
@@ -291,9 +325,9 @@ pub record Parts (members : Members) (config : Config) : Type 0 where
   pub rules_are : AreRules head.version users hops members rules
   pub same : config_of head users hops addresses rules ≡ config
 
-pub parts_of : (members : Members) (config : Config) → stated_by members ≡ Ok config → Parts members config
+pub parts_of : (members : Members) (config : Config) → placed_by members ≡ Ok config → Parts members config
 parts_of members config e =
-    let few = came (confirmed (not (has_too_many members)) TooMany)
+    let few = came (all_few members)
     (λ _. head_of members >>= λ head. users_at members >>= λ users. hops_at members >>= λ hops. host_addresses_at members >>= λ addresses. rules_at head.version users hops members >>= λ rules.
     Ok (config_of head users hops addresses rules)) config e in
     let head = came (head_of members)
@@ -301,7 +335,7 @@ parts_of members config e =
     config few.rest in
     let users = came (users_at members)
     (λ users. hops_at members >>= λ hops. host_addresses_at members >>= λ addresses. rules_at head.value.version users hops members >>= λ rules. Ok (config_of head.value users hops addresses rules)) config head.rest in
-    let list = came (some_items_at (codes "user") members) users_of users.value users.is in
+    let list = came_at kinds.Whole 0 keys.Users (some_items_at (codes "user") members) users_of users.value users.is in
     let hops = came (hops_at members)
     (λ hops. host_addresses_at members >>= λ addresses. rules_at head.value.version users.value hops members >>= λ rules. Ok (config_of head.value users.value hops addresses rules)) config users.rest in
     let addresses = came (host_addresses_at members)
@@ -310,7 +344,7 @@ parts_of members config e =
     let made : Config = config_of head.value users.value hops.value addresses.value rules.value in
     let same : made ≡ config = cc in
     record {
-      few = not_is (has_too_many members) (confirmed_ok (not (has_too_many members)) TooMany few.value few.is);
+      few = few.is;
       head = head.value;
       head_is = head.is;
       user_list = list.value;
@@ -326,7 +360,7 @@ parts_of members config e =
       same = same;
     }
 
-whole : (members : Members) (config : Config) → stated_by members ≡ Ok config → IsConfigured config
+whole : (members : Members) (config : Config) → placed_by members ≡ Ok config → IsConfigured config
 whole members config e =
     let p = parts_of members config e in
     let good = rules_good p.head.version p.users p.hops p.rules_are.items p.rules p.rules_are.rules_are in
@@ -342,4 +376,4 @@ whole members config e =
 
 pub configured : (file : Option Members) (config : Config) → configuration_of file ≡ Ok config → IsConfigured config
 configured None config e = absurd cc
-configured (Some members) config e = whole members config e
+configured (Some members) config e = whole members config (alone_ok (placed_by members) config e)

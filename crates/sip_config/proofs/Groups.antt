@@ -1,6 +1,6 @@
 -- The groups that have members, gathered into a list of names.
-use Rattle.std.proofs.Common.{◌≡◌, ℕ, ◌+◌, ◌<◌, ◌≤◌, Bool, true, false, ◌&&◌, ◌||◌, not, if◌then◌else◌, List, [], ◌∷◌, ◌++◌, length, take, get_or, refl, sym, ap, ap₂, ◌∙◌}
-use Rattle.std.specs.List.{list_all, list_any}
+use Rattle.std.proofs.Common.{◌≡◌, ℕ, ◌+◌, ◌<◌, ◌≤◌, Bool, true, false, ◌||◌, not, cond, position, nat_lt, Some, None, Option, Result, Ok, if◌then◌else◌, List, [], ◌∷◌, ◌++◌, length, take, get_or, refl, sym, ap, ap₂, ◌∙◌}
+use Rattle.std.specs.List.{list_any, position_or_len}
 use Rattle.std.specs.Str.{bytes_eq}
 use Rattle.std.specs.Cmp.Lexicographic.{same_text}
 use Rattle.std.proofs.lemmas.List.{take_more, take_all}
@@ -8,7 +8,15 @@ use Rattle.std.proofs.lemmas.List.Folds.{list_any-append}
 use Rattle.sip_policy.specs.declared.user.User.{User}
 use Rattle.sip_policy.specs.declared.rule.Rule.{Rule}
 use Rattle.sip_policy.specs.declared.who.Who.{Who}
-use Rattle.sip_config.specs.Rules.{has_member, is_known, is_listed, names_known_group}
+use Rattle.toml.specs.Data.{Items}
+use Rattle.sip_hops.specs.declared.hop.Hop.{Hop}
+use Rattle.sip_config.specs.declared.error.ConfigError.TheVariants.{UnknownGroup}
+use Rattle.sip_config.specs.declared.key.Key.TheVariants as keys
+use Rattle.sip_config.specs.declared.keys.TableKind.TheVariants as kinds
+use Rattle.sip_config.specs.declared.refusal.Refusal.{Refusal}
+use Rattle.sip_config.specs.Refusals.{◌>>=◌, none_found}
+use Rattle.sip_config.specs.Rows.{rows_after}
+use Rattle.sip_config.specs.Rules.{has_member, is_known, is_listed, names_known_group, new_id, rule_at, rules_of}
 
 or_false : (b : Bool) → (b || false) ≡ b
 or_false true = refl
@@ -92,8 +100,27 @@ listed_is names users h Who.Proven = refl
 listed_is names users h (Who.User name) = refl
 listed_is names users h (Who.Group group) = h group
 
--- rules name groups that are among these where the groups that they name have members
+-- the first rule whose group isn't among these is the first whose group has no member
+same_place : (names : List (List ℕ)) (users : List User) (rules : List Rule) → ((group : List ℕ) → list_any (bytes_eq group) names ≡ has_member users group)
+    → position_or_len (λ (rule : Rule). not (is_listed names rule.who)) rules ≡ position_or_len (λ (rule : Rule). not (names_known_group users rule)) rules
+same_place names users [] h = refl
+same_place names users (rule ∷ rules) h = ap₂ (λ (b : Bool) (n : ℕ). cond {A = ℕ} (not (not b)) (1 + n) 0) (listed_is names users h rule.who) (same_place names users rules h)
+
 pub listed_same : (names : List (List ℕ)) (users : List User) (rules : List Rule) → ((group : List ℕ) → list_any (bytes_eq group) names ≡ has_member users group)
-    → list_all (λ (rule : Rule). is_listed names rule.who) rules ≡ list_all (names_known_group users) rules
-listed_same names users [] h = refl
-listed_same names users (rule ∷ rules) h = ap₂ (λ (x y : Bool). x && y) (listed_is names users h rule.who) (listed_same names users rules h)
+    → position (λ (rule : Rule). not (is_listed names rule.who)) rules ≡ position (λ (rule : Rule). not (names_known_group users rule)) rules
+listed_same names users rules h = ap (λ (n : ℕ). cond {A = Option ℕ} (nat_lt n (length rules)) (Some n) None) (same_place names users rules h)
+
+-- ---- the end of rules
+
+-- the end of the rules of a list, by the first that names a group without a member
+abbrev pub ended : List Rule → Option ℕ → Result (List Rule) Refusal
+ended rules unknown = none_found UnknownGroup kinds.Rule keys.WhoAsks unknown >>= λ _. Ok rules
+
+pub groups_end : (version : ℕ) (users : List User) (hops : List Hop) (items : Items) (ids : List ℕ) (rules slice : List Rule) (unknown : Option ℕ)
+    → rows_after keys.Rules new_id [] items ≡ Ok ids → rows_after keys.Rules (rule_at version users hops) [] items ≡ Ok rules → slice ≡ rules
+    → unknown ≡ position (λ (rule : Rule). not (names_known_group users rule)) slice → rules_of version users hops items ≡ ended rules unknown
+groups_end version users hops items ids rules slice unknown e f s u =
+    let unknown_in = λ (rs : List Rule). position (λ (rule : Rule). not (names_known_group users rule)) rs in
+    ap (λ (r : Result (List ℕ) Refusal). r >>= λ _. rows_after keys.Rules (rule_at version users hops) [] items >>= λ rs. ended rs (unknown_in rs)) e
+    ∙ ap (λ (r : Result (List Rule) Refusal). r >>= λ rs. ended rs (unknown_in rs)) f
+    ∙ ap (ended rules) (sym (u ∙ ap unknown_in s))

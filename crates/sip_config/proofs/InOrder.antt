@@ -6,7 +6,7 @@ use Rattle.std.specs.Str.{bytes_eq}
 use Rattle.std.specs.Map.{keys_of, lookup}
 use Rattle.std.specs.HashMap.{HashMap, get, PutsEntry}
 use Rattle.std.proofs.lemmas.Bool.{eqb-true, eqb-false}
-use Rattle.std.proofs.lemmas.List.{map-append, take_all}
+use Rattle.std.proofs.lemmas.List.{length-map, map-append, take_all}
 use Rattle.std.proofs.lemmas.List.Elements.{All-from_recursion, recursion_from_All}
 use Rattle.std.proofs.lemmas.List.Sorted.{All-permutation, IsPermutation-refl, IsPermutation-push_more, length_permutation, list_any-IsPermutation}
 use Rattle.std.proofs.lemmas.Map.Made.{is_some-lookup}
@@ -76,6 +76,9 @@ module _ {K : Type 0} where
       let long : length entries ≡ length keys = length_permutation (placed_from 0 keys) entries same ∙ length-placed_from 0 keys in
       ap (λ (n : ℕ). keys_below n entries) long ∙ below_is keys entries same (length keys) (omega arith) ∙ take_all (length keys) keys (omega arith)
 
+  pub order_count : (entries : List (K × ℕ)) → ArePlaced entries → length entries ≡ length (in_order entries)
+  order_count entries placed = length_permutation (placed_from 0 (in_order entries)) entries placed.each ∙ length-placed_from 0 (in_order entries)
+
   -- ---- as the code goes
 
   pub none_placed : (entries : List (K × ℕ)) → entries ≡ [] → (in_order entries ≡ []) × ArePlaced entries
@@ -135,6 +138,10 @@ name_found names name placed = found_in_order (λ (key : Name). bytes_eq name ke
 
 abbrev pub name_eq : Name → Name → Bool
 name_eq name other = bytes_eq name.items other.items
+
+-- there are as many names as keys
+pub name_count : {S : Type 0} (names : HashMap Name ℕ S) → ArePlaced names.entries → length (texts_in_order names) ≡ length names.entries
+name_count names placed = length-map (in_order names.entries) (λ (key : Name). key.items) ∙ sym (order_count names.entries placed)
 
 -- a new name goes last
 pub name_last : {S : Type 0} (names more : HashMap Name ℕ S) (key : Name) (name : List ℕ) (at : ℕ) (old : Option ℕ) → ArePlaced names.entries → at ≡ length names.entries → key.items ≡ name

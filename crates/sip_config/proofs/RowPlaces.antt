@@ -14,12 +14,14 @@ use Rattle.toml.proofs.Views.{items_view-drop}
 use Rattle.sip_text.specs.Words.{without_case}
 use Rattle.sip_hops.specs.declared.host_address.HostAddress.{HostAddress}
 use Rattle.sip_hops.specs.HostAddress.{is_row_for}
-use Rattle.sip_config.specs.declared.error.ConfigError.{ConfigError}
-use Rattle.sip_config.specs.declared.error.ConfigError.TheVariants.{BadValue}
+use Rattle.sip_config.specs.declared.key.Key.TheVariants as keys
+use Rattle.sip_config.specs.declared.keys.TableKind.TheVariants as kinds
+use Rattle.sip_config.specs.declared.refusal.Refusal.{Refusal}
+use Rattle.sip_config.specs.declared.refusal.Refusal.TheVariants.{Twice}
 use Rattle.sip_config.specs.declared.grammar.Grammar.TheVariants.{Host}
-use Rattle.sip_config.specs.Refusals.{◌>>=◌, confirmed}
-use Rattle.sip_config.specs.Values.{needed, text_as, address_of, table_of}
-use Rattle.sip_config.specs.Rows.{rows_after}
+use Rattle.sip_config.specs.Refusals.{◌>>=◌, place, placed, confirmed}
+use Rattle.sip_config.specs.Values.{needed, text_as, address_of}
+use Rattle.sip_config.specs.Rows.{table_in, rows_after}
 use Rattle.sip_config.specs.HostAddresses.{port_in, new_row}
 use Rattle.sip_config.specs.InOrder.{in_order, places_in_order, ArePlaced}
 use Rattle.sip_config.proofs.InOrder.{found_in_order, new_last}
@@ -73,52 +75,58 @@ any_row : (host : List ℕ) (port : ℕ) (rows : List HostAddress) → list_any 
 any_row host port [] = refl
 any_row host port (row ∷ rows) = ap₂ (λ (x y : Bool). x || y) (row_is host port row) (any_row host port rows)
 
-same_next : {A B : Type 0} (r : Result A ConfigError) (f g : A → Result B ConfigError) → ((a : A) → f a ≡ g a) → (r >>= f) ≡ (r >>= g)
+same_next : {A B : Type 0} (r : Result A Refusal) (f g : A → Result B Refusal) → ((a : A) → f a ≡ g a) → (r >>= f) ≡ (r >>= g)
 same_next (Ok a) f g same = same a
 same_next (Err e) f g same = refl
 
 -- the end of a row, where a test says whether its place is taken
-abbrev pub row_where : Bool → Data → List ℕ → ℕ → Result HostAddress ConfigError
-row_where taken placed host port = confirmed (not taken) BadValue >>= λ _. address_of placed >>= λ address. Ok (record { host = host; port = port; address = address })
+abbrev pub row_where : ℕ → Bool → Data → List ℕ → ℕ → Result HostAddress Refusal
+row_where n taken addressed host port = confirmed (not taken) (Twice (place kinds.HostAddress n keys.Host)) >>= λ _.
+    placed kinds.HostAddress n keys.Address (address_of addressed) >>= λ address. Ok (record { host = host; port = port; address = address })
 
-besides : (before : List HostAddress) (members : Members) → new_row before members ≡ row_besides (map place_of before) members
+-- a row, where a test of its host and port says that
+abbrev pub row_by : ℕ → (List ℕ → ℕ → Bool) → Members → Data → Data → List ℕ → Result HostAddress Refusal
+row_by n taken members named addressed host = placed kinds.HostAddress n keys.Port (port_in (get_member (codes "port") members)) >>= λ port. row_where n (taken host port) addressed host port
+
+besides : (before : List HostAddress) (members : Members) → new_row before members ≡ row_besides (length before) (map place_of before) members
 besides before members =
-    same_next (needed (codes "host") members)
-    (λ named. needed (codes "address") members >>= λ placed. text_as Host named >>= λ host. port_in (get_member (codes "port") members) >>= λ port. row_where (list_any (is_row_for host port) before) placed host port)
-    (λ named. needed (codes "address") members >>= λ placed. text_as Host named >>= λ host. port_in (get_member (codes "port") members) >>= λ port. row_where (list_any (is_place host port) (map place_of before)) placed host port)
-    (λ named. same_next (needed (codes "address") members)
-    (λ placed. text_as Host named >>= λ host. port_in (get_member (codes "port") members) >>= λ port. row_where (list_any (is_row_for host port) before) placed host port)
-    (λ placed. text_as Host named >>= λ host. port_in (get_member (codes "port") members) >>= λ port. row_where (list_any (is_place host port) (map place_of before)) placed host port)
-    (λ placed. same_next (text_as Host named)
-    (λ host. port_in (get_member (codes "port") members) >>= λ port. row_where (list_any (is_row_for host port) before) placed host port)
-    (λ host. port_in (get_member (codes "port") members) >>= λ port. row_where (list_any (is_place host port) (map place_of before)) placed host port)
-    (λ host. same_next (port_in (get_member (codes "port") members))
-    (λ port. row_where (list_any (is_row_for host port) before) placed host port)
-    (λ port. row_where (list_any (is_place host port) (map place_of before)) placed host port)
-    (λ port. ap (λ (b : Bool). row_where b placed host port) (any_row host port before)))))
+    let n = length before in
+    let one = λ (host : List ℕ) (port : ℕ). list_any (is_row_for host port) before in
+    let other = λ (host : List ℕ) (port : ℕ). list_any (is_place host port) (map place_of before) in
+    same_next (placed kinds.HostAddress n keys.Host (needed (codes "host") members))
+    (λ named. placed kinds.HostAddress n keys.Address (needed (codes "address") members) >>= λ addressed. placed kinds.HostAddress n keys.Host (text_as Host named) >>= row_by n one members named addressed)
+    (λ named. placed kinds.HostAddress n keys.Address (needed (codes "address") members) >>= λ addressed. placed kinds.HostAddress n keys.Host (text_as Host named) >>= row_by n other members named addressed)
+    (λ named. same_next (placed kinds.HostAddress n keys.Address (needed (codes "address") members))
+    (λ addressed. placed kinds.HostAddress n keys.Host (text_as Host named) >>= row_by n one members named addressed)
+    (λ addressed. placed kinds.HostAddress n keys.Host (text_as Host named) >>= row_by n other members named addressed)
+    (λ addressed. same_next (placed kinds.HostAddress n keys.Host (text_as Host named)) (row_by n one members named addressed) (row_by n other members named addressed)
+    (λ host. same_next (placed kinds.HostAddress n keys.Port (port_in (get_member (codes "port") members)))
+    (λ port. row_where n (one host port) addressed host port)
+    (λ port. row_where n (other host port) addressed host port)
+    (λ port. ap (λ (b : Bool). row_where n b addressed host port) (any_row host port before)))))
 
-table_same : (before : List HostAddress) (places : List (List ℕ × ℕ)) (table : Result Members ConfigError) → places ≡ map place_of before → (table >>= new_row before) ≡ (table >>= row_besides places)
-table_same before places (Ok members) e = besides before members ∙ ap (λ (ps : List (List ℕ × ℕ)). row_besides ps members) (sym e)
+table_same : (before : List HostAddress) (places : List (List ℕ × ℕ)) (table : Result Members Refusal) → places ≡ map place_of before → (table >>= new_row before) ≡ (table >>= row_besides (length before) places)
+table_same before places (Ok members) e = besides before members ∙ ap (λ (ps : List (List ℕ × ℕ)). row_besides (length before) ps members) (sym e)
 table_same before places (Err refusal) e = refl
 
 placed_more : (rows : List HostAddress) (places : List (List ℕ × ℕ)) (row : HostAddress) → places ≡ map place_of rows → places ++ place_of row ∷ [] ≡ map place_of (rows ++ row ∷ [])
 placed_more rows places row e = ap (λ (ps : List (List ℕ × ℕ)). ps ++ place_of row ∷ []) e ∙ sym (map-append place_of rows (row ∷ []))
 
-rows_same : (rows : List HostAddress) (places : List (List ℕ × ℕ)) (items : Items) → places ≡ map place_of rows → rows_besides places rows items ≡ rows_after new_row rows items
+rows_same : (rows : List HostAddress) (places : List (List ℕ × ℕ)) (items : Items) → places ≡ map place_of rows → rows_besides places rows items ≡ rows_after keys.HostAddresses new_row rows items
 rows_same rows places no_items e = refl
 rows_same rows places (item first items) e =
-    ap (λ (r : Result HostAddress ConfigError). r >>= λ row. rows_besides (places ++ place_of row ∷ []) (rows ++ row ∷ []) items) (sym (table_same rows places (table_of first) e))
-    ∙ same_next (table_of first >>= new_row rows) (λ row. rows_besides (places ++ place_of row ∷ []) (rows ++ row ∷ []) items) (λ row. rows_after new_row (rows ++ row ∷ []) items)
+    ap (λ (r : Result HostAddress Refusal). r >>= λ row. rows_besides (places ++ place_of row ∷ []) (rows ++ row ∷ []) items) (sym (table_same rows places (table_in keys.HostAddresses first) e))
+    ∙ same_next (table_in keys.HostAddresses first >>= new_row rows) (λ row. rows_besides (places ++ place_of row ∷ []) (rows ++ row ∷ []) items) (λ row. rows_after keys.HostAddresses new_row (rows ++ row ∷ []) items)
     (λ row. rows_same (rows ++ row ∷ []) (places ++ place_of row ∷ []) items (placed_more rows places row e))
 
 -- rows besides the places of those before are rows whose host and port none before has
-pub rows_are : (items : Items) → rows_besides [] [] items ≡ rows_after new_row [] items
+pub rows_are : (items : Items) → rows_besides [] [] items ≡ rows_after keys.HostAddresses new_row [] items
 rows_are items = rows_same [] [] items refl
 
 -- one more row
 pub row_step : (values : List Value) (i : ℕ) (other : Value) (places : List (List ℕ × ℕ)) (rows : List HostAddress) → i < length values
     → rows_besides places rows (items_view (drop i values))
-    ≡ (table_of (view (get_or values i other)) >>= row_besides places >>= λ row. rows_besides (places ++ place_of row ∷ []) (rows ++ row ∷ []) (items_view (drop (i + 1) values)))
+    ≡ (table_in keys.HostAddresses (view (get_or values i other)) >>= row_besides (length rows) places >>= λ row. rows_besides (places ++ place_of row ∷ []) (rows ++ row ∷ []) (items_view (drop (i + 1) values)))
 row_step values i other places rows within = ap (rows_besides places rows) (items_view-drop values i other within)
 
 -- no value is left

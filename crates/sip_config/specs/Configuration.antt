@@ -1,5 +1,5 @@
 -- What a file states: a configuration, or the first refusal.
-use Rattle.std.specs.Prelude.{ℕ, not, List, codes, Option, None, Some, Result, Ok, Err}
+use Rattle.std.specs.Prelude.{ℕ, List, Option, None, Some, Result, Ok, Err}
 use Rattle.toml.specs.Data.{Members}
 use Rattle.toml.specs.Parse.{parse_document}
 use Rattle.sip_policy.specs.declared.user.User.{User}
@@ -8,17 +8,19 @@ use Rattle.sip_hops.specs.declared.hop.Hop.{Hop}
 use Rattle.sip_hops.specs.declared.host_address.HostAddress.{HostAddress}
 use Rattle.sip_config_types.specs.declared.config.Config.{Config}
 use Rattle.sip_config.specs.declared.error.ConfigError.{ConfigError}
-use Rattle.sip_config.specs.declared.error.ConfigError.TheVariants.{BadToml, BadValue, TooMany}
+use Rattle.sip_config.specs.declared.key.Key.TheVariants.{Rules}
+use Rattle.sip_config.specs.declared.refusal.Refusal.{Refusal}
+use Rattle.sip_config.specs.declared.error.ConfigError.TheVariants.{BadToml}
 use Rattle.sip_config.specs.declared.head.Head.{Head}
-use Rattle.sip_config.specs.Refusals.{◌>>=◌, confirmed}
-use Rattle.sip_config.specs.Values.{items_at}
+use Rattle.sip_config.specs.Refusals.{◌>>=◌, error_alone}
+use Rattle.sip_config.specs.Rows.{list_at}
 use Rattle.sip_config.specs.Head.{head_of}
 use Rattle.sip_config.specs.Users.{users_at}
 use Rattle.sip_config.specs.Hops.{hops_at}
 use Rattle.sip_config.specs.HostAddresses.{host_addresses_at}
 use Rattle.sip_config.specs.Rules.{rule_lines, rules_of}
-use Rattle.sip_config.specs.Keys.{knows_all}
-use Rattle.sip_config.specs.Limits.{has_too_many}
+use Rattle.sip_config.specs.Keys.{all_known}
+use Rattle.sip_config.specs.Limits.{all_few}
 
 -- what a server is told, of the parts of a file
 abbrev pub config_of : Head → List User → List Hop → List HostAddress → List Rule → Config
@@ -35,19 +37,19 @@ config_of head users hops addresses rules =
     }
 
 -- what the rules of a file say: each of their lines, then no unknown key in the whole file, then what they name
-abbrev pub rules_at : ℕ → List User → List Hop → Members → Result (List Rule) ConfigError
+abbrev pub rules_at : ℕ → List User → List Hop → Members → Result (List Rule) Refusal
 rules_at version users hops members = do
-  items ← items_at (codes "rule") members
+  items ← list_at Rules members
   _ ← rule_lines version users items
-  _ ← confirmed (knows_all version members) BadValue
+  _ ← all_known version members
   rules_of version users hops items
 
--- What the keys of a file state. Refused is first a list that is too long; then what is missing or bad, by the lines of the table of
--- keys, each line in file order;
+-- What the keys of a file state, or the first place at which they are refused. Refused is first a list that is too long; then what is
+-- missing or bad, by the lines of the table of keys, each line in file order;
 -- then an unknown key; then what the rules name: a number twice, an unknown hop, an unknown group.
-abbrev pub stated_by : Members → Result Config ConfigError
-stated_by members = do
-  _ ← confirmed (not (has_too_many members)) TooMany
+abbrev pub placed_by : Members → Result Config Refusal
+placed_by members = do
+  _ ← all_few members
   head ← head_of members
   users ← users_at members
   hops ← hops_at members
@@ -55,10 +57,10 @@ stated_by members = do
   rules ← rules_at head.version users hops members
   Ok (config_of head users hops addresses rules)
 
--- what a file states, if it is TOML
+-- the same with the error alone, and of a file that isn't TOML
 abbrev pub configuration_of : Option Members → Result Config ConfigError
 configuration_of None = Err BadToml
-configuration_of (Some members) = stated_by members
+configuration_of (Some members) = error_alone (placed_by members)
 
 -- what a text states
 abbrev pub stated_in : List ℕ → Result Config ConfigError

@@ -1,5 +1,9 @@
 -- Texts of configurations.
-use Rattle.std.specs.Prelude.{ℕ, List, ◌++◌, codes}
+use Rattle.std.specs.Prelude.{ℕ, List, ◌++◌, codes, Option, option_map, Result}
+use Rattle.toml.specs.Parse.{parse_document}
+use Rattle.sip_config_types.specs.declared.config.Config.{Config}
+use Rattle.sip_config.specs.declared.refusal.Refusal.{Refusal}
+use Rattle.sip_config.specs.Configuration.{placed_by}
 
 -- ---- the sample
 
@@ -79,3 +83,8 @@ plain_rule id = a_rule id (codes "anyone") (codes "send *") (codes "deny")
 -- seventeen domains
 abbrev pub many_domains : List ℕ
 many_domains = codes "domains = [\"a\", \"b\", \"c\", \"d\", \"e\", \"f\", \"g\", \"h\", \"i\", \"j\", \"k\", \"l\", \"m\", \"n\", \"o\", \"p\", \"q\"]\n"
+
+-- ---- where texts are refused
+
+abbrev pub placed_in : List ℕ → Option (Result Config Refusal)
+placed_in text = option_map placed_by (parse_document text)

@@ -3,9 +3,13 @@ use Rattle.std.specs.Prelude.{ℕ, ℤ, pos, negsuc, ◌==◌, nat_le, nat_lt, i
 use Rattle.toml.specs.Data.{Data, Members, get_member}
 use Rattle.sip_uri.specs.declared.addr.Addr.{Addr}
 use Rattle.sip_config.specs.declared.error.ConfigError.{ConfigError}
+use Rattle.sip_config.specs.declared.key.Key.TheVariants.{Version, Offset, Host, Port, Address, Domains}
+use Rattle.sip_config.specs.declared.key.Key.TheVariants as keys
+use Rattle.sip_config.specs.declared.keys.TableKind.TheVariants.{Whole}
+use Rattle.sip_config.specs.declared.refusal.Refusal.{Refusal}
 use Rattle.sip_config.specs.declared.grammar.Grammar.TheVariants.{Realm, OwnHost, HostName}
 use Rattle.sip_config.specs.declared.head.Head.{Head}
-use Rattle.sip_config.specs.Refusals.{◌>>=◌, kept_if}
+use Rattle.sip_config.specs.Refusals.{◌>>=◌, kept_if, placed}
 use Rattle.sip_config.specs.Values.{needed, number_of, number_between, port_of, address_of, text_at, some_items_at}
 use Rattle.sip_config.specs.Rows.{texts_of}
 
@@ -35,13 +39,13 @@ abbrev pub address_at : Members → Result Addr ConfigError
 address_at members = needed (codes "address") members >>= address_of
 
 -- the keys before all tables, in this order
-abbrev pub head_of : Members → Result Head ConfigError
+abbrev pub head_of : Members → Result Head Refusal
 head_of members = do
-  version ← version_at members
-  offset ← offset_at version members
-  realm ← text_at (codes "realm") Realm members
-  host ← text_at (codes "host") OwnHost members
-  port ← port_at members
-  address ← address_at members
-  domains ← domains_at members
+  version ← placed Whole 0 Version (version_at members)
+  offset ← placed Whole 0 Offset (offset_at version members)
+  realm ← placed Whole 0 keys.Realm (text_at (codes "realm") Realm members)
+  host ← placed Whole 0 Host (text_at (codes "host") OwnHost members)
+  port ← placed Whole 0 Port (port_at members)
+  address ← placed Whole 0 Address (address_at members)
+  domains ← placed Whole 0 Domains (domains_at members)
   Ok (record { version = version; offset = offset; realm = realm; host = host; port = port; address = address; domains = domains })

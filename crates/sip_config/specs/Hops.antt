@@ -1,25 +1,27 @@
 -- Hops: the tables `[[hop]]`.
-use Rattle.std.specs.Prelude.{not, List, [], codes, Result, Ok}
+use Rattle.std.specs.Prelude.{not, List, [], length, codes, Result, Ok}
 use Rattle.std.specs.List.{list_any}
 use Rattle.toml.specs.Data.{Members}
 use Rattle.sip_hops.specs.declared.hop.Hop.{Hop}
-use Rattle.sip_config.specs.declared.error.ConfigError.{ConfigError}
-use Rattle.sip_config.specs.declared.error.ConfigError.TheVariants.{BadValue}
+use Rattle.sip_config.specs.declared.key.Key.TheVariants as keys
+use Rattle.sip_config.specs.declared.keys.TableKind.TheVariants as kinds
+use Rattle.sip_config.specs.declared.refusal.Refusal.{Refusal}
+use Rattle.sip_config.specs.declared.refusal.Refusal.TheVariants.{Twice}
 use Rattle.sip_config.specs.declared.grammar.Grammar.TheVariants.{Name}
-use Rattle.sip_config.specs.Refusals.{◌>>=◌, confirmed}
-use Rattle.sip_config.specs.Values.{needed, text_as, address_of, items_at}
-use Rattle.sip_config.specs.Rows.{rows_after}
+use Rattle.sip_config.specs.Refusals.{◌>>=◌, place, placed, confirmed}
+use Rattle.sip_config.specs.Values.{needed, text_as, address_of}
+use Rattle.sip_config.specs.Rows.{list_at, rows_after}
 use Rattle.sip_config.specs.Words.{is_hop}
 
 -- a hop, whose name none before it has
-abbrev pub new_hop : List Hop → Members → Result Hop ConfigError
+abbrev pub new_hop : List Hop → Members → Result Hop Refusal
 new_hop before members = do
-  named ← needed (codes "name") members
-  placed ← needed (codes "address") members
-  name ← text_as Name named
-  _ ← confirmed (not (list_any (is_hop name) before)) BadValue
-  address ← address_of placed
+  named ← placed kinds.Hop (length before) keys.Name (needed (codes "name") members)
+  addressed ← placed kinds.Hop (length before) keys.Address (needed (codes "address") members)
+  name ← placed kinds.Hop (length before) keys.Name (text_as Name named)
+  _ ← confirmed (not (list_any (is_hop name) before)) (Twice (place kinds.Hop (length before) keys.Name))
+  address ← placed kinds.Hop (length before) keys.Address (address_of addressed)
   Ok (record { name = name; address = address })
 
-abbrev pub hops_at : Members → Result (List Hop) ConfigError
-hops_at members = items_at (codes "hop") members >>= rows_after new_hop []
+abbrev pub hops_at : Members → Result (List Hop) Refusal
+hops_at members = list_at keys.Hops members >>= rows_after keys.Hops new_hop []

@@ -1,10 +1,17 @@
 -- The keys that a file may have.
-use Rattle.std.specs.Prelude.{ℕ, Bool, true, ◌&&◌, ◌||◌, ◌==◌, List, [], ◌∷◌, codes, Option, None, Some}
+use Rattle.std.specs.Prelude.{ℕ, Bool, ◌&&◌, ◌||◌, ◌==◌, not, is_some, if◌then◌else◌, List, [], ◌∷◌, codes, Option, None, Some, Result}
 use Rattle.std.specs.List.{list_any}
 use Rattle.std.specs.Str.{bytes_eq}
-use Rattle.toml.specs.Data.{Data, Items, no_items, item, Members, no_members, member, get_member, as_table, as_array}
+use Rattle.toml.specs.Data.{Members, no_members, member}
+use Rattle.sip_config.specs.declared.error.ConfigError.TheVariants.{BadValue}
+use Rattle.sip_config.specs.declared.key.Key.{Key}
+use Rattle.sip_config.specs.declared.key.Key.TheVariants.{Users, Hops, HostAddresses, Rules, Unknown}
 use Rattle.sip_config.specs.declared.keys.TableKind.{TableKind}
 use Rattle.sip_config.specs.declared.keys.TableKind.TheVariants.{Whole, User, Hop, HostAddress, Rule}
+use Rattle.sip_config.specs.declared.refusal.Refusal.{Refusal}
+use Rattle.sip_config.specs.declared.refusal.Refusal.TheVariants.{At}
+use Rattle.sip_config.specs.Refusals.{◌>>=◌, place, confirmed}
+use Rattle.sip_config.specs.Rows.{list_at, all_pass}
 
 -- whether a key is one of those before all tables; `offset` is of version 2
 abbrev pub is_head_key : ℕ → List ℕ → Bool
@@ -39,32 +46,24 @@ may_have version Hop key = is_hop_key key
 may_have version HostAddress key = is_host_address_key key
 may_have version Rule key = is_rule_key version key
 
--- whether a table has no other keys
-abbrev pub knows : ℕ → TableKind → Members → Bool
-knows version kind no_members = true
-knows version kind (member key value members) = may_have version kind key && knows version kind members
+-- the first key of a table that its kind doesn't have
+abbrev pub unknown_key : ℕ → TableKind → Members → Option (List ℕ)
+unknown_key version kind no_members = None
+unknown_key version kind (member key value members) = if may_have version kind key then unknown_key version kind members else Some key
 
--- the same of a value, if it is a table
-abbrev pub knows_table : ℕ → TableKind → Option Members → Bool
-knows_table version kind None = true
-knows_table version kind (Some members) = knows version kind members
+-- a table has no such key
+abbrev pub known : ℕ → TableKind → ℕ → Members → Result (Unit {0}) Refusal
+known version kind before members = confirmed (not (is_some (unknown_key version kind members))) (At BadValue (place kind before Unknown))
 
--- the same of each item of a list
-abbrev pub knows_each : ℕ → TableKind → Items → Bool
-knows_each version kind no_items = true
-knows_each version kind (item first items) = knows_table version kind (as_table first) && knows_each version kind items
+-- nor has a table of a list
+abbrev pub list_known : ℕ → TableKind → Key → Members → Result (Unit {0}) Refusal
+list_known version kind list members = list_at list members >>= all_pass list (known version kind) 0
 
-abbrev pub knows_items : ℕ → TableKind → Option Items → Bool
-knows_items version kind None = true
-knows_items version kind (Some items) = knows_each version kind items
-
-abbrev pub knows_list : ℕ → TableKind → Option Data → Bool
-knows_list version kind None = true
-knows_list version kind (Some value) = knows_items version kind (as_array value)
-
--- whether a file has no unknown key
-abbrev pub knows_all : ℕ → Members → Bool
-knows_all version members =
-    knows version Whole members && knows_list version User (get_member (codes "user") members)
-    && knows_list version Hop (get_member (codes "hop") members)
-    && knows_list version HostAddress (get_member (codes "host_address") members) && knows_list version Rule (get_member (codes "rule") members)
+-- no table of a file has one
+abbrev pub all_known : ℕ → Members → Result (Unit {0}) Refusal
+all_known version members = do
+  _ ← known version Whole 0 members
+  _ ← list_known version User Users members
+  _ ← list_known version Hop Hops members
+  _ ← list_known version HostAddress HostAddresses members
+  list_known version Rule Rules members

@@ -4,6 +4,7 @@ pub mod Hops
 pub mod HostAddresses
 pub mod InOrder
 pub mod Places
+pub mod KeyNames
 pub mod Keys
 pub mod Limits
 pub mod Configuration

@@ -1,6 +1,14 @@
 -- How long lists may be (this project's profile).
-use Rattle.std.specs.Prelude.{ℕ, ◌+◌, Bool, false, ◌||◌, nat_lt, List, codes, Option, None, Some}
+use Rattle.std.specs.Prelude.{ℕ, ◌+◌, Bool, false, not, nat_lt, if◌then◌else◌, List, codes, Option, None, Some, Result}
 use Rattle.toml.specs.Data.{Data, Items, no_items, item, Members, get_member, as_table, as_array}
+use Rattle.sip_config.specs.declared.error.ConfigError.TheVariants.{TooMany}
+use Rattle.sip_config.specs.declared.key.Key.{Key}
+use Rattle.sip_config.specs.declared.key.Key.TheVariants.{Domains, Users, Groups, Hops, HostAddresses, Rules}
+use Rattle.sip_config.specs.declared.keys.TableKind.TheVariants.{Whole, User}
+use Rattle.sip_config.specs.declared.refusal.Refusal.{Refusal}
+use Rattle.sip_config.specs.declared.refusal.Refusal.TheVariants.{At}
+use Rattle.sip_config.specs.KeyNames.{name_of}
+use Rattle.sip_config.specs.Refusals.{◌>>=◌, place, confirmed, none_found}
 
 -- how many items a list has
 abbrev pub count_items : Items → ℕ
@@ -24,20 +32,29 @@ abbrev pub has_many_groups : Option Members → Bool
 has_many_groups None = false
 has_many_groups (Some members) = is_over_at (codes "groups") 16 members
 
-abbrev pub one_has_many_groups : Items → Bool
-one_has_many_groups no_items = false
-one_has_many_groups (item first items) = has_many_groups (as_table first) || one_has_many_groups items
+-- how many stand before the first user who is in more, where the first has so many before
+abbrev pub many_groups_after : ℕ → Items → Option ℕ
+many_groups_after before no_items = None
+many_groups_after before (item first items) = if has_many_groups (as_table first) then Some before else many_groups_after (before + 1) items
 
-abbrev pub some_has_many_groups : Option Items → Bool
-some_has_many_groups None = false
-some_has_many_groups (Some items) = one_has_many_groups items
+abbrev pub many_groups_of : Option Items → Option ℕ
+many_groups_of None = None
+many_groups_of (Some items) = many_groups_after 0 items
 
-abbrev pub users_have_many_groups : Option Data → Bool
-users_have_many_groups None = false
-users_have_many_groups (Some value) = some_has_many_groups (as_array value)
+abbrev pub many_groups_in : Option Data → Option ℕ
+many_groups_in None = None
+many_groups_in (Some value) = many_groups_of (as_array value)
 
--- whether some list is too long: domains, users, the groups of a user, hops, rows of the address table, rules
-abbrev pub has_too_many : Members → Bool
-has_too_many members =
-    is_over_at (codes "domains") 16 members || is_over_at (codes "user") 4096 members || users_have_many_groups (get_member (codes "user") members)
-    || is_over_at (codes "hop") 256 members || is_over_at (codes "host_address") 1024 members || is_over_at (codes "rule") 1024 members
+-- a list that stands before all tables, or of tables, isn't longer
+abbrev pub few_at : Key → ℕ → Members → Result (Unit {0}) Refusal
+few_at list most members = confirmed (not (is_over_at (name_of list) most members)) (At TooMany (place Whole 0 list))
+
+-- no list is too long: domains, users, the groups of a user, hops, rows of the address table, rules
+abbrev pub all_few : Members → Result (Unit {0}) Refusal
+all_few members = do
+  _ ← few_at Domains 16 members
+  _ ← few_at Users 4096 members
+  _ ← none_found TooMany User Groups (many_groups_in (get_member (codes "user") members))
+  _ ← few_at Hops 256 members
+  _ ← few_at HostAddresses 1024 members
+  few_at Rules 1024 members

@@ -1,20 +1,32 @@
 -- Lists, member by member in the order of the file.
-use Rattle.std.specs.Prelude.{ℕ, List, [], ◌∷◌, ◌++◌, Result, Ok}
-use Rattle.toml.specs.Data.{Items, no_items, item, Members}
+use Rattle.std.specs.Prelude.{ℕ, ◌+◌, List, [], ◌∷◌, ◌++◌, Result, Ok}
+use Rattle.toml.specs.Data.{Data, Items, no_items, item, Members}
 use Rattle.sip_config.specs.declared.error.ConfigError.{ConfigError}
 use Rattle.sip_config.specs.declared.grammar.Grammar.{Grammar}
-use Rattle.sip_config.specs.Refusals.{◌>>=◌}
-use Rattle.sip_config.specs.Values.{table_of, text_as}
+use Rattle.sip_config.specs.declared.key.Key.{Key}
+use Rattle.sip_config.specs.declared.keys.TableKind.TheVariants.{Whole}
+use Rattle.sip_config.specs.declared.refusal.Refusal.{Refusal}
+use Rattle.sip_config.specs.KeyNames.{name_of}
+use Rattle.sip_config.specs.Refusals.{◌>>=◌, placed}
+use Rattle.sip_config.specs.Values.{table_of, items_at, text_as}
+
+-- the items of a list of tables, none where it isn't there
+abbrev pub list_at : Key → Members → Result Items Refusal
+list_at list members = placed Whole 0 list (items_at (name_of list) members)
+
+-- the table that an item of such a list is; where it is none, the list is refused
+abbrev pub table_in : Key → Data → Result Members Refusal
+table_in list value = placed Whole 0 list (table_of value)
 
 -- rows, each read from its table by those before it, and the first refusal
-abbrev pub rows_after : {A : Type 0} → (List A → Members → Result A ConfigError) → List A → Items → Result (List A) ConfigError
-rows_after read before no_items = Ok before
-rows_after read before (item first items) = table_of first >>= read before >>= λ row. rows_after read (before ++ row ∷ []) items
+abbrev pub rows_after : {A : Type 0} → Key → (List A → Members → Result A Refusal) → List A → Items → Result (List A) Refusal
+rows_after list read before no_items = Ok before
+rows_after list read before (item first items) = table_in list first >>= read before >>= λ row. rows_after list read (before ++ row ∷ []) items
 
 -- whether each table passes one line of the table of keys, and the first refusal
-abbrev pub all_pass : (Members → Result (Unit {0}) ConfigError) → Items → Result (Unit {0}) ConfigError
-all_pass line no_items = Ok tt
-all_pass line (item first items) = table_of first >>= line >>= λ _. all_pass line items
+abbrev pub all_pass : Key → (ℕ → Members → Result (Unit {0}) Refusal) → ℕ → Items → Result (Unit {0}) Refusal
+all_pass list line before no_items = Ok tt
+all_pass list line before (item first items) = table_in list first >>= line before >>= λ _. all_pass list line (before + 1) items
 
 -- texts of a grammar behind those that were read, and the first refusal
 abbrev pub texts_after : Grammar → List (List ℕ) → Items → Result (List (List ℕ)) ConfigError

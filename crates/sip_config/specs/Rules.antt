@@ -1,5 +1,5 @@
 -- Rules: the tables `[[rule]]`.
-use Rattle.std.specs.Prelude.{ℕ, Bool, true, ◌==◌, not, if◌then◌else◌, List, [], codes, Option, None, Some, Result, Ok, Err}
+use Rattle.std.specs.Prelude.{ℕ, Bool, true, ◌==◌, not, if◌then◌else◌, position, List, [], length, codes, Option, None, Some, Result, Ok, Err}
 use Rattle.std.specs.List.{list_all, list_any}
 use Rattle.std.specs.Str.{bytes_eq}
 use Rattle.toml.specs.Data.{Data, Items, Members, get_member}
@@ -14,9 +14,14 @@ use Rattle.sip_policy.specs.declared.window.Window.{Window}
 use Rattle.sip_policy.specs.declared.rule.Rule.{Rule}
 use Rattle.sip_config.specs.declared.error.ConfigError.{ConfigError}
 use Rattle.sip_config.specs.declared.error.ConfigError.TheVariants.{BadValue, DuplicateRule, UnknownGroup}
+use Rattle.sip_config.specs.declared.key.Key.{Key}
+use Rattle.sip_config.specs.declared.key.Key.TheVariants as keys
+use Rattle.sip_config.specs.declared.keys.TableKind.TheVariants as kinds
+use Rattle.sip_config.specs.declared.refusal.Refusal.{Refusal}
+use Rattle.sip_config.specs.declared.refusal.Refusal.TheVariants.{At}
 use Rattle.sip_config.specs.declared.rules.RuleLine.{RuleLine}
 use Rattle.sip_config.specs.declared.rules.RuleLine.TheVariants.{Id, WhoAsks, Operation, Target, Verdict, Minutes}
-use Rattle.sip_config.specs.Refusals.{◌>>=◌, kept_if, confirmed, passed}
+use Rattle.sip_config.specs.Refusals.{◌>>=◌, kept_if, place, placed, passed, confirmed, none_found}
 use Rattle.sip_config.specs.Values.{needed, text_of, number_between}
 use Rattle.sip_config.specs.Rows.{rows_after, all_pass}
 use Rattle.sip_config.specs.Words.{who_of, operation_of, target_of, is_verdict, verdict_of}
@@ -45,66 +50,75 @@ verdict_at hops members = verdict_text members >>= verdict_of hops
 abbrev pub minute_of : Data → Result ℕ ConfigError
 minute_of value = number_between 0 1439 value
 
+-- a bad value of a key of a rule, before which so many stand
+abbrev pub bad : ℕ → Key → Refusal
+bad before key = At BadValue (place kinds.Rule before key)
+
 -- two minutes that differ
-abbrev pub window_between : Data → Data → Result (Option Window) ConfigError
-window_between first last = do
-  from ← minute_of first
-  until ← minute_of last
-  kept_if (not (from == until)) (Some (record { from = from; until = until }))
+abbrev pub window_between : ℕ → Data → Data → Result (Option Window) Refusal
+window_between before first last = do
+  from ← placed kinds.Rule before keys.From (minute_of first)
+  until ← placed kinds.Rule before keys.Until (minute_of last)
+  _ ← confirmed (not (from == until)) (bad before keys.From)
+  Ok (Some (record { from = from; until = until }))
 
 -- both minutes or neither
-abbrev pub window_in : Option Data → Option Data → Result (Option Window) ConfigError
-window_in None None = Ok None
-window_in (Some first) (Some last) = window_between first last
-window_in None (Some last) = Err BadValue
-window_in (Some first) None = Err BadValue
+abbrev pub window_in : ℕ → Option Data → Option Data → Result (Option Window) Refusal
+window_in before None None = Ok None
+window_in before (Some first) (Some last) = window_between before first last
+window_in before None (Some last) = Err (bad before keys.Until)
+window_in before (Some first) None = Err (bad before keys.From)
 
 -- the window of a rule, which version 1 doesn't know
-abbrev pub window_at : ℕ → Members → Result (Option Window) ConfigError
-window_at version members = if version == 1 then Ok None else window_in (get_member (codes "from") members) (get_member (codes "until") members)
+abbrev pub window_at : ℕ → ℕ → Members → Result (Option Window) Refusal
+window_at version before members =
+    if version == 1 then Ok None else window_in before (get_member (codes "from") members) (get_member (codes "until") members)
 
 -- ---- rules
 
 -- the line of the verdicts: `via` stands only where the operation is one that is sent on
-abbrev pub verdict_line : Members → Result (Unit {0}) ConfigError
-verdict_line members = do
-  text ← verdict_text members
-  operation ← operation_at members
-  confirmed (is_verdict operation text) BadValue
+abbrev pub verdict_line : ℕ → Members → Result (Unit {0}) Refusal
+verdict_line before members = do
+  text ← placed kinds.Rule before keys.Verdict (verdict_text members)
+  operation ← placed kinds.Rule before keys.Operation (operation_at members)
+  confirmed (is_verdict operation text) (bad before keys.Verdict)
 
-abbrev pub rule_line : ℕ → List User → RuleLine → Members → Result (Unit {0}) ConfigError
-rule_line version users Id members = passed (id_at members)
-rule_line version users WhoAsks members = passed (who_at users members)
-rule_line version users Operation members = passed (operation_at members)
-rule_line version users Target members = passed (target_at members)
-rule_line version users Verdict members = verdict_line members
-rule_line version users Minutes members = passed (window_at version members)
+abbrev pub window_line : ℕ → ℕ → Members → Result (Unit {0}) Refusal
+window_line version before members = window_at version before members >>= λ window. Ok tt
+
+abbrev pub rule_line : ℕ → List User → RuleLine → ℕ → Members → Result (Unit {0}) Refusal
+rule_line version users Id before members = passed kinds.Rule before keys.Id (id_at members)
+rule_line version users WhoAsks before members = passed kinds.Rule before keys.WhoAsks (who_at users members)
+rule_line version users Operation before members = passed kinds.Rule before keys.Operation (operation_at members)
+rule_line version users Target before members = passed kinds.Rule before keys.Target (target_at members)
+rule_line version users Verdict before members = verdict_line before members
+rule_line version users Minutes before members = window_line version before members
 
 -- each line of all rules in turn
-abbrev pub rule_lines : ℕ → List User → Items → Result (Unit {0}) ConfigError
+abbrev pub rule_lines : ℕ → List User → Items → Result (Unit {0}) Refusal
 rule_lines version users items = do
-  _ ← all_pass (rule_line version users Id) items
-  _ ← all_pass (rule_line version users WhoAsks) items
-  _ ← all_pass (rule_line version users Operation) items
-  _ ← all_pass (rule_line version users Target) items
-  _ ← all_pass (rule_line version users Verdict) items
-  all_pass (rule_line version users Minutes) items
+  _ ← all_pass keys.Rules (rule_line version users Id) 0 items
+  _ ← all_pass keys.Rules (rule_line version users WhoAsks) 0 items
+  _ ← all_pass keys.Rules (rule_line version users Operation) 0 items
+  _ ← all_pass keys.Rules (rule_line version users Target) 0 items
+  _ ← all_pass keys.Rules (rule_line version users Verdict) 0 items
+  all_pass keys.Rules (rule_line version users Minutes) 0 items
 
 -- a number that no rule before has
-abbrev pub new_id : List ℕ → Members → Result ℕ ConfigError
+abbrev pub new_id : List ℕ → Members → Result ℕ Refusal
 new_id before members = do
-  id ← id_at members
-  _ ← confirmed (not (list_any (λ other. other == id) before)) DuplicateRule
+  id ← placed kinds.Rule (length before) keys.Id (id_at members)
+  _ ← confirmed (not (list_any (λ other. other == id) before)) (At DuplicateRule (place kinds.Rule (length before) keys.Id))
   Ok id
 
-abbrev pub rule_at : ℕ → List User → List Hop → Members → Result Rule ConfigError
-rule_at version users hops members = do
-  id ← id_at members
-  verdict ← verdict_at hops members
-  window ← window_at version members
-  who ← who_at users members
-  operation ← operation_at members
-  target ← target_at members
+abbrev pub rule_at : ℕ → List User → List Hop → List Rule → Members → Result Rule Refusal
+rule_at version users hops before members = do
+  id ← placed kinds.Rule (length before) keys.Id (id_at members)
+  verdict ← placed kinds.Rule (length before) keys.Verdict (verdict_at hops members)
+  window ← window_at version (length before) members
+  who ← placed kinds.Rule (length before) keys.WhoAsks (who_at users members)
+  operation ← placed kinds.Rule (length before) keys.Operation (operation_at members)
+  target ← placed kinds.Rule (length before) keys.Target (target_at members)
   Ok (record { id = id; who = who; operation = operation; target = target; window = window; verdict = verdict })
 
 -- whether a group has a member
@@ -125,9 +139,9 @@ abbrev pub names_known_group : List User → Rule → Bool
 names_known_group users rule = is_known users rule.who
 
 -- the rules of a list whose lines passed: first no number twice, then each hop known, then each group
-abbrev pub rules_of : ℕ → List User → List Hop → Items → Result (List Rule) ConfigError
+abbrev pub rules_of : ℕ → List User → List Hop → Items → Result (List Rule) Refusal
 rules_of version users hops items = do
-  ids ← rows_after new_id [] items
-  rules ← rows_after (λ before. rule_at version users hops) [] items
-  _ ← confirmed (list_all (names_known_group users) rules) UnknownGroup
+  ids ← rows_after keys.Rules new_id [] items
+  rules ← rows_after keys.Rules (rule_at version users hops) [] items
+  _ ← none_found UnknownGroup kinds.Rule keys.WhoAsks (position (λ rule. not (names_known_group users rule)) rules)
   Ok rules

@@ -1,6 +1,6 @@
 ghost use Rattle.std.specs.Prelude.{◌≡◌, ◌⊎◌, IfOk, IfErr};
 ghost use Rattle.toml.specs.View.{table_view};
-ghost use Rattle.sip_config.specs.Refusals.{Reads};
+ghost use Rattle.sip_config.specs.Refusals.{Reads, ReadsAt, error_alone};
 ghost use Rattle.sip_config.specs.Configuration as Definitions;
 ghost use Rattle.sip_config.specs.Stated.{States, StatesNone};
 ghost use Rattle.sip_config.specs.declared.error.ConfigError.TheVariants.{NoMemory};
@@ -9,11 +9,13 @@ use crate::ConfigError;
 use crate::head::head_of;
 use crate::hops::hops_at;
 use crate::host_addresses::host_addresses_at;
-use crate::keys::knows_all;
-use crate::limits::has_too_many;
+use crate::key::Key;
+use crate::keys::all_known;
+use crate::limits::all_few;
+use crate::lists::list_at;
+use crate::refusal::Refusal;
 use crate::rules::{check_rules, rules_of};
 use crate::users::users_at;
-use crate::values::{confirm, items_at};
 use sip_config_types::Config;
 use sip_hops::Hop;
 use sip_policy::{Rule, Users};
@@ -29,26 +31,37 @@ fn rules_at(
     users: &Users,
     hops: &[Hop],
     table: &Table,
-) -> Result<Items<Rule>, ConfigError>
-    ensures { Reads (λ rules. rules) result (Definitions.rules_at version users.now hops.now (table_view table.now)) }
+) -> Result<Items<Rule>, Refusal>
+    ensures { ReadsAt (λ rules. rules) result (Definitions.rules_at version users.now hops.now (table_view table.now)) }
 {
-    let items = items_at(table, "rule")?;
+    let items = list_at(Key::Rules, table)?;
     check_rules(alloc, version, users, items)?;
-    confirm(knows_all(version, table), ConfigError::BadValue)?;
+    all_known(version, table)?;
     rules_of(alloc, version, users, hops, items)
 }
 
-/// What the keys of a file state.
-fn stated_by(alloc: Global, table: &Table) -> Result<Config, ConfigError>
-    ensures { Reads (λ config. config) result (Definitions.stated_by (table_view table.now)) }
+/// Reads a configuration, whose text is TOML, and says where it is refused: at the first place in reading order.
+/// NoMemory may come at any point.
+pub fn read_table(alloc: Global, table: &Table) -> Result<Config, Refusal>
+    ensures { ReadsAt (λ config. config) result (Definitions.placed_by (table_view table.now)) }
 {
-    confirm(!has_too_many(table), ConfigError::TooMany)?;
+    all_few(table)?;
     let head = head_of(alloc, table)?;
     let users = users_at(alloc, table)?;
     let hops = hops_at(alloc, table)?;
     let addresses = host_addresses_at(alloc, table)?;
     let rules = rules_at(alloc, head.version, &users, hops.as_slice(), table)?;
     Ok(head.into_config(users, hops, addresses, rules))
+}
+
+/// The same with the error alone.
+fn stated_by(alloc: Global, table: &Table) -> Result<Config, ConfigError>
+    ensures { Reads (λ config. config) result (error_alone (Definitions.placed_by (table_view table.now))) }
+{
+    match read_table(alloc, table) {
+        Ok(config) => Ok(config),
+        Err(refusal) => Err(refusal.error()),
+    }
 }
 
 /// Reads a configuration: TOML of version 1 or 2.

@@ -1,8 +1,12 @@
-ghost use Rattle.std.specs.Prelude.{◌≡◌, ◌++◌, [], codes, pos, Ok, Err};
+ghost use Rattle.std.specs.Prelude.{◌≡◌, ◌++◌, [], codes, pos, Some, Ok, Err};
 ghost use Rattle.toml.specs.Parse.{parse_document};
 ghost use Rattle.sip_policy.specs.Examples.{rules_with, by_day};
 ghost use Rattle.sip_config_types.specs.Sample.{sample};
 ghost use Rattle.sip_config.specs.declared.error.ConfigError.TheVariants as Refusal;
+ghost use Rattle.sip_config.specs.declared.key.Key.TheVariants as keys;
+ghost use Rattle.sip_config.specs.declared.keys.TableKind.TheVariants as kinds;
+ghost use Rattle.sip_config.specs.declared.refusal.Refusal.TheVariants.{At, Twice};
+ghost use Rattle.sip_config.specs.Refusals.{place};
 ghost use Rattle.sip_config.specs.Configuration.{stated_in};
 ghost use Rattle.sip_config.specs.Examples as Texts;
 
@@ -84,4 +88,16 @@ pub fn window_refusals()
     ensures version_1 { stated_in (Texts.behind_users (Texts.plain_rule (codes "6") ++ codes "from = 480\nuntil = 1080\n")) ≡ Err Refusal.BadValue }
     ensures offset { stated_in (Texts.head_with (codes "version = 1\noffset = 0\n") Texts.sample_realm Texts.sample_port
         Texts.sample_domains ++ Texts.sample_users) ≡ Err Refusal.BadValue }
+{}
+
+/// A refusal has the place at which the reading stops: no users, the second of two with one name, the verdict of a first rule that names
+/// no hop, and a second rule with a key that isn't known.
+pub fn refusals_have_places()
+    ensures none { Texts.placed_in Texts.sample_head ≡ Some (Err (At Refusal.MissingKey (place kinds.Whole 0 keys.Users))) }
+    ensures twice { Texts.placed_in (Texts.behind_head (codes "[[user]]\nname = \"a\"\n[[user]]\nname = \"a\"\n"))
+        ≡ Some (Err (Twice (place kinds.User 1 keys.Name))) }
+    ensures hop { Texts.placed_in (Texts.behind_users (Texts.a_rule (codes "6") (codes "anyone") (codes "send *") (codes "via no")))
+        ≡ Some (Err (At Refusal.UnknownHop (place kinds.Rule 0 keys.Verdict))) }
+    ensures unknown { Texts.placed_in (Texts.behind_users (Texts.plain_rule (codes "6") ++ Texts.plain_rule (codes "7") ++ codes "note = \"\"\n"))
+        ≡ Some (Err (At Refusal.BadValue (place kinds.Rule 1 keys.Unknown))) }
 {}

@@ -1,9 +1,13 @@
 ghost use Rattle.std.specs.Prelude.{◌≡◌};
 ghost use Rattle.toml.specs.View.{view, table_view, items_view};
-ghost use Rattle.sip_config.specs.Refusals.{Reads};
+ghost use Rattle.sip_config.specs.declared.keys.TableKind.TheVariants.{Whole};
+ghost use Rattle.sip_config.specs.Refusals.{Reads, ReadsAt, placed};
 ghost use Rattle.sip_config.specs.Head as Definitions;
 ghost use Rattle.sip_config.specs.Configuration.{config_of};
 
+use crate::key::Key;
+use crate::keys::TableKind;
+use crate::refusal::{Refusal, placed};
 use crate::texts::texts_of;
 use crate::values::{
     address_of, find, needed, number_between, number_of, port_of, some_items_at, text_at,
@@ -134,17 +138,24 @@ fn address_at(table: &Table) -> Result<Addr, ConfigError>
     address_of(needed(table, "address")?)
 }
 
-/// What the keys before all tables say, refused in this order.
-pub(crate) fn head_of(alloc: Global, table: &Table) -> Result<Head, ConfigError>
-    ensures { Reads (λ head. head) result (Definitions.head_of (table_view table.now)) }
+/// What a key before all tables is read as, refused at its place.
+fn at_head<T: Drop>(key: Key, read: Result<T, ConfigError>) -> Result<T, Refusal>
+    ensures { result ≡ placed Whole 0 key read }
 {
-    let version = version_at(table)?;
-    let offset = offset_at(version, table)?;
-    let realm = text_at(table, "realm", Grammar::Realm)?;
-    let host = text_at(table, "host", Grammar::OwnHost)?;
-    let port = port_at(table)?;
-    let address = address_at(table)?;
-    let domains = domains_at(alloc, table)?;
+    placed(TableKind::Whole, 0, key, read)
+}
+
+/// What the keys before all tables say, refused in this order.
+pub(crate) fn head_of(alloc: Global, table: &Table) -> Result<Head, Refusal>
+    ensures { ReadsAt (λ head. head) result (Definitions.head_of (table_view table.now)) }
+{
+    let version = at_head(Key::Version, version_at(table))?;
+    let offset = at_head(Key::Offset, offset_at(version, table))?;
+    let realm = at_head(Key::Realm, text_at(table, "realm", Grammar::Realm))?;
+    let host = at_head(Key::Host, text_at(table, "host", Grammar::OwnHost))?;
+    let port = at_head(Key::Port, port_at(table))?;
+    let address = at_head(Key::Address, address_at(table))?;
+    let domains = at_head(Key::Domains, domains_at(alloc, table))?;
     let realm = Bytes::copy(alloc, realm)?;
     let host = Bytes::copy(alloc, host)?;
     Ok(Head {

@@ -1,13 +1,19 @@
 ghost use Rattle.std.specs.Prelude.{◌≡◌, [], ◌∷◌, ◌++◌, codes, IfOk};
 ghost use Rattle.toml.specs.Data.{get_member};
 ghost use Rattle.toml.specs.View.{table_view, items_view};
-ghost use Rattle.sip_config.specs.Refusals.{Reads};
+ghost use Rattle.sip_config.specs.Refusals.{ReadsAt, placed};
+ghost use Rattle.sip_config.specs.declared.key.Key.TheVariants as keys;
+ghost use Rattle.sip_config.specs.declared.keys.TableKind.TheVariants as kinds;
 ghost use Rattle.sip_config.specs.Rows.{rows_after};
 ghost use Rattle.sip_config.specs.HostAddresses as Definitions;
 ghost use Rattle.sip_config.specs.Places.{place_of, row_besides};
 
+use crate::key::Key;
+use crate::keys::TableKind;
+use crate::lists::{list_at, table_in};
 use crate::places::Places;
-use crate::values::{address_of, find, items_at, needed, port_of, table_of, text_as};
+use crate::refusal::{Refusal, place_at, placed};
+use crate::values::{address_of, find, needed, port_of, text_as};
 use crate::{ConfigError, Grammar};
 use sip_hops::HostAddress;
 use sip_text::{Bytes, Items};
@@ -24,19 +30,31 @@ fn row_port(table: &Table) -> Result<u16, ConfigError>
     }
 }
 
+/// What a key of a row is read as, refused at its place.
+fn of_row<T: Drop>(before: usize, key: Key, read: Result<T, ConfigError>) -> Result<T, Refusal>
+    ensures { result ≡ placed kinds.HostAddress before key read }
+{
+    placed(TableKind::HostAddress, before, key, read)
+}
+
 /// A row of the address table, for a host and a port whose place is none of some, and its place behind these.
-fn new_row(alloc: Global, places: &mut Places, table: &Table) -> Result<HostAddress, ConfigError>
-    ensures read { Reads (λ row. row) result (row_besides places.old (table_view table.now)) }
+fn new_row(
+    alloc: Global,
+    places: &mut Places,
+    before: usize,
+    table: &Table,
+) -> Result<HostAddress, Refusal>
+    ensures read { ReadsAt (λ row. row) result (row_besides before places.old (table_view table.now)) }
     ensures placed { IfOk result (λ row. places.new ≡ places.old ++ place_of row ∷ []) }
 {
-    let named = needed(table, "host")?;
-    let placed = needed(table, "address")?;
-    let host = text_as(named, Grammar::Host)?;
-    let port = row_port(table)?;
+    let named = of_row(before, Key::Host, needed(table, "host"))?;
+    let addressed = of_row(before, Key::Address, needed(table, "address"))?;
+    let host = of_row(before, Key::Host, text_as(named, Grammar::Host))?;
+    let port = of_row(before, Key::Port, row_port(table))?;
     if !places.add(alloc, host, port)? {
-        return Err(ConfigError::BadValue);
+        return Err(Refusal::Twice(place_at(TableKind::HostAddress, before, Key::Host)));
     }
-    let address = address_of(placed)?;
+    let address = of_row(before, Key::Address, address_of(addressed))?;
     let host = Bytes::copy(alloc, host)?;
     Ok(HostAddress {
         host,
@@ -46,24 +64,26 @@ fn new_row(alloc: Global, places: &mut Places, table: &Table) -> Result<HostAddr
 }
 
 #[tactic(auto, using(crate::proofs::RowPlaces::rows_are, crate::proofs::RowPlaces::row_step, crate::proofs::RowPlaces::row_end))]
-fn rows_of(alloc: Global, items: &[Value]) -> Result<Items<HostAddress>, ConfigError>
-    ensures { Reads (λ rows. rows) result (rows_after Definitions.new_row [] (items_view items.now)) }
+fn rows_of(alloc: Global, items: &[Value]) -> Result<Items<HostAddress>, Refusal>
+    ensures { ReadsAt (λ rows. rows) result (rows_after keys.HostAddresses Definitions.new_row [] (items_view items.now)) }
 {
     let mut rows = Items::new(alloc);
     let mut places = Places::new(alloc);
     for item in items {
-        let row = new_row(alloc, &mut places, table_of(item)?)?;
+        let row = new_row(
+            alloc,
+            &mut places,
+            rows.as_slice().len(),
+            table_in(Key::HostAddresses, item)?,
+        )?;
         rows.push(row)?;
     }
     Ok(rows)
 }
 
 /// The address table: the tables `[[host_address]]`, if there are any.
-pub(crate) fn host_addresses_at(
-    alloc: Global,
-    table: &Table,
-) -> Result<Items<HostAddress>, ConfigError>
-    ensures { Reads (λ rows. rows) result (Definitions.host_addresses_at (table_view table.now)) }
+pub(crate) fn host_addresses_at(alloc: Global, table: &Table) -> Result<Items<HostAddress>, Refusal>
+    ensures { ReadsAt (λ rows. rows) result (Definitions.host_addresses_at (table_view table.now)) }
 {
-    rows_of(alloc, items_at(table, "host_address")?)
+    rows_of(alloc, list_at(Key::HostAddresses, table)?)
 }

@@ -1,16 +1,20 @@
-ghost use Rattle.std.specs.Prelude.{◌≡◌};
+ghost use Rattle.std.specs.Prelude.{◌≡◌, option_map};
 ghost use Rattle.std.specs.List.{list_any};
 ghost use Rattle.std.specs.Str.{bytes_eq};
-ghost use Rattle.toml.specs.Data.{get_member, as_table};
-ghost use Rattle.toml.specs.View.{view, table_view, items_view};
+ghost use Rattle.toml.specs.View.{table_view, items_view};
+ghost use Rattle.sip_config.specs.Refusals.{Tells};
+ghost use Rattle.sip_config.specs.Rows.{all_pass};
 ghost use Rattle.sip_config.specs.Keys as Definitions;
 
-use crate::values::find;
+use crate::error::ConfigError;
+use crate::key::Key;
+use crate::lists::{list_at, table_in};
+use crate::refusal::{Refusal, confirm, place_at};
 use toml::{Table, Value};
 
 /// The kinds of tables of a file: the whole of it, and the tables of its lists.
 #[derive(Clone, Copy)]
-pub(crate) enum TableKind {
+pub enum TableKind {
     Whole,
     User,
     Hop,
@@ -58,7 +62,7 @@ fn is_rule_key(version: u32, key: &str) -> bool
 }
 
 /// Whether a table of a kind may have a key.
-fn may_have(version: u32, kind: TableKind, key: &str) -> bool
+pub fn may_have(version: u32, kind: TableKind, key: &str) -> bool
     ensures { result ≡ Definitions.may_have version kind key.now }
 {
     match kind {
@@ -70,61 +74,51 @@ fn may_have(version: u32, kind: TableKind, key: &str) -> bool
     }
 }
 
-/// Whether a table has no key that its kind doesn't have.
-fn knows(version: u32, kind: TableKind, table: &Table) -> bool
-    ensures { result ≡ Definitions.knows version kind (table_view table.now) }
+/// The first key of a table that its kind doesn't have.
+pub fn unknown_key(version: u32, kind: TableKind, table: &Table) -> Option<&str>
+    ensures { option_map (λ key. key.now) result ≡ Definitions.unknown_key version kind (table_view table.now) }
 {
     for (key, _value) in table.iter() {
         if !may_have(version, kind, key.as_str()) {
-            return false;
+            return Some(key.as_str());
         }
     }
-    true
+    None
 }
 
-/// The same of a value, if it is a table.
-fn knows_table(version: u32, kind: TableKind, value: &Value) -> bool
-    ensures { result ≡ Definitions.knows_table version kind (as_table (view value.now)) }
+/// Whether a table has no such key.
+fn known(version: u32, kind: TableKind, before: usize, table: &Table) -> Result<(), Refusal>
+    ensures { result ≡ Definitions.known version kind before (table_view table.now) }
 {
-    match value.as_table() {
-        Some(table) => knows(version, kind, table),
-        None => true,
-    }
+    let unknown = unknown_key(version, kind, table).is_some();
+    let refusal = Refusal::At(ConfigError::BadValue, place_at(kind, before, Key::Unknown));
+    confirm(!unknown, refusal)
 }
 
-/// The same of each item of a list.
-#[tactic(auto, using(crate::proofs::Rows::known_step))]
-fn knows_each(version: u32, kind: TableKind, items: &[Value]) -> bool
-    ensures { result ≡ Definitions.knows_each version kind (items_view items.now) }
+/// Whether no table of a list has one.
+#[tactic(auto, using(crate::proofs::Rows::pass_step, crate::proofs::Rows::pass_end))]
+fn each_known(version: u32, kind: TableKind, list: Key, items: &[Value]) -> Result<(), Refusal>
+    ensures { Tells (λ done. done) result (all_pass list (Definitions.known version kind) 0 (items_view items.now)) }
 {
-    for item in items {
-        if !knows_table(version, kind, item) {
-            return false;
-        }
+    for (at, item) in items.iter().enumerate() {
+        known(version, kind, at, table_in(list, item)?)?;
     }
-    true
+    Ok(())
 }
 
-/// The same of what a key holds, if it is a list.
-fn knows_list(version: u32, kind: TableKind, table: &Table, key: &str) -> bool
-    ensures { result ≡ Definitions.knows_list version kind (get_member key.now (table_view table.now)) }
+fn list_known(version: u32, kind: TableKind, list: Key, table: &Table) -> Result<(), Refusal>
+    ensures { Tells (λ done. done) result (Definitions.list_known version kind list (table_view table.now)) }
 {
-    match find(table, key) {
-        Some(value) => match value.as_array() {
-            Some(items) => knows_each(version, kind, items.as_slice()),
-            None => true,
-        },
-        None => true,
-    }
+    each_known(version, kind, list, list_at(list, table)?)
 }
 
 /// Whether a file has no unknown key.
-pub(crate) fn knows_all(version: u32, table: &Table) -> bool
-    ensures { result ≡ Definitions.knows_all version (table_view table.now) }
+pub(crate) fn all_known(version: u32, table: &Table) -> Result<(), Refusal>
+    ensures { Tells (λ done. done) result (Definitions.all_known version (table_view table.now)) }
 {
-    knows(version, TableKind::Whole, table)
-        && knows_list(version, TableKind::User, table, "user")
-        && knows_list(version, TableKind::Hop, table, "hop")
-        && knows_list(version, TableKind::HostAddress, table, "host_address")
-        && knows_list(version, TableKind::Rule, table, "rule")
+    known(version, TableKind::Whole, 0, table)?;
+    list_known(version, TableKind::User, Key::Users, table)?;
+    list_known(version, TableKind::Hop, Key::Hops, table)?;
+    list_known(version, TableKind::HostAddress, Key::HostAddresses, table)?;
+    list_known(version, TableKind::Rule, Key::Rules, table)
 }

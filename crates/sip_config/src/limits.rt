@@ -1,8 +1,13 @@
 ghost use Rattle.std.specs.Prelude.{◌≡◌, codes};
 ghost use Rattle.toml.specs.Data.{get_member, as_table};
 ghost use Rattle.toml.specs.View.{view, table_view, items_view};
+ghost use Rattle.sip_config.specs.Refusals.{Tells};
 ghost use Rattle.sip_config.specs.Limits as Definitions;
 
+use crate::error::ConfigError;
+use crate::key::Key;
+use crate::keys::TableKind;
+use crate::refusal::{Refusal, confirm, none_found, place_at};
 use crate::values::find;
 use toml::{Table, Value};
 
@@ -30,38 +35,49 @@ fn has_many_groups(user: &Value) -> bool
     }
 }
 
-#[tactic(auto, using(crate::proofs::Rows::groups_step))]
-fn one_has_many_groups(users: &[Value]) -> bool
-    ensures { result ≡ Definitions.one_has_many_groups (items_view users.now) }
+/// How many users stand before the first who is in more than 16 groups.
+#[tactic(auto, using(crate::proofs::Rows::groups_step, crate::proofs::Rows::groups_end))]
+fn many_groups_of(users: &[Value]) -> Option<usize>
+    ensures { result ≡ Definitions.many_groups_after 0 (items_view users.now) }
 {
-    for user in users {
+    for (at, user) in users.iter().enumerate() {
         if has_many_groups(user) {
-            return true;
+            return Some(at);
         }
     }
-    false
+    None
 }
 
-fn users_have_many_groups(table: &Table) -> bool
-    ensures { result ≡ Definitions.users_have_many_groups (get_member (codes "user") (table_view table.now)) }
+fn many_groups_in(table: &Table) -> Option<usize>
+    ensures { result ≡ Definitions.many_groups_in (get_member (codes "user") (table_view table.now)) }
 {
     match find(table, "user") {
         Some(value) => match value.as_array() {
-            Some(users) => one_has_many_groups(users.as_slice()),
-            None => false,
+            Some(users) => many_groups_of(users.as_slice()),
+            None => None,
         },
-        None => false,
+        None => None,
     }
 }
 
-/// Whether some list of a file is too long.
-pub(crate) fn has_too_many(table: &Table) -> bool
-    ensures { result ≡ Definitions.has_too_many (table_view table.now) }
+/// Whether a list isn't longer.
+fn few_at(list: Key, most: usize, table: &Table) -> Result<(), Refusal>
+    ensures { result ≡ Definitions.few_at list most (table_view table.now) }
 {
-    is_over_at(table, "domains", 16)
-        || is_over_at(table, "user", 4096)
-        || users_have_many_groups(table)
-        || is_over_at(table, "hop", 256)
-        || is_over_at(table, "host_address", 1024)
-        || is_over_at(table, "rule", 1024)
+    let many = is_over_at(table, list.name(), most);
+    let refusal = Refusal::At(ConfigError::TooMany, place_at(TableKind::Whole, 0, list));
+    confirm(!many, refusal)
+}
+
+/// Whether no list of a file is too long.
+pub(crate) fn all_few(table: &Table) -> Result<(), Refusal>
+    ensures { Tells (λ done. done) result (Definitions.all_few (table_view table.now)) }
+{
+    few_at(Key::Domains, 16, table)?;
+    few_at(Key::Users, 4096, table)?;
+    let many = many_groups_in(table);
+    none_found(ConfigError::TooMany, TableKind::User, Key::Groups, many)?;
+    few_at(Key::Hops, 256, table)?;
+    few_at(Key::HostAddresses, 1024, table)?;
+    few_at(Key::Rules, 1024, table)
 }

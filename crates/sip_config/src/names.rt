@@ -1,10 +1,10 @@
-ghost use Rattle.std.specs.Prelude.{◌≡◌, [], ◌∷◌, ◌++◌, not, if◌then◌else◌, IfOk, IfErr, OnErr};
+ghost use Rattle.std.specs.Prelude.{◌≡◌, [], ◌∷◌, ◌++◌, length, not, if◌then◌else◌, IfOk, IfErr, OnErr};
 ghost use Rattle.std.specs.List.{list_any};
 ghost use Rattle.std.specs.Str.{bytes_eq};
-ghost use Rattle.sip_config.specs.declared.error.ConfigError.TheVariants.{NoMemory};
+ghost use Rattle.sip_config.specs.declared.refusal.Refusal.TheVariants.{NoMemory};
 ghost use Rattle.sip_config.specs.InOrder.{texts_in_order, ArePlaced};
 
-use crate::error::ConfigError;
+use crate::refusal::Refusal;
 use std::alloc::Global;
 use std::collections::HashMap;
 use std::marker::Model;
@@ -36,12 +36,16 @@ fn is_among(places: &HashMap<Vec<u8>, usize>, name: &[u8]) -> bool
     places.contains_key(name)
 }
 
+/// How many names there are.
+fn count(places: &HashMap<Vec<u8>, usize>) -> usize
+    requires { ArePlaced places.now.entries }
+    ensures { result ≡ length (texts_in_order places.now) }
+{
+    places.len()
+}
+
 /// Adds a name behind those that are there, and says whether it wasn't among them.
-fn add_to(
-    alloc: Global,
-    places: &mut HashMap<Vec<u8>, usize>,
-    name: &[u8],
-) -> Result<bool, ConfigError>
+fn add_to(alloc: Global, places: &mut HashMap<Vec<u8>, usize>, name: &[u8]) -> Result<bool, Refusal>
     requires { ArePlaced places.old.entries }
     ensures placed { ArePlaced places.new.entries }
     ensures new { IfOk result (λ new. new ≡ not (list_any (bytes_eq name.now) (texts_in_order places.old))) }
@@ -76,9 +80,16 @@ impl Names {
         is_among(&self.places, name)
     }
 
+    /// How many they are.
+    pub(crate) fn len(&self) -> usize
+        ensures { result ≡ length self.now }
+    {
+        count(&self.places)
+    }
+
     /// Adds a name behind those that are there, and says whether it wasn't among them; where it was, nothing
     /// is added. NoMemory is the only refusal, after which the names are as they were.
-    pub fn add(&mut self, alloc: Global, name: &[u8]) -> Result<bool, ConfigError>
+    pub fn add(&mut self, alloc: Global, name: &[u8]) -> Result<bool, Refusal>
         ensures new { IfOk result (λ new. new ≡ not (list_any (bytes_eq name.now) self.old)) }
         ensures names { IfOk result (λ new. self.new ≡ (if new then self.old ++ name.now ∷ [] else self.old)) }
         ensures refused { IfErr result (λ e. e ≡ NoMemory) }

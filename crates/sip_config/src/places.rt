@@ -1,11 +1,11 @@
 ghost use Rattle.std.specs.Prelude.{◌≡◌, [], ◌∷◌, ◌++◌, not, if◌then◌else◌, IfOk, IfErr, OnErr};
 ghost use Rattle.std.specs.List.{list_any};
 ghost use Rattle.sip_text.specs.Words.{without_case};
-ghost use Rattle.sip_config.specs.declared.error.ConfigError.TheVariants.{NoMemory};
+ghost use Rattle.sip_config.specs.declared.refusal.Refusal.TheVariants.{NoMemory};
 ghost use Rattle.sip_config.specs.InOrder.{places_in_order, ArePlaced};
 ghost use Rattle.sip_config.specs.Places.{is_place};
 
-use crate::ConfigError;
+use crate::refusal::Refusal;
 use sip_text::lower_case;
 use std::alloc::Global;
 use std::collections::HashMap;
@@ -36,7 +36,7 @@ fn add_to(
     places: &mut HashMap<(Vec<u8>, u16), usize>,
     host: &[u8],
     port: u16,
-) -> Result<bool, ConfigError>
+) -> Result<bool, Refusal>
     requires { ArePlaced places.old.entries }
     ensures placed { ArePlaced places.new.entries }
     ensures new { IfOk result (λ new. new ≡ not (list_any (is_place host.now port) (places_in_order places.old))) }
@@ -69,7 +69,7 @@ impl Places {
     /// Adds a host and a port behind those that are there, and says whether they weren't among them, the host
     /// compared without case; where they were, nothing is added. NoMemory is the only refusal,
     /// after which they are as they were.
-    pub(crate) fn add(&mut self, alloc: Global, host: &[u8], port: u16) -> Result<bool, ConfigError>
+    pub(crate) fn add(&mut self, alloc: Global, host: &[u8], port: u16) -> Result<bool, Refusal>
         ensures new { IfOk result (λ new. new ≡ not (list_any (is_place host.now port) self.old)) }
         ensures places { IfOk result (λ new. self.new ≡ (if new then self.old ++ (without_case host.now, port) ∷ [] else self.old)) }
         ensures refused { IfErr result (λ e. e ≡ NoMemory) }

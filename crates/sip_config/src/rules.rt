@@ -1,13 +1,19 @@
-ghost use Rattle.std.specs.Prelude.{◌≡◌, ℕ, ◌==◌, ◌||◌, List, [], IfOk, IfErr, OnOk};
-ghost use Rattle.std.specs.List.{list_all, list_any};
+ghost use Rattle.std.specs.Prelude.{◌≡◌, ℕ, ◌==◌, ◌||◌, not, position, List, [], IfOk, IfErr, OnOk};
+ghost use Rattle.std.specs.List.{list_any};
 ghost use Rattle.std.specs.Str.{bytes_eq};
 ghost use Rattle.toml.specs.View.{view, table_view, items_view};
-ghost use Rattle.sip_config.specs.declared.error.ConfigError.TheVariants.{NoMemory};
-ghost use Rattle.sip_config.specs.Refusals.{Reads};
+ghost use Rattle.sip_config.specs.declared.key.Key.TheVariants as keys;
+ghost use Rattle.sip_config.specs.declared.keys.TableKind.TheVariants as kinds;
+ghost use Rattle.sip_config.specs.declared.refusal.Refusal.TheVariants.{NoMemory};
+ghost use Rattle.sip_config.specs.Refusals.{Reads, ReadsAt, placed};
 ghost use Rattle.sip_config.specs.Rows.{rows_after, all_pass};
 ghost use Rattle.sip_config.specs.Rules as Definitions;
 
-use crate::values::{confirm, find, needed, number_between, passed, table_of, text_of};
+use crate::key::Key;
+use crate::keys::TableKind;
+use crate::lists::table_in;
+use crate::refusal::{Refusal, confirm, none_found, passed, place_at, placed};
+use crate::values::{find, needed, number_between, text_of};
 use crate::words::{is_verdict, operation_of, target_of, verdict_of, who_of};
 use crate::{ConfigError, Names};
 use sip_hops::Hop;
@@ -27,6 +33,23 @@ pub(crate) enum RuleLine {
     Minutes,
 }
 
+/// What a key of a rule is read as, refused at its place.
+fn of_rule<T: Drop>(before: usize, key: Key, read: Result<T, ConfigError>) -> Result<T, Refusal>
+    ensures { result ≡ placed kinds.Rule before key read }
+{
+    placed(TableKind::Rule, before, key, read)
+}
+
+/// A bad value of a key of a rule.
+fn bad(before: usize, key: Key) -> Refusal
+    ensures { result ≡ Definitions.bad before key }
+{
+    Refusal::At(
+        ConfigError::BadValue,
+        place_at(TableKind::Rule, before, key),
+    )
+}
+
 fn id_at(table: &Table) -> Result<u32, ConfigError>
     ensures { Reads (λ id. id) result (Definitions.id_at (table_view table.now)) }
 {
@@ -39,16 +62,38 @@ fn who_at(alloc: Global, users: &Users, table: &Table) -> Result<Who, ConfigErro
     who_of(alloc, users, text_of(needed(table, "who")?)?)
 }
 
+fn placed_who(alloc: Global, users: &Users, before: usize, table: &Table) -> Result<Who, Refusal>
+    ensures { ReadsAt (λ who. who) result (placed kinds.Rule before keys.WhoAsks (Definitions.who_at users.now (table_view table.now))) }
+{
+    of_rule(before, Key::WhoAsks, who_at(alloc, users, table))
+}
+
 fn operation_at(alloc: Global, table: &Table) -> Result<OperationPattern, ConfigError>
     ensures { Reads (λ operation. operation) result (Definitions.operation_at (table_view table.now)) }
 {
     operation_of(alloc, text_of(needed(table, "op")?)?)
 }
 
+fn placed_operation(
+    alloc: Global,
+    before: usize,
+    table: &Table,
+) -> Result<OperationPattern, Refusal>
+    ensures { ReadsAt (λ operation. operation) result (placed kinds.Rule before keys.Operation (Definitions.operation_at (table_view table.now))) }
+{
+    of_rule(before, Key::Operation, operation_at(alloc, table))
+}
+
 fn target_at(alloc: Global, table: &Table) -> Result<TargetPattern, ConfigError>
     ensures { Reads (λ target. target) result (Definitions.target_at (table_view table.now)) }
 {
     target_of(alloc, text_of(needed(table, "target")?)?)
+}
+
+fn placed_target(alloc: Global, before: usize, table: &Table) -> Result<TargetPattern, Refusal>
+    ensures { ReadsAt (λ target. target) result (placed kinds.Rule before keys.Target (Definitions.target_at (table_view table.now))) }
+{
+    of_rule(before, Key::Target, target_at(alloc, table))
 }
 
 fn verdict_text(table: &Table) -> Result<&[u8], ConfigError>
@@ -65,45 +110,57 @@ fn verdict_at(hops: &[Hop], table: &Table) -> Result<RuleVerdict, ConfigError>
 
 /// A minute of the day.
 fn minute_of(value: &Value) -> Result<u16, ConfigError>
-    ensures { Reads (λ minute. minute) result (Definitions.minute_of (view value.now)) }
+    ensures { result ≡ Definitions.minute_of (view value.now) }
 {
     let minute = number_between(value, 0, 1439)?;
     Ok(minute as u16)
 }
 
-/// The window between two minutes that differ.
-fn window_between(first: &Value, last: &Value) -> Result<Option<Window>, ConfigError>
-    ensures { Reads (λ window. window) result (Definitions.window_between (view first.now) (view last.now)) }
+fn minute_at(before: usize, key: Key, value: &Value) -> Result<u16, Refusal>
+    ensures { result ≡ placed kinds.Rule before key (Definitions.minute_of (view value.now)) }
 {
-    let from = minute_of(first)?;
-    let until = minute_of(last)?;
-    if from == until {
-        return Err(ConfigError::BadValue);
-    }
+    of_rule(before, key, minute_of(value))
+}
+
+/// The window between two minutes that differ.
+fn window_between(before: usize, first: &Value, last: &Value) -> Result<Option<Window>, Refusal>
+    ensures { ReadsAt (λ window. window) result (Definitions.window_between before (view first.now) (view last.now)) }
+{
+    let from = minute_at(before, Key::From, first)?;
+    let until = minute_at(before, Key::Until, last)?;
+    confirm(from != until, bad(before, Key::From))?;
     Ok(Some(Window { from, until }))
 }
 
 /// The window of a rule, which version 1 doesn't know.
-fn window_at(version: u32, table: &Table) -> Result<Option<Window>, ConfigError>
-    ensures { Reads (λ window. window) result (Definitions.window_at version (table_view table.now)) }
+fn window_at(version: u32, before: usize, table: &Table) -> Result<Option<Window>, Refusal>
+    ensures { ReadsAt (λ window. window) result (Definitions.window_at version before (table_view table.now)) }
 {
     if version == 1 {
         return Ok(None);
     }
     match (find(table, "from"), find(table, "until")) {
         (None, None) => Ok(None),
-        (Some(first), Some(last)) => window_between(first, last),
-        _ => Err(ConfigError::BadValue),
+        (Some(first), Some(last)) => window_between(before, first, last),
+        (Some(_), None) => Err(bad(before, Key::From)),
+        (None, Some(_)) => Err(bad(before, Key::Until)),
     }
 }
 
 /// Whether a rule's verdict may stand: `via` only where the operation is one that is sent on.
-fn check_verdict(alloc: Global, table: &Table) -> Result<(), ConfigError>
-    ensures { Reads (λ done. done) result (Definitions.verdict_line (table_view table.now)) }
+fn check_verdict(alloc: Global, before: usize, table: &Table) -> Result<(), Refusal>
+    ensures { ReadsAt (λ done. done) result (Definitions.verdict_line before (table_view table.now)) }
 {
-    let text = verdict_text(table)?;
-    let operation = operation_at(alloc, table)?;
-    confirm(is_verdict(&operation, text), ConfigError::BadValue)
+    let text = of_rule(before, Key::Verdict, verdict_text(table))?;
+    let operation = placed_operation(alloc, before, table)?;
+    confirm(is_verdict(&operation, text), bad(before, Key::Verdict))
+}
+
+fn check_window(version: u32, before: usize, table: &Table) -> Result<(), Refusal>
+    ensures { ReadsAt (λ done. done) result (Definitions.window_line version before (table_view table.now)) }
+{
+    let _ = window_at(version, before, table)?;
+    Ok(())
 }
 
 /// Whether a rule passes a line.
@@ -112,17 +169,33 @@ fn check_rule(
     version: u32,
     users: &Users,
     line: RuleLine,
+    before: usize,
     table: &Table,
-) -> Result<(), ConfigError>
-    ensures { Reads (λ done. done) result (Definitions.rule_line version users.now line (table_view table.now)) }
+) -> Result<(), Refusal>
+    ensures { ReadsAt (λ done. done) result (Definitions.rule_line version users.now line before (table_view table.now)) }
 {
     match line {
-        RuleLine::Id => passed(id_at(table)),
-        RuleLine::WhoAsks => passed(who_at(alloc, users, table)),
-        RuleLine::Operation => passed(operation_at(alloc, table)),
-        RuleLine::Target => passed(target_at(alloc, table)),
-        RuleLine::Verdict => check_verdict(alloc, table),
-        RuleLine::Minutes => passed(window_at(version, table)),
+        RuleLine::Id => passed(TableKind::Rule, before, Key::Id, id_at(table)),
+        RuleLine::WhoAsks => passed(
+            TableKind::Rule,
+            before,
+            Key::WhoAsks,
+            who_at(alloc, users, table),
+        ),
+        RuleLine::Operation => passed(
+            TableKind::Rule,
+            before,
+            Key::Operation,
+            operation_at(alloc, table),
+        ),
+        RuleLine::Target => passed(
+            TableKind::Rule,
+            before,
+            Key::Target,
+            target_at(alloc, table),
+        ),
+        RuleLine::Verdict => check_verdict(alloc, before, table),
+        RuleLine::Minutes => check_window(version, before, table),
     }
 }
 
@@ -134,11 +207,11 @@ fn check_each(
     users: &Users,
     line: RuleLine,
     items: &[Value],
-) -> Result<(), ConfigError>
-    ensures { Reads (λ done. done) result (all_pass (Definitions.rule_line version users.now line) (items_view items.now)) }
+) -> Result<(), Refusal>
+    ensures { ReadsAt (λ done. done) result (all_pass keys.Rules (Definitions.rule_line version users.now line) 0 (items_view items.now)) }
 {
-    for item in items {
-        check_rule(alloc, version, users, line, table_of(item)?)?;
+    for (at, item) in items.iter().enumerate() {
+        check_rule(alloc, version, users, line, at, table_in(Key::Rules, item)?)?;
     }
     Ok(())
 }
@@ -149,8 +222,8 @@ pub(crate) fn check_rules(
     version: u32,
     users: &Users,
     items: &[Value],
-) -> Result<(), ConfigError>
-    ensures { Reads (λ done. done) result (Definitions.rule_lines version users.now (items_view items.now)) }
+) -> Result<(), Refusal>
+    ensures { ReadsAt (λ done. done) result (Definitions.rule_lines version users.now (items_view items.now)) }
 {
     check_each(alloc, version, users, RuleLine::Id, items)?;
     check_each(alloc, version, users, RuleLine::WhoAsks, items)?;
@@ -167,22 +240,27 @@ fn has_id(ids: &[u32], id: u32) -> bool
 }
 
 /// A number that no rule before has.
-fn new_id(before: &[u32], table: &Table) -> Result<u32, ConfigError>
-    ensures { Reads (λ id. id) result (Definitions.new_id before.now (table_view table.now)) }
+fn new_id(before: &[u32], table: &Table) -> Result<u32, Refusal>
+    ensures { ReadsAt (λ id. id) result (Definitions.new_id before.now (table_view table.now)) }
 {
-    let id = id_at(table)?;
-    confirm(!has_id(before, id), ConfigError::DuplicateRule)?;
+    let at = before.len();
+    let id = of_rule(at, Key::Id, id_at(table))?;
+    let twice = Refusal::At(
+        ConfigError::DuplicateRule,
+        place_at(TableKind::Rule, at, Key::Id),
+    );
+    confirm(!has_id(before, id), twice)?;
     Ok(id)
 }
 
 /// The numbers of rules, no two the same.
 #[tactic(auto, using(crate::proofs::Rows::rows_step, crate::proofs::Rows::rows_end))]
-fn ids_of(alloc: Global, items: &[Value]) -> Result<Items<u32>, ConfigError>
-    ensures { Reads (λ ids. ids) result (rows_after Definitions.new_id [] (items_view items.now)) }
+fn ids_of(alloc: Global, items: &[Value]) -> Result<Items<u32>, Refusal>
+    ensures { ReadsAt (λ ids. ids) result (rows_after keys.Rules Definitions.new_id [] (items_view items.now)) }
 {
     let mut ids = Items::new(alloc);
     for item in items {
-        let id = new_id(ids.as_slice(), table_of(item)?)?;
+        let id = new_id(ids.as_slice(), table_in(Key::Rules, item)?)?;
         ids.push(id)?;
     }
     Ok(ids)
@@ -193,16 +271,18 @@ fn rule_at(
     version: u32,
     users: &Users,
     hops: &[Hop],
+    before: &[Rule],
     table: &Table,
-) -> Result<Rule, ConfigError>
-    ensures { Reads (λ rule. rule) result (Definitions.rule_at version users.now hops.now (table_view table.now)) }
+) -> Result<Rule, Refusal>
+    ensures { ReadsAt (λ rule. rule) result (Definitions.rule_at version users.now hops.now before.now (table_view table.now)) }
 {
-    let id = id_at(table)?;
-    let verdict = verdict_at(hops, table)?;
-    let window = window_at(version, table)?;
-    let who = who_at(alloc, users, table)?;
-    let operation = operation_at(alloc, table)?;
-    let target = target_at(alloc, table)?;
+    let at = before.len();
+    let id = of_rule(at, Key::Id, id_at(table))?;
+    let verdict = of_rule(at, Key::Verdict, verdict_at(hops, table))?;
+    let window = window_at(version, at, table)?;
+    let who = placed_who(alloc, users, at, table)?;
+    let operation = placed_operation(alloc, at, table)?;
+    let target = placed_target(alloc, at, table)?;
     Ok(Rule {
         id,
         who,
@@ -220,12 +300,13 @@ fn rule_rows(
     users: &Users,
     hops: &[Hop],
     items: &[Value],
-) -> Result<Items<Rule>, ConfigError>
-    ensures { Reads (λ rules. rules) result (rows_after (λ before. Definitions.rule_at version users.now hops.now) [] (items_view items.now)) }
+) -> Result<Items<Rule>, Refusal>
+    ensures { ReadsAt (λ rules. rules) result (rows_after keys.Rules (Definitions.rule_at version users.now hops.now) [] (items_view items.now)) }
 {
     let mut rules = Items::new(alloc);
     for item in items {
-        let rule = rule_at(alloc, version, users, hops, table_of(item)?)?;
+        let table = table_in(Key::Rules, item)?;
+        let rule = rule_at(alloc, version, users, hops, rules.as_slice(), table)?;
         rules.push(rule)?;
     }
     Ok(rules)
@@ -233,7 +314,7 @@ fn rule_rows(
 
 /// Adds the names of groups to those that are there.
 #[tactic(auto, using(crate::proofs::Groups::none_added, crate::proofs::Groups::added_more, crate::proofs::Groups::all_added))]
-fn add_groups(alloc: Global, names: &mut Names, groups: &[Bytes]) -> Result<(), ConfigError>
+fn add_groups(alloc: Global, names: &mut Names, groups: &[Bytes]) -> Result<(), Refusal>
     ensures added { OnOk result ((group : List ℕ) → list_any (bytes_eq group) names.new
         ≡ (list_any (bytes_eq group) names.old || list_any (bytes_eq group) groups.now)) }
     ensures refused { IfErr result (λ e. e ≡ NoMemory) }
@@ -246,7 +327,7 @@ fn add_groups(alloc: Global, names: &mut Names, groups: &[Bytes]) -> Result<(), 
 
 /// The names of the groups that have a member.
 #[tactic(auto, using(crate::proofs::Groups::no_members, crate::proofs::Groups::members_more, crate::proofs::Groups::all_members))]
-fn groups_of(alloc: Global, users: &[User]) -> Result<Names, ConfigError>
+fn groups_of(alloc: Global, users: &[User]) -> Result<Names, Refusal>
     ensures names { IfOk result (λ names. (group : List ℕ) → list_any (bytes_eq group) names ≡ Definitions.has_member users.now group) }
     ensures refused { IfErr result (λ e. e ≡ NoMemory) }
 {
@@ -267,21 +348,22 @@ fn is_listed(groups: &Names, rule: &Rule) -> bool
     }
 }
 
-fn are_listed(groups: &Names, rules: &[Rule]) -> bool
-    ensures { result ≡ list_all (λ rule. Definitions.is_listed groups.now rule.who) rules.now }
+/// The place of the first rule whose group isn't among some.
+fn unlisted(groups: &Names, rules: &[Rule]) -> Option<usize>
+    ensures { result ≡ position (λ rule. not (Definitions.is_listed groups.now rule.who)) rules.now }
 {
-    rules.iter().all(|rule| is_listed(groups, rule))
+    rules.iter().position(|rule| !is_listed(groups, rule))
 }
 
-/// Whether the groups that rules name have members. The names of all groups are gathered once, so that this
+/// The place of the first rule that names a group without a member. The names of all groups are gathered once, so that this
 /// takes the time of the users and of the rules, and not that of the users for each rule.
 #[tactic(auto, using(crate::proofs::Groups::listed_same))]
-fn name_known_groups(alloc: Global, users: &Users, rules: &[Rule]) -> Result<bool, ConfigError>
-    ensures known { IfOk result (λ known. known ≡ list_all (Definitions.names_known_group users.now) rules.now) }
+fn unknown_group(alloc: Global, users: &Users, rules: &[Rule]) -> Result<Option<usize>, Refusal>
+    ensures found { IfOk result (λ found. found ≡ position (λ rule. not (Definitions.names_known_group users.now rule)) rules.now) }
     ensures refused { IfErr result (λ e. e ≡ NoMemory) }
 {
     let groups = groups_of(alloc, users.as_slice())?;
-    Ok(are_listed(&groups, rules))
+    Ok(unlisted(&groups, rules))
 }
 
 /// The rules of a list whose lines passed: first no number twice, then each hop known, then each group.
@@ -291,12 +373,17 @@ pub(crate) fn rules_of(
     users: &Users,
     hops: &[Hop],
     items: &[Value],
-) -> Result<Items<Rule>, ConfigError>
-    ensures { Reads (λ rules. rules) result (Definitions.rules_of version users.now hops.now (items_view items.now)) }
+) -> Result<Items<Rule>, Refusal>
+    ensures { ReadsAt (λ rules. rules) result (Definitions.rules_of version users.now hops.now (items_view items.now)) }
 {
     let _ = ids_of(alloc, items)?;
     let rules = rule_rows(alloc, version, users, hops, items)?;
-    let known = name_known_groups(alloc, users, rules.as_slice())?;
-    confirm(known, ConfigError::UnknownGroup)?;
+    let unknown = unknown_group(alloc, users, rules.as_slice())?;
+    none_found(
+        ConfigError::UnknownGroup,
+        TableKind::Rule,
+        Key::WhoAsks,
+        unknown,
+    )?;
     Ok(rules)
 }

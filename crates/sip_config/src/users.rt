@@ -1,11 +1,17 @@
 ghost use Rattle.std.specs.Prelude.{◌≡◌, []};
 ghost use Rattle.toml.specs.View.{table_view, items_view};
-ghost use Rattle.sip_config.specs.Refusals.{Reads};
+ghost use Rattle.sip_config.specs.declared.key.Key.TheVariants as keys;
+ghost use Rattle.sip_config.specs.declared.keys.TableKind.TheVariants as kinds;
+ghost use Rattle.sip_config.specs.Refusals.{Reads, ReadsAt, placed};
 ghost use Rattle.sip_config.specs.Rows.{rows_after, all_pass};
 ghost use Rattle.sip_config.specs.Users as Definitions;
 
+use crate::key::Key;
+use crate::keys::TableKind;
+use crate::lists::table_in;
+use crate::refusal::{Refusal, passed, place_at, placed};
 use crate::texts::texts_of;
-use crate::values::{digest_of, find, list_of, needed, passed, some_items_at, table_of, text_at};
+use crate::values::{digest_of, find, list_of, needed, some_items_at, text_at};
 use crate::{ConfigError, Grammar, Names};
 use sip_policy::{PolicyError, User, Users};
 use sip_text::{Bytes, Items};
@@ -20,25 +26,33 @@ pub(crate) enum UserLine {
     Groups,
 }
 
-/// Adds a user's name, which none before it has.
-fn add_name(alloc: Global, names: &mut Names, table: &Table) -> Result<(), ConfigError>
-    ensures { Reads (λ done. names.new) result (Definitions.name_behind names.old (table_view table.now)) }
+/// What a key of a user is read as, refused at its place.
+fn of_user<T: Drop>(before: usize, key: Key, read: Result<T, ConfigError>) -> Result<T, Refusal>
+    ensures { result ≡ placed kinds.User before key read }
 {
-    let name = text_at(table, "name", Grammar::Name)?;
+    placed(TableKind::User, before, key, read)
+}
+
+/// Adds a user's name, which none before it has.
+fn add_name(alloc: Global, names: &mut Names, table: &Table) -> Result<(), Refusal>
+    ensures { ReadsAt (λ done. names.new) result (Definitions.name_behind names.old (table_view table.now)) }
+{
+    let at = names.len();
+    let name = of_user(at, Key::Name, text_at(table, "name", Grammar::Name))?;
     if !names.add(alloc, name)? {
-        return Err(ConfigError::BadValue);
+        return Err(Refusal::Twice(place_at(TableKind::User, at, Key::Name)));
     }
     Ok(())
 }
 
 /// The names of users, no two the same.
 #[tactic(auto, using(crate::proofs::Rows::grow_step, crate::proofs::Rows::rows_end))]
-fn names_of(alloc: Global, items: &[Value]) -> Result<Names, ConfigError>
-    ensures { Reads (λ names. names) result (rows_after Definitions.new_name [] (items_view items.now)) }
+fn names_of(alloc: Global, items: &[Value]) -> Result<Names, Refusal>
+    ensures { ReadsAt (λ names. names) result (rows_after keys.Users Definitions.new_name [] (items_view items.now)) }
 {
     let mut names = Names::new(alloc);
     for item in items {
-        add_name(alloc, &mut names, table_of(item)?)?;
+        add_name(alloc, &mut names, table_in(Key::Users, item)?)?;
     }
     Ok(names)
 }
@@ -68,34 +82,40 @@ fn groups_at(alloc: Global, table: &Table) -> Result<Items<Bytes>, ConfigError>
 }
 
 /// Whether a user passes a line.
-fn check_user(alloc: Global, line: UserLine, table: &Table) -> Result<(), ConfigError>
-    ensures { Reads (λ done. done) result (Definitions.user_line line (table_view table.now)) }
+fn check_user(alloc: Global, line: UserLine, before: usize, table: &Table) -> Result<(), Refusal>
+    ensures { ReadsAt (λ done. done) result (Definitions.user_line line before (table_view table.now)) }
 {
     match line {
-        UserLine::A1 => passed(a1_at(table)),
-        UserLine::A1Sha256 => passed(a1_sha256_at(table)),
-        UserLine::Groups => passed(groups_at(alloc, table)),
+        UserLine::A1 => passed(TableKind::User, before, Key::A1, a1_at(table)),
+        UserLine::A1Sha256 => passed(TableKind::User, before, Key::A1Sha256, a1_sha256_at(table)),
+        UserLine::Groups => passed(
+            TableKind::User,
+            before,
+            Key::Groups,
+            groups_at(alloc, table),
+        ),
     }
 }
 
 /// Whether each user passes a line.
 #[tactic(auto, using(crate::proofs::Rows::pass_step, crate::proofs::Rows::pass_end))]
-fn check_users(alloc: Global, line: UserLine, items: &[Value]) -> Result<(), ConfigError>
-    ensures { Reads (λ done. done) result (all_pass (Definitions.user_line line) (items_view items.now)) }
+fn check_users(alloc: Global, line: UserLine, items: &[Value]) -> Result<(), Refusal>
+    ensures { ReadsAt (λ done. done) result (all_pass keys.Users (Definitions.user_line line) 0 (items_view items.now)) }
 {
-    for item in items {
-        check_user(alloc, line, table_of(item)?)?;
+    for (at, item) in items.iter().enumerate() {
+        check_user(alloc, line, at, table_in(Key::Users, item)?)?;
     }
     Ok(())
 }
 
-fn user_at(alloc: Global, table: &Table) -> Result<User, ConfigError>
-    ensures { Reads (λ user. user) result (Definitions.user_at (table_view table.now)) }
+fn user_at(alloc: Global, before: &[User], table: &Table) -> Result<User, Refusal>
+    ensures { ReadsAt (λ user. user) result (Definitions.user_at before.now (table_view table.now)) }
 {
-    let a1 = a1_at(table)?;
-    let a1_sha256 = a1_sha256_at(table)?;
-    let name = text_at(table, "name", Grammar::Name)?;
-    let groups = groups_at(alloc, table)?;
+    let at = before.len();
+    let a1 = of_user(at, Key::A1, a1_at(table))?;
+    let a1_sha256 = of_user(at, Key::A1Sha256, a1_sha256_at(table))?;
+    let name = of_user(at, Key::Name, text_at(table, "name", Grammar::Name))?;
+    let groups = of_user(at, Key::Groups, groups_at(alloc, table))?;
     let name = Bytes::copy(alloc, name)?;
     Ok(User {
         name,
@@ -106,19 +126,20 @@ fn user_at(alloc: Global, table: &Table) -> Result<User, ConfigError>
 }
 
 #[tactic(auto, using(crate::proofs::Rows::rows_step, crate::proofs::Rows::rows_end))]
-fn user_rows(alloc: Global, items: &[Value]) -> Result<Items<User>, ConfigError>
-    ensures { Reads (λ users. users) result (rows_after (λ before. Definitions.user_at) [] (items_view items.now)) }
+fn user_rows(alloc: Global, items: &[Value]) -> Result<Items<User>, Refusal>
+    ensures { ReadsAt (λ users. users) result (rows_after keys.Users Definitions.user_at [] (items_view items.now)) }
 {
     let mut users = Items::new(alloc);
     for item in items {
-        users.push(user_at(alloc, table_of(item)?)?)?;
+        let user = user_at(alloc, users.as_slice(), table_in(Key::Users, item)?)?;
+        users.push(user)?;
     }
     Ok(users)
 }
 
 /// The users of a list: each line of all of them in turn, then each of them.
-fn users_of(alloc: Global, items: &[Value]) -> Result<Users, ConfigError>
-    ensures { Reads (λ users. users) result (Definitions.users_of (items_view items.now)) }
+fn users_of(alloc: Global, items: &[Value]) -> Result<Users, Refusal>
+    ensures { ReadsAt (λ users. users) result (Definitions.users_of (items_view items.now)) }
 {
     let _ = names_of(alloc, items)?;
     check_users(alloc, UserLine::A1, items)?;
@@ -127,14 +148,23 @@ fn users_of(alloc: Global, items: &[Value]) -> Result<Users, ConfigError>
     let users = user_rows(alloc, items)?;
     match Users::new(alloc, users) {
         Ok(users) => Ok(users),
-        Err(PolicyError::NoMemory) => Err(ConfigError::NoMemory),
-        Err(PolicyError::NameTwice) => Err(ConfigError::BadValue),
+        Err(PolicyError::NoMemory) => Err(Refusal::NoMemory),
+        Err(PolicyError::NameTwice) => Err(Refusal::At(
+            ConfigError::BadValue,
+            place_at(TableKind::Whole, 0, Key::Users),
+        )),
     }
 }
 
 /// The users: the tables `[[user]]`, one or more.
-pub(crate) fn users_at(alloc: Global, table: &Table) -> Result<Users, ConfigError>
-    ensures { Reads (λ users. users) result (Definitions.users_at (table_view table.now)) }
+pub(crate) fn users_at(alloc: Global, table: &Table) -> Result<Users, Refusal>
+    ensures { ReadsAt (λ users. users) result (Definitions.users_at (table_view table.now)) }
 {
-    users_of(alloc, some_items_at(table, "user")?)
+    let items = placed(
+        TableKind::Whole,
+        0,
+        Key::Users,
+        some_items_at(table, "user"),
+    )?;
+    users_of(alloc, items)
 }

@@ -1,7 +1,7 @@
 ghost use Rattle.std.specs.Prelude.{◌≡◌, ◌≤◌, option_map, IfOk};
 ghost use Rattle.toml.specs.Data.{get_member};
 ghost use Rattle.toml.specs.View.{view, table_view, items_view};
-ghost use Rattle.sip_config.specs.Refusals.{Tells, confirmed, passed};
+ghost use Rattle.sip_config.specs.Refusals.{Tells};
 ghost use Rattle.sip_config.specs.Values as Definitions;
 
 use crate::error::ConfigError;
@@ -14,23 +14,6 @@ pub(crate) fn find<'a>(table: &'a Table, key: &str) -> Option<&'a Value>
     ensures { option_map (λ value. view value.now) result ≡ get_member key.now (table_view table.now) }
 {
     table.get(key)
-}
-
-/// Refuses what doesn't hold.
-pub(crate) fn confirm(holds: bool, refusal: ConfigError) -> Result<(), ConfigError>
-    ensures { result ≡ confirmed holds refusal }
-{
-    if holds { Ok(()) } else { Err(refusal) }
-}
-
-/// Refuses what a reading refuses, whatever it reads.
-pub(crate) fn passed<T: Drop>(read: Result<T, ConfigError>) -> Result<(), ConfigError>
-    ensures { result ≡ passed read }
-{
-    match read {
-        Ok(_) => Ok(()),
-        Err(refusal) => Err(refusal),
-    }
 }
 
 /// What a key holds that has to be there.

@@ -1,6 +1,6 @@
 //! The server over a list of events: each is handed in at its moment, behind all that was due by then, and the steps are listed.
 //!
-//! - Used: `sip_replay` and `sip_loop` let happen what is due by it (`fire_next`).
+//! - Used: `sip_resume`, `sip_replay` and `sip_loop` let happen what is due by it (`fire_next`).
 //! - Not here: a script or a link.
 //! - Tried: `test_engine`.
 //!

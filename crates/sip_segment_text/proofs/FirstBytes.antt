@@ -1,6 +1,6 @@
 -- What comes next in a record, by its first byte.
 use Rattle.std.proofs.Common.{◌≡◌, ℕ, List, [], ◌∷◌, ◌++◌, Bool, true, false, Option, Some, None, inl, inr, refl, sym, ◌∙◌, ap, subst, append_assoc, append-nil}
-use Rattle.std.specs.Prelude.{◌||◌, ◌==◌, IfSome}
+use Rattle.std.specs.Prelude.{◌||◌, ◌==◌, ◌⊎◌, IfSome}
 use Rattle.std.specs.List.{flat_map}
 use Rattle.std.specs.Io.KnownBytes.{Keeps}
 use Rattle.std.proofs.lemmas.Bool.{eqb-true}
@@ -13,7 +13,7 @@ use Rattle.sip_replay_script.specs.Script.{line_of, line_of_kind, ◌>>=◌}
 use Rattle.sip_replay_script.specs.Events.{ended}
 use Rattle.sip_replay_script.specs.Recorded.{IsDamagedRecord, SaysRecorded}
 use Rattle.sip_segment_text.specs.Segments.{configuration_line, pieces_of, SaysConfiguration}
-use Rattle.sip_segment_text.specs.Configurations.{begins_configuration, IsDamagedConfiguration}
+use Rattle.sip_segment_text.specs.Configurations.{begins_configuration, begins_event, BeginsBy, IsDamagedConfiguration}
 use Rattle.sip_replay_script.proofs.CutEvents.{head_is, not_nil}
 use Rattle.sip_segment_text.proofs.Segments.{parted, piece_is, IsPiece}
 
@@ -52,22 +52,55 @@ no_line_so b line e = by_tests (b == 61) (b == 43) (b == 99) refl refl refl e
 says_none : (line : List ℕ) (said : Line) → line_of line ≡ Some said → line_of line ≡ None → ⊥
 says_none line said says none = absurd cc
 
-no_first_line : (b : ℕ) (text line more : List ℕ) (said : Line) → begins_configuration b ≡ true → line_of line ≡ Some said → b ∷ text ≡ ended line ++ more → ⊥
+-- no line of an event begins with a byte
+abbrev pub BeginsNone : ℕ → Type 0
+BeginsNone b = (line : List ℕ) → line_of (b ∷ line) ≡ None
+
+no_first_line : (b : ℕ) (text line more : List ℕ) (said : Line) → BeginsNone b → line_of line ≡ Some said → b ∷ text ≡ ended line ++ more → ⊥
 no_first_line b text [] more said begins says e = says_none [] said says refl
 no_first_line b text (c ∷ line) more said begins says e =
-    says_none (c ∷ line) said says (ap (λ (n : ℕ). line_of (n ∷ line)) (sym (head_is b c text (ended line ++ more) e)) ∙ no_line_so b line begins)
+    says_none (c ∷ line) said says (ap (λ (n : ℕ). line_of (n ∷ line)) (sym (head_is b c text (ended line ++ more) e)) ∙ begins line)
 
-no_event_so : (b : ℕ) (text more : List ℕ) (event : Event) (said : List ℕ) → begins_configuration b ≡ true → SaysRecorded said event → b ∷ text ≡ said ++ more → ⊥
+no_event_so : (b : ℕ) (text more : List ℕ) (event : Event) (said : List ℕ) → BeginsNone b → SaysRecorded said event → b ∷ text ≡ said ++ more → ⊥
 no_event_so b text more event said begins (inl w) e = no_first_line b text w.line more (Whole event) begins w.says (e ∙ ap (λ (l : List ℕ). l ++ more) w.text_is)
 no_event_so b text more event said begins (inr d) e =
     no_first_line b text d.line (46 ∷ 10 ∷ more) (Head d.head) begins d.says (e ∙ ap (λ (l : List ℕ). l ++ more) d.text_is ∙ append_assoc (ended d.line) (46 ∷ 10 ∷ []) more)
 
-no_record : (b : ℕ) (text : List ℕ) → begins_configuration b ≡ true → IsDamagedRecord (b ∷ text)
+no_record : (b : ℕ) (text : List ℕ) → BeginsNone b → IsDamagedRecord (b ∷ text)
 no_record b text begins = record {
   some = not_nil b text;
   none = λ said further event e says. no_event_so b text further event said begins says e;
   no_front = λ c. no_event_so b (text ++ c.more) [] c.event (b ∷ (text ++ c.more)) begins c.says (sym (append-nil (b ∷ (text ++ c.more))));
 }
+
+-- ---- nor with a byte that begins none
+
+other_kind : (b : ℕ) (kind rest : List ℕ) → (b == 116) ≡ false → (b == 104) ≡ false → (b == 100) ≡ false → (b == 102) ≡ false → line_of_kind (b ∷ kind) rest ≡ None
+other_kind b kind rest is_t is_h is_d is_f = rw is_d (rw is_h (rw is_t (rw is_f refl)))
+
+behind_other : (b : ℕ) (parts : Option (List ℕ × List ℕ)) → (b == 116) ≡ false → (b == 104) ≡ false → (b == 100) ≡ false → (b == 102) ≡ false → (in_front (b ∷ []) parts >>= (λ p. line_of_kind p.0 p.1)) ≡ None
+behind_other b None is_t is_h is_d is_f = refl
+behind_other b (Some p) is_t is_h is_d is_f = other_kind b p.0 p.1 is_t is_h is_d is_f
+
+blank_first : (b : ℕ) (line : List ℕ) → (b == 32) ≡ true → split_at_byte 32 (b ∷ line) ≡ Some ([], line)
+blank_first b line e = rw e refl
+
+no_blank_first : (b : ℕ) (line : List ℕ) → (b == 32) ≡ false → split_at_byte 32 (b ∷ line) ≡ in_front (b ∷ []) (split_at_byte 32 line)
+no_blank_first b line e = rw e refl
+
+other_first : (b : ℕ) (line : List ℕ) (is : Bool) → (b == 32) ≡ is → (b == 116) ≡ false → (b == 104) ≡ false → (b == 100) ≡ false → (b == 102) ≡ false → line_of (b ∷ line) ≡ None
+other_first b line true e is_t is_h is_d is_f = ap (λ (parts : Option (List ℕ × List ℕ)). parts >>= (λ p. line_of_kind p.0 p.1)) (blank_first b line e)
+other_first b line false e is_t is_h is_d is_f = ap (λ (parts : Option (List ℕ × List ℕ)). parts >>= (λ p. line_of_kind p.0 p.1)) (no_blank_first b line e) ∙ behind_other b (split_at_byte 32 line) is_t is_h is_d is_f
+
+no_line_other : (b : ℕ) → begins_event b ≡ false → BeginsNone b
+no_line_other b e = by_tests (b == 116) (b == 104) (b == 100) (b == 102) refl refl refl refl e
+  where
+    by_tests : (s t u v : Bool) → (b == 116) ≡ s → (b == 104) ≡ t → (b == 100) ≡ u → (b == 102) ≡ v → (s || (t || (u || v))) ≡ false → BeginsNone b
+    by_tests true t u v is_t is_h is_d is_f h = absurd cc
+    by_tests false true u v is_t is_h is_d is_f h = absurd cc
+    by_tests false false true v is_t is_h is_d is_f h = absurd cc
+    by_tests false false false true is_t is_h is_d is_f h = absurd cc
+    by_tests false false false false is_t is_h is_d is_f h = λ line. other_first b line (b == 32) refl is_t is_h is_d is_f
 
 -- ---- no configuration begins so
 
@@ -111,7 +144,14 @@ begins r (Some bytes) None b P k first all = absurd k
 begins r (Some bytes) (Some more) b P k first all = subst P (sym (sym k ∙ ap (λ (l : List ℕ). l ++ more) first.1)) (all (first.0 ++ more))
 
 pub comes_configuration : (r : Reading) (before after : Option (List ℕ)) (b : ℕ) → Keeps before (pending r after) → (rest : List ℕ) × (r.unread ≡ b ∷ rest) → begins_configuration b ≡ true → IfSome before IsDamagedRecord
-comes_configuration r before after b k first is = begins r before after b IsDamagedRecord k first (λ text. no_record b text is)
+comes_configuration r before after b k first is = begins r before after b IsDamagedRecord k first (λ text. no_record b text (λ line. no_line_so b line is))
 
 pub comes_event : (r : Reading) (before after : Option (List ℕ)) (b : ℕ) → Keeps before (pending r after) → (rest : List ℕ) × (r.unread ≡ b ∷ rest) → begins_configuration b ≡ false → IfSome before IsDamagedConfiguration
 comes_event r before after b k first is = begins r before after b IsDamagedConfiguration k first (λ text. no_configuration b text is)
+
+-- the first byte is this one
+pub has_first : (test : ℕ → Bool) (is : Bool) (r : Reading) (before after : Option (List ℕ)) (b : ℕ) → Keeps before (pending r after) → (rest : List ℕ) × (r.unread ≡ b ∷ rest) → test b ≡ is → IfSome before (BeginsBy test is)
+has_first test is r before after b k first tested = begins r before after b (BeginsBy test is) k first (λ text. record { first = b; behind = text; cut = refl; tested = tested })
+
+pub comes_other : (r : Reading) (before after : Option (List ℕ)) (b : ℕ) → Keeps before (pending r after) → (rest : List ℕ) × (r.unread ≡ b ∷ rest) → begins_event b ≡ false → IfSome before (λ bytes. (bytes ≡ []) ⊎ IsDamagedRecord bytes)
+comes_other r before after b k first is = begins r before after b (λ bytes. (bytes ≡ []) ⊎ IsDamagedRecord bytes) k first (λ text. inr (no_record b text (no_line_other b is)))

@@ -1,5 +1,5 @@
 -- How the configurations of a record are read.
-use Rattle.std.specs.Prelude.{◌≡◌, ◌≢◌, ◌+◌, ◌<◌, ◌==◌, ◌||◌, ⊤, ℕ, Bool, nat_eq, List, [], ◌++◌, length, take, count_by, Option, Some, IfSome, codes, if◌then◌else◌}
+use Rattle.std.specs.Prelude.{◌≡◌, ◌≢◌, ◌+◌, ◌<◌, ◌==◌, ◌||◌, ⊤, ℕ, Bool, true, false, nat_eq, List, [], ◌∷◌, ◌++◌, length, take, count_by, Option, Some, IfSome, codes, if◌then◌else◌}
 use Rattle.std.specs.List.{starts_with}
 use Rattle.std.specs.Io.KnownBytes.{Consumes, Keeps}
 use Rattle.sip_replay_script.specs.declared.read_stop.ReadStop.{ReadStop}
@@ -47,6 +47,27 @@ ComesNext Over old new before after = IsOver old new before after
 ComesNext Configuration old new before after = Keeps (pending old before) (pending new after) × IfSome (pending old before) IsDamagedRecord
 ComesNext Event old new before after = Keeps (pending old before) (pending new after) × IfSome (pending old before) IsDamagedConfiguration
 
+-- the first byte of what says a configuration: `=`, `+` or `c`
+abbrev pub begins_configuration : ℕ → Bool
+begins_configuration b = b == 61 || (b == 43 || b == 99)
+
+-- and of what says an event: `t`, `h`, `d` or `f`
+abbrev pub begins_event : ℕ → Bool
+begins_event b = b == 116 || (b == 104 || (b == 100 || b == 102))
+
+-- bytes begin with one by which a test comes out so
+pub record BeginsBy (test : ℕ → Bool) (is : Bool) (bytes : List ℕ) : Type 0 where
+  pub first : ℕ
+  pub behind : List ℕ
+  pub cut : bytes ≡ first ∷ behind
+  pub tested : test first ≡ is
+
+-- what comes next, by the first byte of what is left: none is; or it begins a configuration, or not
+abbrev pub HasFirst : Upcoming → Option (List ℕ) → Type 0
+HasFirst Over rest = IfSome rest (λ bytes. bytes ≡ [])
+HasFirst Configuration rest = IfSome rest (BeginsBy begins_configuration true)
+HasFirst Event rest = IfSome rest (BeginsBy begins_configuration false)
+
 -- the next text of the record says that configuration
 pub record GivesConfiguration (old new : Reading) (before after : Option (List ℕ)) (configuration : List ℕ) : Type 0 where
   pub text : List ℕ
@@ -62,10 +83,6 @@ ConfigurationStops longest spent script Damaged = IfSome script IsDamagedConfigu
 ConfigurationStops longest spent script Cut = IfSome script IsCutConfiguration
 ConfigurationStops longest spent script Read = spent
 ConfigurationStops longest spent script TooLong = IfSome script (IsLongConfiguration longest)
-
--- the first byte of what says a configuration: `=`, `+` or `c`
-abbrev pub begins_configuration : ℕ → Bool
-begins_configuration b = b == 61 || (b == 43 || b == 99)
 
 -- ---- behind lines that gave a front of the configuration
 

@@ -1,7 +1,8 @@
 //! What a record says of configurations: the whole text of each, in lines of its own in front of the events that were taken while it was
 //! in force. These are a segment together.
 //!
-//! - Used: `sip_record`, which writes them; `sip_segments` and `sip_resume`, which take them again.
+//! - Used: `sip_record`, which writes them; `sip_segment_config`, which reads them; `sip_segments` and `sip_resume`, which take them again;
+//!   `sipd_old_record`, for the first one; `sip_replay` and `sip_recorded` say what they come to.
 //! - Not here: the events of a record (`sip_replay_script`); what the text of a configuration states (`sip_segments`); the server.
 //! - Tried: worked examples in `src/examples.rt`, as contracts that compute; `test_serve`.
 //!
@@ -22,4 +23,4 @@ mod upcoming;
 
 pub use configuration::{configuration_line, next_configuration};
 pub use configuration_stop::ConfigurationStop;
-pub use upcoming::{Upcoming, look_ahead};
+pub use upcoming::{Upcoming, look_ahead, look_for_event};

@@ -1,5 +1,5 @@
 -- How a command line ends.
-use Rattle.std.proofs.Common.{◌≡◌, ◌∙◌, true, false, true≢false, List, [], Option, Some, None, Result, Ok, Err, ◌⊎◌, inl, inr, sym, ap, subst}
+use Rattle.std.proofs.Common.{◌≡◌, ◌∙◌, true, false, true≢false, List, [], Option, Some, None, Result, Ok, Err, inl, inr, sym, ap, subst}
 use Rattle.std.specs.Prelude.{option_map, string_bytes}
 use Rattle.clap.specs.Words.{App, HasKind, HasMatchesOf, Kinds, Row, Text, fault_of, is_simple, is_simple_and_free, kind_of, subcommand_of, subcommand_rows_of}
 use Rattle.clap.specs.declared.error.Error.{Error}

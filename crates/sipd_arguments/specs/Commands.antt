@@ -1,5 +1,5 @@
 -- ---- inside: commands as they are built, and what is complained about a command line
-use Rattle.std.specs.Prelude.{◌≡◌, ⊤, true, false, List, [], Option, Some, Result, Ok, Err}
+use Rattle.std.specs.Prelude.{◌≡◌, ⊤, true, false, [], Option, Some, Result, Ok, Err}
 use Rattle.clap.specs.Words.{Shape, app_of}
 use Rattle.clap.specs.declared.builder.command.Command.{Command}
 use Rattle.clap.specs.declared.builder.command.Command.TheViews.{out-Command}

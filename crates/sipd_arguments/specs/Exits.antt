@@ -7,12 +7,15 @@ use Rattle.sip_config.specs.declared.error.ConfigError.TheVariants as configurat
 use Rattle.sipd_arguments.specs.declared.device_fault.DeviceFault.{DeviceFault}
 use Rattle.sipd_arguments.specs.declared.device_fault.DeviceFault.TheVariants.{PortTaken, NoSuchAddress, NoFile, NoRightToRead, DiskFull, OutputClosed, Other}
 use Rattle.sipd_arguments.specs.declared.exit.Exit.{Exit}
-use Rattle.sipd_arguments.specs.declared.exit.Exit.TheVariants.{Usage, Configuration, Script, Device, Memory, Stack, Question, NoRecord, OtherConfiguration, BareRecord, OtherFrame, NewRecord, Recording}
+use Rattle.sipd_arguments.specs.declared.exit.Exit.TheVariants.{Usage, Configuration, LongConfiguration, Script, Device, Memory, Stack, Question, NoRecord, OtherConfiguration, BareRecord, OtherFrame, PipedRecord, NewRecord, Recording}
+use Rattle.sipd_reload.specs.declared.file_fault.FileFault.{FileFault}
+use Rattle.sipd_reload.specs.declared.file_fault.FileFault.TheVariants as files
 
 -- exit statuses (this project's profile)
 abbrev pub status_of : Exit → ℕ
 status_of (Usage text) = 1
 status_of (Configuration number) = 2
+status_of LongConfiguration = 2
 status_of (Script line) = 3
 status_of (Device fault) = 4
 status_of Memory = 5
@@ -22,6 +25,7 @@ status_of NoRecord = 3
 status_of OtherConfiguration = 3
 status_of BareRecord = 3
 status_of OtherFrame = 3
+status_of PipedRecord = 4
 status_of NewRecord = 4
 status_of Recording = 4
 
@@ -35,6 +39,13 @@ exit_of_config configurations.DuplicateRule = Configuration 5
 exit_of_config configurations.UnknownHop = Configuration 6
 exit_of_config configurations.UnknownGroup = Configuration 7
 exit_of_config configurations.TooMany = Configuration 8
+
+-- what it is to the program that the bytes of a configuration's file aren't read
+abbrev pub exit_of_file : FileFault → Exit
+exit_of_file files.NoMemory = Memory
+exit_of_file files.Gone = Device NoFile
+exit_of_file files.TooLong = LongConfiguration
+exit_of_file files.Device = Device Other
 
 -- which fault of the system an error of this kind is
 abbrev pub fault_of : ErrorKind → DeviceFault

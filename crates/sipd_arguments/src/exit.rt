@@ -1,10 +1,11 @@
-ghost use Rattle.std.specs.Prelude.{◌≡◌, ◌≤◌};
+ghost use Rattle.std.specs.Prelude.{◌≡◌};
 ghost use Rattle.std.specs.IoError.{error_kind};
-ghost use Rattle.sipd_arguments.specs.Exits.{exit_of_config, exit_of_kind, status_of};
+ghost use Rattle.sipd_arguments.specs.Exits.{exit_of_config, exit_of_file, exit_of_kind, status_of};
 ghost use Rattle.sipd_arguments.specs.declared.exit.Exit.TheVariants.{Memory};
 
 use crate::device_fault::DeviceFault;
 use sip_config::ConfigError;
+use sipd_reload::{FileFault, MOST_BYTES};
 use std::alloc::{AllocError, AllocFailed};
 use std::{fmt, io};
 
@@ -15,6 +16,8 @@ pub enum Exit {
     Usage(String),
     /// The configuration is refused with this number.
     Configuration(u8),
+    /// The file of the configuration has more bytes than are read of one.
+    LongConfiguration,
     /// The event that begins with this line of the script.
     Script(u64),
     /// A fault of the system.
@@ -32,6 +35,8 @@ pub enum Exit {
     BareRecord,
     /// A server that runs can't take a configuration in the place of another.
     OtherFrame,
+    /// What is named as the record to go on from is a named pipe.
+    PipedRecord,
     /// The file of a new record can't be made.
     NewRecord,
     /// A record couldn't be written, and the server was to end then.
@@ -45,13 +50,13 @@ impl Exit {
     {
         match self {
             Exit::Usage(_) | Exit::Question(_) => 1,
-            Exit::Configuration(_) => 2,
+            Exit::Configuration(_) | Exit::LongConfiguration => 2,
             Exit::Script(_)
             | Exit::NoRecord
             | Exit::OtherConfiguration
             | Exit::BareRecord
             | Exit::OtherFrame => 3,
-            Exit::Device(_) | Exit::NewRecord | Exit::Recording => 4,
+            Exit::Device(_) | Exit::PipedRecord | Exit::NewRecord | Exit::Recording => 4,
             Exit::Memory | Exit::Stack { .. } => 5,
         }
     }
@@ -63,6 +68,10 @@ impl fmt::Display for Exit {
         match self {
             Exit::Usage(text) => write!(f, "{}", text.trim_end()),
             Exit::Configuration(number) => write!(f, "sipd: configuration refused {number}"),
+            Exit::LongConfiguration => write!(
+                f,
+                "sipd: configuration refused: it has more than {MOST_BYTES} bytes"
+            ),
             Exit::Script(line) => write!(f, "sipd: script line {line}"),
             Exit::Device(fault) => write!(f, "{fault}sipd: device"),
             Exit::Memory => write!(f, "sipd: memory"),
@@ -77,6 +86,10 @@ impl fmt::Display for Exit {
             }
             Exit::BareRecord => write!(f, "sipd: the record doesn't hold its configuration"),
             Exit::OtherFrame => write!(f, "sipd: a server that runs can't take it"),
+            Exit::PipedRecord => write!(
+                f,
+                "sipd: the record to go on from is a pipe: what comes through one is --resume -"
+            ),
             Exit::NewRecord => write!(
                 f,
                 "sipd: the record can't be made: its file is there already, or its folder isn't, or may not be written, or has no hard links"
@@ -110,6 +123,20 @@ impl From<io::Error> for Exit {
         match e.kind() {
             io::ErrorKind::OutOfMemory => Exit::Memory,
             kind => Exit::Device(DeviceFault::of_kind(kind)),
+        }
+    }
+}
+
+/// Why the bytes of a configuration's file aren't read, once it is open.
+impl From<FileFault> for Exit {
+    ghost from_gives = { λ fault exit. exit ≡ exit_of_file fault };
+
+    fn from(fault: FileFault) -> Exit {
+        match fault {
+            FileFault::NoMemory => Exit::Memory,
+            FileFault::Gone => Exit::Device(DeviceFault::NoFile),
+            FileFault::TooLong => Exit::LongConfiguration,
+            FileFault::Device => Exit::Device(DeviceFault::Other),
         }
     }
 }

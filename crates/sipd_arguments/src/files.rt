@@ -1,13 +1,16 @@
-ghost use Rattle.std.specs.Prelude.{◌≡◌, ◌⊎◌, IfOk, IfErr, MatchResult};
+ghost use Rattle.std.specs.Prelude.{◌≡◌, ◌≤◌, ◌⊎◌, length, IfOk, IfErr};
 ghost use Rattle.sha2.specs.Sha256.{sha256};
 ghost use Rattle.sip_config.specs.Stated.{States};
 ghost use Rattle.sipd_arguments.specs.Files.{IsInForce, IsRefusedWith};
 ghost use Rattle.sipd_arguments.specs.declared.exit.Exit.TheVariants.{Memory};
+ghost use Rattle.sipd_reload.specs.File.{most_bytes};
 
 use crate::exit::Exit;
 use sha2::{Digest, Sha256};
 use sip_config::read_config_bytes;
 use sip_config_types::{Config, sample};
+use sip_text::Bytes;
+use sipd_reload::read_configuration_file;
 use std::alloc::Global;
 use std::fs;
 use std::rt::Files;
@@ -15,24 +18,28 @@ use std::rt::Files;
 /// The file that states a configuration, and its SHA-256.
 #[derive(Drop)]
 pub struct Stated {
-    pub bytes: Vec<u8>,
+    pub bytes: Bytes,
     pub digest: [u8; 32],
 }
 
 impl Stated {
     /// The bytes of a file, with their digest.
-    fn of(bytes: Vec<u8>) -> Self
+    fn of(bytes: Bytes) -> Self
         ensures bytes { result.bytes ≡ bytes }
-        ensures digest { result.digest ≡ sha256 bytes.items }
+        ensures digest { result.digest ≡ sha256 bytes }
     {
         let digest = Sha256::digest(bytes.as_slice());
         Stated { bytes, digest }
     }
 }
 
-/// The bytes of a file. What a file holds no clause can say.
-pub fn bytes_in<R: Files + AllocGlobal>(rt: &R, path: &str) -> Result<Vec<u8>, Exit> {
-    Ok(fs::read(rt, path)?)
+/// The bytes of a file that is to state a configuration. `LongConfiguration` where it has more than are read of one, as `/dev/zero` has. What a
+/// file holds no clause can say.
+pub fn bytes_in<R: Files + AllocGlobal>(rt: &R, path: &str) -> Result<Bytes, Exit>
+    ensures { IfOk result (λ bytes. length bytes ≤ most_bytes) }
+{
+    let mut file = fs::File::open(rt, path)?;
+    Ok(read_configuration_file(rt.alloc(), &mut file)?)
 }
 
 /// The configuration that the bytes of a file state. A refusal has the number of the configuration's error, or is want of memory.
@@ -45,7 +52,8 @@ pub fn config_of_bytes(alloc: Global, bytes: &[u8]) -> Result<Config, Exit>
 
 /// A file that states a configuration, with the digest of the bytes that are handed out.
 pub fn stated_in<R: Files + AllocGlobal>(rt: &R, path: &str) -> Result<Stated, Exit>
-    ensures { IfOk result (λ stated. stated.digest ≡ sha256 stated.bytes.items) }
+    ensures digest { IfOk result (λ stated. stated.digest ≡ sha256 stated.bytes) }
+    ensures short { IfOk result (λ stated. length stated.bytes ≤ most_bytes) }
 {
     let bytes = bytes_in(rt, path)?;
     Ok(Stated::of(bytes))

@@ -9,9 +9,6 @@ use Rattle.sip_replay_script.specs.Devices.{later}
 use Rattle.sip_replay_script.specs.Lines.{IsSpent, Reading, pending}
 use Rattle.sip_replay.specs.resume.declared.record_error.RecordError.{RecordError}
 use Rattle.sip_replay.specs.resume.declared.record_error.RecordError.TheVariants.{Write}
-use Rattle.sip_segment_text.specs.Configurations.{IsDamagedConfiguration}
-use Rattle.sip_segment_config.specs.Stops.{ReadStops}
-use Rattle.sip_segment_config.specs.Reads.{GivesStated}
 use Rattle.sip_segment_config.specs.declared.stop.SegmentStop.{SegmentStop}
 use Rattle.sip_config.specs.Stated.{States}
 use Rattle.sipd_arguments.specs.Files.{IsRefusedWith}
@@ -19,18 +16,13 @@ use Rattle.sipd_arguments.specs.declared.exit.Exit.{Exit}
 use Rattle.sipd_arguments.specs.declared.exit.Exit.TheVariants.{BareRecord, Device, Memory, OtherConfiguration}
 use Rattle.sipd_arguments.specs.declared.files.Stated.{Stated}
 use Rattle.sipd_arguments.specs.declared.device_fault.DeviceFault.TheVariants.{Other}
+use Rattle.sipd_old_record.specs.Own.{BeginsAsEvent, HoldsNone, HoldsOwn, OwnStops, unread}
 use Rattle.sipd_command.specs.Exits.{exit_of_record, exit_of_segment}
 use Rattle.sipd_reload.specs.File.{most_bytes}
 
--- the text that comes next in a record says a configuration, and its bytes state this one
-pub record GivesOwn (old new : Reading) (before after : Option (List ℕ)) (config : Config) : Type 0 where
-  pub text : List ℕ
-  pub gives : GivesStated old new before after text config
-
--- no configuration comes next: nothing does, or what begins with none and is no front of one's text; none of it was passed
-pub record HoldsNone (old new : Reading) (before after : Option (List ℕ)) : Type 0 where
-  pub kept : Keeps (pending old before) (pending new after)
-  pub none : IfSome (pending old before) (λ bytes. (bytes ≡ []) ⊎ IsDamagedConfiguration bytes)
+-- a record begins with this configuration of its own, where its first line has that digest
+abbrev pub GivesOwn : List ℕ → Reading → Reading → Option (List ℕ) → Option (List ℕ) → Config → Type 0
+GivesOwn digest old new before after config = (bytes : List ℕ) × HoldsOwn digest old new before after bytes config
 
 -- a file that is named has this digest
 abbrev pub HasDigest : List ℕ → Option (Bor Stated) → Type 0
@@ -39,24 +31,24 @@ HasDigest digest named = IfSome named (λ file. file.now.digest ≡ digest)
 -- a file is named, and its bytes state this configuration
 abbrev pub StatesNamed : Option (Bor Stated) → Config → Type 0
 StatesNamed None config = ⊥
-StatesNamed (Some file) config = States file.now.bytes.items config
+StatesNamed (Some file) config = States file.now.bytes config
 
 -- The configuration with which a record begins whose first line has this digest: its own; or of one that holds none that of the file that is
 -- named. A file that is named has that digest.
 pub data BeginsWith (digest : List ℕ) (named : Option (Bor Stated)) (old new : Reading) (before after : Option (List ℕ)) (config : Config) : Type 0 where
-  Own : HasDigest digest named → GivesOwn old new before after config → BeginsWith digest named old new before after config
+  Own : HasDigest digest named → GivesOwn digest old new before after config → BeginsWith digest named old new before after config
   OfFile : HasDigest digest named → HoldsNone old new before after → StatesNamed named config → BeginsWith digest named old new before after config
 
--- why its own isn't read: as `read_configuration` says, of at most as many bytes as are read of one that changes
-pub record OwnStops (spent : Type 0) (old : Reading) (before : Option (List ℕ)) (exit : Exit) : Type 0 where
+-- why its own isn't read
+pub record OwnUnread (digest : List ℕ) (spent : Type 0) (old : Reading) (before : Option (List ℕ)) (exit : Exit) : Type 0 where
   pub stop : SegmentStop
   pub same : exit ≡ exit_of_segment stop
-  pub stops : ReadStops most_bytes spent (pending old before) old.number stop
+  pub stops : OwnStops digest spent (pending old before) old.number stop
 
 -- why the file's isn't: none is named; or its bytes state none; or memory ran out
 abbrev pub UnnamedStops : Option (Bor Stated) → Exit → Type 0
 UnnamedStops None exit = exit ≡ BareRecord
-UnnamedStops (Some file) exit = (exit ≡ Memory) ⊎ IsRefusedWith file.now.bytes.items exit
+UnnamedStops (Some file) exit = (exit ≡ Memory) ⊎ IsRefusedWith file.now.bytes exit
 
 -- a file is named, of another digest
 abbrev pub IsOfAnother : List ℕ → Option (Bor Stated) → Exit → Type 0
@@ -65,17 +57,13 @@ IsOfAnother digest (Some file) exit = (exit ≡ OtherConfiguration) × (file.now
 
 -- it holds no configuration, and none is taken of the file either
 pub record IsUnnamed (named : Option (Bor Stated)) (old : Reading) (before : Option (List ℕ)) (exit : Exit) : Type 0 where
-  pub none : IfSome (pending old before) (λ bytes. (bytes ≡ []) ⊎ IsDamagedConfiguration bytes)
+  pub none : IfSome (pending old before) (λ bytes. (bytes ≡ []) ⊎ BeginsAsEvent bytes)
   pub stops : UnnamedStops named exit
 
 -- why a record isn't replayed at all
 abbrev pub IsUnconfigured : List ℕ → Option (Bor Stated) → Type 0 → Reading → Option (List ℕ) → Exit → Type 0
 IsUnconfigured digest named spent old before exit =
-    IsOfAnother digest named exit ⊎ OwnStops spent old before exit ⊎ IsUnnamed named old before exit
-
--- nothing is read of what a reader gives
-abbrev pub unread : Reading
-unread = record { unread = []; asks = 4294967295; number = 0 }
+    IsOfAnother digest named exit ⊎ OwnUnread digest spent old before exit ⊎ IsUnnamed named old before exit
 
 -- A server with the configuration with which the record begins, and with the word and the number of its first line, takes what stands behind
 -- that, and what is printed of its steps was written.

@@ -1,5 +1,5 @@
 -- What a start takes of a configuration and of the command line.
-use Rattle.std.specs.Prelude.{ℕ, List, map, Option, option_map, option_and_then}
+use Rattle.std.specs.Prelude.{ℕ, List, Option, option_map, option_and_then}
 use Rattle.sip_config_types.specs.declared.config.Config.{Config}
 use Rattle.sip_uri.specs.declared.addr.Addr.{Addr}
 use Rattle.sip_guard.specs.Guard.{GuardState, LinkState, allowances_of}
@@ -8,10 +8,6 @@ use Rattle.sip_guard.specs.Limits.{limit_of}
 -- where a configuration says that a server is bound: at its own IP address, and at the port that is bound
 abbrev pub bound_address : Config → Addr
 bound_address config = record { ip = config.own.ip; port = config.bound_port }
-
--- the IP addresses of its hops, in their order
-abbrev pub hop_addresses : Config → List (List ℕ)
-hop_addresses config = map (λ hop. hop.address.ip) config.hops
 
 -- a guard that hears so many datagrams a second from one address, where that is said, and some IP addresses always, and that wasn't asked yet
 abbrev pub guard_over : List (List ℕ) → Option ℕ → LinkState → Option (List ℕ) → GuardState

@@ -2,7 +2,8 @@ ghost use Rattle.std.specs.Prelude.{◌≡◌, ◌⊎◌, IfErr, IfNone, IfOk, I
 ghost use Rattle.sip_replay_script.specs.Devices.{later, GaveUp};
 ghost use Rattle.sip_replay_script.specs.Lines.{IsSpent};
 ghost use Rattle.sipd_command.specs.Exits;
-ghost use Rattle.sipd_command.specs.Replays.{BeginsWith, GivesOwn, HasDigest, HoldsNone, IsKeptBack, IsOfAnother, IsReplayed, IsReplayedOn, IsUnconfigured, IsUnreplayed, OwnStops, StatesNamed, UnnamedStops};
+ghost use Rattle.sipd_old_record.specs.Own.{HoldsNone};
+ghost use Rattle.sipd_command.specs.Replays.{BeginsWith, GivesOwn, HasDigest, IsKeptBack, IsOfAnother, IsReplayed, IsReplayedOn, IsUnconfigured, IsUnreplayed, OwnUnread, StatesNamed, UnnamedStops};
 
 use sip_config_types::Config;
 use sip_event::Boot;
@@ -11,11 +12,10 @@ use sip_record::{RecordHead, RecordMark};
 use sip_replay::resume::RecordError;
 use sip_replay_print::Printer;
 use sip_replay_script::{Lines, PrintStop, TellingReader, TellingWriter, hand_on};
-use sip_segment_config::{SegmentStop, read_configuration};
-use sip_segment_text::{Upcoming, look_ahead};
+use sip_segment_config::SegmentStop;
 use sip_timers::Timers;
 use sipd_arguments::{DeviceFault, Exit, Stated, config_of_bytes, stated_in};
-use sipd_old_record::{line_of_file, open_any_record};
+use sipd_old_record::{line_of_file, open_any_record, own_configuration};
 use sipd_reload::MOST_BYTES;
 use std::alloc::Global;
 use std::io::Write;
@@ -62,24 +62,21 @@ fn exit_of_print(stop: PrintStop) -> Exit
     }
 }
 
-/// The configuration of its own with which a record begins; none where it holds none. Refusals: `Script`, where what comes may be one and
-/// isn't; `Memory`; `Device`, where the reader failed.
-fn own_configuration<I: TellingReader>(
+/// The configuration of its own with which a record begins whose first line says this head; none where it holds none. Refusals: `Script`, where
+/// what comes is neither a configuration nor an event, and with the first line, where that has the digest of other bytes; `Memory`; `Device`,
+/// where the reader failed.
+fn first_of<I: TellingReader>(
     alloc: Global,
+    head: &RecordHead,
     lines: &mut Lines,
     reader: &mut I,
 ) -> Result<Option<Config>, Exit>
-    ensures own { IfOk result (λ found. IfSome found (GivesOwn lines.old lines.new (I.remaining reader.old) (I.remaining reader.new))) }
+    ensures own { IfOk result (λ found. IfSome found (GivesOwn head.now.digest lines.old lines.new (I.remaining reader.old) (I.remaining reader.new))) }
     ensures none { IfOk result (λ found. IfNone found (HoldsNone lines.old lines.new (I.remaining reader.old) (I.remaining reader.new))) }
-    ensures refused { IfErr result (OwnStops (IsSpent (I.has_failed reader.new) lines.new.asks) lines.old (I.remaining reader.old)) }
+    ensures refused { IfErr result (OwnUnread head.now.digest (IsSpent (I.has_failed reader.new) lines.new.asks) lines.old (I.remaining reader.old)) }
     ensures asked { later lines.new.asks (I.asked reader.new) ≡ later lines.old.asks (I.asked reader.old) }
 {
-    match look_ahead(lines, reader) {
-        Ok(Upcoming::Configuration) => {}
-        Ok(Upcoming::Event | Upcoming::Over) => return Ok(None),
-        Err(_) => return Err(Exit::Device(DeviceFault::Other)),
-    }
-    match read_configuration(alloc, lines, reader, MOST_BYTES) {
+    match own_configuration(alloc, head, lines, reader) {
         Ok(Some(held)) => Ok(Some(held.config)),
         Ok(None) => Ok(None),
         Err(stop) => Err(exit_of_segment(stop)),
@@ -115,7 +112,7 @@ fn check_digest(head: &RecordHead, named: Option<&Stated>) -> Result<(), Exit>
 
 /// The configuration with which a record begins whose first line says this head: its own; or of one that holds none that of the file that is
 /// named. A file that is named has to have the digest of the head, in either case: `OtherConfiguration` is the refusal else. Refused as
-/// `own_configuration` and `named_configuration`, too.
+/// `first_of` and `named_configuration`, too.
 fn configuration_of<I: TellingReader>(
     alloc: Global,
     head: &RecordHead,
@@ -128,7 +125,7 @@ fn configuration_of<I: TellingReader>(
     ensures asked { later lines.new.asks (I.asked reader.new) ≡ later lines.old.asks (I.asked reader.old) }
 {
     check_digest(head, named)?;
-    match own_configuration(alloc, lines, reader)? {
+    match first_of(alloc, head, lines, reader)? {
         Some(config) => Ok(config),
         None => Ok(named_configuration(alloc, named)?),
     }

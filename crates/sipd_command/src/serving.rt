@@ -1,12 +1,10 @@
 ghost use Rattle.std.specs.Prelude.{◌≡◌, is_some, IfOk, IfSome, OnOk, string_bytes};
 ghost use Rattle.sip_guard.specs.Guard.{link_told};
 ghost use Rattle.sipd_start.specs.Boots.{behind_secret};
-ghost use Rattle.sipd_command.specs.Printing.{PrintsServed};
-ghost use Rattle.sipd_command.specs.Starts.{bound_address, guard_over, hop_addresses};
+ghost use Rattle.sipd_service.specs.Printing.{PrintsServed};
+ghost use Rattle.sipd_service.specs.Hops.{hop_addresses};
+ghost use Rattle.sipd_command.specs.Starts.{bound_address, guard_over};
 
-use crate::hops::hops_of;
-use crate::line_printer::LinePrinter;
-use crate::service::{Said, Service, Serving, serve_turns};
 use rand::rngs::StdRng;
 use rand_core::Rng;
 use sip_audit::Record;
@@ -20,8 +18,10 @@ use sip_text::Bytes;
 use sip_timers::Timers;
 use sip_uri::Addr;
 use sipd_arguments::{DeviceFault, Exit, ServeCall, Stated, config_of_bytes, stated_in};
+use sipd_journal::WatchedJournal;
 use sipd_reload::{PathFile, Watch, WatchedFile};
-use sipd_start::{Beginning, Begun, WatchedJournal, begin, check_stack, new_boot, secret};
+use sipd_service::{LinePrinter, Said, Service, Serving, hops_of, serve_turns};
+use sipd_start::{Beginning, Begun, begin, check_stack, new_boot, secret};
 use std::alloc::{AllocError, Global};
 use std::io::{ErrorKind, Read, Write};
 use std::net::Net;
@@ -209,16 +209,16 @@ fn serve_begun<
 ) -> Result<(), Exit> {
     let Begun {
         engine,
-        record,
+        recorder,
         last,
     } = begun;
     let decided = match &last {
         Some(out) => out.records.as_slice(),
         None => &[],
     };
-    if let Some(record) = record {
+    if let Some(recorder) = recorder {
         return serve_with(
-            rt, start, engine, record, decided, watch, printer, complaints,
+            rt, start, engine, recorder, decided, watch, printer, complaints,
         );
     }
     let _ = writeln!(
@@ -237,7 +237,7 @@ fn watch_of<'a, R: Files + AllocGlobal>(
     stated: &Stated,
 ) -> Result<Option<Watch<PathFile<'a, R>>>, AllocError>
     ensures asked { IfOk result (λ watch. is_some watch ≡ call.now.reload) }
-    ensures in_force { IfOk result (λ watch. IfSome watch (λ w. w.in_force ≡ stated.now.bytes.items)) }
+    ensures in_force { IfOk result (λ watch. IfSome watch (λ w. w.in_force ≡ stated.now.bytes)) }
 {
     if !call.reload {
         return Ok(None);

@@ -1,2 +1,2 @@
-pub mod Telling
+pub mod Told
 pub mod LineEnds

@@ -1,62 +1,137 @@
 -- What is told of a configuration that is refused (this project's profile).
-use Rattle.std.specs.Prelude.{◌≡◌, ◌⊎◌, ℕ, List, [], ◌++◌, codes}
-use Rattle.sip_config.specs.ConfigError.{words_of}
+use Rattle.std.specs.Prelude.{◌≡◌, ◌⊎◌, ℕ, ◌+◌, ◌-◌, ◌^◌, min, List, [], ◌++◌, codes, decimal, Option, Some, None, Result, Ok, Err}
+use Rattle.toml.specs.Data.{Members}
+use Rattle.toml.specs.Parse.{parse_document}
+use Rattle.sip_config_types.specs.declared.config.Config.{Config}
 use Rattle.sip_config.specs.declared.error.ConfigError.{ConfigError}
-use Rattle.sip_config.specs.declared.error.ConfigError.TheVariants as errors
-use Rattle.sipd_mistakes.specs.declared.fault.Cause.{Cause}
-use Rattle.sipd_mistakes.specs.declared.fault.Cause.TheVariants.{Missing, Bad, Unknown, NoTables, TooMany, Twice, TwiceId, UnknownHop, UnknownGroup}
+use Rattle.sip_config.specs.declared.error.ConfigError.TheVariants.{BadToml, MissingKey, BadValue, DuplicateRule, UnknownHop, UnknownGroup, TooMany}
+use Rattle.sip_config.specs.declared.key.Key.{Key}
+use Rattle.sip_config.specs.declared.key.Key.TheVariants as keys
+use Rattle.sip_config.specs.declared.keys.TableKind.{TableKind}
+use Rattle.sip_config.specs.declared.keys.TableKind.TheVariants as kinds
+use Rattle.sip_config.specs.declared.refusal.Place.{Place}
+use Rattle.sip_config.specs.declared.refusal.Refusal.{Refusal}
+use Rattle.sip_config.specs.declared.refusal.Refusal.TheVariants.{NoMemory, At, Twice}
+use Rattle.sip_config.specs.KeyNames.{name_of}
+use Rattle.sip_config.specs.Refusals.{error_of}
+use Rattle.sip_config.specs.Configuration.{placed_by}
+use Rattle.sipd_mistakes.specs.declared.telling.Reading.{Reading}
+use Rattle.sipd_mistakes.specs.declared.telling.Reading.TheVariants.{Stated, Refused}
 
--- what a file is refused as for a fault
-abbrev pub error_of : Cause → ConfigError
-error_of (Missing wanted) = errors.MissingKey
-error_of (Bad wanted) = errors.BadValue
-error_of Unknown = errors.BadValue
-error_of NoTables = errors.BadValue
-error_of (TooMany most) = errors.TooMany
-error_of Twice = errors.BadValue
-error_of TwiceId = errors.DuplicateRule
-error_of UnknownHop = errors.UnknownHop
-error_of UnknownGroup = errors.UnknownGroup
+-- ---- the place
 
--- the word in front of its key
-abbrev pub word_of : Cause → List ℕ
-word_of (Missing wanted) = codes "missing: "
-word_of Unknown = codes "not known: "
-word_of (TooMany most) = codes "too many of "
-word_of cause = codes "bad value of "
+-- a line by its number, if it was found
+abbrev pub line_text : Option ℕ → List ℕ
+line_text None = []
+line_text (Some number) = codes "line " ++ decimal number ++ codes ": "
 
--- why it is one, where that is always the same
-abbrev pub reason_of : Cause → List ℕ
-reason_of Twice = codes "; one before has the same"
-reason_of TwiceId = codes "; one before has the same"
+-- the list that the tables of a kind stand in
+abbrev pub list_of : TableKind → Key
+list_of kinds.Whole = keys.Unknown
+list_of kinds.User = keys.Users
+list_of kinds.Hop = keys.Hops
+list_of kinds.HostAddress = keys.HostAddresses
+list_of kinds.Rule = keys.Rules
+
+-- a table of a list by its number, from 1
+abbrev pub table_name : TableKind → ℕ → List ℕ
+table_name kind before = codes "[[" ++ name_of (list_of kind) ++ codes "]] number " ++ decimal (min (before + 1) (2 ^ 64 - 1))
+
+-- the table of a place, nothing before all tables
+abbrev pub table_text : TableKind → ℕ → List ℕ
+table_text kinds.Whole before = []
+table_text kind before = table_name kind before ++ codes ": "
+
+abbrev pub place_of : Refusal → Option Place
+place_of NoMemory = None
+place_of (At error place) = Some place
+place_of (Twice place) = Some place
+
+-- ---- what is wrong
+
+-- the word in front of a key with a bad value, or of one that isn't known
+abbrev pub bad_word : Key → List ℕ
+bad_word keys.Unknown = codes "not known: "
+bad_word key = codes "bad value of "
+
+-- the word in front of a key that is refused with an error
+abbrev pub word_of : ConfigError → Key → List ℕ
+word_of MissingKey key = codes "missing: "
+word_of TooMany key = codes "too many of "
+word_of BadValue key = bad_word key
+word_of error key = codes "bad value of "
+
+-- why it is, where that is always the same
+abbrev pub reason_of : ConfigError → List ℕ
+reason_of DuplicateRule = codes "; one before has the same"
 reason_of UnknownHop = codes "; no [[hop]] has this name"
 reason_of UnknownGroup = codes "; no [[user]] is in this group"
-reason_of cause = []
+reason_of error = []
+
+abbrev pub word : Refusal → List ℕ
+word NoMemory = []
+word (At error place) = word_of error place.key
+word (Twice place) = codes "bad value of "
+
+abbrev pub reason : Refusal → List ℕ
+reason NoMemory = []
+reason (At error place) = reason_of error
+reason (Twice place) = codes "; one before has the same"
 
 -- what is wrong with a key
-abbrev pub told : Cause → List ℕ → List ℕ
-told cause key = word_of cause ++ key ++ reason_of cause
+abbrev pub told : Refusal → List ℕ → List ℕ
+told refusal key = word refusal ++ key ++ reason refusal
 
--- what a refusal is called, as a line
-abbrev pub plain : ConfigError → List ℕ
-plain error = words_of error ++ codes "\n"
+-- a key is called so; of one that isn't known the table has the name
+abbrev pub IsCalled : Key → List ℕ → Type 0
+IsCalled key text = (key ≡ keys.Unknown → ⊥) → text ≡ name_of key
 
--- a line tells a fault for which a file is refused so; in front stands its place, behind it what would do
-pub record TellsFault (error : ConfigError) (line : List ℕ) : Type 0 where
-  pub cause : Cause
+-- A line tells a refusal: in front stand the line and the table of its place, then what is wrong with the key, and then what would do.
+pub record TellsRefusal (refusal : Refusal) (place : Place) (line : List ℕ) : Type 0 where
+  pub number : Option ℕ
   pub key : List ℕ
-  pub place : List ℕ
   pub cure : List ℕ
-  pub is : error_of cause ≡ error
-  pub tells : line ≡ place ++ told cause key ++ cure
+  pub called : IsCalled place.key key
+  pub tells : line ≡ line_text number ++ table_text place.kind place.before ++ told refusal key ++ cure
 
 -- a line tells where a text isn't TOML
 pub record TellsToml (line : List ℕ) : Type 0 where
-  pub place : List ℕ
+  pub number : ℕ
   pub message : List ℕ
-  pub tells : line ≡ place ++ codes "not TOML: " ++ message
+  pub tells : line ≡ line_text (Some number) ++ codes "not TOML: " ++ message
 
--- A line tells a refusal: where a text isn't TOML, a fault for which it is refused so, or the refusal's name.
-abbrev pub Tells : ConfigError → List ℕ → Type 0
-Tells errors.BadToml line = TellsToml line ⊎ (line ≡ plain errors.BadToml)
-Tells error line = TellsFault error line ⊎ (line ≡ plain error)
+-- ---- what is read
+
+-- a refusal is told, with its error
+pub record IsTold (refusal : Refusal) (error : ConfigError) (line : List ℕ) : Type 0 where
+  pub place : Place
+  pub at : place_of refusal ≡ Some place
+  pub error_is : error ≡ error_of refusal
+  pub tells : TellsRefusal refusal place line
+
+abbrev pub IsToldAs : Refusal → Reading → Type 0
+IsToldAs refusal (Stated config) = ⊥
+IsToldAs refusal (Refused error line) = IsTold refusal error line
+
+-- what a reading of keys gave: the configuration, or its refusal told
+abbrev pub IsReading : Result Config Refusal → Reading → Type 0
+IsReading (Ok config) (Stated read) = read ≡ config
+IsReading (Ok config) (Refused error line) = ⊥
+IsReading (Err refusal) reading = IsToldAs refusal reading
+
+abbrev pub IsReadingBy : Members → Reading → Type 0
+IsReadingBy members reading = IsReading (placed_by members) reading
+
+-- of a text that isn't TOML that is told
+abbrev pub IsNoToml : Reading → Type 0
+IsNoToml (Stated config) = ⊥
+IsNoToml (Refused error line) = (error ≡ BadToml) × TellsToml line
+
+-- What is read of a text: the configuration that it states, or why it is refused, told: that it isn't TOML, or at which place, the first
+-- in reading order, and as what.
+abbrev pub IsReadingOfKeys : Option Members → Reading → Type 0
+IsReadingOfKeys None reading = IsNoToml reading
+IsReadingOfKeys (Some members) reading = IsReadingBy members reading
+
+abbrev pub IsReadingOf : List ℕ → Reading → Type 0
+IsReadingOf text reading = IsReadingOfKeys (parse_document text) reading

@@ -1,27 +1,21 @@
-//! What is wrong with a configuration that is refused: the line, the table and the key of its first fault, or where it isn't UTF-8,
-//! and what would do. The refusal itself is handed in, and no other is told; the place is advice.
+//! A configuration read for a reader: what a text states, or why it is refused, as a line: the line, the table and the key at which
+//! the reading stops, and what would do; or where it isn't UTF-8.
 //!
 //! - Used: `sipd_tools`, for `check --show`.
-//! - Not here: the refusal (`sip_config`), whose values are checked anew here; what a configuration that is taken says
-//!   (`sipd_questions`).
-//! - Tried: `tests/mistakes.py`, fifty changed files.
+//! - Not here: the reading and its order of refusals (`sip_config`); what a configuration that is taken says (`sipd_questions`).
+//! - Tried: `tests/mistakes.py`, sixty changed files.
 //!
 //! ```text
-//! let line = explain(alloc, text, error)?;
+//! match read_or_tell(alloc, text)? { Reading::Stated(config) => .., Reading::Refused(error, line) => .. }
 //! ```
 #![tactic(auto)]
 
 mod encoding;
-mod explaining;
-mod fault;
-mod faulty_keys;
-mod faulty_lists;
-mod faulty_names;
-mod faulty_values;
 mod headers;
-mod keys;
 mod line_number;
+mod misplaced;
+mod telling;
 mod wanted;
 
 pub use encoding::explain_encoding;
-pub use explaining::explain;
+pub use telling::{Reading, read_or_tell};

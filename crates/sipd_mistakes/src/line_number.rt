@@ -1,8 +1,8 @@
 ghost use Rattle.std.specs.Prelude.{◌≡◌, count_by};
 ghost use Rattle.sipd_mistakes.specs.Encoding.{is_line_end, line_of};
 
-use crate::fault::Fault;
-use crate::keys::Kind;
+use crate::misplaced::list_of;
+use sip_config::{Place, TableKind};
 use sip_text::{same_bytes, split_once, without_blanks, without_front_blanks};
 
 /// What is between the brackets of a line `[[KEY]]`, if it is one.
@@ -47,9 +47,9 @@ struct Search {
 
 impl Search {
     /// The search behind a line that is a header.
-    fn behind_header(self, number: usize, line: &[u8], fault: &Fault<'_>) -> Search {
+    fn behind_header(self, number: usize, line: &[u8], place: Place) -> Search {
         let is_of_kind = match list_header(line) {
-            Some(key) => same_bytes(key, fault.kind.list_key().as_bytes()),
+            Some(key) => same_bytes(key, list_of(place.kind).name().as_bytes()),
             None => false,
         };
         if !is_of_kind {
@@ -58,42 +58,40 @@ impl Search {
                 ..self
             };
         }
-        let headers = self.headers.saturating_add(1);
-        let is_inside = headers == fault.number;
+        let is_inside = self.headers == place.before;
         Search {
-            headers,
+            headers: self.headers.saturating_add(1),
             is_inside,
             header: if is_inside { Some(number) } else { self.header },
         }
     }
 }
 
-/// Whether a line is the one that a fault is in: of its table, it gives its key, or it is the first header under a key
+/// Whether a line is that of a key of a place: of its table, it gives the key, or it is the first header under a key
 /// before all tables.
-fn is_line_of(search: Search, line: &[u8], fault: &Fault<'_>) -> bool {
-    let key = fault.key.as_bytes();
+fn is_line_of(search: Search, line: &[u8], place: Place, key: &[u8]) -> bool {
     if line.starts_with(b"[") {
-        return fault.kind == Kind::Head && is_header_of(line, key);
+        return matches!(place.kind, TableKind::Whole) && is_header_of(line, key);
     }
     search.is_inside && gives(line, key)
 }
 
-/// The number of the line that a fault is in, from 1: that of its key, or of the header of its table where the key isn't
-/// there. None where neither is found, as in a list of tables in brackets.
-pub(crate) fn line_number(text: &[u8], fault: &Fault<'_>) -> Option<usize> {
+/// The number of the line of a key of a place, from 1, or of the header of its table where the key isn't there. None where
+/// neither is found, as in a list of tables in brackets.
+pub(crate) fn line_number(text: &[u8], place: Place, key: &[u8]) -> Option<usize> {
     let mut search = Search {
         headers: 0,
-        is_inside: fault.kind == Kind::Head,
+        is_inside: matches!(place.kind, TableKind::Whole),
         header: None,
     };
     for (at, line) in text.split(|byte| *byte == b'\n').enumerate() {
         let line = without_blanks(line);
         let number = at.saturating_add(1);
-        if is_line_of(search, line, fault) {
+        if is_line_of(search, line, place, key) {
             return Some(number);
         }
         if line.starts_with(b"[") {
-            search = search.behind_header(number, line, fault);
+            search = search.behind_header(number, line, place);
         }
     }
     search.header

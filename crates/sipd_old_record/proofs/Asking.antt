@@ -1,8 +1,7 @@
 -- How often a reader was asked, and why nothing more is had of it.
-use Rattle.std.proofs.Common.{◌≡◌, ◌≤◌, ◌+◌, ◌-◌, inl, inr, ℕ, List, Option, Some, None, refl, sym, ap, ◌∙◌, arith, subst}
+use Rattle.std.proofs.Common.{◌≡◌, ◌+◌, ◌-◌, inl, inr, ℕ, Option, Some, None, refl, sym, ap, ◌∙◌, arith, subst}
 use Rattle.sip_replay_script.specs.Devices.{later}
-use Rattle.sip_replay_script.specs.Lines.{IsSpent}
-use Rattle.sipd_old_record.specs.Readers.{HasStopped, WasAsked, most_asks}
+use Rattle.sipd_old_record.specs.Readers.{HasStopped, WasAsked}
 
 none_later : (a : Option ℕ) → later 0 a ≡ a
 none_later None = refl
@@ -29,7 +28,7 @@ asked_both n a b c h1 h2 = record {
   counted = later_both a b c h1.calls h2.calls h1.counted h2.counted;
 }
 
-pub asked_so : (n : ℕ) (a b : Option ℕ) → b ≡ later n a → WasAsked n a b
+asked_so : (n : ℕ) (a b : Option ℕ) → b ≡ later n a → WasAsked n a b
 asked_so n a b h = record { calls = n; many = omega arith; counted = h }
 
 pub stopped_behind : (F : Type 0) (n : ℕ) (a b c : Option ℕ) → WasAsked 0 a b → HasStopped F n b c → HasStopped F n a c
@@ -37,21 +36,19 @@ stopped_behind F n a b c h (inl failed) = inl failed
 stopped_behind F n a b c h (inr asked) = inr (asked_both n a b c h asked)
 
 -- lines that may not ask any more have asked as often as they might
-pub spent_stops : (F : Type 0) (asks n : ℕ) (before now : Option ℕ) → later asks now ≡ later n before → IsSpent F asks → HasStopped F n before now
-spent_stops F asks n before now h (inl failed) = inl failed
-spent_stops F asks n before now h (inr zero) =
+pub asked_out : (asks n : ℕ) (before now : Option ℕ) → later asks now ≡ later n before → asks ≡ 0 → WasAsked n before now
+asked_out asks n before now h zero =
     let same : later 0 now ≡ later n before = subst (λ (k : ℕ). later k now ≡ later n before) zero h in
-    inr (asked_so n before now (sym (none_later now) ∙ same))
+    asked_so n before now (sym (none_later now) ∙ same)
 
 -- they asked some times before
-pub stops_behind : (F : Type 0) (asks n : ℕ) (before middle now : Option ℕ) → later asks middle ≡ later n before → HasStopped F asks middle now → HasStopped F n before now
-stops_behind F asks n before middle now h (inl failed) = inl failed
-stops_behind F asks n before middle now h (inr asked) =
+pub asked_further : (asks n : ℕ) (before middle now : Option ℕ) → later asks middle ≡ later n before → WasAsked asks middle now → WasAsked n before now
+asked_further asks n before middle now h asked =
     let more : ℕ = asked.calls - asks in
     let sum : asked.calls ≡ asks + more = omega (arith, asked.many) in
     let front : now ≡ later (asks + more) middle = subst (λ (k : ℕ). now ≡ later k middle) sum asked.counted in
-    inr (record {
+    record {
       calls = n + more;
       many = omega arith;
       counted = front ∙ (sym (later_sum middle asks more) ∙ (ap (λ (o : Option ℕ). later more o) h ∙ later_sum before n more));
-    })
+    }

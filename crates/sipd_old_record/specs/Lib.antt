@@ -1,2 +1,3 @@
 pub mod OldRecord
+pub mod Own
 pub mod Readers

@@ -1,11 +1,16 @@
-//! A file that is to be a record, opened: its first line is read, and what stands behind it is left to the reader.
+//! A file that is to be a record, opened: its first line is read, and the configuration with which it begins, where it holds one; what stands
+//! behind is left to the reader.
 //!
 //! - Used: `sipd_start`, for the record from which a server goes on; `sipd_command`, for the one that is replayed; `sipd_tools`, for one that
 //!   a change is told against.
-//! - Not here: what the first line says (`sip_record`), and what stands behind it (`sip_segment_config`, `sip_resume`).
+//! - Not here: what the first line says (`sip_record`), how a configuration stands in a record (`sip_segment_config`), and what stands behind
+//!   the first one (`sip_resume`).
 //! - Tried: `tests/serve.py`, `tests/faults.py`.
 #![tactic(auto)]
 
+pub mod laws;
 mod old_record;
+mod own;
 
 pub use old_record::{OldRecord, head_in, line_of_file, open_any_record, open_file};
+pub use own::own_configuration;

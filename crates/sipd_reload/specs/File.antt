@@ -1,5 +1,5 @@
 -- What a watched file answers, and what it tells of that.
-use Rattle.std.specs.Prelude.{◌≡◌, ◌≤◌, ◌<◌, ⊤, ℕ, nat_eq, nat_le, Bool, ◌&&◌, List, [], ◌∷◌, ◌++◌, length, Option, None, Some, Result, Ok, Err, if◌then◌else◌}
+use Rattle.std.specs.Prelude.{◌≡◌, ◌≤◌, ◌<◌, ◌+◌, ⊤, ℕ, nat_eq, nat_le, Bool, ◌&&◌, List, [], ◌∷◌, ◌++◌, length, Option, None, Some, Result, Ok, Err, if◌then◌else◌}
 use Rattle.std.specs.Io.KnownBytes.{Consumes, IsAtEnd}
 use Rattle.std.specs.declared.io.ErrorKind.{ErrorKind}
 use Rattle.std.specs.declared.io.ErrorKind.TheVariants.{NotFound, OutOfMemory}
@@ -42,10 +42,19 @@ pub record IsAll (before after : Option (List ℕ)) (bytes : List ℕ) : Type 0 
   pub over : IsAtEnd after
   pub short : length bytes ≤ most_bytes
 
--- it had yet to give more bytes than are read
-abbrev pub IsLonger : Option (List ℕ) → Type 0
-IsLonger None = ⊤
-IsLonger (Some bytes) = most_bytes < length bytes
+-- it gave some bytes, at least one, which stand behind others now, and are one byte more than are read at the most
+pub record Grows (before after : Option (List ℕ)) (old new : List ℕ) : Type 0 where
+  pub part : List ℕ
+  pub given : Consumes before after part
+  pub grown : new ≡ old ++ part
+  pub more : length old < length new
+  pub few : length new ≤ most_bytes + 1
+
+-- it had yet to give more bytes than are read, of which it gave one too many and no more
+pub record IsLonger (before after : Option (List ℕ)) : Type 0 where
+  pub bytes : List ℕ
+  pub given : Consumes before after bytes
+  pub long : length bytes ≡ most_bytes + 1
 
 -- ---- limits
 

@@ -3,13 +3,13 @@ ghost use Rattle.std.specs.Fs.{metadata_len, file_type, IsFile};
 ghost use Rattle.sipd_reload.specs.File.{most_bytes};
 
 use crate::file_fault::FileFault;
-use crate::limits::{MOST_BYTES, short_stamp};
-use crate::reading::read_all;
+use crate::limits::short_stamp;
+use crate::reading::read_configuration_file;
 use crate::stamp::Stamp;
 use crate::watched_file::WatchedFile;
 use sip_text::Bytes;
 use std::fs;
-use std::fs::{Metadata, OpenFile};
+use std::fs::Metadata;
 use std::os::unix::fs::MetadataExt;
 use std::rt::Files;
 
@@ -45,16 +45,6 @@ fn stamp_of(found: &Metadata) -> Result<Stamp, FileFault>
     }))
 }
 
-/// How many bytes of an open file are to be expected.
-fn room_for<F: OpenFile>(file: &F) -> usize
-    ensures { result ≤ most_bytes }
-{
-    match file.metadata() {
-        Ok(found) => found.len().min(MOST_BYTES as u64) as usize,
-        Err(_) => 0,
-    }
-}
-
 impl<'a, R: Files + AllocGlobal> WatchedFile for PathFile<'a, R> {
     ghost told = { λ _. None };
 
@@ -71,10 +61,7 @@ impl<'a, R: Files + AllocGlobal> WatchedFile for PathFile<'a, R> {
         ensures short { IfOk result (λ bytes. length bytes ≤ most_bytes) }
     {
         match fs::File::open(self.rt, self.path) {
-            Ok(mut file) => {
-                let room = room_for(&file);
-                read_all(self.rt.alloc(), &mut file, room)
-            }
+            Ok(mut file) => read_configuration_file(self.rt.alloc(), &mut file),
             Err(e) => Err(FileFault::of_kind(e.kind())),
         }
     }

@@ -1,12 +1,13 @@
-ghost use Rattle.std.specs.Prelude.{◌≡◌, ◌≤◌, ◌<◌, ◌+◌, ◌++◌, ◌⊎◌, length, take, Err, IfOk, IfErr, OnOk, OnErr};
+ghost use Rattle.std.specs.Prelude.{◌≡◌, ◌≤◌, ◌<◌, ◌+◌, [], true, false, length, take, Err, IfOk, IfErr, OnErr};
 ghost use Rattle.std.specs.Io.KnownBytes.{Consumes, Keeps, IsAtEnd};
-ghost use Rattle.sipd_reload.specs.File.{IsAll, IsLonger, most_bytes};
-ghost use Rattle.sipd_reload.specs.declared.file_fault.FileFault.TheVariants.{NoMemory, TooLong};
+ghost use Rattle.sipd_reload.specs.File.{Grows, IsAll, IsLonger, most_bytes};
+ghost use Rattle.sipd_reload.specs.declared.file_fault.FileFault.TheVariants.{TooLong};
 
 use crate::file_fault::FileFault;
 use crate::limits::MOST_BYTES;
 use sip_text::{Buffer, Bytes};
 use std::alloc::Global;
+use std::fs::OpenFile;
 use std::io::{ErrorKind, Read};
 
 /// How many bytes are asked for at a time.
@@ -18,6 +19,16 @@ const MOST_ASKED: u32 = 1000;
 /// A part, to be filled.
 fn new_part() -> [u8; PART] {
     [0; PART]
+}
+
+/// How many bytes are asked for behind so many: one more than are read of a configuration, at the most.
+fn next_count(count: usize) -> usize
+    requires { count ≤ most_bytes }
+    ensures some { 0 < result }
+    ensures within { result ≤ 8192 }
+    ensures short { count + result ≤ most_bytes + 1 }
+{
+    PART.min(MOST_BYTES + 1 - count)
 }
 
 /// Fills the front of a part with the next bytes of a reader; how many these are, 0 at its end.
@@ -41,37 +52,68 @@ fn fill<I: Read>(reader: &mut I, part: &mut [u8]) -> Result<usize, FileFault>
     Err(FileFault::Device)
 }
 
-/// Adds a part, unless that were too long.
-fn put_part(buffer: &mut Buffer, part: &[u8]) -> Result<(), FileFault>
+/// Reads the next part of what a reader gives behind some bytes, of which there are no more than are read; whether there was any.
+#[tactic(auto, using(crate::proofs::Parts::grows))]
+fn read_part<I: Read>(
+    reader: &mut I,
+    part: &mut [u8; PART],
+    buffer: &mut Buffer,
+) -> Result<bool, FileFault>
     requires { length buffer.old ≤ most_bytes }
-    ensures grown { OnOk result (buffer.new ≡ buffer.old ++ part.now) }
-    ensures short { OnOk result (length buffer.new ≤ most_bytes) }
-    ensures refused { IfErr result (λ fault. (fault ≡ NoMemory) ⊎ ((fault ≡ TooLong) × (most_bytes < length buffer.old + length part.now))) }
+    ensures grown { IfOk result (λ more. more ≡ true → Grows (I.remaining reader.old) (I.remaining reader.new) buffer.old buffer.new) }
+    ensures over { IfOk result (λ more. more ≡ false → Consumes (I.remaining reader.old) (I.remaining reader.new) [] × IsAtEnd (I.remaining reader.new)
+        × (buffer.new ≡ buffer.old)) }
+    ensures short { IfErr result (λ fault. ¬ (fault ≡ TooLong)) }
 {
-    if part.len() > MOST_BYTES - buffer.as_slice().len() {
-        return Err(FileFault::TooLong);
+    let wanted = next_count(buffer.as_slice().len());
+    let count = fill(reader, &mut part[..wanted])?;
+    if count == 0 {
+        return Ok(false);
     }
-    buffer.extend(part)?;
-    Ok(())
+    buffer.extend(&part[..count])?;
+    Ok(true)
 }
 
-/// All bytes that a reader gives, of which so many are expected. `TooLong` only where there are more than are read.
-#[tactic(auto, using(crate::proofs::Parts::consumes_nothing, crate::proofs::Parts::consumes_both, crate::proofs::Parts::is_longer))]
+/// All bytes that a reader gives, of which so many are expected. `TooLong` only where there are more than are read of a configuration, behind
+/// one byte too many.
+#[tactic(auto, using(crate::proofs::Parts::consumes_nothing, crate::proofs::Parts::consumes_grown, crate::proofs::Parts::is_all, crate::proofs::Parts::is_longer, crate::proofs::Parts::more_there))]
 pub(crate) fn read_all<I: Read>(
     alloc: Global,
     reader: &mut I,
     room: usize,
 ) -> Result<Bytes, FileFault>
     ensures all { IfOk result (IsAll (I.remaining reader.old) (I.remaining reader.new)) }
-    ensures long { result ≡ Err TooLong → IsLonger (I.remaining reader.old) }
+    ensures long { result ≡ Err TooLong → IsLonger (I.remaining reader.old) (I.remaining reader.new) }
 {
     let mut part = new_part();
     let mut buffer = Buffer::with_room(alloc, room)?;
-    loop {
-        let count = fill(reader, &mut part)?;
-        if count == 0 {
-            return Ok(buffer.into_bytes());
+    'parts: while read_part(reader, &mut part, &mut buffer)? {
+        if buffer.as_slice().len() > MOST_BYTES {
+            return Err(FileFault::TooLong);
         }
-        put_part(&mut buffer, &part[..count])?;
     }
+    Ok(buffer.into_bytes())
+}
+
+/// How many bytes of an open file are to be expected.
+fn room_for<F: OpenFile>(file: &F) -> usize
+    ensures { result ≤ most_bytes }
+{
+    match file.metadata() {
+        Ok(found) => found.len().min(MOST_BYTES as u64) as usize,
+        Err(_) => 0,
+    }
+}
+
+/// All bytes of an open file, which is to state a configuration. `TooLong` only where it has more than are read of one, behind one byte too
+/// many; so of a device that gives bytes without end.
+pub fn read_configuration_file<F: Read + OpenFile>(
+    alloc: Global,
+    file: &mut F,
+) -> Result<Bytes, FileFault>
+    ensures all { IfOk result (IsAll (F.remaining file.old) (F.remaining file.new)) }
+    ensures long { result ≡ Err TooLong → IsLonger (F.remaining file.old) (F.remaining file.new) }
+{
+    let room = room_for(file);
+    read_all(alloc, file, room)
 }

@@ -1,4 +1,6 @@
+pub mod Asked
 pub mod Beginnings
-pub mod FirstLines
+pub mod OldBeginnings
 pub mod Refusals
 pub mod StackLines
+pub mod WholeRecords

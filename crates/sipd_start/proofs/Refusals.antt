@@ -1,8 +1,6 @@
 -- Why a record isn't gone on from, put together.
-use Rattle.std.proofs.Common.{◌≡◌, inl, inr, ℕ, ◌+◌, count_by, Bool, true, false, List, [], ◌∷◌, ◌++◌, Option, Some, None, refl, sym, ◌∙◌, ap, subst}
+use Rattle.std.proofs.Common.{◌≡◌, inl, inr, ℕ, ◌+◌, count_by, Bool, true, false, true≢false, List, [], ◌∷◌, Option, Some, None, refl, sym, ◌∙◌, ap, subst}
 use Rattle.std.specs.Prelude.{◌↔◌, ◌⊎◌, ⊤, Result, Ok, Err, IfErr}
-use Rattle.std.specs.Io.KnownBytes.{Keeps}
-use Rattle.std.proofs.KnownBytes.{Keeps-refl}
 use Rattle.std.specs.List.{AllByRecursion}
 use Rattle.std.specs.declared.io.ErrorKind.{ErrorKind}
 use Rattle.std.specs.declared.io.ErrorKind.TheVariants.{OutOfMemory}
@@ -20,7 +18,11 @@ use Rattle.sip_event.specs.declared.event.StepOut.{StepOut}
 use Rattle.sip_record.specs.declared.record_head.RecordHead.{RecordHead}
 use Rattle.sip_record.specs.declared.record_mark.RecordMark.TheVariants.{Whole}
 use Rattle.sip_replay_script.specs.Devices.{later}
+use Rattle.sip_record.specs.Record.{NotesConfiguration}
 use Rattle.sip_replay_script.specs.Lines.{IsSpent, Reading, is_end, pending}
+use Rattle.sip_segment_config.specs.Stops.{ReadStops}
+use Rattle.sip_segment_config.specs.declared.stop.SegmentStop.{SegmentStop}
+use Rattle.sip_segment_config.specs.declared.stop.SegmentStop.TheVariants as segments
 use Rattle.sip_resume.specs.Outputs.{Outputs}
 use Rattle.sip_resume.specs.Whole.{IsRecordResumed, IsRecordUnresumed, KeepsFrame, RecordStops, config_behind}
 use Rattle.sip_resume.specs.declared.record_error.RecordError.{RecordError}
@@ -28,24 +30,23 @@ use Rattle.sip_resume.specs.declared.record_error.RecordError.TheVariants as res
 use Rattle.sipd_arguments.specs.Exits.{exit_of_kind, fault_of}
 use Rattle.sip_config.specs.declared.error.ConfigError.{ConfigError}
 use Rattle.sip_config.specs.Stated.{States, StatesNone}
-use Rattle.sipd_arguments.specs.Files.{IsRefusedWith}
 use Rattle.sipd_arguments.specs.declared.device_fault.DeviceFault.{DeviceFault}
 use Rattle.sipd_arguments.specs.declared.exit.Exit.{Exit}
 use Rattle.sipd_arguments.specs.declared.exit.Exit.TheVariants as exits
 use Rattle.sipd_reload.specs.File.{most_bytes}
-use Rattle.sipd_start.specs.Begins.{IsFileNotResumed, IsOpened, IsUnopened, EventsStop, NotesFirst, StopsAt, IsStopped, IsUnbegun, IsNotGoneOn, IsUnread, IsNotResumed, Written, reason_of}
+use Rattle.sipd_start.specs.Begins.{IsFileNotResumed, IsUnopened, EventsStop, StopsAt, IsStopped, IsNotGoneOn, IsUnread, IsNotResumed, Written, reason_of}
 use Rattle.sipd_start.specs.Boots.{boot_again}
-use Rattle.sipd_old_record.specs.OldRecord.{IsReaderFault, IsRefused, IsSystemFault, SaysHead}
+use Rattle.sipd_old_record.specs.OldRecord.{IsRefused, IsSystemFault, SaysHead}
+use Rattle.sipd_old_record.specs.Own.{OwnStops}
 use Rattle.sipd_old_record.specs.Readers.{HasStopped, WasAsked, most_asks}
-use Rattle.sipd_old_record.proofs.Asking.{spent_stops, stopped_behind, stops_behind}
-use Rattle.sipd_start.specs.OldRecords.{IsOurs}
-use Rattle.sipd_start.specs.Stops.{EndsStart, IsNotUnder, IsUnmade, StatesOtherFrame, unread, untaken}
+use Rattle.sipd_start.specs.OldRecords.{HaveFrameOf, IsBegunBy, IsUnbegun, IsUnheld}
+use Rattle.sipd_start.specs.Stops.{EndsStart, IsNotUnder, IsUnmade, StatesOtherFrame, is_unreadable, unheld, unread, untaken}
 use Rattle.sipd_start.specs.declared.not_resumed.NotResumed.{NotResumed as Reason}
 use Rattle.sipd_start.specs.declared.not_resumed.NotResumed.TheVariants.{Unreadable}
 use Rattle.sipd_start.specs.declared.not_resumed.Stop.{Stop}
 use Rattle.sipd_start.specs.declared.not_resumed.Stop.TheVariants.{NotResumed, Exits}
-use Rattle.sipd_start.proofs.Beginnings.{states_one}
-use Rattle.sipd_start.proofs.FirstLines.{nothing_read, was_so}
+use Rattle.sipd_start.proofs.Asked.{BeforeLaw, FurtherLaw, SpentLaw, has_stopped, stopped_before, stopped_further}
+use Rattle.sipd_start.proofs.Beginnings.{is_at_first, is_begun, server_with, states_one}
 
 -- ---- what is known of the reader
 
@@ -61,10 +62,9 @@ stops_as server server_then old new longest F G rest lines outs outs_then (resum
 stops_as server server_then old new longest F G rest lines outs outs_then (resuming.OtherFrame line key) f h = h
 stops_as server server_then old new longest F G rest lines outs outs_then resuming.Write f h = h
 
--- and it stood there before it was looked at
-unresumed_as : (server server_then : Server) (old new : ProxyState) (longest : ℕ) (F G : Type 0) (a b : Option (List ℕ)) (lines : ℕ) (outs outs_then : Outputs) (e : RecordError) → (F → G) → Keeps a b
-    → IsRecordUnresumed server server_then old new longest F b lines outs outs_then e → IsRecordUnresumed server server_then old new longest G a lines outs outs_then e
-unresumed_as server server_then old new longest F G a b lines outs outs_then e f k h = record {
+unresumed_as : (server server_then : Server) (old new : ProxyState) (longest : ℕ) (F G : Type 0) (rest : Option (List ℕ)) (lines : ℕ) (outs outs_then : Outputs) (e : RecordError) → (F → G)
+    → IsRecordUnresumed server server_then old new longest F rest lines outs outs_then e → IsRecordUnresumed server server_then old new longest G rest lines outs outs_then e
+unresumed_as server server_then old new longest F G rest lines outs outs_then e f h = record {
   text = h.text;
   events = h.events;
   segments = h.segments;
@@ -73,16 +73,16 @@ unresumed_as server server_then old new longest F G a b lines outs outs_then e f
   in_force = h.in_force;
   half = h.half;
   says = h.says;
-  whole = was_so a b (λ bytes. (further : List ℕ) × (h.rest ≡ Some further) × (bytes ≡ h.text ++ further)) k h.whole;
+  whole = h.whole;
   takes = h.takes;
   shown = h.shown;
   noted = h.noted;
   why = stops_as h.in_force server_then h.reached new longest F G h.rest (lines + count_by is_end h.text) h.half outs_then e f h.why;
 }
 
-events_stop_as : (has_own : Bool) (bytes : List ℕ) (F G : Type 0) (server : Server) (old : ProxyState) (a b : Option (List ℕ)) (stop : Stop) → (F → G) → Keeps a b
-    → EventsStop has_own bytes F server old b stop → EventsStop has_own bytes G server old a stop
-events_stop_as has_own bytes F G server old a b stop f k h = record {
+events_stop_as : (first : List ℕ) (F G : Type 0) (server : Server) (old : ProxyState) (number : ℕ) (events : Option (List ℕ)) (stop : Stop) → (F → G)
+    → EventsStop first F server old number events stop → EventsStop first G server old number events stop
+events_stop_as first F G server old number events stop f h = record {
   in_force = h.in_force;
   reached = h.reached;
   written = h.written;
@@ -90,76 +90,95 @@ events_stop_as has_own bytes F G server old a b stop f k h = record {
   outs_then = h.outs_then;
   error = h.error;
   told_first = h.told_first;
-  refused = unresumed_as server h.in_force old h.reached most_bytes F G a b 0 h.outs h.outs_then h.error f k h.refused;
+  refused = unresumed_as server h.in_force old h.reached most_bytes F G events number h.outs h.outs_then h.error f h.refused;
   same = h.same;
 }
 
-unbegun_as : (digest : List ℕ) (F G : Type 0) (head : RecordHead) (events : Option (List ℕ)) (stop : Stop) → (F → G) → IsUnbegun F digest head events stop → IsUnbegun G digest head events stop
-unbegun_as digest F G head events (Exits exit) f h = h
-unbegun_as digest F G head events (NotResumed reason) f (inl h) = inl (h.0, f h.1)
-unbegun_as digest F G head events (NotResumed reason) f (inr h) = inr h
+read_stops_as : (F G : Type 0) (rest : Option (List ℕ)) (lines : ℕ) (stop : SegmentStop) → (F → G) → ReadStops most_bytes F rest lines stop → ReadStops most_bytes G rest lines stop
+read_stops_as F G rest lines segments.NoMemory f h = tt
+read_stops_as F G rest lines (segments.Damaged line) f h = h
+read_stops_as F G rest lines (segments.Cut line) f h = h
+read_stops_as F G rest lines segments.Read f h = f h
+read_stops_as F G rest lines (segments.TooLong line) f h = h
+read_stops_as F G rest lines (segments.NoConfiguration line e) f h = h
+read_stops_as F G rest lines (segments.OtherFrame line key) f h = absurd h
+
+pub own_stops_as : (digest : List ℕ) (F G : Type 0) (rest : Option (List ℕ)) (lines : ℕ) (stop : SegmentStop) → (F → G) → OwnStops digest F rest lines stop → OwnStops digest G rest lines stop
+own_stops_as digest F G rest lines stop f (inl h) = inl h
+own_stops_as digest F G rest lines stop f (inr (inl h)) = inr (inl h)
+own_stops_as digest F G rest lines stop f (inr (inr h)) = inr (inr (read_stops_as F G rest lines stop f h))
+
+unheld_as : (F G : Type 0) (head : RecordHead) (events : Option (List ℕ)) (stop : Stop) → (F → G) → IsUnheld F head events stop → IsUnheld G head events stop
+unheld_as F G head events stop f h = record { why = h.why; stops = own_stops_as head.digest F G events 0 h.why f h.stops; same = h.same }
+
+unbegun_as : (bytes digest : List ℕ) (F G : Type 0) (head : RecordHead) (events : Option (List ℕ)) (stop : Stop) → (F → G) → IsUnbegun F bytes digest head events stop → IsUnbegun G bytes digest head events stop
+unbegun_as bytes digest F G head events (Exits exit) f h = h
+unbegun_as bytes digest F G head events (NotResumed reason) f (inl h) = inl (unheld_as F G head events (NotResumed reason) f h)
+unbegun_as bytes digest F G head events (NotResumed reason) f (inr h) = inr h
+
+stopped_as : (bytes digest : List ℕ) (F G : Type 0) (head : RecordHead) (events : Option (List ℕ)) (stop : Stop) → (F → G) → IsStopped bytes digest F head events stop → IsStopped bytes digest G head events stop
+stopped_as bytes digest F G head events stop f s = record {
+  reading = s.reading;
+  rest = s.rest;
+  first = s.first;
+  begun_by = s.begun_by;
+  server = s.server;
+  is_server = s.is_server;
+  stops = events_stop_as s.first F G s.server (first_state head.first) s.reading.number (pending s.reading s.rest) stop f s.stops;
+}
 
 not_gone_on_as : (bytes digest : List ℕ) (F G : Type 0) (head : RecordHead) (events : Option (List ℕ)) (stop : Stop) → (F → G) → IsNotGoneOn bytes digest F head events stop
     → IsNotGoneOn bytes digest G head events stop
 not_gone_on_as bytes digest F G head events (Exits exit) f h = h
-not_gone_on_as bytes digest F G head events (NotResumed reason) f (inl h) = inl (unbegun_as digest F G head events (NotResumed reason) f h)
-not_gone_on_as bytes digest F G head events (NotResumed reason) f (inr h) = inr (stopped_as h) where
-  stopped_as : IsStopped bytes digest F head events (NotResumed reason) → IsStopped bytes digest G head events (NotResumed reason)
-  stopped_as s = record {
-    has_own = s.has_own;
-    is_ours = s.is_ours;
-    server = s.server;
-    is_server = s.is_server;
-    stops = events_stop_as s.has_own bytes F G s.server (first_state head.first) events events (NotResumed reason) f (Keeps-refl events) s.stops;
-  }
+not_gone_on_as bytes digest F G head events (NotResumed reason) f (inl h) = inl (unbegun_as bytes digest F G head events (NotResumed reason) f h)
+not_gone_on_as bytes digest F G head events (NotResumed reason) f (inr h) = inr (stopped_as bytes digest F G head events (NotResumed reason) f h)
 
--- ---- what stands behind the first line isn't taken
+-- ---- what is left isn't taken
 
-events_stop : (has_own : Bool) (bytes : List ℕ) (server server_then : Server) (old new : ProxyState) (F G : Type 0) (events : Option (List ℕ)) (lines : ℕ) (written : Written) (outs outs_then : Outputs) (e : RecordError) → lines ≡ 0
-    → (F → G) → NotesFirst has_own bytes written outs.written → IsRecordUnresumed server server_then old new most_bytes F events lines outs outs_then e → EventsStop has_own bytes G server old events (untaken e)
-events_stop has_own bytes server server_then old new F G events lines written outs outs_then e zero f first h = record {
+events_stop : (first : List ℕ) (server server_then : Server) (old new : ProxyState) (F G : Type 0) (events : Option (List ℕ)) (number : ℕ) (written : Written) (outs outs_then : Outputs) (e : RecordError)
+    → (F → G) → NotesConfiguration written outs.written first → IsRecordUnresumed server server_then old new most_bytes F events number outs outs_then e → EventsStop first G server old number events (untaken e)
+events_stop first server server_then old new F G events number written outs outs_then e f told h = record {
   in_force = server_then;
   reached = new;
   written = written;
   outs = outs;
   outs_then = outs_then;
   error = e;
-  told_first = first;
-  refused = unresumed_as server server_then old new most_bytes F G events events 0 outs outs_then e f (Keeps-refl events)
-      (subst (λ n. IsRecordUnresumed server server_then old new most_bytes F events n outs outs_then e) zero h);
+  told_first = told;
+  refused = unresumed_as server server_then old new most_bytes F G events number outs outs_then e f h;
   same = refl;
 }
 
-at_stop : (has_own : Bool) (bytes : List ℕ) (F : Type 0) (server : Server) (old : ProxyState) (events : Option (List ℕ)) (e : RecordError) → (e ≡ resuming.Write → ⊥)
-    → EventsStop has_own bytes F server old events (untaken e) → StopsAt has_own bytes F server old events (untaken e)
-at_stop has_own bytes F server old events resuming.NoMemory other h = λ states. inl refl
-at_stop has_own bytes F server old events (resuming.Damaged line) other h = h
-at_stop has_own bytes F server old events resuming.Read other h = h
-at_stop has_own bytes F server old events resuming.Step other h = h
-at_stop has_own bytes F server old events resuming.Journal other h = λ states. inr (inr refl)
-at_stop has_own bytes F server old events (resuming.TooLong line) other h = h
-at_stop has_own bytes F server old events (resuming.NoConfiguration line error) other h = h
-at_stop has_own bytes F server old events (resuming.OtherFrame line key) other h = h
-at_stop has_own bytes F server old events resuming.Write other h = absurd (other refl)
+at_stop : (first bytes : List ℕ) (F : Type 0) (server : Server) (old : ProxyState) (number : ℕ) (events : Option (List ℕ)) (e : RecordError) → (e ≡ resuming.Write → ⊥)
+    → EventsStop first F server old number events (untaken e) → StopsAt first bytes F server old number events (untaken e)
+at_stop first bytes F server old number events resuming.NoMemory other h = λ frame. inl refl
+at_stop first bytes F server old number events (resuming.Damaged line) other h = h
+at_stop first bytes F server old number events resuming.Read other h = h
+at_stop first bytes F server old number events resuming.Step other h = h
+at_stop first bytes F server old number events resuming.Journal other h = λ frame. inr (inr refl)
+at_stop first bytes F server old number events (resuming.TooLong line) other h = h
+at_stop first bytes F server old number events (resuming.NoConfiguration line error) other h = h
+at_stop first bytes F server old number events (resuming.OtherFrame line key) other h = h
+at_stop first bytes F server old number events resuming.Write other h = absurd (other refl)
 
-pub stops_at : {A : Type 0} (result : Result A RecordError) (has_own : Bool) (bytes : List ℕ) (server server_then : Server) (old new : ProxyState) (F : Type 0) (asks least : ℕ) (before now : Option ℕ)
-    (events : Option (List ℕ)) (lines : ℕ) (written : Written) (outs outs_then : Outputs) (e : RecordError) (stop : Stop) → result ≡ Err e → (result ≡ Err resuming.Write → ⊥) → lines ≡ 0
-    → stop ≡ untaken e → NotesFirst has_own bytes written outs.written → later asks now ≡ later least before
-    → IsRecordUnresumed server server_then old new most_bytes (IsSpent F asks) events lines outs outs_then e → StopsAt has_own bytes (HasStopped F least before now) server old events stop
-stops_at result has_own bytes server server_then old new F asks least before now events lines written outs outs_then e stop was other zero is first asked h =
+pub stops_at : {A : Type 0} (result : Result A RecordError) (first bytes : List ℕ) (server server_then : Server) (old new : ProxyState) (F : Type 0) (asks least : ℕ) (before now : Option ℕ)
+    (events : Option (List ℕ)) (number : ℕ) (written : Written) (outs outs_then : Outputs) (e : RecordError) (stop : Stop) → SpentLaw → result ≡ Err e → (result ≡ Err resuming.Write → ⊥)
+    → stop ≡ untaken e → NotesConfiguration written outs.written first → later asks now ≡ later least before
+    → IsRecordUnresumed server server_then old new most_bytes (IsSpent F asks) events number outs outs_then e → StopsAt first bytes (HasStopped F least before now) server old number events stop
+stops_at result first bytes server server_then old new F asks least before now events number written outs outs_then e stop spent was other is told asked h =
     let not_written : e ≡ resuming.Write → ⊥ = λ same. other (subst (λ (x : RecordError). result ≡ Err x) same was) in
-    subst (λ s. StopsAt has_own bytes (HasStopped F least before now) server old events s) (sym is) (at_stop has_own bytes (HasStopped F least before now) server old events e not_written
-    (events_stop has_own bytes server server_then old new (IsSpent F asks) (HasStopped F least before now) events lines written outs outs_then e zero (spent_stops F asks least before now asked) first h))
+    subst (λ s. StopsAt first bytes (HasStopped F least before now) server old number events s) (sym is) (at_stop first bytes (HasStopped F least before now) server old number events e not_written
+    (events_stop first server server_then old new (IsSpent F asks) (HasStopped F least before now) events number written outs outs_then e (has_stopped spent F asks least before now asked) told h))
 
-pub exits_at : (has_own : Bool) (bytes : List ℕ) (F : Type 0) (server : Server) (old : ProxyState) (events : Option (List ℕ)) (exit : Exit) (stop : Stop) → stop ≡ Exits exit → IsUnmade exit
-    → StopsAt has_own bytes F server old events stop
-exits_at has_own bytes F server old events exit stop is h = subst (λ s. StopsAt has_own bytes F server old events s) (sym is) (λ states. h)
+pub exits_at : (first bytes : List ℕ) (F : Type 0) (server : Server) (old : ProxyState) (number : ℕ) (events : Option (List ℕ)) (exit : Exit) (stop : Stop) → stop ≡ Exits exit → IsUnmade exit
+    → StopsAt first bytes F server old number events stop
+exits_at first bytes F server old number events exit stop is h = subst (λ s. StopsAt first bytes F server old number events s) (sym is) (λ frame. h)
 
-pub untold_at : (has_own : Bool) (bytes : List ℕ) (F : Type 0) (server : Server) (old : ProxyState) (events : Option (List ℕ)) (exit : Exit) (stop : Stop) → stop ≡ Exits exit → exit ≡ exits.Recording
-    → StopsAt has_own bytes F server old events stop
-untold_at has_own bytes F server old events exit stop is h = exits_at has_own bytes F server old events exit stop is (inr (inr h))
+pub untold_at : (first bytes : List ℕ) (F : Type 0) (server : Server) (old : ProxyState) (number : ℕ) (events : Option (List ℕ)) (exit : Exit) (stop : Stop) → stop ≡ Exits exit → exit ≡ exits.Recording
+    → StopsAt first bytes F server old number events stop
+untold_at first bytes F server old number events exit stop is h = exits_at first bytes F server old number events exit stop is (inr (inr h))
 
--- ---- the server comes under its own configuration again
+-- ---- the server comes under the configuration of the file
 
 -- a refusal that isn't one of those that come where no key differs
 pub other_frame : {E : Type 0} (bytes : List ℕ) (old config : Config) (result : Result (Unit {0}) E) (error this : E) (Is : E → Type 0) → result ≡ Err error → error ≡ this
@@ -182,13 +201,12 @@ frame_behind server config [] same all = same
 frame_behind server config (period ∷ periods) same all =
     frame_behind server period.config periods (ap (λ (s : Server). s.config.own) all.0, ap (λ (s : Server). s.config.realm) all.0) all.1
 
-pub keeps_frame : (server server_then : Server) (old new : ProxyState) (events : Option (List ℕ)) (number lines : ℕ) (outs outs_then : Outputs) (last : Option StepOut) → FramesLaw
-    → IsRecordResumed server server_then old new events number outs outs_then lines last → frame_key_of server_then.config server.config ≡ None
-keeps_frame server server_then old new events number lines outs outs_then last law h =
+keeps_frame : (server server_then : Server) (old new : ProxyState) (events : Option (List ℕ)) (number lines : ℕ) (outs outs_then : Outputs) (last : Option StepOut)
+    → IsRecordResumed server server_then old new events number outs outs_then lines last → SameFrame server_then.config server.config
+keeps_frame server server_then old new events number lines outs outs_then last h =
     let behind : SameFrame (config_behind server.config h.takes.periods) server.config = frame_behind server server.config h.takes.periods (refl, refl) h.takes.frames in
     let there : server_then.config ≡ config_behind server.config h.takes.periods = ap (λ (s : Server). s.config) h.takes.in_force in
-    let same : SameFrame server_then.config server.config = subst (λ (c : Config). SameFrame c server.config) (sym there) behind in
-    (law server_then.config server.config).1 (sym same.0, sym same.1)
+    subst (λ (c : Config). SameFrame c server.config) (sym there) behind
 
 states_some : (bytes : List ℕ) (config : Config) (error : ConfigError) → States bytes config → StatesNone bytes error → ⊥
 states_some bytes config error states (inl h) = h.0 states.utf8
@@ -201,59 +219,54 @@ under_own bytes own in_force exit same states (inr (inr h)) =
     let one : own ≡ h.1.config = states_one bytes h.1.config own h.1.states states in
     absurd (none-some h.1.key (sym same ∙ subst (λ (c : Config). frame_key_of in_force c ≡ Some h.1.key) (sym one) h.1.other))
 
-pub under_exits : (has_own : Bool) (bytes : List ℕ) (F : Type 0) (server server_then : Server) (old new : ProxyState) (events rest : Option (List ℕ)) (number lines : ℕ) (outs outs_then : Outputs) (last : Option StepOut) (exit : Exit) (stop : Stop)
-    → FramesLaw → IsRecordResumed server server_then old new events number outs outs_then lines last → IsNotUnder bytes server_then.config exit → stop ≡ Exits exit → StopsAt has_own bytes F server old rest stop
-under_exits has_own bytes F server server_then old new events rest number lines outs outs_then last exit stop law h refused is =
-    let here : States bytes server.config → IsUnmade exit = λ states. inl (under_own bytes server.config server_then.config exit (keeps_frame server server_then old new events number lines outs outs_then last law h) states refused) in
-    subst (λ s. StopsAt has_own bytes F server old rest s) (sym is) here
+-- what bytes state is of the frame of what is in force
+of_frame : (bytes : List ℕ) (server server_then : Server) (exit : Exit) → FramesLaw → SameFrame server_then.config server.config → HaveFrameOf bytes server.config → IsNotUnder bytes server_then.config exit → exit ≡ exits.Memory
+of_frame bytes server server_then exit law same frame refused =
+    let kept = (law frame.config server.config).0 frame.same in
+    under_own bytes frame.config server_then.config exit ((law server_then.config frame.config).1 (sym kept.0 ∙ sym same.0, sym kept.1 ∙ sym same.1)) frame.states refused
+
+pub under_exits : (first bytes : List ℕ) (F : Type 0) (server server_then : Server) (old new : ProxyState) (events rest : Option (List ℕ)) (number lines : ℕ) (outs outs_then : Outputs) (last : Option StepOut) (exit : Exit) (stop : Stop)
+    → FramesLaw → IsRecordResumed server server_then old new events number outs outs_then lines last → IsNotUnder bytes server_then.config exit → stop ≡ Exits exit → StopsAt first bytes F server old number rest stop
+under_exits first bytes F server server_then old new events rest number lines outs outs_then last exit stop law h refused is =
+    let here : HaveFrameOf bytes server.config → IsUnmade exit =
+    λ frame. inl (of_frame bytes server server_then exit law (keeps_frame server server_then old new events number lines outs outs_then last h) frame refused) in
+    subst (λ s. StopsAt first bytes F server old number rest s) (sym is) here
 
 -- ---- it isn't gone on from a record
 
-not_gone_on : (has_own : Bool) (bytes digest : List ℕ) (F : Type 0) (asks : ℕ) (before middle now : Option ℕ) (head : RecordHead) (words : Stream) (boot : Boot) (events behind : Option (List ℕ)) (server : Server) (old : ProxyState) (stop : Stop)
-    → boot ≡ boot_again head words → IsOpened bytes boot server old → IsOurs digest head events has_own → Keeps events behind → later asks middle ≡ later most_asks before
-    → StopsAt has_own bytes (HasStopped F asks middle now) server old behind stop → IsNotGoneOn bytes digest (HasStopped F most_asks before now) head events stop
-not_gone_on has_own bytes digest F asks before middle now head words boot events behind server old (Exits exit) is opened ours k asked h = inl (h opened.is_server.states)
-not_gone_on has_own bytes digest F asks before middle now head words boot events behind server old (NotResumed reason) is opened ours k asked h =
-    let here : IsOpened bytes (boot_again head words) server old = subst (λ b. IsOpened bytes b server old) is opened in
-    let stops : EventsStop has_own bytes (HasStopped F most_asks before now) server old events (NotResumed reason) =
-    events_stop_as has_own bytes (HasStopped F asks middle now) (HasStopped F most_asks before now) server old events behind (NotResumed reason)
-    (stops_behind F asks most_asks before middle now asked) k h in
-    let stopped : IsStopped bytes digest (HasStopped F most_asks before now) head events (NotResumed reason) = record {
-      has_own = has_own;
-      is_ours = ours;
+not_gone_on : (first bytes digest : List ℕ) (F : Type 0) (before middle now : Option ℕ) (head : RecordHead) (words : Stream) (boot : Boot) (events : Option (List ℕ)) (reading : Reading) (rest : Option (List ℕ)) (config : Config) (server : Server) (old : ProxyState) (stop : Stop)
+    → FurtherLaw → boot ≡ boot_again head words → States first config → server ≡ server_with config boot.word → old ≡ first_state boot.first → IsBegunBy bytes digest head events reading rest first → HaveFrameOf bytes config
+    → later reading.asks middle ≡ later most_asks before → StopsAt first bytes (HasStopped F reading.asks middle now) server old reading.number (pending reading rest) stop → IsNotGoneOn bytes digest (HasStopped F most_asks before now) head events stop
+not_gone_on first bytes digest F before middle now head words boot events reading rest config server old (Exits exit) further is states opened fresh by frame asked h =
+    inl (h (subst (λ (c : Config). HaveFrameOf bytes c) (sym (ap (λ (s : Server). s.config) opened)) frame))
+not_gone_on first bytes digest F before middle now head words boot events reading rest config server old (NotResumed reason) further is states opened fresh by frame asked h =
+    let stops : EventsStop first (HasStopped F most_asks before now) server old reading.number (pending reading rest) (NotResumed reason) =
+    events_stop_as first (HasStopped F reading.asks middle now) (HasStopped F most_asks before now) server old reading.number (pending reading rest) (NotResumed reason)
+    (stopped_further further F reading.asks most_asks before middle now asked) h in
+    inr (record {
+      reading = reading;
+      rest = rest;
+      first = first;
+      begun_by = by;
       server = server;
-      is_server = here.is_server;
-      stops = subst (λ s. EventsStop has_own bytes (HasStopped F most_asks before now) server s events (NotResumed reason)) here.is_first stops;
-    } in
-    inr stopped
+      is_server = is_begun first config head words boot server is states opened;
+      stops = subst (λ s. EventsStop first (HasStopped F most_asks before now) server s reading.number (pending reading rest) (NotResumed reason)) (is_at_first head words boot old is fresh) stops;
+    })
 
-pub not_gone_on_so : {A : Type 0} (result : Result A Stop) (has_own : Bool) (bytes digest : List ℕ) (F : Type 0) (asks : ℕ) (before middle now : Option ℕ) (head : RecordHead) (words : Stream) (boot : Boot) (events behind : Option (List ℕ)) (server : Server) (old : ProxyState)
-    → boot ≡ boot_again head words → IsOpened bytes boot server old → IsOurs digest head events has_own → Keeps events behind → later asks middle ≡ later most_asks before
-    → IfErr result (StopsAt has_own bytes (HasStopped F asks middle now) server old behind) → IfErr result (IsNotGoneOn bytes digest (HasStopped F most_asks before now) head events)
-not_gone_on_so (Ok a) has_own bytes digest F asks before middle now head words boot events behind server old is opened ours k asked h = tt
-not_gone_on_so (Err stop) has_own bytes digest F asks before middle now head words boot events behind server old is opened ours k asked h =
-    not_gone_on has_own bytes digest F asks before middle now head words boot events behind server old stop is opened ours k asked h
+pub not_gone_on_so : {A : Type 0} (result : Result A Stop) (first bytes digest : List ℕ) (F : Type 0) (before middle now : Option ℕ) (head : RecordHead) (words : Stream) (boot : Boot) (events : Option (List ℕ)) (reading : Reading) (rest : Option (List ℕ)) (config : Config) (server : Server) (old : ProxyState)
+    → FurtherLaw → boot ≡ boot_again head words → States first config → server ≡ server_with config boot.word → old ≡ first_state boot.first → IsBegunBy bytes digest head events reading rest first → HaveFrameOf bytes config
+    → later reading.asks middle ≡ later most_asks before → IfErr result (StopsAt first bytes (HasStopped F reading.asks middle now) server old reading.number (pending reading rest)) → IfErr result (IsNotGoneOn bytes digest (HasStopped F most_asks before now) head events)
+not_gone_on_so (Ok a) first bytes digest F before middle now head words boot events reading rest config server old further is states opened fresh by frame asked h = tt
+not_gone_on_so (Err stop) first bytes digest F before middle now head words boot events reading rest config server old further is states opened fresh by frame asked h =
+    not_gone_on first bytes digest F before middle now head words boot events reading rest config server old stop further is states opened fresh by frame asked h
 
 -- nothing was taken of it
-unbegun_on : (bytes digest : List ℕ) (F : Type 0) (head : RecordHead) (events : Option (List ℕ)) (stop : Stop) → IsUnbegun F digest head events stop → IsNotGoneOn bytes digest F head events stop
-unbegun_on bytes digest F head events (Exits exit) h = inl (inl h)
+unbegun_on : (bytes digest : List ℕ) (F : Type 0) (head : RecordHead) (events : Option (List ℕ)) (stop : Stop) → IsUnbegun F bytes digest head events stop → IsNotGoneOn bytes digest F head events stop
+unbegun_on bytes digest F head events (Exits exit) h = h
 unbegun_on bytes digest F head events (NotResumed reason) h = inl h
 
-pub unbegun_so : (bytes digest : List ℕ) (F : Type 0) (head : RecordHead) (events : Option (List ℕ)) (first stop : Stop) → stop ≡ first → IsUnbegun F digest head events first → IsNotGoneOn bytes digest F head events stop
-unbegun_so bytes digest F head events first stop is h = subst (λ s. IsNotGoneOn bytes digest F head events s) (sym is) (unbegun_on bytes digest F head events first h)
-
--- where no byte was read before
-pub unbegun_first : (part : Reading) (asks : ℕ) (digest : List ℕ) (F : Type 0) (before now : Option ℕ) (head : RecordHead) (events : Option (List ℕ)) (first stop : Stop) → part ≡ record { unread = []; asks = most_asks; number = 0 }
-    → later asks now ≡ later part.asks before → stop ≡ first → IsUnbegun (IsSpent F asks) digest head (pending part events) first → IsUnbegun (HasStopped F most_asks before now) digest head events stop
-unbegun_first part asks digest F before now head events first stop fresh asked is h =
-    let all : pending part events ≡ events = nothing_read part events (ap (λ (p : Reading). p.unread) fresh) in
-    let count : later asks now ≡ later most_asks before = subst (λ (n : ℕ). later asks now ≡ later n before) (ap (λ (p : Reading). p.asks) fresh) asked in
-    subst (λ s. IsUnbegun (HasStopped F most_asks before now) digest head events s) (sym is)
-    (unbegun_as digest (IsSpent F asks) (HasStopped F most_asks before now) head events first (spent_stops F asks most_asks before now count)
-    (subst (λ (e : Option (List ℕ)). IsUnbegun (IsSpent F asks) digest head e first) all h))
-
-pub exits_unbegun : (digest : List ℕ) (F : Type 0) (head : RecordHead) (events : Option (List ℕ)) (exit : Exit) (stop : Stop) → stop ≡ Exits exit → exit ≡ exits.Memory → IsUnbegun F digest head events stop
-exits_unbegun digest F head events exit stop is h = subst (λ s. IsUnbegun F digest head events s) (sym is) h
+pub unbegun_so : (bytes digest : List ℕ) (F : Type 0) (head : RecordHead) (events : Option (List ℕ)) (stop other : Stop) → other ≡ stop → IsUnbegun F bytes digest head events stop → IsNotGoneOn bytes digest F head events other
+unbegun_so bytes digest F head events stop other is h = subst (λ s. IsNotGoneOn bytes digest F head events s) (sym is) (unbegun_on bytes digest F head events stop h)
 
 pub exits_on : (bytes digest : List ℕ) (F : Type 0) (head : RecordHead) (events : Option (List ℕ)) (exit : Exit) (stop : Stop) → stop ≡ Exits exit → EndsStart bytes exit → IsNotGoneOn bytes digest F head events stop
 exits_on bytes digest F head events exit stop is h = subst (λ s. IsNotGoneOn bytes digest F head events s) (sym is) h
@@ -295,12 +308,12 @@ stopped_at bytes digest F before now whole events head (Exits exit) says is_whol
 stopped_at bytes digest F before now whole events head (NotResumed reason) says is_whole h =
     inr (inr (record { head = head; events = events; says = says; is_whole = is_whole; stopped = h }))
 
-pub stopped_behind_so : {A : Type 0} (result : Result A Stop) (bytes digest : List ℕ) (F : Type 0) (before middle now : Option ℕ) (whole events : Option (List ℕ)) (head : RecordHead) → SaysHead whole events head
+pub stopped_behind_so : {A : Type 0} (result : Result A Stop) (bytes digest : List ℕ) (F : Type 0) (before middle now : Option ℕ) (whole events : Option (List ℕ)) (head : RecordHead) → BeforeLaw → SaysHead whole events head
     → head.mark ≡ Whole → WasAsked 0 before middle → IfErr result (IsNotGoneOn bytes digest (HasStopped F most_asks middle now) head events) → IfErr result (IsNotResumed bytes digest F before now whole)
-stopped_behind_so (Ok a) bytes digest F before middle now whole events head says is_whole asked h = tt
-stopped_behind_so (Err stop) bytes digest F before middle now whole events head says is_whole asked h =
+stopped_behind_so (Ok a) bytes digest F before middle now whole events head before_law says is_whole asked h = tt
+stopped_behind_so (Err stop) bytes digest F before middle now whole events head before_law says is_whole asked h =
     stopped_at bytes digest F before now whole events head stop says is_whole
-    (not_gone_on_as bytes digest (HasStopped F most_asks middle now) (HasStopped F most_asks before now) head events stop (stopped_behind F most_asks before middle now asked) h)
+    (not_gone_on_as bytes digest (HasStopped F most_asks middle now) (HasStopped F most_asks before now) head events stop (stopped_before before_law F most_asks before middle now asked) h)
 
 -- ---- of a file
 
@@ -338,3 +351,113 @@ pub file_exits : (is_input : Bool) (input : Option (List ℕ)) (F : Type 0) (bef
 file_exits true input F before now bytes digest exit h = h
 file_exits false input F before now bytes digest exit (inl h) = unopened_exits bytes exit h
 file_exits false input F before now bytes digest exit (inr h) = h.1
+
+-- ---- of the input, which is read on
+
+stops_other : (server server_then : Server) (old new : ProxyState) (longest : ℕ) (F G : Type 0) (rest : Option (List ℕ)) (lines : ℕ) (outs outs_then : Outputs) (e : RecordError) → (e ≡ resuming.Read → ⊥)
+    → RecordStops server server_then old new longest F rest lines outs outs_then e → RecordStops server server_then old new longest G rest lines outs outs_then e
+stops_other server server_then old new longest F G rest lines outs outs_then resuming.NoMemory other h = h
+stops_other server server_then old new longest F G rest lines outs outs_then (resuming.Damaged line) other h = h
+stops_other server server_then old new longest F G rest lines outs outs_then resuming.Read other h = absurd (other refl)
+stops_other server server_then old new longest F G rest lines outs outs_then resuming.Step other h = h
+stops_other server server_then old new longest F G rest lines outs outs_then resuming.Journal other h = h
+stops_other server server_then old new longest F G rest lines outs outs_then (resuming.TooLong line) other h = h
+stops_other server server_then old new longest F G rest lines outs outs_then (resuming.NoConfiguration line error) other h = h
+stops_other server server_then old new longest F G rest lines outs outs_then (resuming.OtherFrame line key) other h = h
+stops_other server server_then old new longest F G rest lines outs outs_then resuming.Write other h = h
+
+unreadable : (reason : Reason) → is_unreadable reason ≡ false → NotResumed reason ≡ NotResumed Unreadable → ⊥
+unreadable reason readable same = let e : reason ≡ Unreadable = cc in true≢false (sym (ap is_unreadable e) ∙ readable)
+
+events_stop_still : (first : List ℕ) (F G : Type 0) (server : Server) (old : ProxyState) (number : ℕ) (events : Option (List ℕ)) (reason : Reason) → is_unreadable reason ≡ false
+    → EventsStop first F server old number events (NotResumed reason) → EventsStop first G server old number events (NotResumed reason)
+events_stop_still first F G server old number events reason readable h =
+    let readable_error : h.error ≡ resuming.Read → ⊥ = λ e. unreadable reason readable (h.same ∙ ap untaken e) in
+    let r = h.refused in
+    record {
+      in_force = h.in_force;
+      reached = h.reached;
+      written = h.written;
+      outs = h.outs;
+      outs_then = h.outs_then;
+      error = h.error;
+      told_first = h.told_first;
+      refused = record {
+        text = r.text;
+        events = r.events;
+        segments = r.segments;
+        rest = r.rest;
+        reached = r.reached;
+        in_force = r.in_force;
+        half = r.half;
+        says = r.says;
+        whole = r.whole;
+        takes = r.takes;
+        shown = r.shown;
+        noted = r.noted;
+        why = stops_other r.in_force h.in_force r.reached h.reached most_bytes F G r.rest (number + count_by is_end r.text) r.half h.outs_then h.error readable_error r.why;
+      };
+      same = h.same;
+    }
+
+stopped_still : (bytes digest : List ℕ) (F G : Type 0) (head : RecordHead) (events : Option (List ℕ)) (reason : Reason) → is_unreadable reason ≡ false → IsStopped bytes digest F head events (NotResumed reason) → IsStopped bytes digest G head events (NotResumed reason)
+stopped_still bytes digest F G head events reason readable s = record {
+  reading = s.reading;
+  rest = s.rest;
+  first = s.first;
+  begun_by = s.begun_by;
+  server = s.server;
+  is_server = s.is_server;
+  stops = events_stop_still s.first F G s.server (first_state head.first) s.reading.number (pending s.reading s.rest) reason readable s.stops;
+}
+
+read_stops_other : (F G : Type 0) (rest : Option (List ℕ)) (lines : ℕ) (stop : SegmentStop) → (stop ≡ segments.Read → ⊥) → ReadStops most_bytes F rest lines stop → ReadStops most_bytes G rest lines stop
+read_stops_other F G rest lines segments.NoMemory other h = tt
+read_stops_other F G rest lines (segments.Damaged line) other h = h
+read_stops_other F G rest lines (segments.Cut line) other h = h
+read_stops_other F G rest lines segments.Read other h = absurd (other refl)
+read_stops_other F G rest lines (segments.TooLong line) other h = h
+read_stops_other F G rest lines (segments.NoConfiguration line e) other h = h
+read_stops_other F G rest lines (segments.OtherFrame line key) other h = absurd h
+
+own_stops_other : (digest : List ℕ) (F G : Type 0) (rest : Option (List ℕ)) (lines : ℕ) (stop : SegmentStop) → (stop ≡ segments.Read → ⊥) → OwnStops digest F rest lines stop → OwnStops digest G rest lines stop
+own_stops_other digest F G rest lines stop other (inl h) = inl h
+own_stops_other digest F G rest lines stop other (inr (inl h)) = inr (inl h)
+own_stops_other digest F G rest lines stop other (inr (inr h)) = inr (inr (read_stops_other F G rest lines stop other h))
+
+unheld_still : (F G : Type 0) (head : RecordHead) (events : Option (List ℕ)) (reason : Reason) → is_unreadable reason ≡ false → IsUnheld F head events (NotResumed reason) → IsUnheld G head events (NotResumed reason)
+unheld_still F G head events reason readable h =
+    record { why = h.why; stops = own_stops_other head.digest F G events 0 h.why (λ e. unreadable reason readable (h.same ∙ ap unheld e)) h.stops; same = h.same }
+
+not_gone_on_still : (bytes digest : List ℕ) (F G : Type 0) (head : RecordHead) (events : Option (List ℕ)) (reason : Reason) → is_unreadable reason ≡ false → IsNotGoneOn bytes digest F head events (NotResumed reason) → IsNotGoneOn bytes digest G head events (NotResumed reason)
+not_gone_on_still bytes digest F G head events reason readable (inl (inl h)) = inl (inl (unheld_still F G head events reason readable h))
+not_gone_on_still bytes digest F G head events reason readable (inl (inr h)) = inl (inr h)
+not_gone_on_still bytes digest F G head events reason readable (inr h) = inr (stopped_still bytes digest F G head events reason readable h)
+
+-- what isn't unreadable is no record
+refused_still : (F G : Type 0) (before now later_now : Option ℕ) (whole rest : Option (List ℕ)) (exit : Exit) (reason : Reason) → is_unreadable reason ≡ false → NotResumed reason ≡ unread exit → IsRefused whole rest F before now exit → IsRefused whole rest G before later_now exit
+refused_still F G before now later_now whole rest exit reason readable same (inl h) = inl h
+refused_still F G before now later_now whole rest exit reason readable same (inr (inl h)) = absurd (by_exit (system_exit h.kind)) where
+  by_exit : (exit_of_kind h.kind ≡ exits.Memory) ⊎ ((fault : DeviceFault) × (exit_of_kind h.kind ≡ exits.Device fault)) → ⊥
+  by_exit (inl e) = let is : NotResumed reason ≡ Exits exits.Memory = same ∙ ap unread (h.same ∙ e) in cc
+  by_exit (inr d) = unreadable reason readable (same ∙ ap unread (h.same ∙ d.1))
+refused_still F G before now later_now whole rest exit reason readable same (inr (inr h)) = inr (inr h)
+
+not_resumed_still : (bytes digest : List ℕ) (F G : Type 0) (before now later_now : Option ℕ) (whole : Option (List ℕ)) (reason : Reason) → is_unreadable reason ≡ false → IsNotResumed bytes digest F before now whole (NotResumed reason)
+    → IsNotResumed bytes digest G before later_now whole (NotResumed reason)
+not_resumed_still bytes digest F G before now later_now whole reason readable (inl h) =
+    inl (record { rest = h.rest; exit = h.exit; refused = refused_still F G before now later_now whole h.rest h.exit reason readable h.same h.refused; same = h.same })
+not_resumed_still bytes digest F G before now later_now whole reason readable (inr (inl h)) = inr (inl h)
+not_resumed_still bytes digest F G before now later_now whole reason readable (inr (inr h)) = inr (inr (record {
+  head = h.head;
+  events = h.events;
+  says = h.says;
+  is_whole = h.is_whole;
+  stopped = not_gone_on_still bytes digest (HasStopped F most_asks before now) (HasStopped G most_asks before later_now) h.head h.events reason readable h.stopped;
+}))
+
+-- why it isn't resumed stays so where it is no fault of the reader
+pub still_so : (is_input : Bool) (input : Option (List ℕ)) (F G : Type 0) (before now later_now : Option ℕ) (bytes digest : List ℕ) (reason : Reason) → is_unreadable reason ≡ false
+    → IsFileNotResumed is_input input F before now bytes digest (NotResumed reason) → IsFileNotResumed is_input input G before later_now bytes digest (NotResumed reason)
+still_so true input F G before now later_now bytes digest reason readable h = not_resumed_still bytes digest F G before now later_now input reason readable h
+still_so false input F G before now later_now bytes digest reason readable h = h

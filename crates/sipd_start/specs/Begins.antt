@@ -14,13 +14,14 @@ use Rattle.sip_resume.specs.Outputs.{Outputs}
 use Rattle.sip_resume.specs.Whole.{IsRecordResumed, IsRecordUnresumed}
 use Rattle.sip_resume.specs.declared.record_error.RecordError.{RecordError}
 use Rattle.sip_config.specs.Stated.{States}
+use Rattle.sip_replay_script.specs.Lines.{Reading, pending}
 use Rattle.sipd_arguments.specs.declared.exit.Exit.{Exit}
-use Rattle.sipd_arguments.specs.declared.exit.Exit.TheVariants.{Memory}
 use Rattle.sipd_start.specs.Boots.{new_boot, behind_boot, behind_secret}
 use Rattle.sipd_old_record.specs.OldRecord.{IsRefused, IsSystemFault, SaysHead}
 use Rattle.sipd_old_record.specs.Readers.{HasStopped, most_asks}
-use Rattle.sipd_start.specs.OldRecords.{IsOfAnother, IsOurs}
+use Rattle.sipd_start.specs.OldRecords.{HaveFrameOf, IsBegunBy, IsUnbegun}
 use Rattle.sipd_reload.specs.File.{most_bytes}
+use Rattle.sipd_start.specs.Places.{is_input, reads_input}
 use Rattle.sipd_start.specs.Stops.{EndsStart, IsUnmade, unread, untaken}
 use Rattle.sipd_start.specs.declared.not_resumed.NotResumed.{NotResumed as Reason}
 use Rattle.sipd_start.specs.declared.not_resumed.NotResumed.TheVariants as why
@@ -48,41 +49,41 @@ pub record StartsAnew (bytes : List ℕ) (words : Stream) (server : Server) (sta
 abbrev pub Written : Type 0
 Written = Option (Option (List ℕ))
 
--- a journal was told the configuration of these bytes, unless the record holds one of its own for its first events
-abbrev pub NotesFirst : Bool → List ℕ → Written → Written → Type 0
-NotesFirst true bytes written written_then = written_then ≡ written
-NotesFirst false bytes written written_then = NotesConfiguration written written_then bytes
-
--- A server took what stands behind the first line of a record, and is under the configuration of these bytes then. A journal was told the bytes
--- first, where the record doesn't hold the configuration of its first events; then what the record says; and then the bytes. So many lines say
--- that, and it is the last step.
-pub record TakesOld (has_own : Bool) (bytes : List ℕ) (server server_then : Server) (old new : ProxyState) (events : Option (List ℕ)) (lines : ℕ)
+-- A server took what is left of a record, behind so many lines, and is under the configuration of these bytes then. A journal was told the
+-- bytes of the configuration with which the record begins first; then what the record says; and then those bytes. So many lines say that, and
+-- it is the last step.
+pub record TakesOld (first bytes : List ℕ) (server server_then : Server) (old new : ProxyState) (number : ℕ) (events : Option (List ℕ)) (lines : ℕ)
     (last : Option StepOut) (written written_then : Written) : Type 0 where
   pub in_force : Server
   pub begun : Outputs
   pub taken : Outputs
-  pub told_first : NotesFirst has_own bytes written begun.written
-  pub resumed : IsRecordResumed server in_force old new events 0 begun taken lines last
+  pub told_first : NotesConfiguration written begun.written first
+  pub resumed : IsRecordResumed server in_force old new events number begun taken lines last
   pub told_last : NotesConfiguration taken.written written_then bytes
   pub is_under : IsServerOf bytes server.word server_then
 
--- What stands there leads from one state to another, whatever journal is told it, and under whatever configuration it says last, behind which
+-- What is left leads from one state to another, whatever journal is told it, and under whatever configuration it says last, behind which
 -- the server is under that of these bytes; so many lines say it, and that is the last step.
-pub record LeadsTo (has_own : Bool) (bytes : List ℕ) (server server_then : Server) (old : ProxyState) (events : Option (List ℕ)) (new : ProxyState)
+pub record LeadsTo (first bytes : List ℕ) (server server_then : Server) (old : ProxyState) (number : ℕ) (events : Option (List ℕ)) (new : ProxyState)
     (lines : ℕ) (last : Option StepOut) : Type 0 where
   pub written : Written
   pub written_then : Written
-  pub takes : TakesOld has_own bytes server server_then old new events lines last written written_then
+  pub takes : TakesOld first bytes server server_then old new number events lines last written written_then
 
 -- It goes on, with the configuration of bytes of this digest, from where that leads what stands behind the first line of a record, which says
--- that head: the server has the same word, it took that from a state that knew nothing, whose first datagram had the same number, and by its
--- own configuration up to where the record says another one; and behind it, it is under its own again.
+-- that head. The record begins with a configuration, its own or that of the bytes; a server with that and with the head's word took what stands
+-- behind it, from a state that knew nothing, whose first datagram had the head's number, and by that configuration up to where the record says
+-- another one; and behind it, it is under that of the bytes.
 pub record GoesOn (bytes digest : List ℕ) (head : RecordHead) (events : Option (List ℕ)) (server : Server) (state : ProxyState) (lines : ℕ)
     (last : Option StepOut) : Type 0 where
-  pub has_own : Bool
-  pub is_ours : IsOurs digest head events has_own
+  pub reading : Reading
+  pub rest : Option (List ℕ)
+  pub first : List ℕ
+  pub begun_by : IsBegunBy bytes digest head events reading rest first
+  pub begun : Server
+  pub is_begun : IsServerOf first head.word begun
   pub is_server : IsServerOf bytes head.word server
-  pub leads : LeadsTo has_own bytes server server (first_state head.first) events state lines last
+  pub leads : LeadsTo first bytes begun server (first_state head.first) reading.number (pending reading rest) state lines last
 
 -- It goes on from a record that is whole.
 pub record GoesOnFrom (bytes digest : List ℕ) (whole : Option (List ℕ)) (server : Server) (state : ProxyState) (lines : ℕ)
@@ -95,44 +96,40 @@ pub record GoesOnFrom (bytes digest : List ℕ) (whole : Option (List ℕ)) (ser
 
 -- ---- why it doesn't
 
--- What stands behind the first line wasn't taken, by a server in that state, and why; a configuration has so many bytes at most as are read of
+-- What is left behind so many lines wasn't taken, by a server in that state, and why; a configuration has so many bytes at most as are read of
 -- one that changes. The record can't be read where its reader is spent.
-pub record EventsStop (has_own : Bool) (bytes : List ℕ) (spent : Type 0) (server : Server) (old : ProxyState) (events : Option (List ℕ)) (stop : Stop) : Type 0 where
+pub record EventsStop (first : List ℕ) (spent : Type 0) (server : Server) (old : ProxyState) (number : ℕ) (events : Option (List ℕ)) (stop : Stop) : Type 0 where
   pub in_force : Server
   pub reached : ProxyState
   pub written : Written
   pub outs : Outputs
   pub outs_then : Outputs
   pub error : RecordError
-  pub told_first : NotesFirst has_own bytes written outs.written
-  pub refused : IsRecordUnresumed server in_force old reached most_bytes spent events 0 outs outs_then error
+  pub told_first : NotesConfiguration written outs.written first
+  pub refused : IsRecordUnresumed server in_force old reached most_bytes spent events number outs outs_then error
   pub same : stop ≡ untaken error
 
--- That is why it starts anew. Nothing is begun, where the server had the configuration of these bytes, for want of memory or of a record alone:
--- whatever configuration was in force last, it can come under its own again.
-abbrev pub StopsAt : Bool → List ℕ → Type 0 → Server → ProxyState → Option (List ℕ) → Stop → Type 0
-StopsAt has_own bytes spent server old events (Exits exit) = States bytes server.config → IsUnmade exit
-StopsAt has_own bytes spent server old events (NotResumed reason) = EventsStop has_own bytes spent server old events (NotResumed reason)
+-- That is why it starts anew. Nothing is begun, where these bytes state a configuration of the server's frame, for want of memory or of a record
+-- alone: whatever configuration was in force last, the server can come under theirs.
+abbrev pub StopsAt : List ℕ → List ℕ → Type 0 → Server → ProxyState → ℕ → Option (List ℕ) → Stop → Type 0
+StopsAt first bytes spent server old number events (Exits exit) = HaveFrameOf bytes server.config → IsUnmade exit
+StopsAt first bytes spent server old number events (NotResumed reason) = EventsStop first spent server old number events (NotResumed reason)
 
--- and so it is of a server with that configuration, and with word and first number of the record's first line
+-- and so it is of a server with the configuration with which the record begins, and with word and first number of its first line
 pub record IsStopped (bytes digest : List ℕ) (spent : Type 0) (head : RecordHead) (events : Option (List ℕ)) (stop : Stop) : Type 0 where
-  pub has_own : Bool
-  pub is_ours : IsOurs digest head events has_own
+  pub reading : Reading
+  pub rest : Option (List ℕ)
+  pub first : List ℕ
+  pub begun_by : IsBegunBy bytes digest head events reading rest first
   pub server : Server
-  pub is_server : IsServerOf bytes head.word server
-  pub stops : EventsStop has_own bytes spent server (first_state head.first) events stop
-
--- why nothing is taken of what stands there: it can't be read, or the record is one of another configuration, which it doesn't hold
-abbrev pub IsUnbegun : Type 0 → List ℕ → RecordHead → Option (List ℕ) → Stop → Type 0
-IsUnbegun spent digest head events (Exits exit) = exit ≡ Memory
-IsUnbegun spent digest head events (NotResumed reason) =
-    ((reason ≡ why.Unreadable) × spent) ⊎ ((reason ≡ why.OtherConfiguration) × IsOfAnother digest head events)
+  pub is_server : IsServerOf first head.word server
+  pub stops : EventsStop first spent server (first_state head.first) reading.number (pending reading rest) stop
 
 -- why it isn't gone on from a record whose first line says that head
 abbrev pub IsNotGoneOn : List ℕ → List ℕ → Type 0 → RecordHead → Option (List ℕ) → Stop → Type 0
 IsNotGoneOn bytes digest spent head events (Exits exit) = EndsStart bytes exit
 IsNotGoneOn bytes digest spent head events (NotResumed reason) =
-    IsUnbegun spent digest head events (NotResumed reason) ⊎ IsStopped bytes digest spent head events (NotResumed reason)
+    IsUnbegun spent bytes digest head events (NotResumed reason) ⊎ IsStopped bytes digest spent head events (NotResumed reason)
 
 -- no first line of a record was read, and why
 pub record IsUnread (has_failed : Type 0) (before now : Option ℕ) (whole : Option (List ℕ)) (stop : Stop) : Type 0 where
@@ -190,8 +187,16 @@ IsFileNotResumed false input has_failed before now bytes digest stop =
 abbrev pub IsLeftBehind : Stream → Stream → Type 0
 IsLeftBehind words left = (left ≡ words) ⊎ (left ≡ behind_secret words)
 
--- it starts anew, where there is no record, or behind one that wasn't gone on from
-pub record StartsAnewFrom (bytes : List ℕ) (words : Stream) (server : Server) (state : ProxyState) (last : Option StepOut) (left : Stream) : Type 0 where
+-- Why it starts anew: no record is named; or what that of a file, or of the input, had isn't gone on from.
+abbrev pub IsAnew : Option (List ℕ) → Option (List ℕ) → Type 0 → Option ℕ → Option ℕ → List ℕ → List ℕ → Type 0
+IsAnew None input has_failed before now bytes digest = ⊤
+IsAnew (Some old) input has_failed before now bytes digest =
+    (reason : Reason) × IsFileNotResumed (is_input old) input has_failed before now bytes digest (NotResumed reason)
+
+-- it starts anew, for that reason
+pub record StartsAnewFrom (old : Option (List ℕ)) (input : Option (List ℕ)) (has_failed : Type 0) (before now : Option ℕ) (bytes digest : List ℕ)
+    (words : Stream) (server : Server) (state : ProxyState) (last : Option StepOut) (left : Stream) : Type 0 where
+  pub why : IsAnew old input has_failed before now bytes digest
   pub next : Stream
   pub behind : IsLeftBehind words next
   pub starts : StartsAnew bytes next server state last
@@ -206,8 +211,10 @@ pub record GoesOnFromFile (is_input : Bool) (input : Option (List ℕ)) (bytes d
   pub goes_on : GoesOnFrom bytes digest whole server state lines last
   pub rest : left ≡ behind_secret words
 
--- How it begins with the configuration that bytes of this digest state, where it may read the input as a record, by a source of numbers; and
--- what is left of that.
-abbrev pub Begins : Bool → Option (List ℕ) → List ℕ → List ℕ → Stream → Server → ProxyState → Option StepOut → Stream → Type 0
-Begins is_input input bytes digest words server state last left =
-    StartsAnewFrom bytes words server state last left ⊎ GoesOnFromFile is_input input bytes digest words server state last left
+-- How it begins with the configuration that bytes of this digest state, where it is to go on from the record of that name, if one is named, which
+-- may be the input, by a source of numbers; and what is left of that. Of the input's reader it is known whether it failed, and how often it was
+-- asked before and by then.
+abbrev pub Begins : Option (List ℕ) → Option (List ℕ) → Type 0 → Option ℕ → Option ℕ → List ℕ → List ℕ → Stream → Server → ProxyState → Option StepOut → Stream → Type 0
+Begins old input has_failed before now bytes digest words server state last left =
+    StartsAnewFrom old input has_failed before now bytes digest words server state last left
+    ⊎ GoesOnFromFile (reads_input old) input bytes digest words server state last left

@@ -1,17 +1,20 @@
 -- Why a server doesn't go on from where a record leads.
-use Rattle.std.specs.Prelude.{◌≡◌, ◌⊎◌, ℕ, List, Option, Some}
+use Rattle.std.specs.Prelude.{◌≡◌, ◌⊎◌, ℕ, Bool, true, false, List, Some}
 use Rattle.sip_config.specs.Stated.{States}
 use Rattle.sip_config_change.specs.declared.key.FrameKey.{FrameKey}
 use Rattle.sip_config_change.specs.Frame.{frame_key_of}
 use Rattle.sip_config_types.specs.declared.config.Config.{Config}
 use Rattle.sip_resume.specs.declared.record_error.RecordError.{RecordError}
 use Rattle.sip_resume.specs.declared.record_error.RecordError.TheVariants as resuming
+use Rattle.sip_segment_config.specs.declared.stop.SegmentStop.{SegmentStop}
+use Rattle.sip_segment_config.specs.declared.stop.SegmentStop.TheVariants as segments
 use Rattle.sipd_arguments.specs.Files.{IsRefusedWith}
 use Rattle.sipd_arguments.specs.declared.device_fault.DeviceFault.TheVariants.{Other}
 use Rattle.sipd_arguments.specs.declared.exit.Exit.{Exit}
 use Rattle.sipd_arguments.specs.declared.exit.Exit.TheVariants as exits
 use Rattle.sipd_old_record.specs.OldRecord.{line_of_file}
-use Rattle.sipd_start.specs.declared.not_resumed.NotResumed.TheVariants.{Unreadable, NoRecord, Damaged, TooLong, NoConfiguration, OtherFrame, Unlawful}
+use Rattle.sipd_start.specs.declared.not_resumed.NotResumed.{NotResumed as Reason}
+use Rattle.sipd_start.specs.declared.not_resumed.NotResumed.TheVariants.{Unreadable, NoRecord, CutConfiguration, Damaged, TooLong, NoConfiguration, OtherFrame, Unlawful}
 use Rattle.sipd_start.specs.declared.not_resumed.Stop.{Stop}
 use Rattle.sipd_start.specs.declared.not_resumed.Stop.TheVariants.{NotResumed, Exits}
 
@@ -32,6 +35,21 @@ untaken resuming.Write = Exits (exits.Device Other)
 untaken (resuming.TooLong line) = NotResumed (TooLong (line_of_file line))
 untaken (resuming.NoConfiguration line e) = NotResumed (NoConfiguration (line_of_file line) e)
 untaken (resuming.OtherFrame line key) = NotResumed (OtherFrame (line_of_file line) key)
+
+-- what it is that the configuration with which it begins isn't read
+abbrev pub unheld : SegmentStop → Stop
+unheld segments.NoMemory = Exits exits.Memory
+unheld (segments.Damaged line) = NotResumed (Damaged (line_of_file line))
+unheld (segments.Cut line) = NotResumed CutConfiguration
+unheld segments.Read = NotResumed Unreadable
+unheld (segments.TooLong line) = NotResumed (TooLong (line_of_file line))
+unheld (segments.NoConfiguration line e) = NotResumed (NoConfiguration (line_of_file line) e)
+unheld (segments.OtherFrame line key) = NotResumed (OtherFrame (line_of_file line) key)
+
+-- whether a record can't be read
+abbrev pub is_unreadable : Reason → Bool
+is_unreadable Unreadable = true
+is_unreadable reason = false
 
 -- ---- how a start ends
 

@@ -1,5 +1,7 @@
-ghost use Rattle.std.specs.Prelude.{◌≡◌, codes, false, option_map, string_bytes, Err, IfErr, IfNone, IfOk, IfSome, None, Ok, OnErr, OnOk};
+ghost use Rattle.std.specs.Prelude.{◌≡◌, false, ℕ, List, Option, option_map, string_bytes, Err, IfErr, IfNone, IfOk, IfSome, None, Ok, OnErr, OnOk};
+ghost use Rattle.model_bounds.specs.state.State.{first_state};
 ghost use Rattle.sip_replay_script.specs.Lines.{pending};
+ghost use Rattle.sipd_arguments.specs.declared.exit.Exit.TheVariants.{PipedRecord};
 ghost use Rattle.sipd_arguments.specs.declared.call.RecordFault.TheVariants.{GoOn};
 ghost use Rattle.sipd_start.specs.Begins.{Begins, GoesOn, GoesOnFrom, GoesOnFromFile, IsFileNotResumed, IsLeftBehind, IsNotGoneOn};
 ghost use Rattle.sipd_start.specs.Begins.{IsNotResumed, IsOpened, LeadsTo, StartsAnew, StopsAt};
@@ -8,13 +10,14 @@ ghost use Rattle.sipd_start.specs.Places;
 ghost use Rattle.sipd_start.specs.Places.{IsPlaceOf};
 ghost use Rattle.sipd_old_record.specs.Readers.{HasStopped, most_asks};
 ghost use Rattle.sipd_start.specs.Stops.{EndsStart, IsUnmade};
+ghost use Rattle.sipd_start.specs.declared.not_resumed.Stop.TheVariants as Ended;
 
 use crate::making::{Place, check_free, make_part, name_part, place_of, remove_part};
 use crate::not_resumed::{NotResumed, Stop, unread};
-use crate::old_lines::OldLines;
-use crate::record_file::{RecordFile, mark_file};
-use crate::taking::{old_lines, take_old, tell};
+use crate::old_lines::{OldBeginning, OldLines};
+use crate::taking::{old_beginning, take_old, tell};
 use rand_core::Rng;
+use sip_config_types::Config;
 use sip_event::{Boot, StepOut};
 use sip_policy::Rules;
 use sip_record::{NoJournal, RecordHead, RecordMark, Recorder};
@@ -24,8 +27,12 @@ use sip_resume::engine::Engine;
 use sip_text::same_bytes;
 use sip_timers::Timers;
 use sipd_arguments::{Exit, RecordFault, RecordPlace, Stated, config_of_bytes};
+use sipd_journal::{RecordFile, mark_file};
+use sipd_old_record::laws::asks_add_up;
 use sipd_old_record::{head_in, open_file};
+use std::fs;
 use std::io::{ErrorKind, Write};
+use std::os::unix::fs::FileTypeExt;
 use std::rt::{Clock, Files};
 
 /// The number of the first datagram.
@@ -62,6 +69,7 @@ impl<'a, R: Files + Clock + AllocGlobal> Beginning<'a, R> {
         ensures fault { IfOk result (λ beginning. beginning.fault ≡ fault) }
     {
         let place = place_of(rt, wanted)?;
+        check_old(rt, &place)?;
         Ok(Beginning {
             rt,
             stated,
@@ -81,6 +89,23 @@ impl<'a, R: Files + Clock + AllocGlobal> Beginning<'a, R> {
     }
 }
 
+/// That the record from which a server is to go on isn't a named pipe: that might be waited for without end, before it is read and where it is
+/// marked. What comes through one is the input.
+fn check_old<R: Files>(rt: &R, place: &Place) -> Result<(), Exit>
+    ensures { IfErr result (λ exit. (exit ≡ PipedRecord) × (Places.reads_input (option_map (λ old. string_bytes old) place.now.old) ≡ false)) }
+{
+    let Some(old) = &place.old else {
+        return Ok(());
+    };
+    if is_input(old.as_str()) {
+        return Ok(());
+    }
+    match fs::metadata(rt, old.as_str()) {
+        Ok(found) if found.file_type().is_fifo() => Err(Exit::PipedRecord),
+        _ => Ok(()),
+    }
+}
+
 /// Whether a record is the input.
 fn is_input(old: &str) -> bool
     ensures { result ≡ Places.is_input old.now }
@@ -92,8 +117,8 @@ fn is_input(old: &str) -> bool
 #[derive(Drop)]
 pub struct Begun<'a, T: Timers, P: Rules, R: Files> {
     pub engine: Engine<T, P>,
-    /// The record into which its events go; none where it can't be written and the server goes on without it.
-    pub record: Option<Recorder<RecordFile<'a, R>>>,
+    /// What writes its events into a record; none where that can't be written and the server goes on without it.
+    pub recorder: Option<Recorder<RecordFile<'a, R>>>,
     /// The last step of the record from which it goes on: what it decided may not have been printed.
     pub last: Option<StepOut>,
 }
@@ -145,8 +170,8 @@ fn open<T: Timers, P: Rules, R: AllocGlobal>(
     beginning: &Beginning<'_, R>,
     boot: Boot,
 ) -> Result<Engine<T, P>, Exit>
-    ensures opened { IfOk result (λ engine. IsOpened beginning.now.stated.now.bytes.items boot engine.server engine.state) }
-    ensures refused { IfErr result (EndsStart beginning.now.stated.now.bytes.items) }
+    ensures opened { IfOk result (λ engine. IsOpened beginning.now.stated.now.bytes boot engine.server engine.state) }
+    ensures refused { IfErr result (EndsStart beginning.now.stated.now.bytes) }
 {
     let alloc = beginning.rt.alloc();
     let config = config_of_bytes(alloc, beginning.stated.bytes.as_slice())?;
@@ -203,7 +228,7 @@ fn settle<'a, R: Files + AllocGlobal>(
     ensures refused { IfErr result (λ exit. made.entry ≡ Err exit) }
 {
     let exit = match made {
-        Ok(record) => return Ok(Some(record)),
+        Ok(recorder) => return Ok(Some(recorder)),
         Err(exit) => exit,
     };
     remove_part(beginning.rt, &beginning.place);
@@ -222,7 +247,7 @@ fn make_anew<'a, R: Files + AllocGlobal>(
     ensures refused { IfErr result IsUnmade }
 {
     let mut recorder = make(beginning, boot, beginning.stated.digest)?;
-    tell(beginning.stated, &mut recorder)?;
+    tell(beginning.stated.bytes.as_slice(), &mut recorder)?;
     name(beginning, recorder)
 }
 
@@ -231,24 +256,24 @@ fn begin_anew<'a, T: Timers, P: Rules, R: Files + AllocGlobal, W: Rng>(
     beginning: &Beginning<'a, R>,
     words: &mut W,
 ) -> Result<Begun<'a, T, P, R>, Exit>
-    ensures anew { IfOk result (λ begun. StartsAnew beginning.now.stated.now.bytes.items (W.stream words.old) begun.engine.server
+    ensures anew { IfOk result (λ begun. StartsAnew beginning.now.stated.now.bytes (W.stream words.old) begun.engine.server
         begun.engine.state begun.last) }
     ensures left { W.stream words.new ≡ Boots.behind_boot (W.stream words.old) }
-    ensures whole { IfOk result (λ begun. IfSome begun.record (λ r. r.has_failed ≡ false)) }
-    ensures unrecorded { IfOk result (λ begun. IfNone begun.record (beginning.now.fault ≡ GoOn)) }
-    ensures refused { IfErr result (EndsStart beginning.now.stated.now.bytes.items) }
+    ensures whole { IfOk result (λ begun. IfSome begun.recorder (λ r. r.has_failed ≡ false)) }
+    ensures unrecorded { IfOk result (λ begun. IfNone begun.recorder (beginning.now.fault ≡ GoOn)) }
+    ensures refused { IfErr result (EndsStart beginning.now.stated.now.bytes) }
 {
     let boot = new_boot(words);
     let engine = open(beginning, boot)?;
     let made = make_anew(beginning, boot);
     Ok(Begun {
         engine,
-        record: settle(beginning, made)?,
+        recorder: settle(beginning, made)?,
         last: None,
     })
 }
 
-/// A server that has taken what stands behind the first line of a record, and records none.
+/// A server that has taken what is left of a record, and records none.
 #[tactic(auto, using(crate::proofs::Beginnings::leads))]
 fn go_on_alone<'a, T: Timers, P: Rules, R: Files + AllocGlobal, I: TellingReader>(
     beginning: &Beginning<'a, R>,
@@ -256,12 +281,12 @@ fn go_on_alone<'a, T: Timers, P: Rules, R: Files + AllocGlobal, I: TellingReader
     old: OldLines,
     reader: &mut I,
 ) -> Result<GoneOn<'a, T, P, R>, Stop>
-    ensures resumed { IfOk result (λ gone_on. LeadsTo old.has_own beginning.now.stated.now.bytes.items engine.server gone_on.begun.engine.server
-        engine.state (pending old.lines (I.remaining reader.old)) gone_on.begun.engine.state gone_on.lines gone_on.begun.last) }
-    ensures unrecorded { IfOk result (λ gone_on. gone_on.begun.record ≡ None) }
-    ensures stops { IfErr result (StopsAt old.has_own beginning.now.stated.now.bytes.items
+    ensures resumed { IfOk result (λ gone_on. LeadsTo old.first beginning.now.stated.now.bytes engine.server gone_on.begun.engine.server
+        engine.state old.lines.number (pending old.lines (I.remaining reader.old)) gone_on.begun.engine.state gone_on.lines gone_on.begun.last) }
+    ensures unrecorded { IfOk result (λ gone_on. gone_on.begun.recorder ≡ None) }
+    ensures stops { IfErr result (StopsAt old.first beginning.now.stated.now.bytes
         (HasStopped (I.has_failed reader.new) old.lines.asks (I.asked reader.old) (I.asked reader.new)) engine.server engine.state
-        (pending old.lines (I.remaining reader.old))) }
+        old.lines.number (pending old.lines (I.remaining reader.old))) }
 {
     let alloc = beginning.rt.alloc();
     let stated = beginning.stated;
@@ -275,14 +300,14 @@ fn go_on_alone<'a, T: Timers, P: Rules, R: Files + AllocGlobal, I: TellingReader
     )?;
     let begun = Begun {
         engine,
-        record: None,
+        recorder: None,
         last,
     };
     Ok(GoneOn { begun, lines })
 }
 
-/// A server that has taken what stands behind the first line of a record, which stands in the new record, too. That has its name once it
-/// is whole, so that the older one is needed no more.
+/// A server that has taken what is left of a record, which stands in the new record, too. That has its name once it is whole, so that the older
+/// one is needed no more.
 #[tactic(auto, using(crate::proofs::Beginnings::leads, crate::proofs::Refusals::exits_at))]
 fn go_on_recorded<'a, T: Timers, P: Rules, R: Files + AllocGlobal, I: TellingReader>(
     beginning: &Beginning<'a, R>,
@@ -291,13 +316,13 @@ fn go_on_recorded<'a, T: Timers, P: Rules, R: Files + AllocGlobal, I: TellingRea
     old: OldLines,
     reader: &mut I,
 ) -> Result<GoneOn<'a, T, P, R>, Stop>
-    ensures resumed { IfOk result (λ gone_on. LeadsTo old.has_own beginning.now.stated.now.bytes.items engine.server gone_on.begun.engine.server
-        engine.state (pending old.lines (I.remaining reader.old)) gone_on.begun.engine.state gone_on.lines gone_on.begun.last) }
-    ensures whole { IfOk result (λ gone_on. IfSome gone_on.begun.record (λ r. r.has_failed ≡ false)) }
-    ensures unrecorded { IfOk result (λ gone_on. IfNone gone_on.begun.record (beginning.now.fault ≡ GoOn)) }
-    ensures stops { IfErr result (StopsAt old.has_own beginning.now.stated.now.bytes.items
+    ensures resumed { IfOk result (λ gone_on. LeadsTo old.first beginning.now.stated.now.bytes engine.server gone_on.begun.engine.server
+        engine.state old.lines.number (pending old.lines (I.remaining reader.old)) gone_on.begun.engine.state gone_on.lines gone_on.begun.last) }
+    ensures whole { IfOk result (λ gone_on. IfSome gone_on.begun.recorder (λ r. r.has_failed ≡ false)) }
+    ensures unrecorded { IfOk result (λ gone_on. IfNone gone_on.begun.recorder (beginning.now.fault ≡ GoOn)) }
+    ensures stops { IfErr result (StopsAt old.first beginning.now.stated.now.bytes
         (HasStopped (I.has_failed reader.new) old.lines.asks (I.asked reader.old) (I.asked reader.new)) engine.server engine.state
-        (pending old.lines (I.remaining reader.old))) }
+        old.lines.number (pending old.lines (I.remaining reader.old))) }
 {
     let alloc = beginning.rt.alloc();
     let stated = beginning.stated;
@@ -305,7 +330,7 @@ fn go_on_recorded<'a, T: Timers, P: Rules, R: Files + AllocGlobal, I: TellingRea
         Ok(Resumed { lines, last }) => {
             let begun = Begun {
                 engine,
-                record: settle(beginning, name(beginning, recorder))?,
+                recorder: settle(beginning, name(beginning, recorder))?,
                 last,
             };
             Ok(GoneOn { begun, lines })
@@ -317,8 +342,21 @@ fn go_on_recorded<'a, T: Timers, P: Rules, R: Files + AllocGlobal, I: TellingRea
     }
 }
 
+/// A server that has just started, with the configuration with which a record begins.
+fn open_old<T: Timers, P: Rules, R: AllocGlobal>(
+    rt: &R,
+    boot: Boot,
+    config: Config,
+) -> Result<Engine<T, P>, Exit>
+    ensures server { IfOk result (λ engine. engine.server ≡ record { config = config; word = boot.word }) }
+    ensures state { IfOk result (λ engine. engine.state ≡ first_state boot.first) }
+    ensures refused { IfErr result IsUnmade }
+{
+    Ok(Engine::open(rt.alloc(), config, boot)?)
+}
+
 /// A server that goes on from a record whose first line says this head, and whose events stand behind it. The new record's first line has
-/// the same digest, since what the older one says comes next in it.
+/// the same digest, since both begin with the configuration of that.
 #[tactic(auto, using(crate::proofs::Refusals::exits_on, crate::proofs::Refusals::unbegun_so))]
 fn go_on<'a, T: Timers, P: Rules, R: Files + AllocGlobal, I: TellingReader, W: Rng>(
     beginning: &Beginning<'a, R>,
@@ -326,21 +364,23 @@ fn go_on<'a, T: Timers, P: Rules, R: Files + AllocGlobal, I: TellingReader, W: R
     reader: &mut I,
     words: &mut W,
 ) -> Result<GoneOn<'a, T, P, R>, Stop>
-    ensures goes_on { IfOk result (λ gone_on. GoesOn beginning.now.stated.now.bytes.items beginning.now.stated.now.digest head.now
+    ensures goes_on { IfOk result (λ gone_on. GoesOn beginning.now.stated.now.bytes beginning.now.stated.now.digest head.now
         (I.remaining reader.old) gone_on.begun.engine.server gone_on.begun.engine.state gone_on.lines gone_on.begun.last) }
     ensures left { W.stream words.new ≡ Boots.behind_secret (W.stream words.old) }
-    ensures whole { IfOk result (λ gone_on. IfSome gone_on.begun.record (λ r. r.has_failed ≡ false)) }
-    ensures unrecorded { IfOk result (λ gone_on. IfNone gone_on.begun.record (beginning.now.fault ≡ GoOn)) }
-    ensures stopped { IfErr result (IsNotGoneOn beginning.now.stated.now.bytes.items beginning.now.stated.now.digest
+    ensures whole { IfOk result (λ gone_on. IfSome gone_on.begun.recorder (λ r. r.has_failed ≡ false)) }
+    ensures unrecorded { IfOk result (λ gone_on. IfNone gone_on.begun.recorder (beginning.now.fault ≡ GoOn)) }
+    ensures stopped { IfErr result (IsNotGoneOn beginning.now.stated.now.bytes beginning.now.stated.now.digest
         (HasStopped (I.has_failed reader.new) most_asks (I.asked reader.old) (I.asked reader.new)) head.now (I.remaining reader.old)) }
 {
+    asks_add_up();
     let boot = boot_again(head, words);
     let alloc = beginning.rt.alloc();
-    let old = old_lines(alloc, reader, head, &beginning.stated.digest)?;
-    let engine = open(beginning, boot)?;
+    let old = old_beginning(alloc, beginning.stated, head, reader)?;
+    let OldBeginning { lines, config } = old;
+    let engine = open_old(beginning.rt, boot, config)?;
     match settle(beginning, make(beginning, boot, head.digest))? {
-        Some(record) => go_on_recorded(beginning, engine, record, old, reader),
-        None => go_on_alone(beginning, engine, old, reader),
+        Some(recorder) => go_on_recorded(beginning, engine, recorder, lines, reader),
+        None => go_on_alone(beginning, engine, lines, reader),
     }
 }
 
@@ -352,15 +392,16 @@ fn begin_from<'a, T: Timers, P: Rules, R: Files + AllocGlobal, I: TellingReader,
     reader: &mut I,
     words: &mut W,
 ) -> Result<GoneOn<'a, T, P, R>, Stop>
-    ensures goes_on { IfOk result (λ gone_on. GoesOnFrom beginning.now.stated.now.bytes.items beginning.now.stated.now.digest
+    ensures goes_on { IfOk result (λ gone_on. GoesOnFrom beginning.now.stated.now.bytes beginning.now.stated.now.digest
         (I.remaining reader.old) gone_on.begun.engine.server gone_on.begun.engine.state gone_on.lines gone_on.begun.last) }
     ensures left { OnOk result (W.stream words.new ≡ Boots.behind_secret (W.stream words.old)) }
     ensures left_behind { OnErr result (IsLeftBehind (W.stream words.old) (W.stream words.new)) }
-    ensures whole { IfOk result (λ gone_on. IfSome gone_on.begun.record (λ r. r.has_failed ≡ false)) }
-    ensures unrecorded { IfOk result (λ gone_on. IfNone gone_on.begun.record (beginning.now.fault ≡ GoOn)) }
-    ensures refused { IfErr result (IsNotResumed beginning.now.stated.now.bytes.items beginning.now.stated.now.digest
+    ensures whole { IfOk result (λ gone_on. IfSome gone_on.begun.recorder (λ r. r.has_failed ≡ false)) }
+    ensures unrecorded { IfOk result (λ gone_on. IfNone gone_on.begun.recorder (beginning.now.fault ≡ GoOn)) }
+    ensures refused { IfErr result (IsNotResumed beginning.now.stated.now.bytes beginning.now.stated.now.digest
         (I.has_failed reader.new) (I.asked reader.old) (I.asked reader.new) (I.remaining reader.old)) }
 {
+    asks_add_up();
     let head = match head_in(beginning.rt.alloc(), reader) {
         Ok(head) => head,
         Err(exit) => return Err(unread(exit)),
@@ -380,14 +421,14 @@ fn begin_again<'a, T: Timers, P: Rules, R: Files + AllocGlobal, I: TellingReader
     input: &mut I,
     words: &mut W,
 ) -> Result<GoneOn<'a, T, P, R>, Stop>
-    ensures goes_on { IfOk result (λ gone_on. GoesOnFromFile (Places.is_input old.now) (I.remaining input.old) beginning.now.stated.now.bytes.items
+    ensures goes_on { IfOk result (λ gone_on. GoesOnFromFile (Places.is_input old.now) (I.remaining input.old) beginning.now.stated.now.bytes
         beginning.now.stated.now.digest (W.stream words.old) gone_on.begun.engine.server gone_on.begun.engine.state gone_on.begun.last
         (W.stream words.new)) }
     ensures left_behind { OnErr result (IsLeftBehind (W.stream words.old) (W.stream words.new)) }
-    ensures whole { IfOk result (λ gone_on. IfSome gone_on.begun.record (λ r. r.has_failed ≡ false)) }
-    ensures unrecorded { IfOk result (λ gone_on. IfNone gone_on.begun.record (beginning.now.fault ≡ GoOn)) }
+    ensures whole { IfOk result (λ gone_on. IfSome gone_on.begun.recorder (λ r. r.has_failed ≡ false)) }
+    ensures unrecorded { IfOk result (λ gone_on. IfNone gone_on.begun.recorder (beginning.now.fault ≡ GoOn)) }
     ensures refused { IfErr result (IsFileNotResumed (Places.is_input old.now) (I.remaining input.old) (I.has_failed input.new)
-        (I.asked input.old) (I.asked input.new) beginning.now.stated.now.bytes.items beginning.now.stated.now.digest) }
+        (I.asked input.old) (I.asked input.new) beginning.now.stated.now.bytes beginning.now.stated.now.digest) }
 {
     if is_input(old) {
         return begin_from(beginning, input, words);
@@ -399,7 +440,7 @@ fn begin_again<'a, T: Timers, P: Rules, R: Files + AllocGlobal, I: TellingReader
 }
 
 /// Says that a record is gone on from, in its first line, so that no other start does. Where it came through the input, its file is somebody
-/// else's.
+/// else's; where it is no regular file, as a named pipe, nothing stands there any more.
 fn leave<R: Files, C: Write>(rt: &R, old: &str, complaints: &mut C) {
     if is_input(old) {
         return;
@@ -426,7 +467,7 @@ fn say_lost<C: Write>(old: &str, why: NotResumed, complaints: &mut C) {
     );
 }
 
-/// Reads the input up to its end, or until it fails, since until then another server may serve.
+/// Reads the input, which can be read, up to its end, or until it fails, since until then another server may serve.
 fn read_out<I: TellingReader>(input: &mut I) {
     let mut part = [0u8; 512];
     for _ in 0..u32::MAX {
@@ -439,9 +480,25 @@ fn read_out<I: TellingReader>(input: &mut I) {
     }
 }
 
-/// A server that records: one that goes on from where an older record leads, if there is one and it can be had, or one that starts
-/// anew. The older record may be the input, which is read up to its end then. Where it goes on, `last` is the last step of that record;
-/// what it records isn't in it.
+/// Reads the rest of the input, where a record was to come through it that isn't resumed, and not since it can't be read.
+#[tactic(auto, using(crate::proofs::Refusals::still_so))]
+fn pass_rest<I: TellingReader>(old: &str, why: NotResumed, input: &mut I)
+    ensures { (given : Option (List ℕ)) (before : Option ℕ) (bytes digest : List ℕ)
+        → IsFileNotResumed (Places.is_input old.now) given (I.has_failed input.old) before (I.asked input.old) bytes digest (Ended.NotResumed why)
+        → IsFileNotResumed (Places.is_input old.now) given (I.has_failed input.new) before (I.asked input.new) bytes digest (Ended.NotResumed why) }
+{
+    if !is_input(old) {
+        return;
+    }
+    if why.is_unreadable() {
+        return;
+    }
+    read_out(input);
+}
+
+/// A server that records: one that goes on from where an older record leads, if there is one and it can be had, or else one that starts
+/// anew. The older record may be the input, which is read up to its end then, unless it can't be read. Where it goes on, `last` is the last
+/// step of that record; what it records isn't in it.
 #[tactic(auto, using(crate::proofs::Beginnings::begins_again, crate::proofs::Beginnings::begins_anew, crate::proofs::Beginnings::begins_alone, crate::proofs::Refusals::file_exits))]
 pub fn begin<'a, T: Timers, P: Rules, R: Files + AllocGlobal, I: TellingReader, W: Rng, C: Write>(
     beginning: &Beginning<'a, R>,
@@ -449,14 +506,14 @@ pub fn begin<'a, T: Timers, P: Rules, R: Files + AllocGlobal, I: TellingReader, 
     words: &mut W,
     complaints: &mut C,
 ) -> Result<Begun<'a, T, P, R>, Exit>
-    ensures begins { IfOk result (λ begun. Begins (Places.reads_input (option_map (λ old. string_bytes old) beginning.now.place.old))
-        (I.remaining input.old) beginning.now.stated.now.bytes.items beginning.now.stated.now.digest (W.stream words.old)
-        begun.engine.server begun.engine.state begun.last (W.stream words.new)) }
-    ensures alone { beginning.now.place.old ≡ None → IfOk result (λ begun. StartsAnew beginning.now.stated.now.bytes.items
+    ensures begins { IfOk result (λ begun. Begins (option_map (λ old. string_bytes old) beginning.now.place.old) (I.remaining input.old)
+        (I.has_failed input.new) (I.asked input.old) (I.asked input.new) beginning.now.stated.now.bytes beginning.now.stated.now.digest
+        (W.stream words.old) begun.engine.server begun.engine.state begun.last (W.stream words.new)) }
+    ensures alone { beginning.now.place.old ≡ None → IfOk result (λ begun. StartsAnew beginning.now.stated.now.bytes
         (W.stream words.old) begun.engine.server begun.engine.state begun.last) }
-    ensures whole { IfOk result (λ begun. IfSome begun.record (λ r. r.has_failed ≡ false)) }
-    ensures unrecorded { IfOk result (λ begun. IfNone begun.record (beginning.now.fault ≡ GoOn)) }
-    ensures refused { IfErr result (EndsStart beginning.now.stated.now.bytes.items) }
+    ensures whole { IfOk result (λ begun. IfSome begun.recorder (λ r. r.has_failed ≡ false)) }
+    ensures unrecorded { IfOk result (λ begun. IfNone begun.recorder (beginning.now.fault ≡ GoOn)) }
+    ensures refused { IfErr result (EndsStart beginning.now.stated.now.bytes) }
 {
     check_free(beginning.rt, &beginning.place)?;
     let Some(old) = &beginning.place.old else {
@@ -472,9 +529,7 @@ pub fn begin<'a, T: Timers, P: Rules, R: Files + AllocGlobal, I: TellingReader, 
         }
         Err(Stop::NotResumed(why)) => {
             say_lost(old, why, complaints);
-            if is_input(old) {
-                read_out(input);
-            }
+            pass_rest(old, why, input);
             begin_anew(beginning, words)
         }
         Err(Stop::Exits(exit)) => Err(exit),

@@ -10,13 +10,9 @@ mod beginning;
 mod making;
 mod not_resumed;
 mod old_lines;
-mod record_file;
 mod record_folder;
-mod recording;
 mod stack_limit;
 mod taking;
 
 pub use beginning::{Beginning, Begun, begin, new_boot, secret};
-pub use record_file::RecordFile;
-pub use recording::{Unrecorded, WatchedJournal};
 pub use stack_limit::check_stack;

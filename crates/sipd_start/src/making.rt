@@ -4,10 +4,10 @@ ghost use Rattle.sipd_arguments.specs.declared.exit.Exit.TheVariants.{Memory};
 ghost use Rattle.sipd_start.specs.Places;
 ghost use Rattle.sipd_start.specs.Stops.{IsUnmade};
 
-use crate::record_file::{RecordFile, new_file};
 use crate::record_folder::files_in;
 use sip_record::{OnFault, RecordHead, Recorder, head_text};
 use sipd_arguments::{Exit, RecordFault, RecordPlace, Stated};
+use sipd_journal::{RecordFile, new_file};
 use std::fs::OpenFile;
 use std::io::{ErrorKind, Write};
 use std::rt::{Clock, Files};

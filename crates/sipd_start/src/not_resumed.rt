@@ -5,6 +5,7 @@ ghost use Rattle.sipd_start.specs.declared.not_resumed.Stop.TheVariants.{Exits};
 use sip_config::ConfigError;
 use sip_config_change::FrameKey;
 use sip_resume::RecordError;
+use sip_segment_config::SegmentStop;
 use sipd_arguments::{DeviceFault, Exit};
 use sipd_old_record::line_of_file;
 use std::fmt;
@@ -17,7 +18,9 @@ pub enum NotResumed {
     OtherConfiguration,
     Broken,
     Left,
-    /// What is left from this line of it on is damaged.
+    /// It was cut in the configuration with which it begins.
+    CutConfiguration,
+    /// What is left from this line of it on is damaged; its first line, where that has another digest than its first configuration.
     Damaged(u64),
     /// Its configuration that begins with this line has more bytes than are read of one.
     TooLong(u64),
@@ -29,6 +32,15 @@ pub enum NotResumed {
     Unlawful,
 }
 
+impl NotResumed {
+    /// Whether it can't be read.
+    pub fn is_unreadable(self) -> bool
+        ensures { result ≡ Stops.is_unreadable self }
+    {
+        matches!(self, NotResumed::Unreadable)
+    }
+}
+
 impl fmt::Display for NotResumed {
     fn fmt<W: fmt::Write>(&self, f: &mut fmt::Formatter<W>) -> fmt::Result {
         match self {
@@ -37,6 +49,13 @@ impl fmt::Display for NotResumed {
             NotResumed::OtherConfiguration => write!(f, "it was made with another configuration"),
             NotResumed::Broken => write!(f, "its writing failed: it lacks events"),
             NotResumed::Left => write!(f, "another start went on from it"),
+            NotResumed::CutConfiguration => write!(f, "it was cut in its first configuration"),
+            NotResumed::Damaged(1) => {
+                write!(
+                    f,
+                    "its line 1 has another digest than its first configuration"
+                )
+            }
             NotResumed::Damaged(line) => {
                 write!(f, "its line {line} begins no event and no configuration")
             }
@@ -96,6 +115,24 @@ pub fn untaken(e: RecordError) -> Stop
             NotResumed::NoConfiguration(line_of_file(line), e)
         }
         RecordError::OtherFrame(line, key) => NotResumed::OtherFrame(line_of_file(line), key),
+    };
+    Stop::NotResumed(why)
+}
+
+/// Why the configuration with which a record begins isn't read.
+pub fn unheld(stop: SegmentStop) -> Stop
+    ensures { result ≡ Stops.unheld stop }
+{
+    let why = match stop {
+        SegmentStop::NoMemory => return Stop::Exits(Exit::Memory),
+        SegmentStop::Damaged(line) => NotResumed::Damaged(line_of_file(line)),
+        SegmentStop::Cut(_) => NotResumed::CutConfiguration,
+        SegmentStop::Read => NotResumed::Unreadable,
+        SegmentStop::TooLong(line) => NotResumed::TooLong(line_of_file(line)),
+        SegmentStop::NoConfiguration(line, e) => {
+            NotResumed::NoConfiguration(line_of_file(line), e)
+        }
+        SegmentStop::OtherFrame(line, key) => NotResumed::OtherFrame(line_of_file(line), key),
     };
     Stop::NotResumed(why)
 }

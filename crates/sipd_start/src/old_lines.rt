@@ -1,12 +1,18 @@
-ghost use Rattle.std.specs.Prelude.{◌≡◌};
-
+use sip_config_types::Config;
 use sip_replay_script::Lines;
+use sip_text::Buffer;
 
-/// The lines of a record behind its first one, of which none is given yet.
+/// What is left of a record of which no event is taken yet.
 #[derive(Drop)]
 pub struct OldLines {
     pub lines: Lines,
-    /// Whether the configuration of its first events stands there, if any does.
-    pub has_own: bool,
-    ghost none_given: { lines.number ≡ 0 },
+    /// The bytes of the configuration with which its first events were taken.
+    pub first: Buffer,
+}
+
+/// A record of which no event is taken yet, and what the bytes of its first configuration state.
+#[derive(Drop)]
+pub struct OldBeginning {
+    pub lines: OldLines,
+    pub config: Config,
 }

@@ -1,114 +1,150 @@
-ghost use Rattle.std.specs.Prelude.{◌≡◌, false, [], IfErr, IfOk, None, OnErr, OnOk};
-ghost use Rattle.std.specs.Io.KnownBytes.{Keeps};
+ghost use Rattle.std.specs.Prelude.{◌≡◌, IfErr, IfNone, IfOk, IfSome, None, Some, OnErr, OnOk};
+ghost use Rattle.sip_config.specs.Stated.{States};
+ghost use Rattle.sip_config_change.specs.Frame.{frame_key_of};
+ghost use Rattle.sip_config_change.specs.declared.key.FrameKey.{FrameKey};
 ghost use Rattle.sip_record.specs.Record.{NotesConfiguration};
 ghost use Rattle.sip_replay_script.specs.Devices.{later};
-ghost use Rattle.sip_replay_script.specs.Lines.{pending, IsSpent};
+ghost use Rattle.sip_replay_script.specs.Lines.{pending};
 ghost use Rattle.sipd_arguments.specs.declared.exit.Exit.TheVariants.{Memory, Recording};
-ghost use Rattle.sipd_start.specs.Begins.{IsServerOf, IsUnbegun, NotesFirst, StopsAt, TakesOld};
-ghost use Rattle.sipd_start.specs.OldRecords.{IsOurs};
-ghost use Rattle.sipd_old_record.specs.Readers.{HasStopped, most_asks};
+ghost use Rattle.sipd_old_record.specs.Own.{unread};
+ghost use Rattle.sipd_old_record.specs.Readers.{most_asks, HasStopped};
+ghost use Rattle.sipd_start.specs.Begins.{IsServerOf, StopsAt, TakesOld};
+ghost use Rattle.sipd_start.specs.OldRecords.{HaveFrameOf, IsBegunBy, IsNotFirst, IsUnbegun};
 ghost use Rattle.sipd_start.specs.Stops.{IsNotUnder};
+ghost use Rattle.sipd_start.specs.declared.not_resumed.NotResumed.TheVariants.{OtherFrame};
+ghost use Rattle.sipd_start.specs.declared.not_resumed.Stop.TheVariants as Ended;
 
-use crate::not_resumed::{NotResumed, Stop, untaken};
-use crate::old_lines::OldLines;
+use crate::not_resumed::{NotResumed, Stop, unheld, untaken};
+use crate::old_lines::{OldBeginning, OldLines};
+use sip_config_change::frame_key;
 use sip_config_change::laws::frame_is_place_and_realm;
+use sip_config_types::Config;
 use sip_policy::Rules;
 use sip_record::{Journal, JournalFault, RecordHead};
 use sip_replay_print::NoSink;
 use sip_replay_script::{Lines, TellingReader};
 use sip_resume::engine::{ChangeError, Engine};
 use sip_resume::{Resumed, resume_record};
-use sip_segment_text::{Upcoming, look_ahead};
+use sip_segment_config::Held;
+use sip_text::Buffer;
 use sip_timers::Timers;
 use sipd_arguments::{Exit, Stated, config_of_bytes};
+use sipd_old_record::laws::asks_add_up;
+use sipd_old_record::own_configuration;
 use sipd_reload::MOST_BYTES;
 use std::alloc::Global;
 
-/// Whether a record whose first line says this head holds the configuration of its first events. Where it doesn't, it has to be the one of
-/// this digest: else it is `OtherConfiguration`. `Unreadable`, where the reader failed, or was asked as often as it may be.
-#[tactic(auto, using(crate::proofs::FirstLines::next_kept, crate::proofs::FirstLines::holds_none))]
-fn has_own<I: TellingReader>(
-    lines: &mut Lines,
-    reader: &mut I,
-    head: &RecordHead,
-    digest: &[u8; 32],
-) -> Result<bool, Stop>
-    ensures number { lines.new.number ≡ lines.old.number }
-    ensures kept { OnOk result (Keeps (pending lines.old (I.remaining reader.old)) (pending lines.new (I.remaining reader.new))) }
-    ensures ours { IfOk result (IsOurs digest.now head.now (pending lines.old (I.remaining reader.old))) }
-    ensures refused { IfErr result (IsUnbegun (IsSpent (I.has_failed reader.new) lines.new.asks) digest.now head.now
-        (pending lines.old (I.remaining reader.old))) }
-    ensures asked { later lines.new.asks (I.asked reader.new) ≡ later lines.old.asks (I.asked reader.old) }
-{
-    match look_ahead(lines, reader) {
-        Ok(Upcoming::Configuration) => Ok(true),
-        Ok(_) if head.digest == *digest => Ok(false),
-        Ok(_) => Err(Stop::NotResumed(NotResumed::OtherConfiguration)),
-        Err(_) => Err(Stop::NotResumed(NotResumed::Unreadable)),
-    }
-}
+/// The line of a record's file with which a configuration of its own begins.
+const OWN_LINE: u64 = 2;
 
 /// Lines of which nothing is read.
 fn new_lines(alloc: Global) -> Result<Lines, Exit>
-    ensures new { IfOk result (λ lines. lines ≡ record { unread = []; asks = most_asks; number = 0 }) }
+    ensures new { IfOk result (λ lines. lines ≡ unread) }
     ensures refused { IfErr result (λ exit. exit ≡ Memory) }
 {
     Ok(Lines::new(alloc)?)
 }
 
-/// The lines of a record behind its first one, which says this head, where it may be gone on from with the configuration of this digest.
-#[tactic(auto, using(crate::proofs::FirstLines::nothing_read, crate::proofs::Refusals::exits_unbegun, crate::proofs::Refusals::unbegun_first))]
-pub fn old_lines<I: TellingReader>(
-    alloc: Global,
-    reader: &mut I,
-    head: &RecordHead,
-    digest: &[u8; 32],
-) -> Result<OldLines, Stop>
-    ensures kept { IfOk result (λ old. Keeps (I.remaining reader.old) (pending old.lines (I.remaining reader.new))) }
-    ensures ours { IfOk result (λ old. IsOurs digest.now head.now (I.remaining reader.old) old.has_own) }
-    ensures asked { IfOk result (λ old. later old.lines.asks (I.asked reader.new) ≡ later most_asks (I.asked reader.old)) }
-    ensures refused { IfErr result (IsUnbegun (HasStopped (I.has_failed reader.new) most_asks (I.asked reader.old) (I.asked reader.new)) digest.now
-        head.now (I.remaining reader.old)) }
+/// That a record's own configuration is one of the same server to others as that of a file. `OtherFrame` is the only refusal.
+fn check_frame(config: &Config, own: &Config) -> Result<(), Stop>
+    ensures same { OnOk result (frame_key_of config.now own.now ≡ None) }
+    ensures other { IfErr result (λ stop. (key : FrameKey) × (stop ≡ Ended.NotResumed (OtherFrame 2 key)) × (frame_key_of config.now own.now ≡ Some key)) }
 {
-    let mut lines = new_lines(alloc)?;
-    let has_own = has_own(&mut lines, reader, head, digest)?;
-    Ok(OldLines { lines, has_own })
+    match frame_key(config, own) {
+        None => Ok(()),
+        Some(key) => Err(Stop::NotResumed(NotResumed::OtherFrame(OWN_LINE, key))),
+    }
 }
 
-/// Tells a journal that the configuration of a file is in force from here on. `Recording` is the only refusal, where the journal failed.
-pub fn tell<J: Journal>(stated: &Stated, journal: &mut J) -> Result<(), Exit>
-    ensures noted { OnOk result (NotesConfiguration (J.written journal.old) (J.written journal.new) stated.now.bytes.items) }
+/// A copy of the bytes of a file.
+fn copy_of(alloc: Global, stated: &Stated) -> Result<Buffer, Exit>
+    ensures same { IfOk result (λ copy. copy ≡ stated.now.bytes) }
+    ensures refused { IfErr result (λ exit. exit ≡ Memory) }
+{
+    Ok(Buffer::copy(alloc, stated.bytes.as_slice())?)
+}
+
+/// The configuration with which the first events of a record were taken whose first line says this head, where it may be gone on from with that
+/// of a file: its own, which has to be one of the same server; or, where it holds none, the file's, which has to have the digest of the head.
+/// Refusals: `OtherFrame`; `OtherConfiguration`; `Memory`; what is wrong with the file's configuration.
+#[tactic(auto, using(crate::proofs::OldBeginnings::have_frame, crate::proofs::OldBeginnings::own_frame))]
+fn first_of(
+    alloc: Global,
+    stated: &Stated,
+    head: &RecordHead,
+    own: Option<Held>,
+) -> Result<Held, Stop>
+    ensures states { IfNone own (IfOk result (λ first. States first.text first.config)) }
+    ensures frame { IfOk result (λ first. HaveFrameOf stated.now.bytes first.config) }
+    ensures own { IfSome own (λ held. IfOk result (λ first. (first ≡ held) × HaveFrameOf stated.now.bytes held.config)) }
+    ensures file { IfNone own (IfOk result (λ first. (first.text ≡ stated.now.bytes) × (head.now.digest ≡ stated.now.digest))) }
+    ensures refused { IfErr result (IsNotFirst stated.now.bytes stated.now.digest head.now own) }
+{
+    frame_is_place_and_realm();
+    let config = config_of_bytes(alloc, stated.bytes.as_slice())?;
+    match own {
+        Some(held) => {
+            check_frame(&config, &held.config)?;
+            Ok(held)
+        }
+        None if head.digest == stated.digest => {
+            let text = copy_of(alloc, stated)?;
+            Ok(Held { text, config })
+        }
+        None => Err(Stop::NotResumed(NotResumed::OtherConfiguration)),
+    }
+}
+
+/// What a record goes on with behind its first line, which says this head, where it may be gone on from with the configuration of a file.
+#[tactic(auto, using(crate::proofs::OldBeginnings::unheld_so, crate::proofs::OldBeginnings::unbegun_of, crate::proofs::OldBeginnings::begun_of, crate::proofs::OldBeginnings::states_of))]
+pub fn old_beginning<I: TellingReader>(
+    alloc: Global,
+    stated: &Stated,
+    head: &RecordHead,
+    reader: &mut I,
+) -> Result<OldBeginning, Stop>
+    ensures states { IfOk result (λ old. States old.lines.first old.config) }
+    ensures frame { IfOk result (λ old. HaveFrameOf stated.now.bytes old.config) }
+    ensures begun { IfOk result (λ old. IsBegunBy stated.now.bytes stated.now.digest head.now (I.remaining reader.old) old.lines.lines (I.remaining reader.new) old.lines.first) }
+    ensures asked { IfOk result (λ old. later old.lines.lines.asks (I.asked reader.new) ≡ later most_asks (I.asked reader.old)) }
+    ensures refused { IfErr result (IsUnbegun (HasStopped (I.has_failed reader.new) most_asks (I.asked reader.old) (I.asked reader.new)) stated.now.bytes
+        stated.now.digest head.now (I.remaining reader.old)) }
+{
+    asks_add_up();
+    let mut lines = new_lines(alloc)?;
+    let own = match own_configuration(alloc, head, &mut lines, reader) {
+        Ok(own) => own,
+        Err(stop) => return Err(unheld(stop)),
+    };
+    let first = first_of(alloc, stated, head, own)?;
+    let Held { text, config } = first;
+    let lines = OldLines { lines, first: text };
+    Ok(OldBeginning { lines, config })
+}
+
+/// Tells a journal that the configuration of these bytes is in force from here on. `Recording` is the only refusal, where the journal failed.
+pub fn tell<J: Journal>(bytes: &[u8], journal: &mut J) -> Result<(), Exit>
+    ensures noted { OnOk result (NotesConfiguration (J.written journal.old) (J.written journal.new) bytes.now) }
     ensures refused { IfErr result (λ exit. exit ≡ Recording) }
     ensures failed { OnErr result (J.written journal.new ≡ None) }
 {
-    match journal.configured(stated.bytes.as_slice()) {
+    match journal.configured(bytes) {
         Ok(()) => Ok(()),
         Err(JournalFault) => Err(Exit::Recording),
     }
 }
 
-/// The same at the beginning of a record, unless that of an older one comes next.
-fn tell_first<J: Journal>(stated: &Stated, has_own: bool, journal: &mut J) -> Result<(), Exit>
-    ensures noted { OnOk result (NotesFirst has_own stated.now.bytes.items (J.written journal.old) (J.written journal.new)) }
-    ensures refused { IfErr result (λ exit. (exit ≡ Recording) × (has_own ≡ false)) }
-    ensures failed { OnErr result (J.written journal.new ≡ None) }
-{
-    if has_own {
-        return Ok(());
-    }
-    tell(stated, journal)
-}
-
 /// Has a server be under the configuration of a file. Refusals: `Memory`; what is wrong with the file's configuration; `OtherFrame`, where that
-/// has another frame than what is in force, as no configuration has that a server took which was opened with the file's (`take_old`).
+/// has another frame than what is in force, as no configuration has that a server took which was opened with one of the file's frame
+/// (`take_old`).
 fn come_under<T: Timers, P: Rules>(
     alloc: Global,
     engine: &mut Engine<T, P>,
     stated: &Stated,
 ) -> Result<(), Exit>
-    ensures under { OnOk result (IsServerOf stated.now.bytes.items engine.old.server.word engine.new.server) }
+    ensures under { OnOk result (IsServerOf stated.now.bytes engine.old.server.word engine.new.server) }
     ensures state { engine.new.state ≡ engine.old.state }
-    ensures refused { IfErr result (IsNotUnder stated.now.bytes.items engine.old.server.config) }
+    ensures refused { IfErr result (IsNotUnder stated.now.bytes engine.old.server.config) }
 {
     let config = config_of_bytes(alloc, stated.bytes.as_slice())?;
     match engine.change(config) {
@@ -118,8 +154,8 @@ fn come_under<T: Timers, P: Rules>(
     }
 }
 
-/// Has a server that was opened with the configuration of a file take what stands behind the first line of a record, and come under that
-/// configuration again; and has a journal be told all of it, so that a record that has the same first line is one of this server.
+/// Has a server that was opened with the configuration with which a record begins take what is left of that, and come under the one of a file;
+/// and has a journal be told all of it, so that a record that has the same first line is one of this server.
 #[tactic(auto, using(crate::proofs::Beginnings::takes_old, crate::proofs::Refusals::untold_at))]
 pub fn take_old<T: Timers, P: Rules, I: TellingReader, J: Journal>(
     alloc: Global,
@@ -129,16 +165,17 @@ pub fn take_old<T: Timers, P: Rules, I: TellingReader, J: Journal>(
     reader: &mut I,
     journal: &mut J,
 ) -> Result<Resumed, Stop>
-    ensures taken { IfOk result (λ resumed. TakesOld old.has_own stated.now.bytes.items engine.old.server engine.new.server engine.old.state
-        engine.new.state (pending old.lines (I.remaining reader.old)) resumed.lines resumed.last (J.written journal.old)
+    ensures taken { IfOk result (λ resumed. TakesOld old.first stated.now.bytes engine.old.server engine.new.server engine.old.state
+        engine.new.state old.lines.number (pending old.lines (I.remaining reader.old)) resumed.lines resumed.last (J.written journal.old)
         (J.written journal.new)) }
-    ensures stopped { IfErr result (StopsAt old.has_own stated.now.bytes.items
+    ensures stopped { IfErr result (StopsAt old.first stated.now.bytes
         (HasStopped (I.has_failed reader.new) old.lines.asks (I.asked reader.old) (I.asked reader.new)) engine.old.server engine.old.state
-        (pending old.lines (I.remaining reader.old))) }
+        old.lines.number (pending old.lines (I.remaining reader.old))) }
 {
+    asks_add_up();
     frame_is_place_and_realm();
-    let OldLines { mut lines, has_own } = old;
-    tell_first(stated, has_own, journal)?;
+    let OldLines { mut lines, first } = old;
+    tell(first.as_slice(), journal)?;
     let mut sink = NoSink;
     let resumed = match resume_record(
         alloc, engine, &mut lines, reader, MOST_BYTES, journal, &mut sink,
@@ -146,7 +183,7 @@ pub fn take_old<T: Timers, P: Rules, I: TellingReader, J: Journal>(
         Ok(resumed) => resumed,
         Err(e) => return Err(untaken(e)),
     };
-    tell(stated, journal)?;
+    tell(stated.bytes.as_slice(), journal)?;
     come_under(alloc, engine, stated)?;
     Ok(resumed)
 }

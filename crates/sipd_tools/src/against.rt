@@ -1,13 +1,15 @@
 ghost use Rattle.std.specs.Prelude.{◌≡◌, IfErr, IfOk};
-ghost use Rattle.sipd_old_record.specs.Readers.{HasStopped, most_asks};
+ghost use Rattle.sip_replay_script.specs.Devices.{later};
+ghost use Rattle.sip_replay_script.specs.Lines.{pending, IsSpent};
 ghost use Rattle.sipd_tools.specs.Against;
-ghost use Rattle.sipd_tools.specs.Against.{IsLastOf, IsStated, IsWithoutLast};
+ghost use Rattle.sipd_tools.specs.Against.{Begins, IsFirstUnread, IsLastBehind, IsLastOf, IsNotLast, IsStated, IsWithoutLast};
 
 use sip_config_types::Config;
+use sip_record::RecordHead;
 use sip_replay_script::{Lines, TellingReader};
 use sip_segment_config::{SegmentStop, last_configuration};
 use sipd_arguments::{DeviceFault, Exit, config_of};
-use sipd_old_record::{line_of_file, open_any_record};
+use sipd_old_record::{line_of_file, open_any_record, own_configuration};
 use sipd_reload::MOST_BYTES;
 use std::alloc::Global;
 use std::fs;
@@ -20,30 +22,70 @@ fn exit_of_last(stop: SegmentStop) -> Exit
 {
     match stop {
         SegmentStop::NoMemory => Exit::Memory,
-        SegmentStop::Damaged(line) => Exit::Script(line_of_file(line)),
-        SegmentStop::Cut(line) => Exit::Script(line_of_file(line)),
+        SegmentStop::Damaged(line)
+        | SegmentStop::TooLong(line)
+        | SegmentStop::OtherFrame(line, _) => Exit::Script(line_of_file(line)),
+        SegmentStop::Cut(_) => Exit::BareRecord,
         SegmentStop::Read => Exit::Device(DeviceFault::Other),
-        SegmentStop::TooLong(line) => Exit::Script(line_of_file(line)),
         SegmentStop::NoConfiguration(_, e) => Exit::from(e),
-        SegmentStop::OtherFrame(line, _) => Exit::Script(line_of_file(line)),
     }
 }
 
-/// The last configuration of a record, of which the first line was read. Refusals: `BareRecord`, where it holds none; `Script`, with
-/// the line of its file that is damaged, or begins a configuration that is too long; `Configuration`; `Memory`; `Device`, where the reader
-/// failed or was asked as often as it may be.
-fn last_of<I: TellingReader>(alloc: Global, events: &mut I) -> Result<Config, Exit>
-    ensures last { IfOk result (IsLastOf (I.remaining events.old)) }
+/// The configuration of its own with which a record begins whose first line says this head; none, where it holds none.
+fn first_of<I: TellingReader>(
+    alloc: Global,
+    head: &RecordHead,
+    lines: &mut Lines,
+    events: &mut I,
+) -> Result<Option<Config>, Exit>
+    ensures first { IfOk result (Begins head.now.digest lines.old lines.new (I.remaining events.old) (I.remaining events.new)) }
+    ensures refused { IfErr result (IsFirstUnread head.now.digest (IsSpent (I.has_failed events.new) lines.new.asks) lines.old (I.remaining events.old)) }
+    ensures asked { later lines.new.asks (I.asked events.new) ≡ later lines.old.asks (I.asked events.old) }
+{
+    match own_configuration(alloc, head, lines, events) {
+        Ok(Some(held)) => Ok(Some(held.config)),
+        Ok(None) => Ok(None),
+        Err(stop) => Err(exit_of_last(stop)),
+    }
+}
+
+/// The last configuration of what is left of a record, in which this one is in force, if any is. `BareRecord`, where there is none.
+fn last_behind<I: TellingReader>(
+    alloc: Global,
+    first: Option<Config>,
+    lines: &mut Lines,
+    events: &mut I,
+) -> Result<Config, Exit>
+    ensures last { IfOk result (IsLastBehind first (pending lines.old (I.remaining events.old))) }
+    ensures refused { IfErr result (IsWithoutLast first (IsSpent (I.has_failed events.new) lines.new.asks) (pending lines.old (I.remaining events.old)) lines.old.number) }
+    ensures asked { later lines.new.asks (I.asked events.new) ≡ later lines.old.asks (I.asked events.old) }
+{
+    match last_configuration(alloc, lines, events, MOST_BYTES) {
+        Ok(Some(held)) => Ok(held.config),
+        Ok(None) => match first {
+            Some(config) => Ok(config),
+            None => Err(Exit::BareRecord),
+        },
+        Err(stop) => Err(exit_of_last(stop)),
+    }
+}
+
+/// The last configuration of a record whose first line says this head. Refusals: `BareRecord`, where it holds none, or was cut in the first one;
+/// `Script`, with the line of its file that is damaged, the first one where that has another digest than the first configuration, or that begins
+/// a configuration that is too long; `Configuration`; `Memory`; `Device`, where the reader failed or was asked as often as it may be.
+fn last_of<I: TellingReader>(
+    alloc: Global,
+    head: &RecordHead,
+    events: &mut I,
+) -> Result<Config, Exit>
+    ensures last { IfOk result (IsLastOf head.now.digest (I.remaining events.old)) }
     ensures stated { IfOk result IsStated }
-    ensures refused { IfErr result (IsWithoutLast (HasStopped (I.has_failed events.new) most_asks (I.asked events.old) (I.asked events.new))
+    ensures refused { IfErr result (IsNotLast head.now.digest (I.has_failed events.new) (I.asked events.old) (I.asked events.new)
         (I.remaining events.old)) }
 {
     let mut lines = Lines::new(alloc)?;
-    match last_configuration(alloc, &mut lines, events, MOST_BYTES) {
-        Ok(Some(held)) => Ok(held.config),
-        Ok(None) => Err(Exit::BareRecord),
-        Err(stop) => Err(exit_of_last(stop)),
-    }
+    let first = first_of(alloc, head, &mut lines, events)?;
+    last_behind(alloc, first, &mut lines, events)
 }
 
 /// Whether a path finds a file that can be read twice, as a pipe can't.
@@ -62,7 +104,7 @@ fn config_at<R: Files + AllocGlobal>(rt: &R, path: &str) -> Result<Config, Exit>
         return config_of(rt, Some(path));
     }
     match open_any_record(rt, rt.alloc(), path) {
-        Ok(mut record) => last_of(rt.alloc(), &mut record.events),
+        Ok(mut record) => last_of(rt.alloc(), &record.head, &mut record.events),
         Err(Exit::NoRecord) => config_of(rt, Some(path)),
         Err(exit) => Err(exit),
     }

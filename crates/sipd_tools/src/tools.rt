@@ -2,7 +2,6 @@ ghost use Rattle.std.specs.Prelude.{OnOk};
 ghost use Rattle.sipd_tools.specs.Against.{TellsChange};
 
 use crate::against::config_before;
-use sip_config::{ConfigError, read_config};
 use sip_config_types::Config;
 use sip_policy::minute_of;
 use sip_text::Bytes;
@@ -11,7 +10,7 @@ use sipd_arguments::{
     config_of_bytes, print, summary_of,
 };
 use sipd_changes::{can_be_taken, changes_of, told};
-use sipd_mistakes::{explain, explain_encoding};
+use sipd_mistakes::{Reading, explain_encoding, read_or_tell};
 use sipd_questions::{
     Digests, Question, QuestionError, added_user, decision_text, digest_warning, password_in, show,
     user_table,
@@ -185,28 +184,17 @@ pub fn make_user<R: Files + AllocGlobal, I: Read, W: Write, C: Write>(
     print(answer(alloc, table)?.as_slice(), output)
 }
 
-/// Prints what is wrong with a configuration that is refused, and where.
-fn print_fault<W: Write>(
-    alloc: Global,
-    text: &str,
-    e: ConfigError,
-    output: &mut W,
-) -> Result<(), Exit> {
-    let fault = explain(alloc, text, e)?;
-    print(fault.as_slice(), output)
-}
-
 /// Prints all that was understood of a configuration, or what is wrong with it.
 fn show_config<W: Write>(alloc: Global, bytes: &[u8], output: &mut W) -> Result<(), Exit> {
     let Ok(text) = str::from_utf8(bytes) else {
         print(explain_encoding(alloc, bytes)?.as_slice(), output)?;
         return config_of_bytes(alloc, bytes).map(|_| ());
     };
-    match read_config(alloc, text) {
-        Ok(config) => print(show(alloc, &config)?.as_slice(), output),
-        Err(e) => {
-            print_fault(alloc, text, e, output)?;
-            Err(Exit::from(e))
+    match read_or_tell(alloc, text)? {
+        Reading::Stated(config) => print(show(alloc, &config)?.as_slice(), output),
+        Reading::Refused(error, line) => {
+            print(line.as_slice(), output)?;
+            Err(Exit::from(error))
         }
     }
 }

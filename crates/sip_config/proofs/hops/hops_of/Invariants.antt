@@ -1,8 +1,9 @@
 use Rattle.std.proofs.Common.{◌≡◌, [], drop}
 use Rattle.toml.specs.View.{items_view}
+use Rattle.sip_config.specs.declared.key.Key.TheVariants as keys
 use Rattle.sip_config.specs.Rows.{rows_after}
 use Rattle.sip_config.specs.Hops.{new_hop}
 use Rattle.sip_config.proofs.hops.hops_of.Given as goal
 
 abbrev pub invariant-loop-item : goal.invariant-loop-item
-invariant-loop-item l = rows_after new_hop l.hops (items_view (drop l.item-index l.items)) ≡ rows_after new_hop [] (items_view l.items)
+invariant-loop-item l = rows_after keys.Hops new_hop l.hops (items_view (drop l.item-index l.items)) ≡ rows_after keys.Hops new_hop [] (items_view l.items)

@@ -1,8 +1,9 @@
 use Rattle.std.proofs.Common.{◌≡◌, [], drop}
 use Rattle.toml.specs.View.{items_view}
+use Rattle.sip_config.specs.declared.key.Key.TheVariants as keys
 use Rattle.sip_config.specs.Rows.{rows_after}
 use Rattle.sip_config.specs.Users.{user_at}
 use Rattle.sip_config.proofs.users.user_rows.Given as goal
 
 abbrev pub invariant-loop-item : goal.invariant-loop-item
-invariant-loop-item l = rows_after (λ before. user_at) l.users (items_view (drop l.item-index l.items)) ≡ rows_after (λ before. user_at) [] (items_view l.items)
+invariant-loop-item l = rows_after keys.Users user_at l.users (items_view (drop l.item-index l.items)) ≡ rows_after keys.Users user_at [] (items_view l.items)

@@ -1,11 +1,12 @@
-use Rattle.std.proofs.Common.{Err, inl, inr, refl, ap, ◌∙◌}
+use Rattle.std.proofs.Common.{inl, inr, refl}
 use Rattle.std.proofs.lemmas.Result.{err_from_is_err_and}
+use Rattle.sipd_old_record.specs.Readers.{most_asks}
 use Rattle.sipd_command.proofs.replaying.replay_behind.Goals as goal
 
 pub returns-in_err-lines-clause-refused : goal.returns-in_err-lines-clause-refused
 returns-in_err-lines-clause-refused g c =
     let p = err_from_is_err_and c.from_residual.result c.from_residual.ensures.1 in
-    rw (p.1, p.2) (record { asks = 4294967295; left_of = refl; why = inl (record { silent = refl; why = inl refl }) })
+    rw (p.1, p.2) (record { asks = most_asks; left_of = refl; why = inl (record { silent = refl; why = inl refl }) })
 
 pub returns-in_err-config-clause-refused : goal.returns-in_err-config-clause-refused
 returns-in_err-config-clause-refused g c =

@@ -1,4 +1,3 @@
-use Rattle.std.proofs.Common.{◌≡◌, rules}
 use Rattle.std.proofs.lemmas.Result.{err_from_is_err_and}
 use Rattle.sip_replay_script.specs.Lines.{pending}
 use Rattle.sipd_start.proofs.Refusals.{stops_at, under_exits}
@@ -6,10 +5,9 @@ use Rattle.sipd_start.proofs.taking.take_old.Goals as goal
 
 pub returns-in-Err-clause-stopped : goal.returns-in-Err-clause-stopped
 returns-in-Err-clause-stopped g c =
-    let zero : c.args.old.lines.number ≡ 0 = search rules in
-    stops_at c.resume_record.result c.args.old.has_own c.args.stated.now.bytes.items c.args.engine.now.server _ c.args.engine.now.state _ (g.I.TellingReader.has_failed c.resume_record.new.reader) c.resume_record.new.lines.asks
-    c.args.old.lines.asks (g.I.TellingReader.asked c.args.reader.now) (g.I.TellingReader.asked c.resume_record.new.reader) (pending c.args.old.lines (g.I.TellingReader.remaining c.args.reader.now)) _
-    (g.J.Journal.written c.args.journal.now) _ _ c.in-Err.e c.untaken.result c.in-Err.is c.resume_record.ensures.gave_up zero c.untaken.ensures c.in_ok-tell_first.ensures.noted c.resume_record.ensures.asked c.in-Err.ensures.refused
+    stops_at c.resume_record.result c.args.old.first c.args.stated.now.bytes c.args.engine.now.server _ c.args.engine.now.state _ (g.I.TellingReader.has_failed c.resume_record.new.reader) c.resume_record.new.lines.asks
+    c.args.old.lines.asks (g.I.TellingReader.asked c.args.reader.now) (g.I.TellingReader.asked c.resume_record.new.reader) (pending c.args.old.lines (g.I.TellingReader.remaining c.args.reader.now)) c.args.old.lines.number
+    (g.J.Journal.written c.args.journal.now) _ _ c.in-Err.e c.untaken.result c.asks_add_up.ensures.spent c.in-Err.is c.resume_record.ensures.gave_up c.untaken.ensures (rw c.as_slice.ensures at c.in_ok-tell.ensures.noted) c.resume_record.ensures.asked c.in-Err.ensures.refused
 
 pub returns-in_err-come_under-clause-stopped : goal.returns-in_err-come_under-clause-stopped
 returns-in_err-come_under-clause-stopped g c =

@@ -1,4 +1,0 @@
-mod Ahead
-mod Changing
-mod Printed
-mod Turning

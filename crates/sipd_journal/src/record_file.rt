@@ -1,0 +1,117 @@
+use sip_record::RecordMark;
+use std::fs::{OpenFile, OpenOptions};
+use std::io::{ErrorKind, Seek, SeekFrom, Write};
+use std::os::unix::fs::OpenOptionsExt;
+use std::rt::Files;
+use std::{fs, io};
+
+/// The permissions of a record: its owner's alone, since it holds messages and what phones prove their users with.
+const OWNERS: u32 = 0o600;
+
+/// The file of a record, into which events are written behind what it holds.
+#[derive(Drop)]
+pub struct RecordFile<'a, R: Files> {
+    rt: &'a R,
+    /// By which name its file is found.
+    path: String,
+    /// What is written to it goes to the file's end, wherever that is.
+    file: R::File,
+    /// What writes over the file's first word.
+    marks: R::File,
+    /// How many bytes were written.
+    written: u64,
+    /// Whether it was seen that its name doesn't find them.
+    lost: bool,
+}
+
+/// A new file for its owner alone, which is written at its end; one that is there is never written over.
+pub fn new_file<R: Files>(rt: &R, path: &str) -> io::Result<R::File> {
+    OpenOptions::new()
+        .append(true)
+        .create_new(true)
+        .mode(OWNERS)
+        .open(rt, path)
+}
+
+/// What writes over the first bytes of a file that is there.
+fn marks_of<R: Files>(rt: &R, path: &str) -> io::Result<R::File> {
+    OpenOptions::new().write(true).open(rt, path)
+}
+
+/// Writes a mark in the place of a file's first word, and has the system put it on the disk.
+fn write_mark<F: Write + Seek + OpenFile>(file: &mut F, mark: RecordMark) -> io::Result<()> {
+    file.seek(SeekFrom::Start(0))?;
+    file.write_all(&mark.front())?;
+    file.flush()?;
+    file.sync_all()
+}
+
+/// Writes a mark in the place of the first word of the record that has this name. What is no regular file isn't opened, since a named pipe
+/// would wait for who reads it: `Unsupported`.
+pub fn mark_file<R: Files>(rt: &R, path: &str, mark: RecordMark) -> io::Result<()> {
+    if !fs::metadata(rt, path)?.is_file() {
+        return Err(io::Error::from(ErrorKind::Unsupported));
+    }
+    let mut file = marks_of(rt, path)?;
+    write_mark(&mut file, mark)
+}
+
+impl<'a, R: Files> RecordFile<'a, R> {
+    /// A new file that begins with a line; one that is there is never written over.
+    pub fn create(rt: &'a R, path: String, line: &[u8]) -> io::Result<Self> {
+        let file = new_file(rt, path.as_str())?;
+        let marks = marks_of(rt, path.as_str())?;
+        let mut made = RecordFile {
+            rt,
+            path,
+            file,
+            marks,
+            written: 0,
+            lost: false,
+        };
+        made.write_all(line)?;
+        Ok(made)
+    }
+
+    /// By which name it is found from now on.
+    pub fn rename(&mut self, path: String) {
+        self.path = path;
+    }
+
+    /// Has the system put on the disk what was written.
+    pub fn sync(&mut self) -> io::Result<()> {
+        self.file.flush()?;
+        self.file.sync_all()
+    }
+
+    /// Looks whether what its name finds is as long as what was written: a file that was taken away, changed for another or cut isn't.
+    pub fn is_lost(&mut self) -> bool {
+        self.lost = match fs::metadata(self.rt, self.path.as_str()) {
+            Ok(found) => found.len() != self.written,
+            Err(_) => true,
+        };
+        self.lost
+    }
+
+    /// Whether that was seen when it was looked at last.
+    pub fn was_lost(&self) -> bool {
+        self.lost
+    }
+
+    /// Writes a mark in the place of its first word, whatever its name is by now.
+    pub fn mark(&mut self, mark: RecordMark) -> io::Result<()> {
+        write_mark(&mut self.marks, mark)
+    }
+}
+
+impl<'a, R: Files> Write for RecordFile<'a, R> {
+    fn write(&mut self, bytes: &[u8]) -> io::Result<usize> {
+        let taken = self.file.write(bytes)?;
+        self.written = self.written.saturating_add(taken as u64);
+        Ok(taken)
+    }
+
+    fn flush(&mut self) -> io::Result<()> {
+        self.file.flush()
+    }
+}

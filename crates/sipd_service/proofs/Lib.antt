@@ -1,0 +1,3 @@
+mod Changing
+mod Printed
+mod Turning

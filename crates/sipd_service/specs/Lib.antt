@@ -1,0 +1,6 @@
+pub mod Exits
+pub mod Hops
+pub mod Printing
+pub mod Reloads
+pub mod Turns
+pub mod Waits

@@ -1,0 +1,18 @@
+//! A server that serves: turn by turn, with a configuration that may change between two of them, a journal that is looked at, and each
+//! decision printed before what it decides is sent.
+//!
+//! - Used: `sipd_command`, once the server is begun.
+//! - Not here: what is served in a turn (`sip_loop`), how the server begins (`sipd_start`), and the socket and the clocks themselves.
+//! - Tried: `test_server`, `tests/serve.py`, `tests/changes.py`.
+#![tactic(auto)]
+
+mod hops;
+mod line_printer;
+mod printing;
+mod reloading;
+mod service;
+mod unheard;
+
+pub use hops::hops_of;
+pub use line_printer::LinePrinter;
+pub use service::{Said, Service, Serving, serve_turns};
