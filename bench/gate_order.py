@@ -1,13 +1,14 @@
 #!/usr/bin/env python3
 """What a run of the gate would take on four processors, and where its longest chain is, by the seconds of docs/GATE.md.
 
-    bench/gate_order.py [--memory GB] [--start SECONDS] [--without-edits CRATE ..] [--show]
+    bench/gate_order.py [--jobs N] [--memory GB] [--start SECONDS] [--without-edits CRATE ..] [--show]
 
-It goes by the order of `rt`: a proof begins once what it stands on is proved and the memory that is counted for it is free
-(1 GB, 1 MB a line of code, 0.2 MB a line of definitions and proofs, 0.08 MB a line of code below, and five times the libraries
-of the kit that are loaded, 2.5 GB at most), those with the most lines behind them first; edits fill what proofs leave. A crate
-that has no row counts as those together that have none. So it tells what a cut would bring before anything is proved, and is
-some minutes off. Proves nothing.
+It goes by the order of `rt`: a proof begins once what it stands on is proved, those with the most lines behind them first, and
+the edits of a crate, one task, behind its proof. With `--jobs N`, as `.ci/run` asks for, N of them go side by side, one processor
+each. Without it a task begins only where the memory that is counted for it is free (1 GB, 1 MB a line of code, 0.2 MB a line of
+definitions and proofs, 0.08 MB a line of code below, and five times the libraries of the kit that are loaded, 2.5 GB at most), and
+those that fit pass one that waits. A crate that has no row counts as those together that have none. So it tells what a cut would
+bring before anything is proved, and is some minutes off. Proves nothing.
 """
 import argparse
 import functools
@@ -85,41 +86,33 @@ def tasks_of(house):
     tasks = {}
     for it in house.crates:
         tasks[it, "proof"] = ([(d, "proof") for d in house.below(it)], house.code[it], house.memory(it), house.seconds[it])
-    for it in house.crates:
-        if house.edits[it]:
-            each = 13 + 0.06 * house.seconds[it]
-            tasks[it, "seed"] = ([(it, "proof")], 0, house.memory(it), 0.85 * house.seconds[it])
-            tasks[it, "edits"] = ([(it, "seed")], 0, house.memory(it), house.edits[it] * each)
+        count = house.edits[it]
+        if count:
+            seconds = 0.85 * house.seconds[it] + count * (13 + 0.06 * house.seconds[it])
+            tasks[it, "edits"] = ([(it, "proof")], house.code[it], house.memory(it), seconds)
     return tasks
 
 
-def order(tasks, memory, start):
+def order(tasks, memory, start, fixed):
     """The tasks with their beginnings, ends and processors."""
     behind = {it: 0 for it in tasks}
     for key in reversed(list(tasks)):
         behind[key] += tasks[key][1]
         for it in tasks[key][0]:
             behind[it] = max(behind[it], behind[key])
-    fills = lambda it: it[1] != "proof"
-    left = sorted(tasks, key=lambda it: (fills(it), -behind[it]))
-    running, ended, now, told = {}, set(), start, []
+    left = sorted(tasks, key=lambda it: -behind[it])
+    lanes, running, ended, now, told = fixed or LANES, {}, set(), start, []
     while left or running:
         ready = [it for it in left if all(below in ended for below in tasks[it][0])]
-        proofs, lacks = [it for it in ready if not fills(it)], False
         for at, key in enumerate(ready):
-            if lacks and fills(key):
-                break
             _, _, needs, seconds = tasks[key]
             room = memory - sum(it[1] for it in running.values())
-            idle = LANES - sum(it[2] for it in running.values())
-            if idle > 0 and (not running or needs <= room):
+            idle = lanes - sum(it[2] for it in running.values())
+            if idle > 0 and (fixed or not running or needs <= room):
                 left.remove(key)
-                others = len(proofs) - proofs.index(key) if key in proofs else len(ready) - at
-                spare = min(LANES, idle // others, 1 + int((room / needs - 1) / 0.6)) if key[1] != "edits" else 1
+                spare = 1 if fixed or key[1] == "edits" else min(LANES, idle // (len(ready) - at), 1 + int((room / needs - 1) / 0.6))
                 jobs = max(1, spare)
                 running[key] = now + seconds / FASTER[jobs], needs * (1 + 0.6 * (jobs - 1)), jobs, now
-            else:
-                lacks = lacks or idle > 0 and key in proofs
         now = min(it[0] for it in running.values())
         for key in [it for it in running if running[it][0] <= now]:
             end, _, jobs, begun = running.pop(key)
@@ -130,8 +123,9 @@ def order(tasks, memory, start):
 
 def main():
     words = argparse.ArgumentParser(description=__doc__, formatter_class=argparse.RawDescriptionHelpFormatter)
-    words.add_argument("--memory", type=float, default=20.5, help="what may be counted, in GB (default: %(default)s)")
-    words.add_argument("--start", type=float, default=120, help="seconds before anything is proved (default: %(default)s)")
+    words.add_argument("--jobs", type=int, default=0, metavar="N", help="so many side by side, whatever memory they may take")
+    words.add_argument("--memory", type=float, default=19.1, help="what may be counted, in GB (default: %(default)s)")
+    words.add_argument("--start", type=float, default=180, help="seconds before anything is proved (default: %(default)s)")
     words.add_argument("--without-edits", nargs="*", default=[], metavar="CRATE")
     words.add_argument("--show", action="store_true", help="each task with its minutes")
     asked = words.parse_args()
@@ -140,7 +134,7 @@ def main():
         house.edits[it] = 0
     end, begin, slack = house.chain()
     tasks = tasks_of(house)
-    told = order(tasks, asked.memory * 1e9, asked.start)
+    told = order(tasks, asked.memory * 1e9, asked.start, asked.jobs)
     if asked.show:
         for begun, over, jobs, (crate, kind) in sorted(told, key=lambda it: it[1]):
             print(f"{begun / 60:6.1f} {over / 60:6.1f} {jobs} {crate} {kind}")

@@ -6,3 +6,4 @@ pub mod Limits
 pub mod Rates
 pub mod Sources
 pub mod Unheard
+pub mod Waits

@@ -7,7 +7,7 @@
 //!
 //! ```text
 //! let mut link = Guard::new(alloc, keys, link, clock, Limit::of_rate(20), gateways)?;
-//! link.wait(1000);
+//! link.wait_until_due(next_due, now);
 //! let found = link.receive()?;
 //! ```
 #![tactic(auto)]
@@ -19,6 +19,7 @@ pub mod laws;
 mod limit;
 mod sources;
 mod unheard;
+mod waiting;
 
 pub use guard::Guard;
 pub use limit::Limit;

@@ -3,4 +3,3 @@ pub mod Hops
 pub mod Printing
 pub mod Reloads
 pub mod Turns
-pub mod Waits

@@ -21,7 +21,7 @@ use Rattle.sipd_arguments.specs.declared.exit.Exit.TheVariants.{Recording}
 use Rattle.sipd_service.specs.Exits.{exit_of_serve}
 use Rattle.sipd_service.specs.Printing.{start_text, turns_text}
 use Rattle.sipd_service.specs.Reloads.{HearsHops, IsUnnoted, MayChange, always_of}
-use Rattle.sipd_service.specs.Waits.{wait_before}
+use Rattle.sip_guard.specs.Waits.{wait_before}
 use Rattle.sip_uri.specs.declared.addr.Addr.{Addr}
 
 -- A service as it is seen: its engine, the port that it has bound, and what is known of its configuration's file, where that is watched; whom

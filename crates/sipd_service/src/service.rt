@@ -6,7 +6,6 @@ ghost use Rattle.sipd_service.specs.Exits;
 ghost use Rattle.sipd_service.specs.Printing.{PrintsServed, start_text};
 ghost use Rattle.sipd_service.specs.Reloads.{FollowsHops, IsUnnoted, MayChange};
 ghost use Rattle.sipd_service.specs.Turns.{AreTurns, EndsCounted, EndsEarly, EndsTurn, EndsWithin, IsTurn, Serves, ServesCounted, service_seen};
-ghost use Rattle.sipd_service.specs.Waits;
 
 use crate::line_printer::LinePrinter;
 use crate::reloading::reload;
@@ -27,9 +26,6 @@ use sipd_journal::{Unrecorded, WatchedJournal};
 use sipd_reload::{Watch, WatchedFile};
 use std::alloc::Global;
 use std::io::Write;
-
-/// The longest wait before a turn, in milliseconds.
-const LONGEST: u64 = 1000;
 
 /// The most milliseconds between two lines on what wasn't heard: they come once a minute at most.
 const MINUTE: u64 = 60_000;
@@ -102,16 +98,6 @@ fn exit_of_serve(e: ServeError, fault: DeviceFault) -> Exit
         ServeError::Link | ServeError::Step => Exit::Device(DeviceFault::Other),
         ServeError::Journal => Exit::Recording,
         ServeError::Audit => Exit::Device(fault),
-    }
-}
-
-/// How long to wait at a moment, in milliseconds: until something is due, at least one and at most a second.
-fn wait_before(due: Option<u64>, now: u64) -> u64
-    ensures { result ≡ Waits.wait_before due now }
-{
-    match due {
-        Some(due) => due.saturating_sub(now).min(LONGEST).max(1),
-        None => LONGEST,
     }
 }
 
@@ -249,8 +235,8 @@ fn do_turn<
         say_fault(&mut service.journal, &mut service.said, complaints);
         return Err(Exit::Recording);
     }
-    let wait = wait_before(service.engine.next_due(), now);
-    service.link.wait(wait);
+    let due = service.engine.next_due();
+    service.link.wait_until_due(due, now);
     let served = serve(
         alloc,
         &mut service.engine,

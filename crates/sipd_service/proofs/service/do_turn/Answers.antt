@@ -5,7 +5,7 @@ use Rattle.sip_run.specs.engine.engine_time.fork.Due.{IsNothingDue}
 use Rattle.model_bounds.specs.state.declared.proxy_state.ProxyState.{ProxyState}
 use Rattle.sipd_arguments.specs.declared.device_fault.DeviceFault.{DeviceFault}
 use Rattle.sipd_service.specs.Exits.{exit_of_serve}
-use Rattle.sipd_service.specs.Waits.{wait_before}
+use Rattle.sip_guard.specs.Waits.{wait_before}
 use Rattle.sipd_service.specs.Turns.{Begins, IsLookedAt, IsServedOn, ServiceSeen, service_seen}
 use Rattle.sipd_service.proofs.Changing.{err_says, hears_hops, hears_still, ok_says, same_link, stays_failed, watched_so, with_link, with_readings, with_three}
 use Rattle.sipd_service.proofs.service.do_turn.Goals as goal
@@ -34,7 +34,7 @@ returns-then-is_err-clause-ended g c =
 pub returns-in-Ok-clause-turn : goal.returns-in-Ok-clause-turn
 returns-in-Ok-clause-turn g c =
     let link : c.change-changed.new.link.link ≡ c.args.service.now.link.link = same_link c.args.service.now.engine.server c.change-changed.new.engine.server c.args.service.now.link c.change-changed.new.link c.change-changed.ensures.hears in
-    let first : ServiceSeen = service_seen c.change-changed.new.engine c.args.service.now.port c.change-changed.new.watch c.wait.new.self (g.C.Clock.readings c.now-now.new.self) (g.J.Journal.written c.change-changed.new.journal) (g.J.Journal.faulted c.change-changed.new.journal) (g.N.Rng.stream c.args.service.now.words) c.args.printer.now.has_failed (g.O.Write.contents c.args.printer.now.output) in
+    let first : ServiceSeen = service_seen c.change-changed.new.engine c.args.service.now.port c.change-changed.new.watch c.wait_until_due.new.self (g.C.Clock.readings c.now-now.new.self) (g.J.Journal.written c.change-changed.new.journal) (g.J.Journal.faulted c.change-changed.new.journal) (g.N.Rng.stream c.args.service.now.words) c.args.printer.now.has_failed (g.O.Write.contents c.args.printer.now.output) in
     let looked : ServiceSeen = service_seen c.args.service.now.engine c.args.service.now.port c.args.service.now.watch c.args.service.now.link (g.C.Clock.readings c.now-now.new.self) (g.J.Journal.written c.look.new.journal) (g.J.Journal.faulted c.look.new.journal) (g.N.Rng.stream c.args.service.now.words) c.args.printer.now.has_failed (g.O.Write.contents c.args.printer.now.output) in
     let last : ServiceSeen = service_seen c.serve-served.new.engine c.args.service.now.port c.change-changed.new.watch c.serve-served.new.link (g.C.Clock.readings c.serve-served.new.clock) (g.J.Journal.written c.serve-served.new.journal) (g.J.Journal.faulted c.serve-served.new.journal) (g.N.Rng.stream c.serve-served.new.words) c.serve-served.new.audit.has_failed (g.O.Write.contents c.serve-served.new.audit.output) in
     let after : ServiceSeen = service_seen c.serve-served.new.engine c.args.service.now.port c.change-changed.new.watch c.say_unheard.new.link (g.C.Clock.readings c.serve-served.new.clock) (g.J.Journal.written c.say_fault-2.new.journal) (g.J.Journal.faulted c.say_fault-2.new.journal) (g.N.Rng.stream c.serve-served.new.words) c.serve-served.new.audit.has_failed (g.O.Write.contents c.serve-served.new.audit.output) in
@@ -44,13 +44,12 @@ returns-in-Ok-clause-turn g c =
       seen = looked.devices;
       looked = record { others = with_readings looked.devices (and_counted (g.C.Clock.readings c.args.service.now.clock) c.now-now.result) c.now-now.ensures; noted = c.look.ensures.noted };
       changed = ok_says c.change-changed.result (sym c.is_err.ensures.value ∙ c.if-is_err.false) c.change-changed.ensures.changed;
-      hears = hears_still c.args.service.now.engine.server c.change-changed.new.engine.server c.args.service.now.link c.change-changed.new.link c.wait.new.self c.change-changed.ensures.hears c.wait.ensures.allowances;
-      others = with_link first.devices c.args.service.now.link.link.heard c.args.service.now.link.link.given (c.wait.ensures.heard ∙ ap (λ l. l.heard) link) (c.wait.ensures.given ∙ ap (λ l. l.given) link);
+      hears = hears_still c.args.service.now.engine.server c.change-changed.new.engine.server c.args.service.now.link c.change-changed.new.link c.wait_until_due.new.self c.change-changed.ensures.hears c.wait_until_due.ensures.allowances;
+      others = with_link first.devices c.args.service.now.link.link.heard c.args.service.now.link.link.given (c.wait_until_due.ensures.heard ∙ ap (λ l. l.heard) link) (c.wait_until_due.ensures.given ∙ ap (λ l. l.given) link);
       still = c.change-changed.ensures.state;
       same_port = refl;
       next = subst (λ (s : ProxyState). MatchOption c.next_due.result (IsNothingDue s.requests) (IsNext s.requests)) c.change-changed.ensures.state c.next_due.ensures.first;
-      waited = subst (λ (w : Option (List ℕ)). GrewBy (wait_before c.next_due.result c.now-now.result) w c.wait.new.self.link.waits) (ap (λ l. l.waits) link)
-          (subst (λ (n : ℕ). GrewBy n c.change-changed.new.link.link.waits c.wait.new.self.link.waits) c.wait_before-wait.ensures c.wait.ensures.waited);
+      waited = subst (λ (w : Option (List ℕ)). GrewBy (wait_before c.next_due.result c.now-now.result) w c.wait_until_due.new.self.link.waits) (ap (λ l. l.waits) link) c.wait_until_due.ensures.waited;
     } in
     let ends : IsLookedAt last.devices after.devices = record {
       others = with_link after.devices c.serve-served.new.link.link.heard c.serve-served.new.link.link.given (ap (λ l. l.heard) c.say_unheard.ensures.link) (ap (λ l. l.given) c.say_unheard.ensures.link);
@@ -67,7 +66,7 @@ returns-in-Ok-clause-turn g c =
 pub returns-in-Err-clause-ended : goal.returns-in-Err-clause-ended
 returns-in-Err-clause-ended g c =
     let link : c.change-changed.new.link.link ≡ c.args.service.now.link.link = same_link c.args.service.now.engine.server c.change-changed.new.engine.server c.args.service.now.link c.change-changed.new.link c.change-changed.ensures.hears in
-    let first : ServiceSeen = service_seen c.change-changed.new.engine c.args.service.now.port c.change-changed.new.watch c.wait.new.self (g.C.Clock.readings c.now-now.new.self) (g.J.Journal.written c.change-changed.new.journal) (g.J.Journal.faulted c.change-changed.new.journal) (g.N.Rng.stream c.args.service.now.words) c.args.printer.now.has_failed (g.O.Write.contents c.args.printer.now.output) in
+    let first : ServiceSeen = service_seen c.change-changed.new.engine c.args.service.now.port c.change-changed.new.watch c.wait_until_due.new.self (g.C.Clock.readings c.now-now.new.self) (g.J.Journal.written c.change-changed.new.journal) (g.J.Journal.faulted c.change-changed.new.journal) (g.N.Rng.stream c.args.service.now.words) c.args.printer.now.has_failed (g.O.Write.contents c.args.printer.now.output) in
     let looked : ServiceSeen = service_seen c.args.service.now.engine c.args.service.now.port c.args.service.now.watch c.args.service.now.link (g.C.Clock.readings c.now-now.new.self) (g.J.Journal.written c.look.new.journal) (g.J.Journal.faulted c.look.new.journal) (g.N.Rng.stream c.args.service.now.words) c.args.printer.now.has_failed (g.O.Write.contents c.args.printer.now.output) in
     let last : ServiceSeen = service_seen c.serve-served.new.engine c.args.service.now.port c.change-changed.new.watch c.serve-served.new.link (g.C.Clock.readings c.serve-served.new.clock) (g.J.Journal.written c.serve-served.new.journal) (g.J.Journal.faulted c.serve-served.new.journal) (g.N.Rng.stream c.serve-served.new.words) c.serve-served.new.audit.has_failed (g.O.Write.contents c.serve-served.new.audit.output) in
     let after : ServiceSeen = service_seen c.serve-served.new.engine c.args.service.now.port c.change-changed.new.watch c.say_unheard.new.link (g.C.Clock.readings c.serve-served.new.clock) (g.J.Journal.written c.say_fault-2.new.journal) (g.J.Journal.faulted c.say_fault-2.new.journal) (g.N.Rng.stream c.serve-served.new.words) c.serve-served.new.audit.has_failed (g.O.Write.contents c.serve-served.new.audit.output) in
@@ -77,13 +76,12 @@ returns-in-Err-clause-ended g c =
       seen = looked.devices;
       looked = record { others = with_readings looked.devices (and_counted (g.C.Clock.readings c.args.service.now.clock) c.now-now.result) c.now-now.ensures; noted = c.look.ensures.noted };
       changed = ok_says c.change-changed.result (sym c.is_err.ensures.value ∙ c.if-is_err.false) c.change-changed.ensures.changed;
-      hears = hears_still c.args.service.now.engine.server c.change-changed.new.engine.server c.args.service.now.link c.change-changed.new.link c.wait.new.self c.change-changed.ensures.hears c.wait.ensures.allowances;
-      others = with_link first.devices c.args.service.now.link.link.heard c.args.service.now.link.link.given (c.wait.ensures.heard ∙ ap (λ l. l.heard) link) (c.wait.ensures.given ∙ ap (λ l. l.given) link);
+      hears = hears_still c.args.service.now.engine.server c.change-changed.new.engine.server c.args.service.now.link c.change-changed.new.link c.wait_until_due.new.self c.change-changed.ensures.hears c.wait_until_due.ensures.allowances;
+      others = with_link first.devices c.args.service.now.link.link.heard c.args.service.now.link.link.given (c.wait_until_due.ensures.heard ∙ ap (λ l. l.heard) link) (c.wait_until_due.ensures.given ∙ ap (λ l. l.given) link);
       still = c.change-changed.ensures.state;
       same_port = refl;
       next = subst (λ (s : ProxyState). MatchOption c.next_due.result (IsNothingDue s.requests) (IsNext s.requests)) c.change-changed.ensures.state c.next_due.ensures.first;
-      waited = subst (λ (w : Option (List ℕ)). GrewBy (wait_before c.next_due.result c.now-now.result) w c.wait.new.self.link.waits) (ap (λ l. l.waits) link)
-          (subst (λ (n : ℕ). GrewBy n c.change-changed.new.link.link.waits c.wait.new.self.link.waits) c.wait_before-wait.ensures c.wait.ensures.waited);
+      waited = subst (λ (w : Option (List ℕ)). GrewBy (wait_before c.next_due.result c.now-now.result) w c.wait_until_due.new.self.link.waits) (ap (λ l. l.waits) link) c.wait_until_due.ensures.waited;
     } in
     let ends : IsLookedAt last.devices after.devices = record {
       others = with_link after.devices c.serve-served.new.link.link.heard c.serve-served.new.link.link.given (ap (λ l. l.heard) c.say_unheard.ensures.link) (ap (λ l. l.given) c.say_unheard.ensures.link);

@@ -1,4 +1,4 @@
--- How long the program waits before a turn.
+-- How long a link is waited on before a turn.
 use Rattle.std.specs.Prelude.{ℕ, ◌-◌, min, max, Option, Some, None}
 
 -- the longest wait, in milliseconds (this project's profile)
