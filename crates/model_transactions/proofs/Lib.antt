@@ -17,3 +17,5 @@ pub mod Near
 pub mod Kept
 pub mod Opened
 pub mod NearTimers
+pub mod Entries
+pub mod Queues

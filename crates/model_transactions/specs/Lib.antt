@@ -7,6 +7,8 @@ pub mod Ties
 pub mod Copies
 pub mod Fits
 pub mod Near
+pub mod Queue
+pub mod Matching
 pub use Rattle.sip_context_branches.specs as context_branches
 pub use Rattle.sip_context_branches.specs.context_model
 pub use Rattle.sip_context_branches.specs.state

@@ -2,7 +2,7 @@
 //! `sip_client` runs each branch, which of `sip_server` the answering side, and that at every event the machine's next state
 //! fits what the definitions make of the part, its actions are what the event sends, and its timers are those that the part
 //! then has (`fitting_events`, `machines`); which timers an open request names, at which moments something goes again, and
-//! how many copies may still be sent (`ties`, `copies`); and that each of its moments is at most 185,000 ms past that of
+//! how many copies may still be sent (`ties`, `copies`); in which order all that stand fire (`queue`); and that each of its moments is at most 185,000 ms past that of
 //! the last event (`bounds`, `events`, `openings`, `timers`; RFC 3261 16.6 step 11). Nothing runs here: bodies call these
 //! laws.
 //!
@@ -21,6 +21,7 @@ pub mod machines;
 pub mod openings;
 pub mod other_client;
 pub mod other_server;
+pub mod queue;
 pub mod ties;
 mod timer_keys;
 pub mod timers;

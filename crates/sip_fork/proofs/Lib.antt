@@ -18,5 +18,6 @@ mod Reasons
 mod Sent
 mod Tying
 mod Walks
+mod Queueing
 mod Ends
 mod Quietly

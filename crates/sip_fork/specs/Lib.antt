@@ -2,6 +2,7 @@ pub mod Keeping
 pub mod Contexts
 pub mod Due
 pub mod Ending
+pub mod Firing
 pub mod Places
 pub mod Queue
 pub mod Quiet

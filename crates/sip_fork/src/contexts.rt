@@ -20,6 +20,8 @@ ghost use Rattle.sip_context.specs.declared.input.Input as Inputs;
 ghost use Rattle.sip_dialog_lessons.specs.state.declared.server.Server as Servers;
 ghost use Rattle.sip_fork.specs.Ending.{IsDeadlineOf, ended, left_invite};
 ghost use Rattle.sip_fork.specs.Contexts.{IsFitting, IsSame};
+ghost use Rattle.sip_fork.specs.Firing.{KeepsOrder};
+ghost use Rattle.sip_request.specs.transactions_model.Matching.{AreMatched};
 ghost use Rattle.sip_fork.specs.Due.{IsFirst, IsFirstAt, IsNothingDue, IsOfFirst};
 ghost use Rattle.sip_fork.specs.Places.{branch_at};
 
@@ -251,6 +253,8 @@ impl<T: Timers> Contexts<T> {
         requires within { IsWithin self.old.moment change }
         requires fitting { IsFitting self.old.reached self.old.room change }
         ensures requests { self.new.requests ≡ replaced change self.old.requests }
+        ensures queue { (r : OpenRequest) → slice_get self.old.requests place ≡ Some r → AreMatched r.branches change.branches
+            → KeepsOrder self.old.pending self.old.requests self.new.pending self.new.requests }
         ensures moment { self.new.moment ≡ self.old.moment }
         ensures reached { self.new.reached ≡ self.old.reached }
         ensures places { self.old.places ≤ self.new.places }
@@ -287,6 +291,7 @@ impl<T: Timers> Contexts<T> {
         requires kept { (r : OpenRequest) → slice_get self.old.requests place ≡ Some r → IsKeptAs self.old.moment r (ended transaction r) }
         ensures requests { (r : OpenRequest) → slice_get self.old.requests place ≡ Some r
             → self.new.requests ≡ replaced (ended transaction r) self.old.requests }
+        ensures queue { KeepsOrder self.old.pending self.old.requests self.new.pending self.new.requests }
         ensures left { (r : OpenRequest) → slice_get self.old.requests place ≡ Some r → result ≡ left_invite (ended transaction r) }
         ensures moment { self.new.moment ≡ self.old.moment }
         ensures reached { self.new.reached ≡ self.old.reached }
@@ -315,6 +320,7 @@ impl<T: Timers> Contexts<T> {
         requires within { IsWithin self.old.moment opening }
         requires fitting { IsFitting self.old.reached self.old.room opening }
         ensures requests { self.new.requests ≡ with_one_more opening self.old.requests }
+        ensures queue { KeepsOrder self.old.pending self.old.requests self.new.pending self.new.requests }
         ensures moment { self.new.moment ≡ self.old.moment }
         ensures reached { self.new.reached ≡ self.old.reached }
         ensures places { self.old.places ≤ self.new.places + 1 }

@@ -10,6 +10,7 @@ ghost use Rattle.sip_request.specs.Ended.{become, ended_at};
 ghost use Rattle.sip_request.specs.Named.{named_by};
 ghost use Rattle.sip_request.specs.Near.{IsNear};
 ghost use Rattle.sip_timers.specs.Moves.{IsHeld, Moves};
+ghost use Rattle.sip_timers.specs.Setting.{SetsInOrder};
 ghost use Rattle.sip_fork.specs.Ending.{IsDeadlineOf, ended};
 
 use crate::change::have_ended;
@@ -85,6 +86,7 @@ pub(crate) fn stop<T: Timers>(timers: &mut T, request: &Request, transaction: Tr
     requires timed { IsNear (2 ^ 64) request.now.open_request }
     ensures moves { Moves (T.pending timers.old) (named_by request.now) (T.pending timers.new)
         (named_by (become (ended transaction request.now.open_request) request.now)) }
+    ensures sets { SetsInOrder (T.pending timers.old) [] (T.pending timers.new) [] }
     ensures left { T.room timers.old ≤ T.room timers.new }
     ensures still { T.reached timers.new ≡ T.reached timers.old }
 {

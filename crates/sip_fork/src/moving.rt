@@ -4,6 +4,10 @@ ghost use Rattle.sip_transaction_table.specs.Key.{same_key};
 ghost use Rattle.sip_request.specs.Named.{HasKeys, IsReady, named_by};
 ghost use Rattle.sip_request.specs.Near.{IsNear, most_timers};
 ghost use Rattle.sip_timers.specs.Moves.{IsHeld, Moves};
+ghost use Rattle.sip_timers.specs.Setting.{SetsInOrder};
+ghost use Rattle.sip_request.specs.transactions_model.Matching.{AreMatched};
+ghost use Rattle.sip_request.specs.Order.{keyed, named_in_order};
+ghost use Rattle.sip_fork.specs.Firing.{KeepsOrder};
 ghost use Rattle.sip_timers.specs.Timers.{KeysDiffer};
 ghost use Rattle.sip_request.specs.declared.request.Request.{Request};
 ghost use Rattle.sip_request.specs.transactions_model.Fits.{Fits};
@@ -25,10 +29,13 @@ pub(crate) fn close_row<T: Timers>(table: &mut Table<Standing>, timers: &mut Que
     requires tied { AreTied timers.old.pending timers.old.reached table.old.rows }
     ensures rows { table.new.rows ≡ remove table.old.rows place }
     ensures tied { AreTied timers.new.pending timers.new.reached table.new.rows }
+    ensures queue { KeepsOrder timers.old.pending (map (λ (r : Request). r.open_request) table.old.rows) timers.new.pending
+        (map (λ (r : Request). r.open_request) table.new.rows) }
     ensures places { table.old.room ≤ table.new.room }
     ensures room { timers.old.room ≤ timers.new.room }
     ensures still { timers.new.reached ≡ timers.old.reached }
 {
+    timers.stand_in_order();
     let row = table.remove(place);
     let standing = row.get();
     standing.request.close(timers);
@@ -40,6 +47,8 @@ fn follow<T: Timers>(row: &mut Held<Standing>, timers: &mut Queue<T>, was: &Requ
     requires timed { IsNear (2 ^ 64) was.now.open_request }
     requires ready { IsReady timers.old.reached timers.old.room (record { request = row.old.open_request; keys = row.old.branches }) }
     ensures moves { Moves timers.old.pending (named_by was.now) timers.new.pending (named_by row.new) }
+    ensures sets { AreMatched (keyed was.now.open_request.branches was.now.branches) row.old.open_request.branches
+        → SetsInOrder timers.old.pending (named_by was.now) timers.new.pending (named_in_order row.new) }
     ensures request { row.new.open_request ≡ row.old.open_request }
     ensures keys { HasKeys row.new.open_request row.new.branches }
     ensures left { timers.old.room ≤ timers.new.room + most_timers row.old.open_request }
@@ -63,10 +72,14 @@ pub(crate) fn change_row<T: Timers>(
     ensures rows { map (λ (r : Request). r.open_request) table.new.rows
         ≡ slice_set (map (λ (r : Request). r.open_request) table.old.rows) place change }
     ensures tied { AreTied timers.new.pending timers.new.reached table.new.rows }
+    ensures queue { (r : Request) → slice_get table.old.rows place ≡ Some r → AreMatched r.open_request.branches change.branches
+        → KeepsOrder timers.old.pending (map (λ (r : Request). r.open_request) table.old.rows) timers.new.pending
+        (map (λ (r : Request). r.open_request) table.new.rows) }
     ensures places { table.new.room ≡ table.old.room }
     ensures room { timers.old.room ≤ timers.new.room + most_timers change }
     ensures still { timers.new.reached ≡ timers.old.reached }
 {
+    timers.stand_in_order();
     let Change { mut row } = change;
     let stood = table.get(place);
     follow(&mut row, timers, &stood.request);
@@ -87,10 +100,13 @@ pub(crate) fn end_row<T: Timers>(
     ensures rows { (r : Request) → slice_get table.old.rows place ≡ Some r → map (λ (r : Request). r.open_request) table.new.rows
         ≡ slice_set (map (λ (r : Request). r.open_request) table.old.rows) place (ended transaction r.open_request) }
     ensures tied { AreTied timers.new.pending timers.new.reached table.new.rows }
+    ensures queue { KeepsOrder timers.old.pending (map (λ (r : Request). r.open_request) table.old.rows) timers.new.pending
+        (map (λ (r : Request). r.open_request) table.new.rows) }
     ensures places { table.new.room ≡ table.old.room }
     ensures room { timers.old.room ≤ timers.new.room }
     ensures still { timers.new.reached ≡ timers.old.reached }
 {
+    timers.stand_in_order();
     let row = table.get(place);
     stop(timers, &row.request, transaction);
     table.end(place, transaction);
@@ -101,6 +117,7 @@ fn begin<T: Timers>(place: &mut Held<Standing>, timers: &mut Queue<T>)
     requires apart { KeysDiffer timers.old.pending }
     requires ready { IsReady timers.old.reached timers.old.room (record { request = place.old.open_request; keys = place.old.branches }) }
     ensures moves { Moves timers.old.pending [] timers.new.pending (named_by place.new) }
+    ensures sets { SetsInOrder timers.old.pending [] timers.new.pending (named_in_order place.new) }
     ensures request { place.new.open_request ≡ place.old.open_request }
     ensures keys { HasKeys place.new.open_request place.new.branches }
     ensures left { timers.old.room ≤ timers.new.room + most_timers place.old.open_request }
@@ -124,10 +141,13 @@ pub(crate) fn open_row<T: Timers>(
     requires fitting { IsFitting timers.old.reached timers.old.room opening }
     ensures rows { map (λ (r : Request). r.open_request) table.new.rows ≡ map (λ (r : Request). r.open_request) table.old.rows ++ opening ∷ [] }
     ensures tied { AreTied timers.new.pending timers.new.reached table.new.rows }
+    ensures queue { KeepsOrder timers.old.pending (map (λ (r : Request). r.open_request) table.old.rows) timers.new.pending
+        (map (λ (r : Request). r.open_request) table.new.rows) }
     ensures places { table.old.room ≤ table.new.room + 1 }
     ensures room { timers.old.room ≤ timers.new.room + most_timers opening }
     ensures still { timers.new.reached ≡ timers.old.reached }
 {
+    timers.stand_in_order();
     let Opening { mut place } = opening;
     begin(&mut place, timers);
     table.push(place);

@@ -66,6 +66,13 @@ impl<T: Timers> Queue<T> {
         self.timers.next()
     }
 
+    /// No timer is due before one that stands in front of it.
+    pub(crate) fn stand_in_order(&self)
+        ensures { IsQueue self.now.pending }
+    {
+        let _timers = &self.timers;
+    }
+
     /// A moment comes by which no timer is due.
     pub(crate) fn reach(&mut self, moment: u64)
         requires { due_by moment self.old.pending ≡ 0 }

@@ -45,12 +45,6 @@ held_first ts us vs a b c third second h m n = record {
   keys_differ = n.keys_differ (m.keys_differ h.keys_differ);
 }
 
-pub Moves-three : (ts us vs ws a b c first second third : List Timer) → Moves ts a us first → Moves us b vs second → Moves vs c ws third → Moves ts (a ++ (b ++ c)) ws (first ++ (second ++ third))
-Moves-three ts us vs ws a b c first second third k m n = record {
-  same = λ p. omega (arith, k.same p, m.same p, n.same p, count-append p a (b ++ c), count-append p b c, count-append p first (second ++ third), count-append p second third);
-  keys_differ = λ differ. n.keys_differ (m.keys_differ (k.keys_differ differ));
-}
-
 -- the third one first
 pub Moves-three_back : (ts us vs ws a b c first second third : List Timer) → Moves ts c us third → Moves us b vs second → Moves vs a ws first → Moves ts (a ++ (b ++ c)) ws (first ++ (second ++ third))
 Moves-three_back ts us vs ws a b c first second third k m n = record {

@@ -1,9 +1,13 @@
-ghost use Rattle.std.specs.Prelude.{◌≡◌, ◌≤◌, ◌<◌, ◌+◌, ◌*◌, ◌^◌, ◌++◌, [], true, length, IfSome};
+ghost use Rattle.std.specs.Prelude.{◌≡◌, ◌≤◌, ◌<◌, ◌+◌, ◌*◌, ◌^◌, ◌++◌, [], true, length, reverse, IfSome, if◌then◌else◌};
 ghost use Rattle.sip_timers.specs.Moves.{IsHeld, Moves};
+ghost use Rattle.sip_timers.specs.Setting.{SetsInOrder};
 ghost use Rattle.model_transactions.specs.state.declared.branch.Phase.TheVariants.{Ended};
 ghost use Rattle.model_transactions.specs.Ties.{branch_timers, branches_timers, owner_of, part_timers};
 ghost use Rattle.sip_request.specs.Likeness.{AreAlike, AreKinds};
 ghost use Rattle.sip_request.specs.Near.{AreBefore, IsNear};
+ghost use Rattle.model_transactions.specs.Matching.{AreMatched, is_next};
+ghost use Rattle.sip_request.specs.Order.{branches_in_order, keyed, left_branches, met_at};
+ghost use Rattle.model_transactions.specs.context_model.Branches.{is_same_branch};
 ghost use Rattle.sip_request.specs.Walk.{left_timers};
 
 use crate::likeness::are_as_far;
@@ -28,9 +32,17 @@ struct Synced {
     place: usize,
 }
 
+/// Whether two branches are one.
+fn is_same(was: &Branch, next: &Branch) -> bool
+    ensures { result ≡ is_same_branch was.now next.now }
+{
+    was.number == next.number && was.is_cancel == next.is_cancel
+}
+
 /// Whether the branch at a place has keys and is this one.
 fn stands_at(was: &OpenRequest, keys: &[TimerKeys], place: usize, branch: &Branch) -> bool
-    ensures { result ≡ true → (place < length was.now.branches) × (place < length keys.now) }
+    ensures within { result ≡ true → (place < length was.now.branches) × (place < length keys.now) }
+    ensures next { result ≡ is_next (left_branches was.now keys.now place) branch.now }
 {
     if place >= keys.len() {
         return false;
@@ -39,8 +51,7 @@ fn stands_at(was: &OpenRequest, keys: &[TimerKeys], place: usize, branch: &Branc
     if place >= branches.len() {
         return false;
     }
-    let stood = &branches[place];
-    stood.number == branch.number && stood.is_cancel == branch.is_cancel
+    is_same(&branches[place], branch)
 }
 
 /// Lets the timers of a branch stand, and no others of the branch at a place if that is the same one: each is compared.
@@ -62,6 +73,9 @@ fn change_branch<T: Timers>(
     ensures moves { Moves (T.pending timers.old) (left_timers was.now was_keys.now place) (T.pending timers.new)
         (part_timers next.now.number (owner_of branch.now) result.keys (branch_timers next.now branch.now)
         ++ left_timers was.now was_keys.now result.place) }
+    ensures sets { SetsInOrder (T.pending timers.old) (met_at was.now was_keys.now place branch.now) (T.pending timers.new)
+        (reverse (part_timers next.now.number (owner_of branch.now) result.keys (branch_timers next.now branch.now))) }
+    ensures place { result.place ≡ (if is_next (left_branches was.now was_keys.now place) branch.now then place + 1 else place) }
     ensures left { T.room timers.old ≤ T.room timers.new + 3 }
     ensures still { T.reached timers.new ≡ T.reached timers.old }
 {
@@ -89,8 +103,9 @@ fn kept_at(
     branch: &Branch,
 ) -> Option<Synced>
     requires { AreAlike was.now next.now }
-    ensures { IfSome result (λ s. left_timers was.now keys.now place
+    ensures timers { IfSome result (λ s. left_timers was.now keys.now place
         ≡ part_timers next.now.number (owner_of branch.now) s.keys (branch_timers next.now branch.now) ++ left_timers was.now keys.now s.place) }
+    ensures next { IfSome result (λ s. (s.place ≡ place + 1) × (is_next (left_branches was.now keys.now place) branch.now ≡ true)) }
 {
     if place >= keys.len() {
         return None;
@@ -110,6 +125,7 @@ fn kept_at(
 
 /// Lets the timers of a branch stand, and no others of the branch at a place if that is the same one. Where
 /// the requests are alike, a branch that is as far as it was keeps its timers, and none is worked out.
+#[tactic(auto, using(crate::proofs::Setting::stays_in_order))]
 fn sync_branch<T: Timers>(
     timers: &mut T,
     was: &OpenRequest,
@@ -128,6 +144,9 @@ fn sync_branch<T: Timers>(
     ensures moves { Moves (T.pending timers.old) (left_timers was.now was_keys.now place) (T.pending timers.new)
         (part_timers next.now.number (owner_of branch.now) result.keys (branch_timers next.now branch.now)
         ++ left_timers was.now was_keys.now result.place) }
+    ensures sets { SetsInOrder (T.pending timers.old) (met_at was.now was_keys.now place branch.now) (T.pending timers.new)
+        (reverse (part_timers next.now.number (owner_of branch.now) result.keys (branch_timers next.now branch.now))) }
+    ensures place { result.place ≡ (if is_next (left_branches was.now was_keys.now place) branch.now then place + 1 else place) }
     ensures left { T.room timers.old ≤ T.room timers.new + 3 }
     ensures still { T.reached timers.new ≡ T.reached timers.old }
 {
@@ -147,11 +166,13 @@ fn has_ended(branch: &Branch) -> bool
 }
 
 /// Stops the timers of a branch. One that has ended has none.
+#[tactic(auto, using(crate::proofs::Setting::stays_in_order))]
 fn stop_branch<T: Timers>(timers: &mut T, was: &OpenRequest, branch: &Branch, keys: TimerKeys)
     requires held { IsHeld (T.pending timers.old) (part_timers was.now.number (owner_of branch.now) keys (branch_timers was.now branch.now)) }
     requires early { AreBefore (2 ^ 64) (branch_timers was.now branch.now) }
     ensures moves { Moves (T.pending timers.old) (part_timers was.now.number (owner_of branch.now) keys (branch_timers was.now branch.now))
         (T.pending timers.new) [] }
+    ensures sets { SetsInOrder (T.pending timers.old) [] (T.pending timers.new) [] }
     ensures left { T.room timers.old ≤ T.room timers.new }
     ensures still { T.reached timers.new ≡ T.reached timers.old }
 {
@@ -162,6 +183,7 @@ fn stop_branch<T: Timers>(timers: &mut T, was: &OpenRequest, branch: &Branch, ke
 }
 
 /// Stops the timers of the branch at a place.
+#[tactic(auto, using(crate::proofs::Setting::stays_in_order))]
 pub(crate) fn stop_at<T: Timers>(
     timers: &mut T,
     was: &OpenRequest,
@@ -171,6 +193,7 @@ pub(crate) fn stop_at<T: Timers>(
     requires held { IsHeld (T.pending timers.old) (left_timers was.now keys.now place) }
     requires timed { IsNear (2 ^ 64) was.now }
     ensures moves { Moves (T.pending timers.old) (left_timers was.now keys.now place) (T.pending timers.new) (left_timers was.now keys.now (place + 1)) }
+    ensures sets { SetsInOrder (T.pending timers.old) [] (T.pending timers.new) [] }
     ensures left { T.room timers.old ≤ T.room timers.new }
     ensures still { T.reached timers.new ≡ T.reached timers.old }
 {
@@ -194,6 +217,7 @@ pub(crate) fn stop_left<T: Timers>(
     requires held { IsHeld (T.pending timers.old) (left_timers was.now keys.now place) }
     requires timed { IsNear (2 ^ 64) was.now }
     ensures moves { Moves (T.pending timers.old) (left_timers was.now keys.now place) (T.pending timers.new) [] }
+    ensures sets { SetsInOrder (T.pending timers.old) [] (T.pending timers.new) [] }
     ensures left { T.room timers.old ≤ T.room timers.new }
     ensures still { T.reached timers.new ≡ T.reached timers.old }
 {
@@ -223,6 +247,9 @@ pub(crate) fn sync_branches<T: Timers>(
     requires near { IsNear (T.reached timers.old + 2 ^ 30) next.now }
     ensures moves { Moves (T.pending timers.old) (branches_timers was.now was.now.branches was_keys.now) (T.pending timers.new)
         (branches_timers next.now next.now.branches keys.new) }
+    ensures sets { AreMatched (keyed was.now.branches was_keys.now) next.now.branches
+        → SetsInOrder (T.pending timers.old) (branches_timers was.now was.now.branches was_keys.now) (T.pending timers.new)
+        (branches_in_order next.now next.now.branches keys.new) }
     ensures left { T.room timers.old ≤ T.room timers.new + 3 * length next.now.branches }
     ensures still { T.reached timers.new ≡ T.reached timers.old }
 {

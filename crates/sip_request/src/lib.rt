@@ -13,6 +13,7 @@ mod likeness;
 mod naming;
 mod near;
 mod part;
+pub mod queue_laws;
 mod request;
 mod retiming;
 mod slots;

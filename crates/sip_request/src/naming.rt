@@ -12,6 +12,7 @@ ghost use Rattle.model_transactions.specs.OtherServer.{other_side_timers};
 ghost use Rattle.model_transactions.specs.Ties.{branch_timers, owner_of, part_timers, side_timers};
 ghost use Rattle.model_transactions.specs.declared.timer_keys.TimerKeys.{TimerKeys};
 ghost use Rattle.sip_request.specs.Near.{AreBefore};
+ghost use Rattle.sip_request.specs.Order.{AreInSlots};
 ghost use Rattle.sip_request.specs.Slots.{listed, part_standing, slots_standing};
 
 use crate::part::{Part, PartTimers};
@@ -77,7 +78,8 @@ fn nothing() -> PartTimers
 /// The timer of a branch of an INVITE that has its final answer: M after a 2xx, D after another one (RFC 3261 17.1.1.2,
 /// RFC 6026 7.2).
 fn lingering(until: u64, status: u16) -> PartTimers
-    ensures { result ≡ record { again = None; last = Some ((if States.is_success status then M else D), until); call = None } }
+    ensures slots { AreInSlots result }
+    ensures timers { result ≡ record { again = None; last = Some ((if States.is_success status then M else D), until); call = None } }
 {
     if is_success(status) {
         ending(Letter::M, until)
@@ -90,6 +92,7 @@ fn lingering(until: u64, status: u16) -> PartTimers
 /// 17.1.1.2; RFC 6026 7.2).
 fn invite_part(phase: Phase, again: Resend) -> PartTimers
     requires { IsEarly phase }
+    ensures slots { AreInSlots result }
     ensures timers { listed result ≡ invite_timers phase again ++ call_timers phase }
     ensures names { (number : ℕ) (owner : Owner) (keys : TimerKeys) → slots_standing number owner keys result
         ≡ part_timers number owner keys (invite_timers phase again ++ call_timers phase) }
@@ -109,6 +112,7 @@ fn invite_part(phase: Phase, again: Resend) -> PartTimers
 
 /// The timers of a branch of another request, and of a CANCEL (RFC 3261 17.1.2.2).
 fn other_part(phase: Phase, again: Resend) -> PartTimers
+    ensures slots { AreInSlots result }
     ensures timers { listed result ≡ other_timers phase again }
     ensures names { (number : ℕ) (owner : Owner) (keys : TimerKeys) → slots_standing number owner keys result
         ≡ part_timers number owner keys (other_timers phase again) }
@@ -124,6 +128,7 @@ fn other_part(phase: Phase, again: Resend) -> PartTimers
 
 /// The timers of the answering side of an INVITE (RFC 3261 17.2.1, RFC 6026 7.1).
 fn invite_side_part(side: Side, answer: &Option<LastAnswer>, again: Resend) -> PartTimers
+    ensures slots { AreInSlots result }
     ensures timers { listed result ≡ invite_side_timers side answer.now again }
     ensures names { (number : ℕ) (owner : Owner) (keys : TimerKeys) → slots_standing number owner keys result
         ≡ part_timers number owner keys (invite_side_timers side answer.now again) }
@@ -144,6 +149,7 @@ fn invite_side_part(side: Side, answer: &Option<LastAnswer>, again: Resend) -> P
 
 /// The timer of the answering side of another request (RFC 3261 17.2.2).
 fn other_side_part(side: Side) -> PartTimers
+    ensures slots { AreInSlots result }
     ensures timers { listed result ≡ other_side_timers side }
     ensures names { (number : ℕ) (owner : Owner) (keys : TimerKeys) → slots_standing number owner keys result
         ≡ part_timers number owner keys (other_side_timers side) }
@@ -172,6 +178,7 @@ fn owner_of(branch: &Branch) -> Owner
 fn timers_of_branch(call: &OpenRequest, invite: bool, branch: &Branch) -> PartTimers
     requires invite { invite ≡ States.is_invite call.now }
     requires early { AreBefore (2 ^ 64) (branch_timers call.now branch.now) }
+    ensures slots { AreInSlots result }
     ensures timers { listed result ≡ branch_timers call.now branch.now }
     ensures names { (number : ℕ) (owner : Owner) (keys : TimerKeys) → slots_standing number owner keys result
         ≡ part_timers number owner keys (branch_timers call.now branch.now) }
@@ -185,6 +192,7 @@ fn timers_of_branch(call: &OpenRequest, invite: bool, branch: &Branch) -> PartTi
 
 /// The timers of the answering side.
 fn timers_of_side(call: &OpenRequest) -> PartTimers
+    ensures slots { AreInSlots result }
     ensures timers { listed result ≡ side_timers call.now }
     ensures names { (number : ℕ) (owner : Owner) (keys : TimerKeys) → slots_standing number owner keys result
         ≡ part_timers number owner keys (side_timers call.now) }
@@ -202,6 +210,7 @@ fn timers_of_side(call: &OpenRequest) -> PartTimers
 pub(crate) fn branch_part_here(call: &OpenRequest, invite: bool, branch: &Branch) -> Part
     requires invite { invite ≡ States.is_invite call.now }
     requires early { AreBefore (2 ^ 64) (branch_timers call.now branch.now) }
+    ensures slots { AreInSlots result.timers }
     ensures timers { listed result.timers ≡ branch_timers call.now branch.now }
     ensures names { (keys : TimerKeys) → part_standing keys result
         ≡ part_timers call.now.number (owner_of branch.now) keys (branch_timers call.now branch.now) }
@@ -216,6 +225,7 @@ pub(crate) fn branch_part_here(call: &OpenRequest, invite: bool, branch: &Branch
 /// A branch of an open request, with the timers that it has by its phase.
 pub fn branch_part(call: &OpenRequest, branch: &Branch) -> Part
     requires { AreBefore (2 ^ 64) (branch_timers call.now branch.now) }
+    ensures slots { AreInSlots result.timers }
     ensures timers { listed result.timers ≡ branch_timers call.now branch.now }
     ensures names { (keys : TimerKeys) → part_standing keys result
         ≡ part_timers call.now.number (owner_of branch.now) keys (branch_timers call.now branch.now) }
@@ -225,6 +235,7 @@ pub fn branch_part(call: &OpenRequest, branch: &Branch) -> Part
 
 /// The answering side of an open request, with the timers that it has by its phase.
 pub fn side_part(call: &OpenRequest) -> Part
+    ensures slots { AreInSlots result.timers }
     ensures timers { listed result.timers ≡ side_timers call.now }
     ensures names { (keys : TimerKeys) → part_standing keys result ≡ part_timers call.now.number Of.Server keys (side_timers call.now) }
 {

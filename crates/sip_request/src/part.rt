@@ -1,6 +1,8 @@
 ghost use Rattle.std.specs.Prelude.{◌≡◌, ◌≤◌, ◌<◌, ◌+◌, ◌^◌, []};
 ghost use Rattle.sip_timers.specs.Moves.{IsHeld, Moves};
+ghost use Rattle.sip_timers.specs.Setting.{SetsInOrder};
 ghost use Rattle.model_transactions.specs.declared.timer_keys.TimerKeys.{TimerKeys};
+ghost use Rattle.sip_request.specs.Order.{AreInSlots, part_in_order};
 ghost use Rattle.sip_request.specs.Slots.{IsBefore, IsPartNear, name_of, part_standing, slot_timers};
 
 use crate::slots::{change, clear, set, standing};
@@ -50,6 +52,7 @@ fn name_of(part: &Part, letter: Letter) -> Name
 /// Lets the timer of a slot of a part stand, and no other one in place of the timer of a slot of a part before: two timers
 /// are compared only where both slots have one. Gives the key.
 #[inline(always)]
+#[tactic(auto, using(crate::proofs::Setting::stays_in_order, crate::proofs::Setting::beside_in_order))]
 fn sync_slot<T: Timers>(
     timers: &mut T,
     was: &Part,
@@ -62,6 +65,8 @@ fn sync_slot<T: Timers>(
     requires room { 1 ≤ T.room timers.old }
     requires near { IsBefore (T.reached timers.old + 2 ^ 30) slot }
     ensures moves { Moves (T.pending timers.old) (slot_timers was.now.request was.now.owner key stood) (T.pending timers.new)
+        (slot_timers next.now.request next.now.owner result slot) }
+    ensures sets { SetsInOrder (T.pending timers.old) (slot_timers was.now.request was.now.owner key stood) (T.pending timers.new)
         (slot_timers next.now.request next.now.owner result slot) }
     ensures left { T.room timers.old ≤ T.room timers.new + 1 }
     ensures still { T.reached timers.new ≡ T.reached timers.old }
@@ -95,6 +100,8 @@ pub(crate) fn sync_part<T: Timers>(
     requires room { 3 ≤ T.room timers.old }
     requires near { IsPartNear (T.reached timers.old + 2 ^ 30) next.now.timers }
     ensures moves { Moves (T.pending timers.old) (part_standing keys was.now) (T.pending timers.new) (part_standing result next.now) }
+    ensures sets { AreInSlots was.now.timers → AreInSlots next.now.timers
+        → SetsInOrder (T.pending timers.old) (part_standing keys was.now) (T.pending timers.new) (part_in_order result next.now) }
     ensures left { T.room timers.old ≤ T.room timers.new + 3 }
     ensures still { T.reached timers.new ≡ T.reached timers.old }
 {
@@ -127,10 +134,12 @@ pub(crate) fn sync_part<T: Timers>(
 
 /// Sets the timer of a slot of a part, for which there is room. Gives the key.
 #[inline(always)]
+#[tactic(auto, using(crate::proofs::Setting::stays_in_order, crate::proofs::Setting::set_in_order))]
 fn set_slot<T: Timers>(timers: &mut T, part: &Part, slot: Option<(Letter, u64)>) -> usize
     requires room { 1 ≤ T.room timers.old }
     requires near { IsBefore (T.reached timers.old + 2 ^ 30) slot }
     ensures moves { Moves (T.pending timers.old) [] (T.pending timers.new) (slot_timers part.now.request part.now.owner result slot) }
+    ensures sets { SetsInOrder (T.pending timers.old) [] (T.pending timers.new) (slot_timers part.now.request part.now.owner result slot) }
     ensures left { T.room timers.old ≤ T.room timers.new + 1 }
     ensures still { T.reached timers.new ≡ T.reached timers.old }
 {
@@ -140,18 +149,19 @@ fn set_slot<T: Timers>(timers: &mut T, part: &Part, slot: Option<(Letter, u64)>)
     }
 }
 
-/// Sets the timers of a part, for which there is room. Gives the keys.
+/// Sets the timers of a part, for which there is room, in the order in which `sync_part` does. Gives the keys.
 #[inline(always)]
 pub(crate) fn set_part<T: Timers>(timers: &mut T, part: &Part) -> TimerKeys
     requires room { 3 ≤ T.room timers.old }
     requires near { IsPartNear (T.reached timers.old + 2 ^ 30) part.now.timers }
     ensures moves { Moves (T.pending timers.old) [] (T.pending timers.new) (part_standing result part.now) }
+    ensures sets { SetsInOrder (T.pending timers.old) [] (T.pending timers.new) (part_in_order result part.now) }
     ensures left { T.room timers.old ≤ T.room timers.new + 3 }
     ensures still { T.reached timers.new ≡ T.reached timers.old }
 {
-    let again = set_slot(timers, part, part.timers.again);
-    let last = set_slot(timers, part, part.timers.last);
     let call = set_slot(timers, part, part.timers.call);
+    let last = set_slot(timers, part, part.timers.last);
+    let again = set_slot(timers, part, part.timers.again);
     TimerKeys { again, last, call }
 }
 
@@ -160,6 +170,7 @@ pub(crate) fn set_part<T: Timers>(timers: &mut T, part: &Part) -> TimerKeys
 fn stop_slot<T: Timers>(timers: &mut T, was: &Part, key: usize, stood: Option<(Letter, u64)>)
     requires { IsHeld (T.pending timers.old) (slot_timers was.now.request was.now.owner key stood) }
     ensures moves { Moves (T.pending timers.old) (slot_timers was.now.request was.now.owner key stood) (T.pending timers.new) [] }
+    ensures sets { SetsInOrder (T.pending timers.old) [] (T.pending timers.new) [] }
     ensures left { T.room timers.old ≤ T.room timers.new }
     ensures still { T.reached timers.new ≡ T.reached timers.old }
 {
@@ -172,6 +183,7 @@ fn stop_slot<T: Timers>(timers: &mut T, was: &Part, key: usize, stood: Option<(L
 pub(crate) fn stop_part<T: Timers>(timers: &mut T, was: &Part, keys: TimerKeys)
     requires { IsHeld (T.pending timers.old) (part_standing keys was.now) }
     ensures moves { Moves (T.pending timers.old) (part_standing keys was.now) (T.pending timers.new) [] }
+    ensures sets { SetsInOrder (T.pending timers.old) [] (T.pending timers.new) [] }
     ensures left { T.room timers.old ≤ T.room timers.new }
     ensures still { T.reached timers.new ≡ T.reached timers.old }
 {

@@ -2,8 +2,11 @@ ghost use Rattle.std.specs.Prelude.{◌≡◌, ◌≤◌, ◌+◌, ◌^◌, [], 
 ghost use Rattle.sip_timers.specs.Timers.{KeysDiffer};
 ghost use Rattle.sip_timers.specs.declared.error.TimerError.TheVariants.{NoMemory};
 ghost use Rattle.sip_timers.specs.Moves.{IsHeld, Moves};
+ghost use Rattle.sip_timers.specs.Setting.{SetsInOrder};
 ghost use Rattle.sip_request.specs.Near.{IsNear, most_timers};
 ghost use Rattle.sip_request.specs.Named.{HasKeys, IsReady, named_by};
+ghost use Rattle.model_transactions.specs.Matching.{AreMatched};
+ghost use Rattle.sip_request.specs.Order.{keyed, named_in_order};
 ghost use Rattle.sip_request.specs.Ended.{become, branch_ended, ended_at, side_ended};
 
 use crate::branches::stop_at;
@@ -107,6 +110,7 @@ impl Request {
         requires apart { KeysDiffer (T.pending timers.old) }
         requires ready { IsReady (T.reached timers.old) (T.room timers.old) (record { request = self.old.open_request; keys = self.old.branches }) }
         ensures moves { Moves (T.pending timers.old) [] (T.pending timers.new) (named_by self.new) }
+        ensures sets { SetsInOrder (T.pending timers.old) [] (T.pending timers.new) (named_in_order self.new) }
         ensures request { self.new.open_request ≡ self.old.open_request }
         ensures keys { HasKeys self.new.open_request self.new.branches }
         ensures left { T.room timers.old ≤ T.room timers.new + most_timers self.old.open_request }
@@ -122,6 +126,8 @@ impl Request {
         requires timed { IsNear (2 ^ 64) was.now.open_request }
         requires ready { IsReady (T.reached timers.old) (T.room timers.old) (record { request = self.old.open_request; keys = self.old.branches }) }
         ensures moves { Moves (T.pending timers.old) (named_by was.now) (T.pending timers.new) (named_by self.new) }
+        ensures sets { AreMatched (keyed was.now.open_request.branches was.now.branches) self.old.open_request.branches
+            → SetsInOrder (T.pending timers.old) (named_by was.now) (T.pending timers.new) (named_in_order self.new) }
         ensures request { self.new.open_request ≡ self.old.open_request }
         ensures keys { HasKeys self.new.open_request self.new.branches }
         ensures left { T.room timers.old ≤ T.room timers.new + most_timers self.old.open_request }
@@ -142,6 +148,7 @@ impl Request {
         requires { IsHeld (T.pending timers.old) (named_by self.now) }
         ensures moves { Moves (T.pending timers.old) (named_by self.now) (T.pending timers.new)
             (named_by (become (side_ended self.now.open_request) self.now)) }
+        ensures sets { SetsInOrder (T.pending timers.old) [] (T.pending timers.new) [] }
         ensures left { T.room timers.old ≤ T.room timers.new }
         ensures still { T.reached timers.new ≡ T.reached timers.old }
     {
@@ -154,6 +161,7 @@ impl Request {
         requires timed { IsNear (2 ^ 64) self.now.open_request }
         ensures moves { Moves (T.pending timers.old) (named_by self.now) (T.pending timers.new)
             (named_by (become (branch_ended place self.now.open_request) self.now)) }
+        ensures sets { SetsInOrder (T.pending timers.old) [] (T.pending timers.new) [] }
         ensures left { T.room timers.old ≤ T.room timers.new }
         ensures still { T.reached timers.new ≡ T.reached timers.old }
     {
@@ -179,6 +187,7 @@ impl Request {
         requires held { IsHeld (T.pending timers.old) (named_by self.now) }
         requires timed { IsNear (2 ^ 64) self.now.open_request }
         ensures moves { Moves (T.pending timers.old) (named_by self.now) (T.pending timers.new) [] }
+        ensures sets { SetsInOrder (T.pending timers.old) [] (T.pending timers.new) [] }
         ensures left { T.room timers.old ≤ T.room timers.new }
         ensures still { T.reached timers.new ≡ T.reached timers.old }
     {

@@ -1,10 +1,13 @@
-ghost use Rattle.std.specs.Prelude.{◌≡◌, ◌≤◌, ◌+◌, ◌^◌, [], true, length};
+ghost use Rattle.std.specs.Prelude.{◌≡◌, ◌≤◌, ◌+◌, ◌^◌, [], true, length, reverse};
 ghost use Rattle.sip_timers.specs.Timers.{KeysDiffer};
 ghost use Rattle.sip_timers.specs.Moves.{IsHeld, Moves};
+ghost use Rattle.sip_timers.specs.Setting.{SetsInOrder};
 ghost use Rattle.sip_timers.specs.declared.timer.Owner.TheVariants as Of;
 ghost use Rattle.model_transactions.specs.Ties.{part_timers, side_timers, timers_of};
 ghost use Rattle.sip_request.specs.Likeness.{AreAlike};
 ghost use Rattle.sip_request.specs.Near.{AreBefore, IsNear, most_timers};
+ghost use Rattle.model_transactions.specs.Matching.{AreMatched};
+ghost use Rattle.sip_request.specs.Order.{in_order, keyed};
 
 use crate::branches::{stop_left, sync_branches};
 use crate::likeness::{are_sides_as_far, kinds_of, new_kinds};
@@ -16,6 +19,7 @@ use sip_timers::Timers;
 
 /// Lets the timers of the answering side stand, and no others of those that it had before. Where the requests are alike, one
 /// that is as far as it was keeps its timers, and none is worked out. Gives the keys.
+#[tactic(auto, using(crate::proofs::Setting::stays_in_order))]
 fn retime_side<T: Timers>(
     timers: &mut T,
     was: &OpenRequest,
@@ -29,6 +33,8 @@ fn retime_side<T: Timers>(
     requires near { AreBefore (T.reached timers.old + 2 ^ 30) (side_timers next.now) }
     ensures moves { Moves (T.pending timers.old) (part_timers was.now.number Of.Server keys (side_timers was.now)) (T.pending timers.new)
         (part_timers next.now.number Of.Server result (side_timers next.now)) }
+    ensures sets { SetsInOrder (T.pending timers.old) (part_timers was.now.number Of.Server keys (side_timers was.now)) (T.pending timers.new)
+        (reverse (part_timers next.now.number Of.Server result (side_timers next.now))) }
     ensures left { T.room timers.old ≤ T.room timers.new + 3 }
     ensures still { T.reached timers.new ≡ T.reached timers.old }
 {
@@ -58,6 +64,8 @@ pub(crate) fn retime<T: Timers>(
     requires near { IsNear (T.reached timers.old + 2 ^ 30) next.now }
     ensures moves { Moves (T.pending timers.old) (timers_of was.now was_side was_keys.now) (T.pending timers.new)
         (timers_of next.now result keys.new) }
+    ensures sets { AreMatched (keyed was.now.branches was_keys.now) next.now.branches
+        → SetsInOrder (T.pending timers.old) (timers_of was.now was_side was_keys.now) (T.pending timers.new) (in_order next.now result keys.new) }
     ensures left { T.room timers.old ≤ T.room timers.new + most_timers next.now }
     ensures still { T.reached timers.new ≡ T.reached timers.old }
 {
@@ -79,6 +87,7 @@ pub(crate) fn begin<T: Timers>(
     requires moments { T.reached timers.old + 2 ^ 30 ≤ 2 ^ 64 }
     requires near { IsNear (T.reached timers.old + 2 ^ 30) next.now }
     ensures moves { Moves (T.pending timers.old) [] (T.pending timers.new) (timers_of next.now result keys.new) }
+    ensures sets { SetsInOrder (T.pending timers.old) [] (T.pending timers.new) (in_order next.now result keys.new) }
     ensures left { T.room timers.old ≤ T.room timers.new + most_timers next.now }
     ensures still { T.reached timers.new ≡ T.reached timers.old }
 {
@@ -93,6 +102,7 @@ pub(crate) fn end<T: Timers>(timers: &mut T, was: &OpenRequest, side: TimerKeys,
     requires held { IsHeld (T.pending timers.old) (timers_of was.now side keys.now) }
     requires timed { IsNear (2 ^ 64) was.now }
     ensures moves { Moves (T.pending timers.old) (timers_of was.now side keys.now) (T.pending timers.new) [] }
+    ensures sets { SetsInOrder (T.pending timers.old) [] (T.pending timers.new) [] }
     ensures left { T.room timers.old ≤ T.room timers.new }
     ensures still { T.reached timers.new ≡ T.reached timers.old }
 {

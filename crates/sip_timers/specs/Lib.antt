@@ -7,3 +7,4 @@ pub mod Queue
 pub mod Examples
 pub mod TimerError
 pub mod Moves
+pub mod Setting

@@ -17,6 +17,7 @@ mod letter;
 mod list_timers;
 pub mod move_laws;
 mod running;
+pub mod setting_laws;
 mod timer;
 mod timers;
 

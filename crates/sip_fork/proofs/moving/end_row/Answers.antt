@@ -1,10 +1,14 @@
 use Rattle.std.proofs.Common.{◌≡◌, List, Some, slice_get, refl, sym, subst}
 use Rattle.sip_request.specs.declared.request.Request.{Request}
 use Rattle.sip_request.specs.Ended.{become}
+use Rattle.sip_request.specs.Named.{named_by}
+use Rattle.sip_request.specs.Order.{named_in_order}
 use Rattle.sip_fork.specs.Contexts.{AreTied}
 use Rattle.sip_fork.specs.Ending.{ended}
 use Rattle.sip_fork.proofs.Ends.{kept_ended}
-use Rattle.sip_fork.proofs.Tying.{changed, held_at, kept_at, seen_changed, timed_at}
+use Rattle.sip_fork.proofs.Tying.{changed, contexts, held_at, kept_at, seen_changed, timed_at}
+use Rattle.sip_fork.specs.Firing.{KeepsOrder}
+use Rattle.sip_fork.proofs.Queueing.{any_named, changed_queue}
 use Rattle.sip_fork.proofs.moving.end_row.Goals as goal
 
 pub stop-requires-clause-held : goal.stop-requires-clause-held
@@ -30,3 +34,15 @@ returns-clause-tied g c =
     c.stop.ensures.still
     (kept_ended c.args.timers.now.reached c.args.transaction row (kept_at c.args.timers.now.pending c.args.timers.now.reached c.args.table.now.rows c.args.place row c.requires.tied at) (c.requires.fits row at) (c.requires.within row at))
     c.stop.ensures.moves)
+
+pub returns-clause-queue : goal.returns-clause-queue
+returns-clause-queue g c =
+    let row : Request = c.row.inside.request in
+    let next : Request = become (ended c.args.transaction row.open_request) row in
+    let at : slice_get c.args.table.now.rows c.args.place ≡ Some row = rw c.row.view_is c.get-row.ensures.row in
+    let kept = kept_ended c.args.timers.now.reached c.args.transaction row (kept_at c.args.timers.now.pending c.args.timers.now.reached c.args.table.now.rows c.args.place row c.requires.tied at) (c.requires.fits row at) (c.requires.within row at) in
+    subst (λ (xs : List Request). KeepsOrder c.args.timers.now.pending (contexts c.args.table.now.rows) c.stop.new.timers.pending (contexts xs)) (sym (c.end.ensures.rows row at))
+    (changed_queue c.args.timers.now.pending c.stop.new.timers.pending c.args.timers.now.reached c.stop.new.timers.reached c.args.table.now.rows c.requires.tied c.stand_in_order.ensures c.args.place row next at
+    (changed c.args.timers.now.pending c.stop.new.timers.pending c.args.timers.now.reached c.stop.new.timers.reached c.args.table.now.rows c.args.place row next c.requires.tied at c.stop.ensures.still kept c.stop.ensures.moves)
+    kept.keys
+    (any_named c.args.timers.now.pending c.stop.new.timers.pending (named_by row) (named_in_order next) c.stop.ensures.sets))

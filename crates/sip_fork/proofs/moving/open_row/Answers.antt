@@ -4,7 +4,9 @@ use Rattle.sip_transaction_table.specs.declared.key.Key.{Key}
 use Rattle.sip_dialog_lessons.specs.state.declared.open_request.OpenRequest.{OpenRequest}
 use Rattle.sip_request.specs.declared.request.Request.{Request}
 use Rattle.sip_fork.specs.Contexts.{AreTied, IsFitting}
-use Rattle.sip_fork.proofs.Tying.{kept_new, opened, ready}
+use Rattle.sip_fork.proofs.Tying.{contexts, kept_new, opened, ready}
+use Rattle.sip_fork.specs.Firing.{KeepsOrder}
+use Rattle.sip_fork.proofs.Queueing.{opened_queue}
 use Rattle.sip_fork.proofs.moving.open_row.Goals as goal
 
 pub begin-requires-clause-ready : goal.begin-requires-clause-ready
@@ -24,3 +26,12 @@ returns-clause-tied g c =
     subst (λ (xs : List Request). AreTied c.begin.new.timers.pending c.begin.new.timers.reached xs) (sym c.push.ensures.rows)
     (opened c.args.timers.now.pending c.begin.new.timers.pending c.args.timers.now.reached c.begin.new.timers.reached c.args.table.now.rows c.begin.new.place c.requires.tied c.begin.ensures.still
     (kept_new c.args.timers.now.reached c.args.timers.now.room c.begin.new.place c.opening.inside.place.open_request c.begin.ensures.request c.begin.ensures.keys c.opening.invariant.numbers fitting) c.begin.ensures.moves)
+
+pub returns-clause-queue : goal.returns-clause-queue
+returns-clause-queue g c =
+    let fitting : IsFitting c.args.timers.now.reached c.args.timers.now.room c.opening.inside.place.open_request = rw c.opening.view_is c.requires.fitting in
+    subst (λ (xs : List Request). KeepsOrder c.args.timers.now.pending (contexts c.args.table.now.rows) c.begin.new.timers.pending (contexts xs)) (sym c.push.ensures.rows)
+    (opened_queue c.args.timers.now.pending c.begin.new.timers.pending c.args.timers.now.reached c.begin.new.timers.reached c.args.table.now.rows c.requires.tied c.stand_in_order.ensures c.begin.new.place
+    (opened c.args.timers.now.pending c.begin.new.timers.pending c.args.timers.now.reached c.begin.new.timers.reached c.args.table.now.rows c.begin.new.place c.requires.tied c.begin.ensures.still
+    (kept_new c.args.timers.now.reached c.args.timers.now.room c.begin.new.place c.opening.inside.place.open_request c.begin.ensures.request c.begin.ensures.keys c.opening.invariant.numbers fitting) c.begin.ensures.moves)
+    c.begin.ensures.keys c.begin.ensures.sets)

@@ -10,6 +10,7 @@ use Rattle.sip_fork.specs.Keeping.{IsKeptAs}
 use Rattle.sip_fork.proofs.Ends.{left_of, none_left, still_number}
 use Rattle.sip_fork.proofs.OnTime.{whole}
 use Rattle.sip_fork.proofs.Tying.{contexts, place_of, replaced_in, replaced_out, seen_at}
+use Rattle.sip_fork.specs.Firing.{KeepsOrder}
 use Rattle.sip_fork.proofs.contexts.Contexts.end.Goals as goal
 
 pub end_row-requires-clause-fits : goal.end_row-requires-clause-fits
@@ -92,3 +93,11 @@ returns-else-leaves_with-clause-left g c = λ r at.
     let shown : slice_get c.args.self.now.requests c.args.place ≡ Some row.open_request = subst (λ (v : Contexts). slice_get v.requests c.args.place ≡ Some row.open_request) c.self.view_is (seen_at c.self.inside.table.rows c.args.place row there) in
     let is_row : row.open_request ≡ r = ap (λ o. unwrap_or o r) (sym shown ∙ at) in
     subst (λ (x : OpenRequest). None ≡ left_invite (ended c.args.transaction x)) is_row (none_left c.args.transaction row.open_request (sym c.leaves_with.ensures ∙ c.if-leaves_with.false))
+
+pub returns-then-leaves_with-clause-queue : goal.returns-then-leaves_with-clause-queue
+returns-then-leaves_with-clause-queue g c =
+    subst (λ (v : Contexts). KeepsOrder v.pending v.requests c.close_row.new.timers.pending (contexts c.close_row.new.table.rows)) c.self.view_is c.close_row.ensures.queue
+
+pub returns-else-leaves_with-clause-queue : goal.returns-else-leaves_with-clause-queue
+returns-else-leaves_with-clause-queue g c =
+    subst (λ (v : Contexts). KeepsOrder v.pending v.requests c.end_row.new.timers.pending (contexts c.end_row.new.table.rows)) c.self.view_is c.end_row.ensures.queue

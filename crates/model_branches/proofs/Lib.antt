@@ -1,0 +1,3 @@
+pub mod Branched
+pub mod Events
+pub mod Apart

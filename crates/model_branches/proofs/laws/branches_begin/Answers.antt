@@ -1,0 +1,11 @@
+use Rattle.model_branches.proofs.Events.{begin_branched, dialog_branched, opens}
+use Rattle.model_branches.proofs.laws.branches_begin.Goals as goal
+
+pub returns-clause-targets : goal.returns-clause-targets
+returns-clause-targets c = begin_branched
+
+pub returns-clause-dialog : goal.returns-clause-dialog
+returns-clause-dialog c = dialog_branched
+
+pub returns-clause-opening : goal.returns-clause-opening
+returns-clause-opening c = opens
