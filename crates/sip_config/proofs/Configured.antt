@@ -15,18 +15,18 @@ use Rattle.sip_policy.specs.declared.rule_verdict.RuleVerdict.{RuleVerdict}
 use Rattle.sip_policy.specs.Rule.{is_numbered}
 use Rattle.sip_policy.specs.Users.{have_own_names}
 use Rattle.sip_config_types.specs.declared.config.Config.{Config}
-use Rattle.sip_config.specs.declared.error.ConfigError.{ConfigError}
-use Rattle.sip_config.specs.declared.error.ConfigError.TheVariants.{BadValue, DuplicateRule, UnknownGroup}
-use Rattle.sip_config.specs.declared.key.Key.{Key}
-use Rattle.sip_config.specs.declared.key.Key.TheVariants as keys
-use Rattle.sip_config.specs.declared.keys.TableKind.{TableKind}
-use Rattle.sip_config.specs.declared.keys.TableKind.TheVariants as kinds
-use Rattle.sip_config.specs.declared.refusal.Refusal.{Refusal}
-use Rattle.sip_config.specs.declared.refusal.Refusal.TheVariants.{At}
-use Rattle.sip_config.specs.Refusals.{◌>>=◌, place, placed, confirmed, kept_if, none_found, error_alone}
-use Rattle.sip_config.specs.Values.{needed, number_of, between, number_between, items_at, some_items_at}
-use Rattle.sip_config.specs.Rows.{table_in, rows_after, all_pass}
-use Rattle.sip_config.specs.Words.{is_hop, hop_named, via_of, via_place, verdict_of}
+use Rattle.sip_config_values.specs.declared.error.ConfigError.{ConfigError}
+use Rattle.sip_config_values.specs.declared.error.ConfigError.TheVariants.{BadValue, DuplicateRule, UnknownGroup}
+use Rattle.sip_config_values.specs.declared.key.Key.{Key}
+use Rattle.sip_config_values.specs.declared.key.Key.TheVariants as keys
+use Rattle.sip_config_values.specs.declared.table_kind.TableKind.{TableKind}
+use Rattle.sip_config_values.specs.declared.table_kind.TableKind.TheVariants as kinds
+use Rattle.sip_config_values.specs.declared.refusal.Refusal.{Refusal}
+use Rattle.sip_config_values.specs.declared.refusal.Refusal.TheVariants.{At}
+use Rattle.sip_config_values.specs.Refusals.{◌>>=◌, place, placed, confirmed, kept_if, none_found, error_alone}
+use Rattle.sip_config_values.specs.Values.{needed, number_of, between, number_between, items_at, some_items_at}
+use Rattle.sip_config_values.specs.Rows.{table_in, rows_after, all_pass}
+use Rattle.sip_config_values.specs.Words.{is_hop, hop_named, via_of, via_place, verdict_of}
 use Rattle.sip_config.specs.Rules.{id_at, verdict_text, verdict_at, window_at, who_at, operation_at, target_at, rule_lines, new_id, rule_at, names_known_group, rules_of}
 use Rattle.sip_config.specs.declared.head.Head.{Head}
 use Rattle.sip_config.specs.declared.users.UserLine.TheVariants.{A1, A1Sha256, Groups}

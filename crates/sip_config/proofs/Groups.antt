@@ -10,12 +10,12 @@ use Rattle.sip_policy.specs.declared.rule.Rule.{Rule}
 use Rattle.sip_policy.specs.declared.who.Who.{Who}
 use Rattle.toml.specs.Data.{Items}
 use Rattle.sip_hops.specs.declared.hop.Hop.{Hop}
-use Rattle.sip_config.specs.declared.error.ConfigError.TheVariants.{UnknownGroup}
-use Rattle.sip_config.specs.declared.key.Key.TheVariants as keys
-use Rattle.sip_config.specs.declared.keys.TableKind.TheVariants as kinds
-use Rattle.sip_config.specs.declared.refusal.Refusal.{Refusal}
-use Rattle.sip_config.specs.Refusals.{◌>>=◌, none_found}
-use Rattle.sip_config.specs.Rows.{rows_after}
+use Rattle.sip_config_values.specs.declared.error.ConfigError.TheVariants.{UnknownGroup}
+use Rattle.sip_config_values.specs.declared.key.Key.TheVariants as keys
+use Rattle.sip_config_values.specs.declared.table_kind.TableKind.TheVariants as kinds
+use Rattle.sip_config_values.specs.declared.refusal.Refusal.{Refusal}
+use Rattle.sip_config_values.specs.Refusals.{◌>>=◌, none_found}
+use Rattle.sip_config_values.specs.Rows.{rows_after}
 use Rattle.sip_config.specs.Rules.{has_member, is_known, is_listed, names_known_group, new_id, rule_at, rules_of}
 
 or_false : (b : Bool) → (b || false) ≡ b

@@ -2,6 +2,4 @@ pub mod Rows
 pub mod Configured
 pub mod Within
 pub mod RowPlaces
-pub mod ValueRows
-pub mod InOrder
 pub mod Groups

@@ -5,11 +5,11 @@ use Rattle.toml.specs.Data.{Members, as_table}
 use Rattle.toml.specs.View.{view, items_view}
 use Rattle.toml.specs.declared.value.Value.{Value}
 use Rattle.toml.proofs.Views.{items_view-drop}
-use Rattle.sip_config.specs.declared.key.Key.{Key}
-use Rattle.sip_config.specs.declared.refusal.Refusal.{Refusal}
-use Rattle.sip_config.specs.declared.refusal.Refusal.TheVariants.{NoMemory, At, Twice}
-use Rattle.sip_config.specs.Refusals.{◌>>=◌, ReadsAt}
-use Rattle.sip_config.specs.Rows.{table_in, rows_after, all_pass}
+use Rattle.sip_config_values.specs.declared.key.Key.{Key}
+use Rattle.sip_config_values.specs.declared.refusal.Refusal.{Refusal}
+use Rattle.sip_config_values.specs.declared.refusal.Refusal.TheVariants.{NoMemory, At, Twice}
+use Rattle.sip_config_values.specs.Refusals.{◌>>=◌, ReadsAt}
+use Rattle.sip_config_values.specs.Rows.{table_in, rows_after, all_pass}
 use Rattle.sip_config.specs.Limits.{count_items, has_many_groups, many_groups_after}
 
 -- one more row

@@ -10,21 +10,21 @@ use Rattle.sip_hops.specs.declared.host_address.HostAddress.{HostAddress}
 use Rattle.sip_hops.specs.HostAddress.{is_row_for}
 use Rattle.sip_policy.specs.declared.user.User.{User}
 use Rattle.sip_config_types.specs.declared.config.Config.{Config}
-use Rattle.sip_config.specs.declared.error.ConfigError.{ConfigError}
-use Rattle.sip_config.specs.declared.error.ConfigError.TheVariants.{TooMany}
-use Rattle.sip_config.specs.declared.key.Key.{Key}
-use Rattle.sip_config.specs.declared.key.Key.TheVariants as keys
-use Rattle.sip_config.specs.declared.keys.TableKind.{TableKind}
-use Rattle.sip_config.specs.declared.keys.TableKind.TheVariants as kinds
-use Rattle.sip_config.specs.declared.refusal.Refusal.{Refusal}
-use Rattle.sip_config.specs.declared.refusal.Refusal.TheVariants.{At, Twice}
-use Rattle.sip_config.specs.declared.grammar.Grammar.{Grammar}
-use Rattle.sip_config.specs.declared.grammar.Grammar.TheVariants.{Realm, OwnHost, HostName, Host, Name}
-use Rattle.sip_config.specs.Refusals.{◌>>=◌, valid, place, placed, confirmed, kept_if, none_found}
-use Rattle.sip_config.specs.Grammar.{accepts, is_name}
-use Rattle.sip_config.specs.Values.{required, needed, text_of, text_as, text_at, list_of, table_of, address_of, items_in, items_at, has_items, some_items_at}
-use Rattle.sip_config.specs.Rows.{table_in, rows_after, texts_after, texts_of}
-use Rattle.sip_config.specs.Words.{is_hop}
+use Rattle.sip_config_values.specs.declared.error.ConfigError.{ConfigError}
+use Rattle.sip_config_values.specs.declared.error.ConfigError.TheVariants.{TooMany}
+use Rattle.sip_config_values.specs.declared.key.Key.{Key}
+use Rattle.sip_config_values.specs.declared.key.Key.TheVariants as keys
+use Rattle.sip_config_values.specs.declared.table_kind.TableKind.{TableKind}
+use Rattle.sip_config_values.specs.declared.table_kind.TableKind.TheVariants as kinds
+use Rattle.sip_config_values.specs.declared.refusal.Refusal.{Refusal}
+use Rattle.sip_config_values.specs.declared.refusal.Refusal.TheVariants.{At, Twice}
+use Rattle.sip_config_values.specs.declared.grammar.Grammar.{Grammar}
+use Rattle.sip_config_values.specs.declared.grammar.Grammar.TheVariants.{Realm, OwnHost, HostName, Host, Name}
+use Rattle.sip_config_values.specs.Refusals.{◌>>=◌, valid, place, placed, confirmed, kept_if, none_found}
+use Rattle.sip_config_values.specs.Grammar.{accepts, is_name}
+use Rattle.sip_config_values.specs.Values.{required, needed, text_of, text_as, text_at, list_of, table_of, address_of, items_in, items_at, has_items, some_items_at}
+use Rattle.sip_config_values.specs.Rows.{table_in, rows_after, texts_after, texts_of}
+use Rattle.sip_config_values.specs.Words.{is_hop}
 use Rattle.sip_config.specs.Rules.{rule_at}
 use Rattle.sip_config.specs.declared.head.Head.{Head}
 use Rattle.sip_config.specs.Head.{version_at, offset_at, port_at, address_at, domains_at, head_of}

@@ -7,13 +7,13 @@ use Rattle.sip_policy.specs.declared.rule.Rule.{Rule}
 use Rattle.sip_hops.specs.declared.hop.Hop.{Hop}
 use Rattle.sip_hops.specs.declared.host_address.HostAddress.{HostAddress}
 use Rattle.sip_config_types.specs.declared.config.Config.{Config}
-use Rattle.sip_config.specs.declared.error.ConfigError.{ConfigError}
-use Rattle.sip_config.specs.declared.key.Key.TheVariants.{Rules}
-use Rattle.sip_config.specs.declared.refusal.Refusal.{Refusal}
-use Rattle.sip_config.specs.declared.error.ConfigError.TheVariants.{BadToml}
+use Rattle.sip_config_values.specs.declared.error.ConfigError.{ConfigError}
+use Rattle.sip_config_values.specs.declared.key.Key.TheVariants.{Rules}
+use Rattle.sip_config_values.specs.declared.refusal.Refusal.{Refusal}
+use Rattle.sip_config_values.specs.declared.error.ConfigError.TheVariants.{BadToml}
 use Rattle.sip_config.specs.declared.head.Head.{Head}
-use Rattle.sip_config.specs.Refusals.{◌>>=◌, error_alone}
-use Rattle.sip_config.specs.Rows.{list_at}
+use Rattle.sip_config_values.specs.Refusals.{◌>>=◌, error_alone}
+use Rattle.sip_config_values.specs.Rows.{list_at}
 use Rattle.sip_config.specs.Head.{head_of}
 use Rattle.sip_config.specs.Users.{users_at}
 use Rattle.sip_config.specs.Hops.{hops_at}

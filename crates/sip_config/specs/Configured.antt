@@ -9,7 +9,7 @@ use Rattle.sip_policy.specs.declared.rule_verdict.RuleVerdict.{RuleVerdict}
 use Rattle.sip_policy.specs.Rule.{is_numbered}
 use Rattle.sip_policy.specs.Users.{have_own_names}
 use Rattle.sip_config_types.specs.declared.config.Config.{Config}
-use Rattle.sip_config.specs.Grammar.{is_realm, is_host_name, is_own_host_name, is_name}
+use Rattle.sip_config_values.specs.Grammar.{is_realm, is_host_name, is_own_host_name, is_name}
 use Rattle.sip_config.specs.Rules.{names_known_group}
 
 -- whether no number stands twice

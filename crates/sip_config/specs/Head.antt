@@ -2,16 +2,16 @@
 use Rattle.std.specs.Prelude.{ℕ, ℤ, pos, negsuc, ◌==◌, nat_le, nat_lt, if◌then◌else◌, List, codes, Option, None, Some, Result, Ok}
 use Rattle.toml.specs.Data.{Data, Members, get_member}
 use Rattle.sip_uri.specs.declared.addr.Addr.{Addr}
-use Rattle.sip_config.specs.declared.error.ConfigError.{ConfigError}
-use Rattle.sip_config.specs.declared.key.Key.TheVariants.{Version, Offset, Host, Port, Address, Domains}
-use Rattle.sip_config.specs.declared.key.Key.TheVariants as keys
-use Rattle.sip_config.specs.declared.keys.TableKind.TheVariants.{Whole}
-use Rattle.sip_config.specs.declared.refusal.Refusal.{Refusal}
-use Rattle.sip_config.specs.declared.grammar.Grammar.TheVariants.{Realm, OwnHost, HostName}
+use Rattle.sip_config_values.specs.declared.error.ConfigError.{ConfigError}
+use Rattle.sip_config_values.specs.declared.key.Key.TheVariants.{Version, Offset, Host, Port, Address, Domains}
+use Rattle.sip_config_values.specs.declared.key.Key.TheVariants as keys
+use Rattle.sip_config_values.specs.declared.table_kind.TableKind.TheVariants.{Whole}
+use Rattle.sip_config_values.specs.declared.refusal.Refusal.{Refusal}
+use Rattle.sip_config_values.specs.declared.grammar.Grammar.TheVariants.{Realm, OwnHost, HostName}
 use Rattle.sip_config.specs.declared.head.Head.{Head}
-use Rattle.sip_config.specs.Refusals.{◌>>=◌, kept_if, placed}
-use Rattle.sip_config.specs.Values.{needed, number_of, number_between, port_of, address_of, text_at, some_items_at}
-use Rattle.sip_config.specs.Rows.{texts_of}
+use Rattle.sip_config_values.specs.Refusals.{◌>>=◌, kept_if, placed}
+use Rattle.sip_config_values.specs.Values.{needed, number_of, number_between, port_of, address_of, text_at, some_items_at}
+use Rattle.sip_config_values.specs.Rows.{texts_of}
 
 abbrev pub version_at : Members → Result ℕ ConfigError
 version_at members = needed (codes "version") members >>= number_between 1 2

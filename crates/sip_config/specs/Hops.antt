@@ -3,15 +3,15 @@ use Rattle.std.specs.Prelude.{not, List, [], length, codes, Result, Ok}
 use Rattle.std.specs.List.{list_any}
 use Rattle.toml.specs.Data.{Members}
 use Rattle.sip_hops.specs.declared.hop.Hop.{Hop}
-use Rattle.sip_config.specs.declared.key.Key.TheVariants as keys
-use Rattle.sip_config.specs.declared.keys.TableKind.TheVariants as kinds
-use Rattle.sip_config.specs.declared.refusal.Refusal.{Refusal}
-use Rattle.sip_config.specs.declared.refusal.Refusal.TheVariants.{Twice}
-use Rattle.sip_config.specs.declared.grammar.Grammar.TheVariants.{Name}
-use Rattle.sip_config.specs.Refusals.{◌>>=◌, place, placed, confirmed}
-use Rattle.sip_config.specs.Values.{needed, text_as, address_of}
-use Rattle.sip_config.specs.Rows.{list_at, rows_after}
-use Rattle.sip_config.specs.Words.{is_hop}
+use Rattle.sip_config_values.specs.declared.key.Key.TheVariants as keys
+use Rattle.sip_config_values.specs.declared.table_kind.TableKind.TheVariants as kinds
+use Rattle.sip_config_values.specs.declared.refusal.Refusal.{Refusal}
+use Rattle.sip_config_values.specs.declared.refusal.Refusal.TheVariants.{Twice}
+use Rattle.sip_config_values.specs.declared.grammar.Grammar.TheVariants.{Name}
+use Rattle.sip_config_values.specs.Refusals.{◌>>=◌, place, placed, confirmed}
+use Rattle.sip_config_values.specs.Values.{needed, text_as, address_of}
+use Rattle.sip_config_values.specs.Rows.{list_at, rows_after}
+use Rattle.sip_config_values.specs.Words.{is_hop}
 
 -- a hop, whose name none before it has
 abbrev pub new_hop : List Hop → Members → Result Hop Refusal

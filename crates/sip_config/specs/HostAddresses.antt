@@ -4,15 +4,15 @@ use Rattle.std.specs.List.{list_any}
 use Rattle.toml.specs.Data.{Data, Members, get_member}
 use Rattle.sip_hops.specs.declared.host_address.HostAddress.{HostAddress}
 use Rattle.sip_hops.specs.HostAddress.{is_row_for}
-use Rattle.sip_config.specs.declared.error.ConfigError.{ConfigError}
-use Rattle.sip_config.specs.declared.key.Key.TheVariants as keys
-use Rattle.sip_config.specs.declared.keys.TableKind.TheVariants as kinds
-use Rattle.sip_config.specs.declared.refusal.Refusal.{Refusal}
-use Rattle.sip_config.specs.declared.refusal.Refusal.TheVariants.{Twice}
-use Rattle.sip_config.specs.declared.grammar.Grammar.TheVariants.{Host}
-use Rattle.sip_config.specs.Refusals.{◌>>=◌, place, placed, confirmed}
-use Rattle.sip_config.specs.Values.{needed, text_as, address_of, port_of}
-use Rattle.sip_config.specs.Rows.{list_at, rows_after}
+use Rattle.sip_config_values.specs.declared.error.ConfigError.{ConfigError}
+use Rattle.sip_config_values.specs.declared.key.Key.TheVariants as keys
+use Rattle.sip_config_values.specs.declared.table_kind.TableKind.TheVariants as kinds
+use Rattle.sip_config_values.specs.declared.refusal.Refusal.{Refusal}
+use Rattle.sip_config_values.specs.declared.refusal.Refusal.TheVariants.{Twice}
+use Rattle.sip_config_values.specs.declared.grammar.Grammar.TheVariants.{Host}
+use Rattle.sip_config_values.specs.Refusals.{◌>>=◌, place, placed, confirmed}
+use Rattle.sip_config_values.specs.Values.{needed, text_as, address_of, port_of}
+use Rattle.sip_config_values.specs.Rows.{list_at, rows_after}
 
 -- a port, 5060 where none is there (RFC 3261 19.1.2)
 abbrev pub port_in : Option Data → Result ℕ ConfigError

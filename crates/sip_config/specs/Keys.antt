@@ -3,15 +3,15 @@ use Rattle.std.specs.Prelude.{ℕ, Bool, ◌&&◌, ◌||◌, ◌==◌, not, is_s
 use Rattle.std.specs.List.{list_any}
 use Rattle.std.specs.Str.{bytes_eq}
 use Rattle.toml.specs.Data.{Members, no_members, member}
-use Rattle.sip_config.specs.declared.error.ConfigError.TheVariants.{BadValue}
-use Rattle.sip_config.specs.declared.key.Key.{Key}
-use Rattle.sip_config.specs.declared.key.Key.TheVariants.{Users, Hops, HostAddresses, Rules, Unknown}
-use Rattle.sip_config.specs.declared.keys.TableKind.{TableKind}
-use Rattle.sip_config.specs.declared.keys.TableKind.TheVariants.{Whole, User, Hop, HostAddress, Rule}
-use Rattle.sip_config.specs.declared.refusal.Refusal.{Refusal}
-use Rattle.sip_config.specs.declared.refusal.Refusal.TheVariants.{At}
-use Rattle.sip_config.specs.Refusals.{◌>>=◌, place, confirmed}
-use Rattle.sip_config.specs.Rows.{list_at, all_pass}
+use Rattle.sip_config_values.specs.declared.error.ConfigError.TheVariants.{BadValue}
+use Rattle.sip_config_values.specs.declared.key.Key.{Key}
+use Rattle.sip_config_values.specs.declared.key.Key.TheVariants.{Users, Hops, HostAddresses, Rules, Unknown}
+use Rattle.sip_config_values.specs.declared.table_kind.TableKind.{TableKind}
+use Rattle.sip_config_values.specs.declared.table_kind.TableKind.TheVariants.{Whole, User, Hop, HostAddress, Rule}
+use Rattle.sip_config_values.specs.declared.refusal.Refusal.{Refusal}
+use Rattle.sip_config_values.specs.declared.refusal.Refusal.TheVariants.{At}
+use Rattle.sip_config_values.specs.Refusals.{◌>>=◌, place, confirmed}
+use Rattle.sip_config_values.specs.Rows.{list_at, all_pass}
 
 -- whether a key is one of those before all tables; `offset` is of version 2
 abbrev pub is_head_key : ℕ → List ℕ → Bool

@@ -2,19 +2,12 @@ pub mod Head
 pub mod Users
 pub mod Hops
 pub mod HostAddresses
-pub mod InOrder
 pub mod Places
-pub mod KeyNames
 pub mod Keys
 pub mod Limits
 pub mod Configuration
 pub mod Stated
 pub mod Examples
 pub mod Configured
-pub mod ConfigError
-pub mod Refusals
-pub mod Grammar
-pub mod Values
-pub mod Rows
-pub mod Words
 pub mod Rules
+pub use Rattle.sip_config_values.specs as values

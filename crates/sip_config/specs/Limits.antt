@@ -1,14 +1,14 @@
 -- How long lists may be (this project's profile).
 use Rattle.std.specs.Prelude.{ℕ, ◌+◌, Bool, false, not, nat_lt, if◌then◌else◌, List, codes, Option, None, Some, Result}
 use Rattle.toml.specs.Data.{Data, Items, no_items, item, Members, get_member, as_table, as_array}
-use Rattle.sip_config.specs.declared.error.ConfigError.TheVariants.{TooMany}
-use Rattle.sip_config.specs.declared.key.Key.{Key}
-use Rattle.sip_config.specs.declared.key.Key.TheVariants.{Domains, Users, Groups, Hops, HostAddresses, Rules}
-use Rattle.sip_config.specs.declared.keys.TableKind.TheVariants.{Whole, User}
-use Rattle.sip_config.specs.declared.refusal.Refusal.{Refusal}
-use Rattle.sip_config.specs.declared.refusal.Refusal.TheVariants.{At}
-use Rattle.sip_config.specs.KeyNames.{name_of}
-use Rattle.sip_config.specs.Refusals.{◌>>=◌, place, confirmed, none_found}
+use Rattle.sip_config_values.specs.declared.error.ConfigError.TheVariants.{TooMany}
+use Rattle.sip_config_values.specs.declared.key.Key.{Key}
+use Rattle.sip_config_values.specs.declared.key.Key.TheVariants.{Domains, Users, Groups, Hops, HostAddresses, Rules}
+use Rattle.sip_config_values.specs.declared.table_kind.TableKind.TheVariants.{Whole, User}
+use Rattle.sip_config_values.specs.declared.refusal.Refusal.{Refusal}
+use Rattle.sip_config_values.specs.declared.refusal.Refusal.TheVariants.{At}
+use Rattle.sip_config_values.specs.KeyNames.{name_of}
+use Rattle.sip_config_values.specs.Refusals.{◌>>=◌, place, confirmed, none_found}
 
 -- how many items a list has
 abbrev pub count_items : Items → ℕ

@@ -5,14 +5,14 @@ use Rattle.std.specs.Str.{bytes_eq}
 use Rattle.toml.specs.Data.{Items, no_items, item, Members, get_member}
 use Rattle.sip_text.specs.Words.{without_case}
 use Rattle.sip_hops.specs.declared.host_address.HostAddress.{HostAddress}
-use Rattle.sip_config.specs.declared.key.Key.TheVariants as keys
-use Rattle.sip_config.specs.declared.keys.TableKind.TheVariants as kinds
-use Rattle.sip_config.specs.declared.refusal.Refusal.{Refusal}
-use Rattle.sip_config.specs.declared.refusal.Refusal.TheVariants.{Twice}
-use Rattle.sip_config.specs.declared.grammar.Grammar.TheVariants.{Host}
-use Rattle.sip_config.specs.Refusals.{◌>>=◌, place, placed, confirmed}
-use Rattle.sip_config.specs.Values.{needed, text_as, address_of}
-use Rattle.sip_config.specs.Rows.{table_in}
+use Rattle.sip_config_values.specs.declared.key.Key.TheVariants as keys
+use Rattle.sip_config_values.specs.declared.table_kind.TableKind.TheVariants as kinds
+use Rattle.sip_config_values.specs.declared.refusal.Refusal.{Refusal}
+use Rattle.sip_config_values.specs.declared.refusal.Refusal.TheVariants.{Twice}
+use Rattle.sip_config_values.specs.declared.grammar.Grammar.TheVariants.{Host}
+use Rattle.sip_config_values.specs.Refusals.{◌>>=◌, place, placed, confirmed}
+use Rattle.sip_config_values.specs.Values.{needed, text_as, address_of}
+use Rattle.sip_config_values.specs.Rows.{table_in}
 use Rattle.sip_config.specs.HostAddresses.{port_in}
 
 -- the host that a row is for, its letters small ones, and the port

@@ -12,19 +12,19 @@ use Rattle.sip_policy.specs.declared.target_pattern.TargetPattern.{TargetPattern
 use Rattle.sip_policy.specs.declared.rule_verdict.RuleVerdict.{RuleVerdict}
 use Rattle.sip_policy.specs.declared.window.Window.{Window}
 use Rattle.sip_policy.specs.declared.rule.Rule.{Rule}
-use Rattle.sip_config.specs.declared.error.ConfigError.{ConfigError}
-use Rattle.sip_config.specs.declared.error.ConfigError.TheVariants.{BadValue, DuplicateRule, UnknownGroup}
-use Rattle.sip_config.specs.declared.key.Key.{Key}
-use Rattle.sip_config.specs.declared.key.Key.TheVariants as keys
-use Rattle.sip_config.specs.declared.keys.TableKind.TheVariants as kinds
-use Rattle.sip_config.specs.declared.refusal.Refusal.{Refusal}
-use Rattle.sip_config.specs.declared.refusal.Refusal.TheVariants.{At}
+use Rattle.sip_config_values.specs.declared.error.ConfigError.{ConfigError}
+use Rattle.sip_config_values.specs.declared.error.ConfigError.TheVariants.{BadValue, DuplicateRule, UnknownGroup}
+use Rattle.sip_config_values.specs.declared.key.Key.{Key}
+use Rattle.sip_config_values.specs.declared.key.Key.TheVariants as keys
+use Rattle.sip_config_values.specs.declared.table_kind.TableKind.TheVariants as kinds
+use Rattle.sip_config_values.specs.declared.refusal.Refusal.{Refusal}
+use Rattle.sip_config_values.specs.declared.refusal.Refusal.TheVariants.{At}
 use Rattle.sip_config.specs.declared.rules.RuleLine.{RuleLine}
 use Rattle.sip_config.specs.declared.rules.RuleLine.TheVariants.{Id, WhoAsks, Operation, Target, Verdict, Minutes}
-use Rattle.sip_config.specs.Refusals.{◌>>=◌, kept_if, place, placed, passed, confirmed, none_found}
-use Rattle.sip_config.specs.Values.{needed, text_of, number_between}
-use Rattle.sip_config.specs.Rows.{rows_after, all_pass}
-use Rattle.sip_config.specs.Words.{who_of, operation_of, target_of, is_verdict, verdict_of}
+use Rattle.sip_config_values.specs.Refusals.{◌>>=◌, kept_if, place, placed, passed, confirmed, none_found}
+use Rattle.sip_config_values.specs.Values.{needed, text_of, number_between}
+use Rattle.sip_config_values.specs.Rows.{rows_after, all_pass}
+use Rattle.sip_config_values.specs.Words.{who_of, operation_of, target_of, is_verdict, verdict_of}
 
 -- ---- the keys of a rule
 

@@ -2,8 +2,8 @@
 use Rattle.std.specs.Prelude.{ℕ, List, ◌≡◌, ◌⊎◌, Ok, Err}
 use Rattle.std.specs.Str.{IsUtf8}
 use Rattle.sip_config.specs.Configuration.{stated_in}
-use Rattle.sip_config.specs.declared.error.ConfigError.{ConfigError}
-use Rattle.sip_config.specs.declared.error.ConfigError.TheVariants.{BadToml}
+use Rattle.sip_config_values.specs.declared.error.ConfigError.{ConfigError}
+use Rattle.sip_config_values.specs.declared.error.ConfigError.TheVariants.{BadToml}
 use Rattle.sip_config_types.specs.declared.config.Config.{Config}
 
 -- bytes state a configuration: they are UTF-8, and their text states it

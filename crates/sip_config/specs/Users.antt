@@ -5,18 +5,18 @@ use Rattle.std.specs.Str.{bytes_eq}
 use Rattle.toml.specs.Data.{Data, Items, Members, get_member}
 use Rattle.sip_policy.specs.declared.user.User.{User}
 use Rattle.sip_policy.specs.Users.{have_own_names}
-use Rattle.sip_config.specs.declared.error.ConfigError.{ConfigError}
-use Rattle.sip_config.specs.declared.error.ConfigError.TheVariants.{BadValue}
-use Rattle.sip_config.specs.declared.key.Key.TheVariants as keys
-use Rattle.sip_config.specs.declared.keys.TableKind.TheVariants as kinds
-use Rattle.sip_config.specs.declared.refusal.Refusal.{Refusal}
-use Rattle.sip_config.specs.declared.refusal.Refusal.TheVariants.{At, Twice}
-use Rattle.sip_config.specs.declared.grammar.Grammar.TheVariants.{Name}
+use Rattle.sip_config_values.specs.declared.error.ConfigError.{ConfigError}
+use Rattle.sip_config_values.specs.declared.error.ConfigError.TheVariants.{BadValue}
+use Rattle.sip_config_values.specs.declared.key.Key.TheVariants as keys
+use Rattle.sip_config_values.specs.declared.table_kind.TableKind.TheVariants as kinds
+use Rattle.sip_config_values.specs.declared.refusal.Refusal.{Refusal}
+use Rattle.sip_config_values.specs.declared.refusal.Refusal.TheVariants.{At, Twice}
+use Rattle.sip_config_values.specs.declared.grammar.Grammar.TheVariants.{Name}
 use Rattle.sip_config.specs.declared.users.UserLine.{UserLine}
 use Rattle.sip_config.specs.declared.users.UserLine.TheVariants.{A1, A1Sha256, Groups}
-use Rattle.sip_config.specs.Refusals.{◌>>=◌, place, placed, passed, confirmed}
-use Rattle.sip_config.specs.Values.{needed, list_of, digest_of, text_at, if_there, some_items_at}
-use Rattle.sip_config.specs.Rows.{rows_after, all_pass, texts_of}
+use Rattle.sip_config_values.specs.Refusals.{◌>>=◌, place, placed, passed, confirmed}
+use Rattle.sip_config_values.specs.Values.{needed, list_of, digest_of, text_at, if_there, some_items_at}
+use Rattle.sip_config_values.specs.Rows.{rows_after, all_pass, texts_of}
 
 -- a user's name, which none before it has
 abbrev pub new_name : List (List ℕ) → Members → Result (List ℕ) Refusal

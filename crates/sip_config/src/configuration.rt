@@ -1,22 +1,19 @@
 ghost use Rattle.std.specs.Prelude.{◌≡◌, ◌⊎◌, IfOk, IfErr};
 ghost use Rattle.toml.specs.View.{table_view};
-ghost use Rattle.sip_config.specs.Refusals.{Reads, ReadsAt, error_alone};
+ghost use Rattle.sip_config_values.specs.Refusals.{Reads, ReadsAt, error_alone};
 ghost use Rattle.sip_config.specs.Configuration as Definitions;
 ghost use Rattle.sip_config.specs.Stated.{States, StatesNone};
-ghost use Rattle.sip_config.specs.declared.error.ConfigError.TheVariants.{NoMemory};
+ghost use Rattle.sip_config_values.specs.declared.error.ConfigError.TheVariants.{NoMemory};
 
-use crate::ConfigError;
 use crate::head::head_of;
 use crate::hops::hops_at;
 use crate::host_addresses::host_addresses_at;
-use crate::key::Key;
 use crate::keys::all_known;
 use crate::limits::all_few;
-use crate::lists::list_at;
-use crate::refusal::Refusal;
 use crate::rules::{check_rules, rules_of};
 use crate::users::users_at;
 use sip_config_types::Config;
+use sip_config_values::{ConfigError, Key, Refusal, list_at};
 use sip_hops::Hop;
 use sip_policy::{Rule, Users};
 use sip_text::Items;

@@ -1,19 +1,15 @@
 ghost use Rattle.std.specs.Prelude.{◌≡◌};
 ghost use Rattle.toml.specs.View.{view, table_view, items_view};
-ghost use Rattle.sip_config.specs.declared.keys.TableKind.TheVariants.{Whole};
-ghost use Rattle.sip_config.specs.Refusals.{Reads, ReadsAt, placed};
+ghost use Rattle.sip_config_values.specs.declared.table_kind.TableKind.TheVariants.{Whole};
+ghost use Rattle.sip_config_values.specs.Refusals.{Reads, ReadsAt, placed};
 ghost use Rattle.sip_config.specs.Head as Definitions;
 ghost use Rattle.sip_config.specs.Configuration.{config_of};
 
-use crate::key::Key;
-use crate::keys::TableKind;
-use crate::refusal::{Refusal, placed};
-use crate::texts::texts_of;
-use crate::values::{
-    address_of, find, needed, number_between, number_of, port_of, some_items_at, text_at,
-};
-use crate::{ConfigError, Grammar};
 use sip_config_types::Config;
+use sip_config_values::{
+    ConfigError, Grammar, Key, Refusal, TableKind, address_of, find, needed, number_between,
+    number_of, placed, port_of, some_items_at, text_at, texts_of,
+};
 use sip_hops::{Hop, HostAddress};
 use sip_policy::{Rule, Users};
 use sip_route::Own;

@@ -1,18 +1,16 @@
 ghost use Rattle.std.specs.Prelude.{◌≡◌, []};
 ghost use Rattle.std.specs.List.{list_any};
 ghost use Rattle.toml.specs.View.{table_view, items_view};
-ghost use Rattle.sip_config.specs.Refusals.{ReadsAt};
-ghost use Rattle.sip_config.specs.declared.key.Key.TheVariants as keys;
-ghost use Rattle.sip_config.specs.Rows.{rows_after};
-ghost use Rattle.sip_config.specs.Words.{is_hop};
+ghost use Rattle.sip_config_values.specs.Refusals.{ReadsAt};
+ghost use Rattle.sip_config_values.specs.declared.key.Key.TheVariants as keys;
+ghost use Rattle.sip_config_values.specs.Rows.{rows_after};
+ghost use Rattle.sip_config_values.specs.Words.{is_hop};
 ghost use Rattle.sip_config.specs.Hops as Definitions;
 
-use crate::Grammar;
-use crate::key::Key;
-use crate::keys::TableKind;
-use crate::lists::{list_at, table_in};
-use crate::refusal::{Refusal, confirm, place_at, placed};
-use crate::values::{address_of, needed, text_as};
+use sip_config_values::{
+    Grammar, Key, Refusal, TableKind, address_of, confirm, list_at, needed, place_at, placed,
+    table_in, text_as,
+};
 use sip_hops::Hop;
 use sip_text::{Bytes, Items, same_bytes};
 use std::alloc::Global;

@@ -1,20 +1,18 @@
 ghost use Rattle.std.specs.Prelude.{◌≡◌, [], ◌∷◌, ◌++◌, codes, IfOk};
 ghost use Rattle.toml.specs.Data.{get_member};
 ghost use Rattle.toml.specs.View.{table_view, items_view};
-ghost use Rattle.sip_config.specs.Refusals.{ReadsAt, placed};
-ghost use Rattle.sip_config.specs.declared.key.Key.TheVariants as keys;
-ghost use Rattle.sip_config.specs.declared.keys.TableKind.TheVariants as kinds;
-ghost use Rattle.sip_config.specs.Rows.{rows_after};
+ghost use Rattle.sip_config_values.specs.Refusals.{ReadsAt, placed};
+ghost use Rattle.sip_config_values.specs.declared.key.Key.TheVariants as keys;
+ghost use Rattle.sip_config_values.specs.declared.table_kind.TableKind.TheVariants as kinds;
+ghost use Rattle.sip_config_values.specs.Rows.{rows_after};
 ghost use Rattle.sip_config.specs.HostAddresses as Definitions;
 ghost use Rattle.sip_config.specs.Places.{place_of, row_besides};
 
-use crate::key::Key;
-use crate::keys::TableKind;
-use crate::lists::{list_at, table_in};
 use crate::places::Places;
-use crate::refusal::{Refusal, place_at, placed};
-use crate::values::{address_of, find, needed, port_of, text_as};
-use crate::{ConfigError, Grammar};
+use sip_config_values::{
+    ConfigError, Grammar, Key, Refusal, TableKind, address_of, find, list_at, needed, place_at,
+    placed, port_of, table_in, text_as,
+};
 use sip_hops::HostAddress;
 use sip_text::{Bytes, Items};
 use std::alloc::Global;

@@ -2,25 +2,14 @@ ghost use Rattle.std.specs.Prelude.{◌≡◌, option_map};
 ghost use Rattle.std.specs.List.{list_any};
 ghost use Rattle.std.specs.Str.{bytes_eq};
 ghost use Rattle.toml.specs.View.{table_view, items_view};
-ghost use Rattle.sip_config.specs.Refusals.{Tells};
-ghost use Rattle.sip_config.specs.Rows.{all_pass};
+ghost use Rattle.sip_config_values.specs.Refusals.{Tells};
+ghost use Rattle.sip_config_values.specs.Rows.{all_pass};
 ghost use Rattle.sip_config.specs.Keys as Definitions;
 
-use crate::error::ConfigError;
-use crate::key::Key;
-use crate::lists::{list_at, table_in};
-use crate::refusal::{Refusal, confirm, place_at};
+use sip_config_values::{
+    ConfigError, Key, Refusal, TableKind, confirm, list_at, place_at, table_in,
+};
 use toml::{Table, Value};
-
-/// The kinds of tables of a file: the whole of it, and the tables of its lists.
-#[derive(Clone, Copy)]
-pub enum TableKind {
-    Whole,
-    User,
-    Hop,
-    HostAddress,
-    Rule,
-}
 
 /// The keys before all tables that both versions have.
 const HEAD_KEYS: [&str; 6] = ["version", "realm", "host", "port", "address", "domains"];

@@ -1,14 +1,12 @@
 ghost use Rattle.std.specs.Prelude.{◌≡◌, codes};
 ghost use Rattle.toml.specs.Data.{get_member, as_table};
 ghost use Rattle.toml.specs.View.{view, table_view, items_view};
-ghost use Rattle.sip_config.specs.Refusals.{Tells};
+ghost use Rattle.sip_config_values.specs.Refusals.{Tells};
 ghost use Rattle.sip_config.specs.Limits as Definitions;
 
-use crate::error::ConfigError;
-use crate::key::Key;
-use crate::keys::TableKind;
-use crate::refusal::{Refusal, confirm, none_found, place_at};
-use crate::values::find;
+use sip_config_values::{
+    ConfigError, Key, Refusal, TableKind, confirm, find, none_found, place_at,
+};
 use toml::{Table, Value};
 
 /// Whether what a key holds is a list of more items.

@@ -1,11 +1,11 @@
 ghost use Rattle.std.specs.Prelude.{◌≡◌, [], ◌∷◌, ◌++◌, not, if◌then◌else◌, IfOk, IfErr, OnErr};
 ghost use Rattle.std.specs.List.{list_any};
 ghost use Rattle.sip_text.specs.Words.{without_case};
-ghost use Rattle.sip_config.specs.declared.refusal.Refusal.TheVariants.{NoMemory};
-ghost use Rattle.sip_config.specs.InOrder.{places_in_order, ArePlaced};
+ghost use Rattle.sip_config_values.specs.declared.refusal.Refusal.TheVariants.{NoMemory};
+ghost use Rattle.sip_config_values.specs.InOrder.{places_in_order, ArePlaced};
 ghost use Rattle.sip_config.specs.Places.{is_place};
 
-use crate::refusal::Refusal;
+use sip_config_values::Refusal;
 use sip_text::lower_case;
 use std::alloc::Global;
 use std::collections::HashMap;
@@ -21,7 +21,7 @@ pub(crate) struct Places {
 
 impl Model for Places {
     ghost use Rattle.std.specs.Prelude.{ℕ, List};
-    ghost use Rattle.sip_config.specs.InOrder.{places_in_order, ArePlaced};
+    ghost use Rattle.sip_config_values.specs.InOrder.{places_in_order, ArePlaced};
 
     ghost Value = { List (List ℕ × ℕ) };
 

@@ -2,20 +2,18 @@ ghost use Rattle.std.specs.Prelude.{◌≡◌, ℕ, ◌==◌, ◌||◌, not, pos
 ghost use Rattle.std.specs.List.{list_any};
 ghost use Rattle.std.specs.Str.{bytes_eq};
 ghost use Rattle.toml.specs.View.{view, table_view, items_view};
-ghost use Rattle.sip_config.specs.declared.key.Key.TheVariants as keys;
-ghost use Rattle.sip_config.specs.declared.keys.TableKind.TheVariants as kinds;
-ghost use Rattle.sip_config.specs.declared.refusal.Refusal.TheVariants.{NoMemory};
-ghost use Rattle.sip_config.specs.Refusals.{Reads, ReadsAt, placed};
-ghost use Rattle.sip_config.specs.Rows.{rows_after, all_pass};
+ghost use Rattle.sip_config_values.specs.declared.key.Key.TheVariants as keys;
+ghost use Rattle.sip_config_values.specs.declared.table_kind.TableKind.TheVariants as kinds;
+ghost use Rattle.sip_config_values.specs.declared.refusal.Refusal.TheVariants.{NoMemory};
+ghost use Rattle.sip_config_values.specs.Refusals.{Reads, ReadsAt, placed};
+ghost use Rattle.sip_config_values.specs.Rows.{rows_after, all_pass};
 ghost use Rattle.sip_config.specs.Rules as Definitions;
 
-use crate::key::Key;
-use crate::keys::TableKind;
-use crate::lists::table_in;
-use crate::refusal::{Refusal, confirm, none_found, passed, place_at, placed};
-use crate::values::{find, needed, number_between, text_of};
-use crate::words::{is_verdict, operation_of, target_of, verdict_of, who_of};
-use crate::{ConfigError, Names};
+use sip_config_values::{
+    ConfigError, Key, Names, Refusal, TableKind, confirm, find, is_verdict, needed, none_found,
+    number_between, operation_of, passed, place_at, placed, table_in, target_of, text_of,
+    verdict_of, who_of,
+};
 use sip_hops::Hop;
 use sip_policy::{OperationPattern, Rule, RuleVerdict, TargetPattern, User, Users, Who, Window};
 use sip_text::{Bytes, Items};

@@ -1,18 +1,15 @@
 ghost use Rattle.std.specs.Prelude.{◌≡◌, []};
 ghost use Rattle.toml.specs.View.{table_view, items_view};
-ghost use Rattle.sip_config.specs.declared.key.Key.TheVariants as keys;
-ghost use Rattle.sip_config.specs.declared.keys.TableKind.TheVariants as kinds;
-ghost use Rattle.sip_config.specs.Refusals.{Reads, ReadsAt, placed};
-ghost use Rattle.sip_config.specs.Rows.{rows_after, all_pass};
+ghost use Rattle.sip_config_values.specs.declared.key.Key.TheVariants as keys;
+ghost use Rattle.sip_config_values.specs.declared.table_kind.TableKind.TheVariants as kinds;
+ghost use Rattle.sip_config_values.specs.Refusals.{Reads, ReadsAt, placed};
+ghost use Rattle.sip_config_values.specs.Rows.{rows_after, all_pass};
 ghost use Rattle.sip_config.specs.Users as Definitions;
 
-use crate::key::Key;
-use crate::keys::TableKind;
-use crate::lists::table_in;
-use crate::refusal::{Refusal, passed, place_at, placed};
-use crate::texts::texts_of;
-use crate::values::{digest_of, find, list_of, needed, some_items_at, text_at};
-use crate::{ConfigError, Grammar, Names};
+use sip_config_values::{
+    ConfigError, Grammar, Key, Names, Refusal, TableKind, digest_of, find, list_of, needed, passed,
+    place_at, placed, some_items_at, table_in, text_at, texts_of,
+};
 use sip_policy::{PolicyError, User, Users};
 use sip_text::{Bytes, Items};
 use std::alloc::Global;

@@ -2,8 +2,8 @@
 use Rattle.std.specs.Prelude.{ℕ, ⊤}
 use Rattle.std.specs.declared.io.ErrorKind.{ErrorKind}
 use Rattle.std.specs.declared.io.ErrorKind.TheVariants.{AddrInUse, AddrNotAvailable, BrokenPipe, NotFound, OutOfMemory, PermissionDenied, QuotaExceeded, StorageFull}
-use Rattle.sip_config.specs.declared.error.ConfigError.{ConfigError}
-use Rattle.sip_config.specs.declared.error.ConfigError.TheVariants as configurations
+use Rattle.sip_config.specs.values.declared.error.ConfigError.{ConfigError}
+use Rattle.sip_config.specs.values.declared.error.ConfigError.TheVariants as configurations
 use Rattle.sipd_arguments.specs.declared.device_fault.DeviceFault.{DeviceFault}
 use Rattle.sipd_arguments.specs.declared.device_fault.DeviceFault.TheVariants.{PortTaken, NoSuchAddress, NoFile, NoRightToRead, DiskFull, OutputClosed, Other}
 use Rattle.sipd_arguments.specs.declared.exit.Exit.{Exit}

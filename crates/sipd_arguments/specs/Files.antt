@@ -1,6 +1,6 @@
 -- What a file states that holds a configuration.
 use Rattle.std.specs.Prelude.{ℕ, List, ◌≡◌, Option, Some, None}
-use Rattle.sip_config.specs.declared.error.ConfigError.{ConfigError}
+use Rattle.sip_config.specs.values.declared.error.ConfigError.{ConfigError}
 use Rattle.sip_config.specs.Stated.{States, StatesNone}
 use Rattle.sip_config_types.specs.declared.config.Config.{Config}
 use Rattle.sip_config_types.specs.Sample.{sample}

@@ -1,9 +1,9 @@
 -- What is told of a refusal is what is read.
 use Rattle.std.proofs.Common.{◌≡◌, Result, Err, sym, subst}
 use Rattle.sip_config_types.specs.declared.config.Config.{Config}
-use Rattle.sip_config.specs.declared.refusal.Refusal.{Refusal}
-use Rattle.sip_config.specs.declared.refusal.Refusal.TheVariants.{NoMemory, At, Twice}
-use Rattle.sip_config.specs.Refusals.{ReadsAt}
+use Rattle.sip_config_values.specs.declared.refusal.Refusal.{Refusal}
+use Rattle.sip_config_values.specs.declared.refusal.Refusal.TheVariants.{NoMemory, At, Twice}
+use Rattle.sip_config_values.specs.Refusals.{ReadsAt}
 use Rattle.sipd_mistakes.specs.declared.telling.Reading.{Reading}
 use Rattle.sipd_mistakes.specs.declared.telling.Reading.TheVariants.{Stated, Refused}
 use Rattle.sipd_mistakes.specs.Mistakes.{IsToldAs, IsReading}

@@ -3,17 +3,17 @@ use Rattle.std.specs.Prelude.{◌≡◌, ◌⊎◌, ℕ, ◌+◌, ◌-◌, ◌^�
 use Rattle.toml.specs.Data.{Members}
 use Rattle.toml.specs.Parse.{parse_document}
 use Rattle.sip_config_types.specs.declared.config.Config.{Config}
-use Rattle.sip_config.specs.declared.error.ConfigError.{ConfigError}
-use Rattle.sip_config.specs.declared.error.ConfigError.TheVariants.{BadToml, MissingKey, BadValue, DuplicateRule, UnknownHop, UnknownGroup, TooMany}
-use Rattle.sip_config.specs.declared.key.Key.{Key}
-use Rattle.sip_config.specs.declared.key.Key.TheVariants as keys
-use Rattle.sip_config.specs.declared.keys.TableKind.{TableKind}
-use Rattle.sip_config.specs.declared.keys.TableKind.TheVariants as kinds
-use Rattle.sip_config.specs.declared.refusal.Place.{Place}
-use Rattle.sip_config.specs.declared.refusal.Refusal.{Refusal}
-use Rattle.sip_config.specs.declared.refusal.Refusal.TheVariants.{NoMemory, At, Twice}
-use Rattle.sip_config.specs.KeyNames.{name_of}
-use Rattle.sip_config.specs.Refusals.{error_of}
+use Rattle.sip_config_values.specs.declared.error.ConfigError.{ConfigError}
+use Rattle.sip_config_values.specs.declared.error.ConfigError.TheVariants.{BadToml, MissingKey, BadValue, DuplicateRule, UnknownHop, UnknownGroup, TooMany}
+use Rattle.sip_config_values.specs.declared.key.Key.{Key}
+use Rattle.sip_config_values.specs.declared.key.Key.TheVariants as keys
+use Rattle.sip_config_values.specs.declared.table_kind.TableKind.{TableKind}
+use Rattle.sip_config_values.specs.declared.table_kind.TableKind.TheVariants as kinds
+use Rattle.sip_config_values.specs.declared.refusal.Place.{Place}
+use Rattle.sip_config_values.specs.declared.refusal.Refusal.{Refusal}
+use Rattle.sip_config_values.specs.declared.refusal.Refusal.TheVariants.{NoMemory, At, Twice}
+use Rattle.sip_config_values.specs.KeyNames.{name_of}
+use Rattle.sip_config_values.specs.Refusals.{error_of}
 use Rattle.sip_config.specs.Configuration.{placed_by}
 use Rattle.sipd_mistakes.specs.declared.telling.Reading.{Reading}
 use Rattle.sipd_mistakes.specs.declared.telling.Reading.TheVariants.{Stated, Refused}

@@ -2,7 +2,7 @@ ghost use Rattle.std.specs.Prelude.{◌≡◌, count_by};
 ghost use Rattle.sipd_mistakes.specs.Encoding.{is_line_end, line_of};
 
 use crate::misplaced::list_of;
-use sip_config::{Place, TableKind};
+use sip_config_values::{Place, TableKind};
 use sip_text::{same_bytes, split_once, without_blanks, without_front_blanks};
 
 /// What is between the brackets of a line `[[KEY]]`, if it is one.

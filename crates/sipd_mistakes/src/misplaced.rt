@@ -1,7 +1,8 @@
 ghost use Rattle.std.specs.Prelude.{◌≡◌};
 ghost use Rattle.sipd_mistakes.specs.Mistakes as Definitions;
 
-use sip_config::{Key, Place, TableKind, may_have, unknown_key};
+use sip_config::{may_have, unknown_key};
+use sip_config_values::{Key, Place, TableKind};
 use toml::{Table, Value};
 
 /// The kinds of tables in lists, in the order in which they are looked at.

@@ -1,4 +1,4 @@
-use sip_config::{Key, Place, TableKind};
+use sip_config_values::{Key, Place, TableKind};
 
 /// What a key may hold, in words.
 pub(crate) fn wanted(place: Place) -> &'static str {

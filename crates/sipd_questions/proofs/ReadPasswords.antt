@@ -4,7 +4,7 @@ use Rattle.std.proofs.lemmas.Bool.{lt-leb}
 use Rattle.std.proofs.lemmas.Bool.Decides.{leb_tells}
 use Rattle.std.proofs.lemmas.List.{take_all, length-take-le}
 use Rattle.std.specs.Prelude.{nat_le}
-use Rattle.sip_config.specs.Grammar.{is_name}
+use Rattle.sip_config_values.specs.Grammar.{is_name}
 use Rattle.sipd_questions.specs.declared.error.QuestionError.{QuestionError}
 use Rattle.sipd_questions.specs.declared.error.QuestionError.TheVariants.{BadName, BadRealm, LongPassword}
 use Rattle.sipd_questions.specs.declared.user.Digests.{Digests}

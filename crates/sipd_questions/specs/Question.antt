@@ -8,7 +8,7 @@ use Rattle.sip_uri.specs.declared.error.UriError.{UriError}
 use Rattle.sip_policy.specs.declared.operation.Operation.{Operation}
 use Rattle.sip_policy.specs.declared.user.User.{User}
 use Rattle.sip_policy.specs.User.{is_users_name}
-use Rattle.sip_config.specs.Grammar.{is_sent_method}
+use Rattle.sip_config_values.specs.Grammar.{is_sent_method}
 use Rattle.sipd_questions.specs.declared.error.QuestionError.{QuestionError}
 use Rattle.sipd_questions.specs.declared.error.QuestionError.TheVariants.{BadMethod, BadTarget, SmallLetter}
 use Rattle.sipd_questions.specs.Fronts.{front_before}

@@ -8,7 +8,7 @@ use Rattle.sip_digest.specs.declared.algorithm.Algorithm.TheVariants as By
 use Rattle.sip_policy.specs.declared.user.User.{User}
 use Rattle.sip_policy.specs.User.{is_users_name}
 use Rattle.sip_config_types.specs.declared.config.Config.{Config}
-use Rattle.sip_config.specs.Grammar.{is_name, is_realm}
+use Rattle.sip_config_values.specs.Grammar.{is_name, is_realm}
 use Rattle.sipd_questions.specs.declared.user.Digests.{Digests}
 use Rattle.sipd_questions.specs.declared.user.Digests.TheVariants.{Md5, Both}
 use Rattle.sipd_questions.specs.declared.error.QuestionError.{QuestionError}

@@ -1,6 +1,6 @@
 ghost use Rattle.std.specs.Prelude.{◌≡◌, IfOk};
 ghost use Rattle.std.specs.Option.{option_copied};
-ghost use Rattle.sip_config.specs.Grammar as Grammars;
+ghost use Rattle.sip_config_values.specs.Grammar as Grammars;
 ghost use Rattle.sipd_questions.specs.Refusals.{Reads};
 ghost use Rattle.sipd_questions.specs.Question as Definitions;
 

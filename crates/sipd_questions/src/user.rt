@@ -5,8 +5,8 @@ ghost use Rattle.sipd_questions.specs.Refusals.{Reads};
 ghost use Rattle.sipd_questions.specs.User as Definitions;
 
 use crate::error::{QuestionError, confirm};
-use sip_config::Grammar;
 use sip_config_types::Config;
+use sip_config_values::Grammar;
 use sip_digest::{a1, a1_sha256};
 use sip_policy::Users;
 use sip_text::{Bytes, same_bytes};

@@ -28,7 +28,7 @@ use Rattle.sip_resume.specs.Whole.{IsRecordResumed, IsRecordUnresumed, KeepsFram
 use Rattle.sip_resume.specs.declared.record_error.RecordError.{RecordError}
 use Rattle.sip_resume.specs.declared.record_error.RecordError.TheVariants as resuming
 use Rattle.sipd_arguments.specs.Exits.{exit_of_kind, fault_of}
-use Rattle.sip_config.specs.declared.error.ConfigError.{ConfigError}
+use Rattle.sip_config.specs.values.declared.error.ConfigError.{ConfigError}
 use Rattle.sip_config.specs.Stated.{States, StatesNone}
 use Rattle.sipd_arguments.specs.declared.device_fault.DeviceFault.{DeviceFault}
 use Rattle.sipd_arguments.specs.declared.exit.Exit.{Exit}

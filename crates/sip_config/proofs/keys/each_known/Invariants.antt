@@ -1,6 +1,6 @@
 use Rattle.std.proofs.Common.{◌≡◌, drop}
 use Rattle.toml.specs.View.{items_view}
-use Rattle.sip_config.specs.Rows.{all_pass}
+use Rattle.sip_config_values.specs.Rows.{all_pass}
 use Rattle.sip_config.specs.Keys.{known}
 use Rattle.sip_config.proofs.keys.each_known.Given as goal
 

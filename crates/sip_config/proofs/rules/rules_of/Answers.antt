@@ -2,8 +2,8 @@ use Rattle.std.proofs.Common.{List, Result, Ok, ap, sym, ◌∙◌}
 use Rattle.std.proofs.lemmas.Result.{err_from_is_err_and}
 use Rattle.toml.specs.View.{items_view}
 use Rattle.sip_policy.specs.declared.rule.Rule.{Rule}
-use Rattle.sip_config.specs.declared.refusal.Refusal.{Refusal}
-use Rattle.sip_config.specs.Refusals.{◌>>=◌}
+use Rattle.sip_config_values.specs.declared.refusal.Refusal.{Refusal}
+use Rattle.sip_config_values.specs.Refusals.{◌>>=◌}
 use Rattle.sip_config.specs.Rules.{rules_of}
 use Rattle.sip_config.proofs.Rows.{reads_err}
 use Rattle.sip_config.proofs.Groups.{groups_end}

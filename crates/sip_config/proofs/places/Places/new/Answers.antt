@@ -1,5 +1,5 @@
 use Rattle.std.proofs.Common.{ap}
-use Rattle.sip_config.proofs.InOrder.{none_placed}
+use Rattle.sip_config_values.proofs.InOrder.{none_placed}
 use Rattle.sip_config.proofs.RowPlaces.{places_of}
 use Rattle.sip_config.proofs.places.Places.new.Goals as goal
 

@@ -1,6 +1,0 @@
-use Rattle.std.proofs.Common.{◌∙◌, sym}
-use Rattle.sip_config.proofs.InOrder.{name_count}
-use Rattle.sip_config.proofs.names.count.Goals as goal
-
-pub returns : goal.returns
-returns c = c.len.ensures.len ∙ sym (name_count c.args.places.now c.requires)

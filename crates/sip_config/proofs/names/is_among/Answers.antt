@@ -1,6 +1,0 @@
-use Rattle.std.proofs.Common.{◌∙◌}
-use Rattle.sip_config.proofs.InOrder.{name_found}
-use Rattle.sip_config.proofs.names.is_among.Goals as goal
-
-pub returns : goal.returns
-returns c = c.contains_key.ensures ∙ name_found c.args.places.now c.args.name.now c.requires

@@ -1,0 +1,2 @@
+pub mod ValueRows
+pub mod InOrder
