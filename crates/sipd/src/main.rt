@@ -3,8 +3,8 @@
 
 use sip_policy_index::IndexedRules;
 use sip_timers_wheel::WheelTimers;
-use sipd_arguments::Exit;
 use sipd_command::command;
+use sipd_exit::Exit;
 use std::io::{BufWriter, Read, Write};
 use std::process::ExitCode;
 use std::{env, io};

@@ -10,8 +10,8 @@ use Rattle.sipd_arguments.specs.Commands.{Answers}
 use Rattle.sipd_arguments.specs.declared.call.Call.{Call}
 use Rattle.sipd_arguments.specs.declared.commands.Parsed.{Parsed}
 use Rattle.sipd_arguments.specs.declared.commands.Parsed.TheVariants as parsed
-use Rattle.sipd_arguments.specs.declared.exit.Exit.{Exit}
-use Rattle.sipd_arguments.specs.declared.exit.Exit.TheVariants.{Usage, Memory}
+use Rattle.sipd_exit.specs.declared.exit.Exit.{Exit}
+use Rattle.sipd_exit.specs.declared.exit.Exit.TheVariants.{Usage, Memory}
 use Rattle.sipd_arguments.specs.declared.misuse.Misuse.{Misuse}
 
 -- an error of the parse

@@ -1,4 +1,3 @@
-pub mod Faults
 pub mod Found
 pub mod Building
 pub mod Ending

@@ -21,14 +21,14 @@ use Rattle.sipd_arguments.specs.declared.call.ServeCall.{ServeCall}
 use Rattle.sipd_arguments.specs.declared.call.DecideCall.{DecideCall}
 use Rattle.sipd_arguments.specs.declared.call.ReportCall.{ReportCall}
 use Rattle.sipd_arguments.specs.declared.call.UserCall.{UserCall}
-use Rattle.sipd_arguments.specs.declared.call.RecordFault.{RecordFault}
-use Rattle.sipd_arguments.specs.declared.call.RecordFault.TheVariants.{GoOn, End}
-use Rattle.sipd_arguments.specs.declared.call.RecordPlace.{RecordPlace}
-use Rattle.sipd_arguments.specs.declared.call.RecordPlace.TheVariants.{File, Folder}
+use Rattle.sipd_exit.specs.declared.record_place.RecordFault.{RecordFault}
+use Rattle.sipd_exit.specs.declared.record_place.RecordFault.TheVariants.{GoOn, End}
+use Rattle.sipd_exit.specs.declared.record_place.RecordPlace.{RecordPlace}
+use Rattle.sipd_exit.specs.declared.record_place.RecordPlace.TheVariants.{File, Folder}
 use Rattle.sipd_arguments.specs.declared.commands.Parsed.{Parsed}
 use Rattle.sipd_arguments.specs.declared.commands.Parsed.TheVariants as parsed
-use Rattle.sipd_arguments.specs.declared.exit.Exit.{Exit}
-use Rattle.sipd_arguments.specs.declared.exit.Exit.TheVariants.{Usage, Memory}
+use Rattle.sipd_exit.specs.declared.exit.Exit.{Exit}
+use Rattle.sipd_exit.specs.declared.exit.Exit.TheVariants.{Usage, Memory}
 use Rattle.sipd_arguments.specs.declared.misuse.Misuse.{Misuse}
 use Rattle.sipd_arguments.specs.declared.misuse.Misuse.TheVariants.{NoCommand, TwoRecords, NoNewRecord, NoRecord, NoSuchWord, NoRealm, Sha256Said}
 

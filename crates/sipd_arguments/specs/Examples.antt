@@ -5,7 +5,7 @@ use Rattle.clap.specs.Kinds.{Kinds}
 use Rattle.clap.specs.Words.{Row, Text, subcommand_of}
 use Rattle.clap.specs.declared.error.kind.ErrorKind.TheVariants as kinds
 use Rattle.sipd_arguments.specs.CommandLine.{fault_said, is_on, misuse_of, number_at, program, text_at}
-use Rattle.sipd_arguments.specs.declared.call.RecordFault.TheVariants.{GoOn, End}
+use Rattle.sipd_exit.specs.declared.record_place.RecordFault.TheVariants.{GoOn, End}
 use Rattle.sipd_arguments.specs.declared.misuse.Misuse.{Misuse}
 use Rattle.sipd_arguments.specs.declared.misuse.Misuse.TheVariants.{TwoRecords, NoNewRecord, NoRecord, NoSuchWord, NoRealm, Sha256Said}
 

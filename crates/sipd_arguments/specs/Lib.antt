@@ -1,5 +1,3 @@
-pub mod Exits
-pub mod Files
 pub mod Summary
 pub mod CommandLine
 pub mod Examples

@@ -1,3 +1,5 @@
+use sipd_exit::{RecordFault, RecordPlace};
+
 /// What is to be done.
 #[derive(Drop)]
 pub enum Call {
@@ -32,27 +34,6 @@ pub enum ReplayCall {
         config: Option<String>,
         path: String,
     },
-}
-
-/// What becomes of a server whose record can't be written.
-#[derive(Clone, Copy, PartialEq, Eq)]
-pub enum RecordFault {
-    /// It goes on, and records nothing more.
-    GoOn,
-    /// It ends.
-    End,
-}
-
-/// Where the record of a server is made.
-#[derive(Drop)]
-pub enum RecordPlace {
-    /// In a new file, going on from the record of another one where that is named.
-    File {
-        path: String,
-        resume: Option<String>,
-    },
-    /// In a new file of this folder, named by the time, going on from the newest record there.
-    Folder(String),
 }
 
 /// `serve`: phones are served.

@@ -5,11 +5,11 @@ ghost use Rattle.sipd_arguments.specs.CommandLine.{EndsExactly, no_commands};
 ghost use Rattle.sipd_arguments.specs.Commands.{Answers, IsCommand};
 
 use crate::call::Call;
-use crate::exit::Exit;
 use crate::matches::{Uncalled, call_of};
 use crate::misuse::Misuse;
 use clap::error::ErrorKind;
 use clap::{Arg, ArgAction, Command, value_parser};
+use sipd_exit::Exit;
 use std::alloc::{AllocError, Global};
 
 /// What is said behind a complaint of this crate's own.

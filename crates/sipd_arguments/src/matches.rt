@@ -4,12 +4,10 @@ ghost use Rattle.sipd_arguments.specs.CommandLine as Definitions;
 ghost use Rattle.sipd_arguments.specs.CommandLine.{IsCall, IsCallOf, IsPlace};
 ghost use Rattle.sipd_arguments.specs.Commands.{IsWhy};
 
-use crate::call::{
-    Call, CheckCall, DecideCall, RecordFault, RecordPlace, ReplayCall, ReportCall, ServeCall,
-    UserCall,
-};
+use crate::call::{Call, CheckCall, DecideCall, ReplayCall, ReportCall, ServeCall, UserCall};
 use crate::misuse::Misuse;
 use clap::ArgMatches;
+use sipd_exit::{RecordFault, RecordPlace};
 use std::alloc::{AllocError, Global};
 
 /// Why what a command line says is no call.

@@ -8,9 +8,9 @@ use Rattle.sip_replay.specs.resume.declared.record_error.RecordError.{RecordErro
 use Rattle.sip_replay.specs.resume.declared.record_error.RecordError.TheVariants as records
 use Rattle.sip_segment_config.specs.declared.stop.SegmentStop.{SegmentStop}
 use Rattle.sip_segment_config.specs.declared.stop.SegmentStop.TheVariants as segments
-use Rattle.sipd_arguments.specs.declared.device_fault.DeviceFault.TheVariants.{Other}
-use Rattle.sipd_arguments.specs.declared.exit.Exit.{Exit}
-use Rattle.sipd_arguments.specs.declared.exit.Exit.TheVariants.{Script, Device, Memory, Recording}
+use Rattle.sipd_exit.specs.declared.device_fault.DeviceFault.TheVariants.{Other}
+use Rattle.sipd_exit.specs.declared.exit.Exit.{Exit}
+use Rattle.sipd_exit.specs.declared.exit.Exit.TheVariants.{Script, Device, Memory, Recording}
 use Rattle.sipd_old_record.specs.OldRecord.{line_of_file}
 
 -- what a refused replay is to the program

@@ -11,11 +11,11 @@ use Rattle.sip_replay.specs.resume.declared.record_error.RecordError.{RecordErro
 use Rattle.sip_replay.specs.resume.declared.record_error.RecordError.TheVariants.{Write}
 use Rattle.sip_segment_config.specs.declared.stop.SegmentStop.{SegmentStop}
 use Rattle.sip_config.specs.Stated.{States}
-use Rattle.sipd_arguments.specs.Files.{IsRefusedWith}
-use Rattle.sipd_arguments.specs.declared.exit.Exit.{Exit}
-use Rattle.sipd_arguments.specs.declared.exit.Exit.TheVariants.{BareRecord, Device, Memory, OtherConfiguration}
-use Rattle.sipd_arguments.specs.declared.files.Stated.{Stated}
-use Rattle.sipd_arguments.specs.declared.device_fault.DeviceFault.TheVariants.{Other}
+use Rattle.sipd_exit.specs.Files.{IsRefusedWith}
+use Rattle.sipd_exit.specs.declared.exit.Exit.{Exit}
+use Rattle.sipd_exit.specs.declared.exit.Exit.TheVariants.{BareRecord, Device, Memory, OtherConfiguration}
+use Rattle.sipd_exit.specs.declared.files.Stated.{Stated}
+use Rattle.sipd_exit.specs.declared.device_fault.DeviceFault.TheVariants.{Other}
 use Rattle.sipd_old_record.specs.Own.{BeginsAsEvent, HoldsNone, HoldsOwn, OwnStops, unread}
 use Rattle.sipd_command.specs.Exits.{exit_of_record, exit_of_segment}
 use Rattle.sipd_reload.specs.File.{most_bytes}

@@ -10,4 +10,5 @@ mod replaying;
 mod serving;
 
 pub use program::{command, replay_script};
-pub use sipd_arguments::{Call, Exit, Parsed, parse, summary_of};
+pub use sipd_arguments::{Call, Parsed, parse, summary_of};
+pub use sipd_exit::Exit;

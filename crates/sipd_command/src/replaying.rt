@@ -14,7 +14,7 @@ use sip_replay_print::Printer;
 use sip_replay_script::{Lines, PrintStop, TellingReader, TellingWriter, hand_on};
 use sip_segment_config::SegmentStop;
 use sip_timers::Timers;
-use sipd_arguments::{DeviceFault, Exit, Stated, config_of_bytes, stated_in};
+use sipd_exit::{DeviceFault, Exit, Stated, config_of_bytes, stated_in};
 use sipd_old_record::{line_of_file, open_any_record, own_configuration};
 use sipd_reload::MOST_BYTES;
 use std::alloc::Global;

@@ -5,9 +5,9 @@ use Rattle.std.specs.declared.io.ErrorKind.TheVariants.{OutOfMemory}
 use Rattle.std.specs.Io.KnownBytes.{Consumes, Keeps}
 use Rattle.std.proofs.KnownBytes.{Keeps-refl, Keeps-trans}
 use Rattle.sip_replay_script.specs.Lines.{is_end}
-use Rattle.sipd_arguments.specs.Exits.{exit_of_kind}
-use Rattle.sipd_arguments.specs.declared.exit.Exit.{Exit}
-use Rattle.sipd_arguments.specs.declared.exit.Exit.TheVariants.{Memory}
+use Rattle.sipd_exit.specs.Exits.{exit_of_kind}
+use Rattle.sipd_exit.specs.declared.exit.Exit.{Exit}
+use Rattle.sipd_exit.specs.declared.exit.Exit.TheVariants.{Memory}
 use Rattle.sipd_old_record.specs.OldRecord.{IsFirstLine, IsSystemFault, ReadsByte}
 
 pub keeps_itself : (a : Option (List ℕ)) → Keeps a a

@@ -6,9 +6,9 @@ use Rattle.sip_replay_script.specs.Devices.{IsFault}
 use Rattle.sip_replay_script.specs.Lines.{is_end}
 use Rattle.sip_record.specs.RecordHead.{head_of}
 use Rattle.sip_record.specs.declared.record_head.RecordHead.{RecordHead}
-use Rattle.sipd_arguments.specs.Exits.{exit_of_kind}
-use Rattle.sipd_arguments.specs.declared.exit.Exit.{Exit}
-use Rattle.sipd_arguments.specs.declared.exit.Exit.TheVariants.{Memory, NoRecord}
+use Rattle.sipd_exit.specs.Exits.{exit_of_kind}
+use Rattle.sipd_exit.specs.declared.exit.Exit.{Exit}
+use Rattle.sipd_exit.specs.declared.exit.Exit.TheVariants.{Memory, NoRecord}
 use Rattle.sipd_old_record.specs.Readers.{HasStopped, most_asks}
 
 -- a byte was read, or a reader is at its end and stays so

@@ -2,13 +2,13 @@ ghost use Rattle.std.specs.Prelude.{◌≡◌, ◌⊎◌, IfErr, IfOk, OnErr};
 ghost use Rattle.std.specs.Io.KnownBytes.{Keeps};
 ghost use Rattle.std.specs.IoError.{error_kind};
 ghost use Rattle.sip_replay_script.specs.Devices.{later, IsFault};
-ghost use Rattle.sipd_arguments.specs.declared.exit.Exit.TheVariants.{Memory};
+ghost use Rattle.sipd_exit.specs.declared.exit.Exit.TheVariants.{Memory};
 ghost use Rattle.sipd_old_record.specs.OldRecord.{line_of_file, IsFirstLine, IsReaderFault, IsRefused, IsSystemFault, ReadsByte, SaysHead, WasSaid};
 ghost use Rattle.sipd_old_record.specs.Readers.{most_asks, HasStopped, WasAsked};
 
 use sip_record::{RecordHead, read_head};
 use sip_replay_script::TellingReader;
-use sipd_arguments::Exit;
+use sipd_exit::Exit;
 use std::alloc::Global;
 use std::io::{BufReader, ErrorKind};
 use std::rt::Files;

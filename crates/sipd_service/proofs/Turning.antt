@@ -8,9 +8,9 @@ use Rattle.sip_uri.specs.declared.addr.Addr.{Addr}
 use Rattle.sip_record.specs.Recorder.{told}
 use Rattle.sip_loop.specs.Printing.{lines_of, record_text, Prints}
 use Rattle.sip_loop.specs.Serving.{Told, gathered, kept, records_logged}
-use Rattle.sipd_arguments.specs.Exits.{IsPrintFault}
-use Rattle.sipd_arguments.specs.declared.device_fault.DeviceFault.{DeviceFault}
-use Rattle.sipd_arguments.specs.declared.exit.Exit.{Exit}
+use Rattle.sipd_exit.specs.Exits.{IsPrintFault}
+use Rattle.sipd_exit.specs.declared.device_fault.DeviceFault.{DeviceFault}
+use Rattle.sipd_exit.specs.declared.exit.Exit.{Exit}
 use Rattle.sipd_service.specs.Printing.{PrintsServed, start_text, turns_text}
 use Rattle.sipd_service.specs.Turns.{AreTurns, EndsCounted, EndsEarly, EndsWithin, IsTurn, Serves, ServiceSeen, printing_on}
 

@@ -4,11 +4,11 @@ use Rattle.sip_loop.specs.declared.audit_log.AuditFault.{AuditFault}
 use Rattle.sip_loop.specs.declared.audit_log.AuditFault.TheVariants as audits
 use Rattle.sip_loop.specs.declared.served.ServeError.{ServeError}
 use Rattle.sip_loop.specs.declared.served.ServeError.TheVariants as serving
-use Rattle.sipd_arguments.specs.Exits.{IsPrintFault}
-use Rattle.sipd_arguments.specs.declared.device_fault.DeviceFault.{DeviceFault}
-use Rattle.sipd_arguments.specs.declared.device_fault.DeviceFault.TheVariants.{Other}
-use Rattle.sipd_arguments.specs.declared.exit.Exit.{Exit}
-use Rattle.sipd_arguments.specs.declared.exit.Exit.TheVariants.{Device, Memory, Recording}
+use Rattle.sipd_exit.specs.Exits.{IsPrintFault}
+use Rattle.sipd_exit.specs.declared.device_fault.DeviceFault.{DeviceFault}
+use Rattle.sipd_exit.specs.declared.device_fault.DeviceFault.TheVariants.{Other}
+use Rattle.sipd_exit.specs.declared.exit.Exit.{Exit}
+use Rattle.sipd_exit.specs.declared.exit.Exit.TheVariants.{Device, Memory, Recording}
 
 -- what it is to who serves that a line of a decision couldn't be printed: a device's fault is told as one
 abbrev pub fault_of_print : Exit → AuditFault

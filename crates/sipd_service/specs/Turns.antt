@@ -14,10 +14,10 @@ use Rattle.sip_record.specs.Recorder.{told}
 use Rattle.sipd_reload.specs.Watch.{WatchState}
 use Rattle.sip_loop.specs.Serving.{Told, IsServed, IsUnserved, kept, told_by}
 use Rattle.sip_loop.specs.declared.served.ServeError.{ServeError}
-use Rattle.sipd_arguments.specs.Exits.{IsPrintFault}
-use Rattle.sipd_arguments.specs.declared.device_fault.DeviceFault.{DeviceFault}
-use Rattle.sipd_arguments.specs.declared.exit.Exit.{Exit}
-use Rattle.sipd_arguments.specs.declared.exit.Exit.TheVariants.{Recording}
+use Rattle.sipd_exit.specs.Exits.{IsPrintFault}
+use Rattle.sipd_exit.specs.declared.device_fault.DeviceFault.{DeviceFault}
+use Rattle.sipd_exit.specs.declared.exit.Exit.{Exit}
+use Rattle.sipd_exit.specs.declared.exit.Exit.TheVariants.{Recording}
 use Rattle.sipd_service.specs.Exits.{exit_of_serve}
 use Rattle.sipd_service.specs.Printing.{start_text, turns_text}
 use Rattle.sipd_service.specs.Reloads.{HearsHops, IsUnnoted, MayChange, always_of}

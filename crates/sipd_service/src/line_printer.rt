@@ -2,7 +2,7 @@ ghost use Rattle.std.specs.Prelude.{◌≡◌, true, false, Err, IfErr, OnOk, On
 ghost use Rattle.std.specs.Io.KnownBytes.{Appends};
 ghost use Rattle.sip_loop.specs.Printing.{Prints};
 ghost use Rattle.sip_record.specs.Recorder.{told};
-ghost use Rattle.sipd_arguments.specs.Exits.{IsPrintFault};
+ghost use Rattle.sipd_exit.specs.Exits.{IsPrintFault};
 ghost use Rattle.sipd_service.specs.Exits;
 ghost use Rattle.sipd_service.specs.Printing.{serving_text, turns_text};
 
@@ -10,7 +10,7 @@ use crate::printing::{print_records, serving_text, turns_text};
 use sip_audit::Record;
 use sip_loop::{AuditFault, AuditLog};
 use sip_uri::Addr;
-use sipd_arguments::{DeviceFault, Exit, print};
+use sipd_exit::{DeviceFault, Exit, print};
 use std::alloc::Global;
 use std::io::Write;
 

@@ -1,13 +1,13 @@
 ghost use Rattle.std.specs.Prelude.{◌≡◌, IfErr, IfOk, OnOk};
 ghost use Rattle.std.specs.Io.KnownBytes.{Appends};
 ghost use Rattle.sip_loop.specs.Printing as Lines;
-ghost use Rattle.sipd_arguments.specs.Exits.{IsPrintFault};
+ghost use Rattle.sipd_exit.specs.Exits.{IsPrintFault};
 ghost use Rattle.sipd_service.specs.Printing;
 
 use sip_audit::{Record, line_of};
 use sip_text::Bytes;
 use sip_uri::{Addr, addr_text};
-use sipd_arguments::{Exit, print};
+use sipd_exit::{Exit, print};
 use std::alloc::{AllocError, Global};
 use std::io::Write;
 

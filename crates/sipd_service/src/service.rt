@@ -1,7 +1,7 @@
 ghost use Rattle.std.specs.Prelude.{◌≡◌, ◌^◌, ◌-◌, [], false, None, IfErr, IfNone, IfSome, IsSome, OnErr, OnOk};
 ghost use Rattle.std.specs.Io.KnownBytes.{Appends};
 ghost use Rattle.sip_record.specs.Record.{Notes};
-ghost use Rattle.sipd_arguments.specs.Exits.{IsPrintFault};
+ghost use Rattle.sipd_exit.specs.Exits.{IsPrintFault};
 ghost use Rattle.sipd_service.specs.Exits;
 ghost use Rattle.sipd_service.specs.Printing.{PrintsServed, start_text};
 ghost use Rattle.sipd_service.specs.Reloads.{FollowsHops, IsUnnoted, MayChange};
@@ -21,7 +21,7 @@ use sip_run::engine::Engine;
 use sip_text::Bytes;
 use sip_timers::Timers;
 use sip_uri::Addr;
-use sipd_arguments::{DeviceFault, Exit};
+use sipd_exit::{DeviceFault, Exit};
 use sipd_journal::{Unrecorded, WatchedJournal};
 use sipd_reload::{Watch, WatchedFile};
 use std::alloc::Global;

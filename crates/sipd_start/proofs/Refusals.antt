@@ -27,12 +27,12 @@ use Rattle.sip_resume.specs.Outputs.{Outputs}
 use Rattle.sip_resume.specs.Whole.{IsRecordResumed, IsRecordUnresumed, KeepsFrame, RecordStops, config_behind}
 use Rattle.sip_resume.specs.declared.record_error.RecordError.{RecordError}
 use Rattle.sip_resume.specs.declared.record_error.RecordError.TheVariants as resuming
-use Rattle.sipd_arguments.specs.Exits.{exit_of_kind, fault_of}
+use Rattle.sipd_exit.specs.Exits.{exit_of_kind, fault_of}
 use Rattle.sip_config.specs.values.declared.error.ConfigError.{ConfigError}
 use Rattle.sip_config.specs.Stated.{States, StatesNone}
-use Rattle.sipd_arguments.specs.declared.device_fault.DeviceFault.{DeviceFault}
-use Rattle.sipd_arguments.specs.declared.exit.Exit.{Exit}
-use Rattle.sipd_arguments.specs.declared.exit.Exit.TheVariants as exits
+use Rattle.sipd_exit.specs.declared.device_fault.DeviceFault.{DeviceFault}
+use Rattle.sipd_exit.specs.declared.exit.Exit.{Exit}
+use Rattle.sipd_exit.specs.declared.exit.Exit.TheVariants as exits
 use Rattle.sipd_reload.specs.File.{most_bytes}
 use Rattle.sipd_start.specs.Begins.{IsFileNotResumed, IsUnopened, EventsStop, StopsAt, IsStopped, IsNotGoneOn, IsUnread, IsNotResumed, Written, reason_of}
 use Rattle.sipd_start.specs.Boots.{boot_again}

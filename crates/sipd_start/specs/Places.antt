@@ -5,12 +5,12 @@ use Rattle.std.specs.declared.io.ErrorKind.{ErrorKind}
 use Rattle.std.specs.declared.io.ErrorKind.TheVariants.{OutOfMemory, AlreadyExists, NotFound, PermissionDenied, NotADirectory, IsADirectory, ReadOnlyFilesystem, FilesystemLoop, InvalidFilename, InvalidInput, Unsupported}
 use Rattle.sip_record.specs.declared.on_fault.OnFault.{OnFault}
 use Rattle.sip_record.specs.declared.on_fault.OnFault.TheVariants as recorders
-use Rattle.sipd_arguments.specs.declared.call.RecordFault.{RecordFault}
-use Rattle.sipd_arguments.specs.declared.call.RecordFault.TheVariants.{GoOn, End}
-use Rattle.sipd_arguments.specs.declared.call.RecordPlace.{RecordPlace}
-use Rattle.sipd_arguments.specs.declared.call.RecordPlace.TheVariants.{File, Folder}
-use Rattle.sipd_arguments.specs.declared.exit.Exit.{Exit}
-use Rattle.sipd_arguments.specs.declared.exit.Exit.TheVariants.{Memory, NewRecord, Recording}
+use Rattle.sipd_exit.specs.declared.record_place.RecordFault.{RecordFault}
+use Rattle.sipd_exit.specs.declared.record_place.RecordFault.TheVariants.{GoOn, End}
+use Rattle.sipd_exit.specs.declared.record_place.RecordPlace.{RecordPlace}
+use Rattle.sipd_exit.specs.declared.record_place.RecordPlace.TheVariants.{File, Folder}
+use Rattle.sipd_exit.specs.declared.exit.Exit.{Exit}
+use Rattle.sipd_exit.specs.declared.exit.Exit.TheVariants.{Memory, NewRecord, Recording}
 use Rattle.sipd_start.specs.RecordNames.{name_of, newer, next_number}
 use Rattle.sipd_start.specs.declared.making.Place.{Place}
 use Rattle.sipd_start.specs.declared.making.NewFile.{NewFile}

@@ -6,8 +6,8 @@ use Rattle.std.specs.List.{starts_with}
 use Rattle.sip_text.specs.Lists.{front_trimmed, onto}
 use Rattle.sip_text.specs.Numbers.{plain_decimal_of}
 use Rattle.sip_text.specs.Splits.{split_at_byte}
-use Rattle.sipd_arguments.specs.declared.exit.Exit.{Exit}
-use Rattle.sipd_arguments.specs.declared.exit.Exit.TheVariants.{Stack}
+use Rattle.sipd_exit.specs.declared.exit.Exit.{Exit}
+use Rattle.sipd_exit.specs.declared.exit.Exit.TheVariants.{Stack}
 
 -- what stands behind a front of a line, where the line begins with it
 abbrev pub behind : List ℕ → List ℕ → Option (List ℕ)

@@ -8,10 +8,10 @@ use Rattle.sip_resume.specs.declared.record_error.RecordError.{RecordError}
 use Rattle.sip_resume.specs.declared.record_error.RecordError.TheVariants as resuming
 use Rattle.sip_segment_config.specs.declared.stop.SegmentStop.{SegmentStop}
 use Rattle.sip_segment_config.specs.declared.stop.SegmentStop.TheVariants as segments
-use Rattle.sipd_arguments.specs.Files.{IsRefusedWith}
-use Rattle.sipd_arguments.specs.declared.device_fault.DeviceFault.TheVariants.{Other}
-use Rattle.sipd_arguments.specs.declared.exit.Exit.{Exit}
-use Rattle.sipd_arguments.specs.declared.exit.Exit.TheVariants as exits
+use Rattle.sipd_exit.specs.Files.{IsRefusedWith}
+use Rattle.sipd_exit.specs.declared.device_fault.DeviceFault.TheVariants.{Other}
+use Rattle.sipd_exit.specs.declared.exit.Exit.{Exit}
+use Rattle.sipd_exit.specs.declared.exit.Exit.TheVariants as exits
 use Rattle.sipd_old_record.specs.OldRecord.{line_of_file}
 use Rattle.sipd_start.specs.declared.not_resumed.NotResumed.{NotResumed as Reason}
 use Rattle.sipd_start.specs.declared.not_resumed.NotResumed.TheVariants.{Unreadable, NoRecord, CutConfiguration, Damaged, TooLong, NoConfiguration, OtherFrame, Unlawful}

@@ -1,12 +1,12 @@
 ghost use Rattle.std.specs.Prelude.{◌≡◌, false, Err, Ok, IfErr, IfOk, option_map, string_bytes};
 ghost use Rattle.std.specs.IoError.{error_kind};
-ghost use Rattle.sipd_arguments.specs.declared.exit.Exit.TheVariants.{Memory};
+ghost use Rattle.sipd_exit.specs.declared.exit.Exit.TheVariants.{Memory};
 ghost use Rattle.sipd_start.specs.Places;
 ghost use Rattle.sipd_start.specs.Stops.{IsUnmade};
 
 use crate::record_folder::files_in;
 use sip_record::{OnFault, RecordHead, Recorder, head_text};
-use sipd_arguments::{Exit, RecordFault, RecordPlace, Stated};
+use sipd_exit::{Exit, RecordFault, RecordPlace, Stated};
 use sipd_journal::{RecordFile, new_file};
 use std::fs::OpenFile;
 use std::io::{ErrorKind, Write};

@@ -6,7 +6,7 @@ use sip_config::ConfigError;
 use sip_config_change::FrameKey;
 use sip_resume::RecordError;
 use sip_segment_config::SegmentStop;
-use sipd_arguments::{DeviceFault, Exit};
+use sipd_exit::{DeviceFault, Exit};
 use sipd_old_record::line_of_file;
 use std::fmt;
 

@@ -2,7 +2,7 @@ ghost use Rattle.std.specs.Prelude.{◌≡◌, ℕ, List, Err, IfErr, option_map
 ghost use Rattle.sipd_start.specs.StackLimit;
 
 use sip_text::{plain_decimal, split_once, without_front_blanks};
-use sipd_arguments::Exit;
+use sipd_exit::Exit;
 use std::fs;
 use std::rt::Files;
 

@@ -4,7 +4,7 @@ use Rattle.std.specs.Prelude.{Result, Ok, Err, IfErr, IfOk}
 use Rattle.sip_config_types.specs.declared.config.Config.{Config}
 use Rattle.sip_replay_script.specs.Devices.{later}
 use Rattle.sip_replay_script.specs.Lines.{IsSpent, Reading, pending}
-use Rattle.sipd_arguments.specs.declared.exit.Exit.{Exit}
+use Rattle.sipd_exit.specs.declared.exit.Exit.{Exit}
 use Rattle.sipd_old_record.specs.Own.{unread}
 use Rattle.sipd_old_record.specs.Readers.{most_asks}
 use Rattle.sipd_tools.specs.Against.{Begins, IsFirstUnread, IsLastBehind, IsLastOf, IsNotLast, IsStated, IsWithoutLast}

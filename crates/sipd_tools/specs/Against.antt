@@ -7,11 +7,11 @@ use Rattle.sip_replay_script.specs.Lines.{IsSpent, Reading, pending}
 use Rattle.sip_segment_config.specs.Last.{EndsWith, EndsWithNone, LastStops}
 use Rattle.sip_segment_config.specs.declared.stop.SegmentStop.{SegmentStop}
 use Rattle.sip_segment_config.specs.declared.stop.SegmentStop.TheVariants as stops
-use Rattle.sipd_arguments.specs.Exits.{exit_of_config}
+use Rattle.sipd_exit.specs.Exits.{exit_of_config}
 use Rattle.sip_config.specs.Stated.{States}
-use Rattle.sipd_arguments.specs.declared.device_fault.DeviceFault.TheVariants.{Other}
-use Rattle.sipd_arguments.specs.declared.exit.Exit.{Exit}
-use Rattle.sipd_arguments.specs.declared.exit.Exit.TheVariants.{BareRecord, Device, Memory, Script}
+use Rattle.sipd_exit.specs.declared.device_fault.DeviceFault.TheVariants.{Other}
+use Rattle.sipd_exit.specs.declared.exit.Exit.{Exit}
+use Rattle.sipd_exit.specs.declared.exit.Exit.TheVariants.{BareRecord, Device, Memory, Script}
 use Rattle.sipd_changes.specs.Changes.{can_be_taken, changes_of}
 use Rattle.sipd_changes.specs.Telling.{told}
 use Rattle.sipd_old_record.specs.OldRecord.{line_of_file}

@@ -8,7 +8,7 @@ use sip_config_types::Config;
 use sip_record::RecordHead;
 use sip_replay_script::{Lines, TellingReader};
 use sip_segment_config::{SegmentStop, last_configuration};
-use sipd_arguments::{DeviceFault, Exit, config_of};
+use sipd_exit::{DeviceFault, Exit, config_of};
 use sipd_old_record::{line_of_file, open_any_record, own_configuration};
 use sipd_reload::MOST_BYTES;
 use std::alloc::Global;

@@ -5,11 +5,9 @@ use crate::against::config_before;
 use sip_config_types::Config;
 use sip_policy::minute_of;
 use sip_text::Bytes;
-use sipd_arguments::{
-    CheckCall, DecideCall, DeviceFault, Exit, ReportCall, UserCall, bytes_in, config_of,
-    config_of_bytes, print, summary_of,
-};
+use sipd_arguments::{CheckCall, DecideCall, ReportCall, UserCall, summary_of};
 use sipd_changes::{can_be_taken, changes_of, told};
+use sipd_exit::{DeviceFault, Exit, bytes_in, config_of, config_of_bytes, print};
 use sipd_mistakes::{Reading, explain_encoding, read_or_tell};
 use sipd_questions::{
     Digests, Question, QuestionError, added_user, decision_text, digest_warning, password_in, show,

@@ -3,7 +3,7 @@ use Rattle.sip_loop_link.specs.Told.{GrewBy, and_counted}
 use Rattle.sip_run.specs.engine.engine_time.Next.{IsNext}
 use Rattle.sip_run.specs.engine.engine_time.fork.Due.{IsNothingDue}
 use Rattle.model_bounds.specs.state.declared.proxy_state.ProxyState.{ProxyState}
-use Rattle.sipd_arguments.specs.declared.device_fault.DeviceFault.{DeviceFault}
+use Rattle.sipd_exit.specs.declared.device_fault.DeviceFault.{DeviceFault}
 use Rattle.sipd_service.specs.Exits.{exit_of_serve}
 use Rattle.sip_guard.specs.Waits.{wait_before}
 use Rattle.sipd_service.specs.Turns.{Begins, IsLookedAt, IsServedOn, ServiceSeen, service_seen}

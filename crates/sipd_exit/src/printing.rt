@@ -1,6 +1,6 @@
 ghost use Rattle.std.specs.Prelude.{IfErr, OnOk};
 ghost use Rattle.std.specs.Io.KnownBytes.{Appends};
-ghost use Rattle.sipd_arguments.specs.Exits.{IsPrintFault};
+ghost use Rattle.sipd_exit.specs.Exits.{IsPrintFault};
 
 use crate::exit::Exit;
 use std::io::Write;

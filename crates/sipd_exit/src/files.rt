@@ -1,8 +1,8 @@
 ghost use Rattle.std.specs.Prelude.{◌≡◌, ◌≤◌, ◌⊎◌, length, IfOk, IfErr};
 ghost use Rattle.sha2.specs.Sha256.{sha256};
 ghost use Rattle.sip_config.specs.Stated.{States};
-ghost use Rattle.sipd_arguments.specs.Files.{IsInForce, IsRefusedWith};
-ghost use Rattle.sipd_arguments.specs.declared.exit.Exit.TheVariants.{Memory};
+ghost use Rattle.sipd_exit.specs.Files.{IsInForce, IsRefusedWith};
+ghost use Rattle.sipd_exit.specs.declared.exit.Exit.TheVariants.{Memory};
 ghost use Rattle.sipd_reload.specs.File.{most_bytes};
 
 use crate::exit::Exit;

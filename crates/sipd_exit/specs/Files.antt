@@ -4,8 +4,8 @@ use Rattle.sip_config.specs.values.declared.error.ConfigError.{ConfigError}
 use Rattle.sip_config.specs.Stated.{States, StatesNone}
 use Rattle.sip_config_types.specs.declared.config.Config.{Config}
 use Rattle.sip_config_types.specs.Sample.{sample}
-use Rattle.sipd_arguments.specs.Exits.{exit_of_config}
-use Rattle.sipd_arguments.specs.declared.exit.Exit.{Exit}
+use Rattle.sipd_exit.specs.Exits.{exit_of_config}
+use Rattle.sipd_exit.specs.declared.exit.Exit.{Exit}
 
 -- bytes state no configuration, and the program ends as the error of that says
 pub record IsRefusedWith (bytes : List ℕ) (exit : Exit) : Type 0 where

@@ -4,10 +4,10 @@ use Rattle.std.specs.declared.io.ErrorKind.{ErrorKind}
 use Rattle.std.specs.declared.io.ErrorKind.TheVariants.{AddrInUse, AddrNotAvailable, BrokenPipe, NotFound, OutOfMemory, PermissionDenied, QuotaExceeded, StorageFull}
 use Rattle.sip_config.specs.values.declared.error.ConfigError.{ConfigError}
 use Rattle.sip_config.specs.values.declared.error.ConfigError.TheVariants as configurations
-use Rattle.sipd_arguments.specs.declared.device_fault.DeviceFault.{DeviceFault}
-use Rattle.sipd_arguments.specs.declared.device_fault.DeviceFault.TheVariants.{PortTaken, NoSuchAddress, NoFile, NoRightToRead, DiskFull, OutputClosed, Other}
-use Rattle.sipd_arguments.specs.declared.exit.Exit.{Exit}
-use Rattle.sipd_arguments.specs.declared.exit.Exit.TheVariants.{Usage, Configuration, LongConfiguration, Script, Device, Memory, Stack, Question, NoRecord, OtherConfiguration, BareRecord, OtherFrame, PipedRecord, NewRecord, Recording}
+use Rattle.sipd_exit.specs.declared.device_fault.DeviceFault.{DeviceFault}
+use Rattle.sipd_exit.specs.declared.device_fault.DeviceFault.TheVariants.{PortTaken, NoSuchAddress, NoFile, NoRightToRead, DiskFull, OutputClosed, Other}
+use Rattle.sipd_exit.specs.declared.exit.Exit.{Exit}
+use Rattle.sipd_exit.specs.declared.exit.Exit.TheVariants.{Usage, Configuration, LongConfiguration, Script, Device, Memory, Stack, Question, NoRecord, OtherConfiguration, BareRecord, OtherFrame, PipedRecord, NewRecord, Recording}
 use Rattle.sipd_reload.specs.declared.file_fault.FileFault.{FileFault}
 use Rattle.sipd_reload.specs.declared.file_fault.FileFault.TheVariants as files
 

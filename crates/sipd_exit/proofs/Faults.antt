@@ -2,8 +2,8 @@
 use Rattle.std.proofs.Common.{◌≡◌, sym, subst}
 use Rattle.std.specs.declared.io.ErrorKind.{ErrorKind}
 use Rattle.std.specs.declared.io.ErrorKind.TheVariants.{OutOfMemory}
-use Rattle.sipd_arguments.specs.Exits.{IsPrintFault, exit_of_kind}
-use Rattle.sipd_arguments.specs.declared.exit.Exit.{Exit}
+use Rattle.sipd_exit.specs.Exits.{IsPrintFault, exit_of_kind}
+use Rattle.sipd_exit.specs.declared.exit.Exit.{Exit}
 
 of_kind : (kind : ErrorKind) → IsPrintFault (exit_of_kind kind)
 of_kind OutOfMemory = tt

@@ -1,7 +1,7 @@
 ghost use Rattle.std.specs.Prelude.{◌≡◌};
 ghost use Rattle.std.specs.IoError.{error_kind};
-ghost use Rattle.sipd_arguments.specs.Exits.{exit_of_config, exit_of_file, exit_of_kind, status_of};
-ghost use Rattle.sipd_arguments.specs.declared.exit.Exit.TheVariants.{Memory};
+ghost use Rattle.sipd_exit.specs.Exits.{exit_of_config, exit_of_file, exit_of_kind, status_of};
+ghost use Rattle.sipd_exit.specs.declared.exit.Exit.TheVariants.{Memory};
 
 use crate::device_fault::DeviceFault;
 use sip_config::ConfigError;

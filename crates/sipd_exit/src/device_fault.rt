@@ -1,5 +1,5 @@
 ghost use Rattle.std.specs.Prelude.{◌≡◌};
-ghost use Rattle.sipd_arguments.specs.Exits.{fault_of};
+ghost use Rattle.sipd_exit.specs.Exits.{fault_of};
 
 use std::fmt;
 use std::io::ErrorKind;
