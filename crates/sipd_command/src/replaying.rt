@@ -15,7 +15,7 @@ use sip_replay_script::{Lines, PrintStop, TellingReader, TellingWriter, hand_on}
 use sip_segment_config::SegmentStop;
 use sip_timers::Timers;
 use sipd_exit::{DeviceFault, Exit, Stated, config_of_bytes, stated_in};
-use sipd_old_record::{line_of_file, open_any_record, own_configuration};
+use sipd_old_record::{is_made_with, line_of_file, open_any_record, own_configuration};
 use sipd_reload::MOST_BYTES;
 use std::alloc::Global;
 use std::io::Write;
@@ -103,7 +103,7 @@ fn check_digest(head: &RecordHead, named: Option<&Stated>) -> Result<(), Exit>
     let Some(file) = named else {
         return Ok(());
     };
-    if file.digest == head.digest {
+    if is_made_with(head, &file.digest) {
         Ok(())
     } else {
         Err(Exit::OtherConfiguration)

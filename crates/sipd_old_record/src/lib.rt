@@ -1,5 +1,5 @@
-//! A file that is to be a record, opened: its first line is read, and the configuration with which it begins, where it holds one; what stands
-//! behind is left to the reader.
+//! A file that is to be a record, opened: its first line is read, and held against the file of a configuration; and the configuration with
+//! which it begins, where it holds one. What stands behind is left to the reader.
 //!
 //! - Used: `sipd_start`, for the record from which a server goes on; `sipd_command`, for the one that is replayed; `sipd_tools`, for one that
 //!   a change is told against.
@@ -12,5 +12,5 @@ pub mod laws;
 mod old_record;
 mod own;
 
-pub use old_record::{OldRecord, head_in, line_of_file, open_any_record, open_file};
+pub use old_record::{OldRecord, head_in, is_made_with, line_of_file, open_any_record, open_file};
 pub use own::own_configuration;

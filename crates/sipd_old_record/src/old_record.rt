@@ -1,4 +1,4 @@
-ghost use Rattle.std.specs.Prelude.{◌≡◌, ◌⊎◌, IfErr, IfOk, OnErr};
+ghost use Rattle.std.specs.Prelude.{◌≡◌, ◌≢◌, ◌⊎◌, true, false, IfErr, IfOk, OnErr};
 ghost use Rattle.std.specs.Io.KnownBytes.{Keeps};
 ghost use Rattle.std.specs.IoError.{error_kind};
 ghost use Rattle.sip_replay_script.specs.Devices.{later, IsFault};
@@ -93,6 +93,14 @@ pub fn head_in<I: TellingReader>(alloc: Global, reader: &mut I) -> Result<Record
         Some(head) => Ok(head),
         None => Err(Exit::NoRecord),
     }
+}
+
+/// Whether the configuration with which a record begins whose first line says this head is that of a file with this digest.
+pub fn is_made_with(head: &RecordHead, digest: &[u8; 32]) -> bool
+    ensures same { result ≡ true → head.now.digest ≡ digest.now }
+    ensures other { result ≡ false → head.now.digest ≢ digest.now }
+{
+    head.digest == *digest
 }
 
 /// A file, to be read.

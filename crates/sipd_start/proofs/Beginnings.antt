@@ -18,7 +18,8 @@ use Rattle.sip_resume.specs.Outputs.{Outputs}
 use Rattle.sip_resume.specs.Whole.{IsRecordResumed}
 use Rattle.sipd_old_record.specs.OldRecord.{SaysHead}
 use Rattle.sipd_start.specs.Begins.{IsServerOf, StartsAnew, Written, TakesOld, LeadsTo, GoesOn, GoesOnFrom, IsFileNotResumed, IsLeftBehind, GoesOnFromFile, Begins}
-use Rattle.sipd_start.specs.Boots.{boot_again, behind_boot, behind_secret}
+use Rattle.sipd_start.specs.Boots.{boot_again}
+use Rattle.sipd_boot.specs.Boots.{behind_boot, behind_secret}
 use Rattle.sipd_start.specs.OldRecords.{IsBegunBy}
 use Rattle.sipd_start.specs.Places.{is_input}
 use Rattle.sipd_start.specs.declared.not_resumed.NotResumed.{NotResumed as Reason}

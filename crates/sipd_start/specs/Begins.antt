@@ -16,7 +16,7 @@ use Rattle.sip_resume.specs.declared.record_error.RecordError.{RecordError}
 use Rattle.sip_config.specs.Stated.{States}
 use Rattle.sip_replay_script.specs.Lines.{Reading, pending}
 use Rattle.sipd_exit.specs.declared.exit.Exit.{Exit}
-use Rattle.sipd_start.specs.Boots.{new_boot, behind_boot, behind_secret}
+use Rattle.sipd_boot.specs.Boots.{new_boot, behind_boot, behind_secret}
 use Rattle.sipd_old_record.specs.OldRecord.{IsRefused, IsSystemFault, SaysHead}
 use Rattle.sipd_old_record.specs.Readers.{HasStopped, most_asks}
 use Rattle.sipd_start.specs.OldRecords.{HaveFrameOf, IsBegunBy, IsUnbegun}

@@ -1,11 +1,12 @@
 ghost use Rattle.std.specs.Prelude.{◌≡◌, false, ℕ, List, Option, option_map, string_bytes, Err, IfErr, IfNone, IfOk, IfSome, None, Ok, OnErr, OnOk};
 ghost use Rattle.model_bounds.specs.state.State.{first_state};
 ghost use Rattle.sip_replay_script.specs.Lines.{pending};
+ghost use Rattle.sipd_boot.specs.Boots.{behind_boot, behind_secret};
 ghost use Rattle.sipd_exit.specs.declared.exit.Exit.TheVariants.{PipedRecord};
 ghost use Rattle.sipd_exit.specs.declared.record_place.RecordFault.TheVariants.{GoOn};
 ghost use Rattle.sipd_start.specs.Begins.{Begins, GoesOn, GoesOnFrom, GoesOnFromFile, IsFileNotResumed, IsLeftBehind, IsNotGoneOn};
 ghost use Rattle.sipd_start.specs.Begins.{IsNotResumed, IsOpened, LeadsTo, StartsAnew, StopsAt};
-ghost use Rattle.sipd_start.specs.Boots;
+ghost use Rattle.sipd_start.specs.Boots.{boot_again};
 ghost use Rattle.sipd_start.specs.Places;
 ghost use Rattle.sipd_start.specs.Places.{IsPlaceOf};
 ghost use Rattle.sipd_old_record.specs.Readers.{HasStopped, most_asks};
@@ -26,6 +27,7 @@ use sip_resume::Resumed;
 use sip_resume::engine::Engine;
 use sip_text::same_bytes;
 use sip_timers::Timers;
+use sipd_boot::{new_boot, secret};
 use sipd_exit::{Exit, RecordFault, RecordPlace, Stated, config_of_bytes};
 use sipd_journal::{RecordFile, mark_file};
 use sipd_old_record::laws::asks_add_up;
@@ -34,12 +36,6 @@ use std::fs;
 use std::io::{ErrorKind, Write};
 use std::os::unix::fs::FileTypeExt;
 use std::rt::{Clock, Files};
-
-/// The number of the first datagram.
-const FIRST: u64 = 1;
-
-/// 2^64: what the high half of a secret counts.
-const HALF: u128 = 1 << 64;
 
 /// How the input is called where a record is asked for.
 const INPUT: &str = "-";
@@ -130,33 +126,10 @@ struct GoneOn<'a, T: Timers, P: Rules, R: Files> {
     lines: u64,
 }
 
-/// The next two numbers of a source as one that nobody can guess, the high half first.
-pub fn secret<W: Rng>(words: &mut W) -> u128
-    ensures secret { result ≡ Boots.secret_from (W.stream words.old) }
-    ensures left { W.stream words.new ≡ Boots.behind_secret (W.stream words.old) }
-{
-    let high = words.next_u64();
-    let low = words.next_u64();
-    u128::from(high) * HALF + u128::from(low)
-}
-
-/// What a server starts with: the next number of a source is its word, its first number is 1, and a secret of the next two is what its
-/// tables are kept by.
-pub fn new_boot<W: Rng>(words: &mut W) -> Boot
-    ensures boot { result ≡ Boots.new_boot (W.stream words.old) }
-    ensures left { W.stream words.new ≡ Boots.behind_boot (W.stream words.old) }
-{
-    Boot {
-        word: words.next_u64(),
-        first: FIRST,
-        keys: secret(words),
-    }
-}
-
 /// What a server that goes on starts with: what the first line of its record says, and a new secret of its tables.
 fn boot_again<W: Rng>(head: &RecordHead, words: &mut W) -> Boot
-    ensures boot { result ≡ Boots.boot_again head.now (W.stream words.old) }
-    ensures left { W.stream words.new ≡ Boots.behind_secret (W.stream words.old) }
+    ensures boot { result ≡ boot_again head.now (W.stream words.old) }
+    ensures left { W.stream words.new ≡ behind_secret (W.stream words.old) }
 {
     Boot {
         word: head.word,
@@ -258,7 +231,7 @@ fn begin_anew<'a, T: Timers, P: Rules, R: Files + AllocGlobal, W: Rng>(
 ) -> Result<Begun<'a, T, P, R>, Exit>
     ensures anew { IfOk result (λ begun. StartsAnew beginning.now.stated.now.bytes (W.stream words.old) begun.engine.server
         begun.engine.state begun.last) }
-    ensures left { W.stream words.new ≡ Boots.behind_boot (W.stream words.old) }
+    ensures left { W.stream words.new ≡ behind_boot (W.stream words.old) }
     ensures whole { IfOk result (λ begun. IfSome begun.recorder (λ r. r.has_failed ≡ false)) }
     ensures unrecorded { IfOk result (λ begun. IfNone begun.recorder (beginning.now.fault ≡ GoOn)) }
     ensures refused { IfErr result (EndsStart beginning.now.stated.now.bytes) }
@@ -366,7 +339,7 @@ fn go_on<'a, T: Timers, P: Rules, R: Files + AllocGlobal, I: TellingReader, W: R
 ) -> Result<GoneOn<'a, T, P, R>, Stop>
     ensures goes_on { IfOk result (λ gone_on. GoesOn beginning.now.stated.now.bytes beginning.now.stated.now.digest head.now
         (I.remaining reader.old) gone_on.begun.engine.server gone_on.begun.engine.state gone_on.lines gone_on.begun.last) }
-    ensures left { W.stream words.new ≡ Boots.behind_secret (W.stream words.old) }
+    ensures left { W.stream words.new ≡ behind_secret (W.stream words.old) }
     ensures whole { IfOk result (λ gone_on. IfSome gone_on.begun.recorder (λ r. r.has_failed ≡ false)) }
     ensures unrecorded { IfOk result (λ gone_on. IfNone gone_on.begun.recorder (beginning.now.fault ≡ GoOn)) }
     ensures stopped { IfErr result (IsNotGoneOn beginning.now.stated.now.bytes beginning.now.stated.now.digest
@@ -394,7 +367,7 @@ fn begin_from<'a, T: Timers, P: Rules, R: Files + AllocGlobal, I: TellingReader,
 ) -> Result<GoneOn<'a, T, P, R>, Stop>
     ensures goes_on { IfOk result (λ gone_on. GoesOnFrom beginning.now.stated.now.bytes beginning.now.stated.now.digest
         (I.remaining reader.old) gone_on.begun.engine.server gone_on.begun.engine.state gone_on.lines gone_on.begun.last) }
-    ensures left { OnOk result (W.stream words.new ≡ Boots.behind_secret (W.stream words.old)) }
+    ensures left { OnOk result (W.stream words.new ≡ behind_secret (W.stream words.old)) }
     ensures left_behind { OnErr result (IsLeftBehind (W.stream words.old) (W.stream words.new)) }
     ensures whole { IfOk result (λ gone_on. IfSome gone_on.begun.recorder (λ r. r.has_failed ≡ false)) }
     ensures unrecorded { IfOk result (λ gone_on. IfNone gone_on.begun.recorder (beginning.now.fault ≡ GoOn)) }

@@ -2,7 +2,7 @@
 //! have the stack that it needs.
 //!
 //! - Used: `sipd_command`, before it serves.
-//! - Not here: the serving; what stands in a record (`sip_record`), and the first line of an older one (`sipd_old_record`).
+//! - Not here: the serving; the numbers of a start (`sipd_boot`); what stands in a record (`sip_record`), and the first line of an older one (`sipd_old_record`).
 //! - Tried: `tests/serve.py`, `tests/faults.py`.
 #![tactic(auto)]
 
@@ -14,5 +14,5 @@ mod record_folder;
 mod stack_limit;
 mod taking;
 
-pub use beginning::{Beginning, Begun, begin, new_boot, secret};
+pub use beginning::{Beginning, Begun, begin};
 pub use stack_limit::check_stack;

@@ -30,7 +30,7 @@ use sip_text::Buffer;
 use sip_timers::Timers;
 use sipd_exit::{Exit, Stated, config_of_bytes};
 use sipd_old_record::laws::asks_add_up;
-use sipd_old_record::own_configuration;
+use sipd_old_record::{is_made_with, own_configuration};
 use sipd_reload::MOST_BYTES;
 use std::alloc::Global;
 
@@ -87,7 +87,7 @@ fn first_of(
             check_frame(&config, &held.config)?;
             Ok(held)
         }
-        None if head.digest == stated.digest => {
+        None if is_made_with(head, &stated.digest) => {
             let text = copy_of(alloc, stated)?;
             Ok(Held { text, config })
         }
