@@ -1,5 +1,5 @@
 -- A link that hears no more of a source than its allowance.
-use Rattle.std.specs.Prelude.{◌≡◌, ◌≤◌, ◌<◌, nat_lt, ℕ, zero, suc, Bool, true, false, not, ◌||◌, max, List, [], ◌∷◌, length, if◌then◌else◌, Option, Some, None, Result, Ok, Err, ◌⊎◌}
+use Rattle.std.specs.Prelude.{◌≡◌, ◌≤◌, ◌<◌, nat_lt, ℕ, zero, suc, Bool, true, false, not, ◌||◌, max, List, [], ◌∷◌, length, if◌then◌else◌, Option, Some, None, option_map, option_and_then, Result, Ok, Err, ◌⊎◌}
 use Rattle.std.specs.List.{list_all, list_any}
 use Rattle.sip_loop_link.specs.Told.{counted, heard_of, and_then, and_counted, left_of}
 use Rattle.sip_loop_link.specs.declared.datagram.Instead.{Instead}
@@ -9,6 +9,7 @@ use Rattle.sip_loop_link.specs.declared.datagram.Heard.{Heard}
 use Rattle.sip_loop_link.specs.declared.datagram.LinkFault.{LinkFault}
 use Rattle.sip_uri.specs.declared.addr.Addr.{Addr}
 use Rattle.sip_guard.specs.Allowance.{admits}
+use Rattle.sip_guard.specs.Limits.{limit_of}
 use Rattle.sip_guard.specs.Sources.{SourceTable, AreFew, same_ip, used_of, IsCharged}
 use Rattle.sip_guard.specs.Unheard.{UnheardCounts, most_sources, none_unheard, noted}
 use Rattle.sip_guard.specs.declared.limit.Limit.{Limit}
@@ -55,6 +56,16 @@ IsBounded allowances = AreFew allowances.sources × (length allowances.unheard.s
 -- what is kept at first
 abbrev pub allowances_of : List (List ℕ) → Limit → AllowanceState
 allowances_of always limit = record { limit = limit; always = always; present = 0; sources = record { recent = []; earlier = []; recent_until = 0; earlier_until = 0 }; unheard = none_unheard }
+
+-- a guard that hears so many datagrams a second from one address, where that is said, and some IP addresses always, and that wasn't asked yet
+abbrev pub guard_over : List (List ℕ) → Option ℕ → LinkState → Option (List ℕ) → GuardState
+guard_over always per_source link readings = record {
+  allowances = option_map (allowances_of always) (option_and_then limit_of per_source);
+  link = link;
+  readings = readings;
+  receives = 0;
+  failures = 0;
+}
 
 -- the same with nothing unheard
 abbrev pub told_all : AllowanceState → AllowanceState

@@ -1,7 +1,7 @@
 ghost use Rattle.std.specs.Prelude.{◌≡◌, true, None, IfOk, IfSome, OnOk, OnErr, option_map};
 ghost use Rattle.sip_loop_link.specs.Told.{counted, heard_of, and_then, GrewBy, IsWritable, SetsAside};
 ghost use Rattle.sip_guard.specs.Guard as Guarding;
-ghost use Rattle.sip_guard.specs.Guard.{allowances_of, hearing, told_all, IsBounded, Hears, Guards};
+ghost use Rattle.sip_guard.specs.Guard.{guard_over, hearing, told_all, IsBounded, Hears, Guards};
 
 use crate::allowances::Allowances;
 use crate::limit::Limit;
@@ -95,25 +95,23 @@ fn hear_within<L: Link>(
 }
 
 impl<L: Link, C: Clock> Guard<L, C> {
-    /// A guard of a link, which reads the moment from a clock. Without a limit it hands on all that the link hears. Of some IP addresses
-    /// it hears always all, at whatever port. The keys are a secret, since who sends may choose the addresses that it sends from. `AllocError` is the only refusal; no other call
-    /// takes memory.
+    /// A guard of a link, which reads the moment from a clock. It hears so many datagrams a second from one IP address, by the limit of that rate;
+    /// without a rate, or where a rate has no limit, it hands on all that the link hears. Of some IP addresses it hears always all, at whatever
+    /// port. The keys are a secret, since who sends may choose the addresses that it sends from. `AllocError` is the only refusal; no other
+    /// call takes memory.
     pub fn new(
         alloc: Global,
         keys: u128,
         link: L,
         clock: C,
-        limit: Option<Limit>,
+        per_source: Option<u32>,
         always: Vec<[u8; 4]>,
     ) -> Result<Guard<L, C>, AllocError>
-        ensures { IfOk result (λ guard. guard ≡ record {
-          allowances = option_map (allowances_of always.items) limit;
-          link = record { heard = L.heard link; fresh = L.fresh link; aside = L.aside link; given = L.given link; held = L.held link; waits = L.waits link; receives = L.receives link; failures = L.failures link };
-          readings = C.readings clock;
-          receives = 0;
-          failures = 0;
-        }) }
+        ensures { IfOk result (λ guard. guard ≡ guard_over always.items per_source
+            (record { heard = L.heard link; fresh = L.fresh link; aside = L.aside link; given = L.given link; held = L.held link; waits = L.waits link; receives = L.receives link; failures = L.failures link })
+            (C.readings clock)) }
     {
+        let limit = per_source.and_then(Limit::of_rate);
         let allowances = match limit {
             Some(limit) => Some(Allowances::new(alloc, keys, limit, always)?),
             None => None,

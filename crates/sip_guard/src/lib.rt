@@ -6,7 +6,7 @@
 //! - Tried: worked examples in `src/examples.rt`, as contracts that compute.
 //!
 //! ```text
-//! let mut link = Guard::new(alloc, keys, link, clock, Limit::of_rate(20), gateways)?;
+//! let mut link = Guard::new(alloc, keys, link, clock, Some(20), gateways)?;
 //! link.wait_until_due(next_due, now);
 //! let found = link.receive()?;
 //! ```

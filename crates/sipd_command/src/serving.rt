@@ -1,15 +1,15 @@
 ghost use Rattle.std.specs.Prelude.{◌≡◌, is_some, IfOk, IfSome, OnOk, string_bytes};
-ghost use Rattle.sip_guard.specs.Guard.{link_told};
+ghost use Rattle.sip_guard.specs.Guard.{guard_over, link_told};
 ghost use Rattle.sipd_boot.specs.Boots.{behind_secret};
 ghost use Rattle.sipd_service.specs.Printing.{PrintsServed};
 ghost use Rattle.sipd_service.specs.Hops.{hop_addresses};
-ghost use Rattle.sipd_command.specs.Starts.{bound_address, guard_over};
+ghost use Rattle.sipd_command.specs.Starts.{bound_address};
 
 use rand::rngs::StdRng;
 use rand_core::Rng;
 use sip_audit::Record;
 use sip_config_types::Config;
-use sip_guard::{Guard, Limit};
+use sip_guard::Guard;
 use sip_loop_link::{Clock, Link, SteadyClock, UdpLink};
 use sip_policy::Rules;
 use sip_record::NoJournal;
@@ -141,9 +141,8 @@ fn service_of<
         per_source,
         ..
     } = start;
-    let limit = per_source.and_then(Limit::of_rate);
     let keys = secret(&mut words);
-    let link = Guard::new(alloc, keys, link, aside, limit, hops)?;
+    let link = Guard::new(alloc, keys, link, aside, per_source, hops)?;
     Ok(Service {
         engine,
         link,
