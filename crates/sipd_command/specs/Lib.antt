@@ -1,3 +1,1 @@
-pub mod Exits
-pub mod Replays
 pub mod Starts

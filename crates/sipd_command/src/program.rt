@@ -1,51 +1,16 @@
-ghost use Rattle.std.specs.Prelude.{◌≡◌, ◌≤◌};
-ghost use Rattle.sipd_command.specs.Exits;
+ghost use Rattle.std.specs.Prelude.{◌≤◌};
 
-use crate::replaying::replay_record;
 use crate::serving::serve_file;
-use sip_event::Boot;
 use sip_policy::Rules;
-use sip_replay::{ReplayError, replay};
 use sip_timers::Timers;
 use sipd_arguments::{Call, Parsed, ReplayCall, parse};
-use sipd_exit::{DeviceFault, Exit, config_of, print};
+use sipd_exit::{Exit, print};
+use sipd_replay::{replay_record, replay_script};
 use sipd_tools::{check, decide, make_report, make_user};
 use std::io::{Read, Write};
 use std::net::Net;
 use std::random::RandomSource;
 use std::rt::{Clock, Files};
-
-/// What a script is replayed from.
-const SCRIPT: Boot = Boot {
-    word: 0,
-    first: 1,
-    keys: 0,
-};
-
-/// How the program ends where a replay is refused.
-fn exit_of_replay(e: ReplayError) -> Exit
-    ensures { result ≡ Exits.exit_of_replay e }
-{
-    match e {
-        ReplayError::NoMemory => Exit::Memory,
-        ReplayError::Script(line) => Exit::Script(line),
-        ReplayError::Read | ReplayError::Write => Exit::Device(DeviceFault::Other),
-    }
-}
-
-/// Replays the script of the input with the configuration of a file, or the sample, on these kinds of timers and rules.
-pub fn replay_script<T: Timers, P: Rules, R: Files + AllocGlobal, I: Read, W: Write>(
-    rt: &R,
-    path: Option<&str>,
-    input: &mut I,
-    output: &mut W,
-) -> Result<(), Exit> {
-    let config = config_of(rt, path)?;
-    match replay::<T, P, I, W>(rt.alloc(), config, SCRIPT, input, output) {
-        Ok(()) => Ok(()),
-        Err(e) => Err(exit_of_replay(e)),
-    }
-}
 
 /// Replays the script of the input, or a record.
 fn replay_call<T: Timers, P: Rules, R: Files + AllocGlobal, I: Read, W: Write, C: Write>(

@@ -13,7 +13,7 @@ use sip_guard::Guard;
 use sip_loop_link::{Clock, Link, SteadyClock, UdpLink};
 use sip_policy::Rules;
 use sip_record::NoJournal;
-use sip_replay::engine::Engine;
+use sip_run::engine::Engine;
 use sip_text::Bytes;
 use sip_timers::Timers;
 use sip_uri::Addr;

@@ -1,9 +1,9 @@
 ghost use Rattle.std.specs.Prelude.{◌≡◌, ◌⊎◌, IfErr, IfNone, IfOk, IfSome, OnOk};
 ghost use Rattle.sip_replay_script.specs.Devices.{later, GaveUp};
 ghost use Rattle.sip_replay_script.specs.Lines.{IsSpent};
-ghost use Rattle.sipd_command.specs.Exits;
+ghost use Rattle.sipd_replay.specs.Exits;
 ghost use Rattle.sipd_old_record.specs.Own.{HoldsNone};
-ghost use Rattle.sipd_command.specs.Replays.{BeginsWith, GivesOwn, HasDigest, IsKeptBack, IsOfAnother, IsReplayed, IsReplayedOn, IsUnconfigured, IsUnreplayed, OwnUnread, StatesNamed, UnnamedStops};
+ghost use Rattle.sipd_replay.specs.Replays.{BeginsWith, GivesOwn, HasDigest, IsKeptBack, IsOfAnother, IsReplayed, IsReplayedOn, IsUnconfigured, IsUnreplayed, OwnUnread, StatesNamed, UnnamedStops};
 
 use sip_config_types::Config;
 use sip_event::Boot;
@@ -195,7 +195,7 @@ fn named_file<R: Files + AllocGlobal>(
 
 /// Replays a record, whatever became of it, with the configurations that it holds; one of before, which holds none, with that of the file
 /// with which it was made. Complains where it lacks events.
-pub(crate) fn replay_record<T: Timers, P: Rules, R: Files + AllocGlobal, W: Write, C: Write>(
+pub fn replay_record<T: Timers, P: Rules, R: Files + AllocGlobal, W: Write, C: Write>(
     rt: &R,
     config: Option<&str>,
     path: &str,
