@@ -12,3 +12,4 @@ mod serving;
 pub use program::command;
 pub use sipd_arguments::{Call, Parsed, parse, summary_of};
 pub use sipd_exit::Exit;
+pub use sipd_replay::replay_script;

@@ -16,3 +16,8 @@ mod unheard;
 pub use hops::hops_of;
 pub use line_printer::LinePrinter;
 pub use service::{Said, Service, Serving, serve_turns};
+
+/// Of `sip_engine`.
+pub mod engine {
+    pub use sip_run::engine::Engine;
+}
