@@ -4,7 +4,7 @@
 //! keys.
 //!
 //! - Used: `sipd_exit`, once, before the server is, and for the words of a complaint; of the bytes of a file that changed, and of
-//!   the configurations of a record, `sipd_command` and `sip_segments`.
+//!   the configurations of a record, `sip_segment_config`.
 //! - Not here: what a single key may hold, and how it is refused (`sip_config_values`); anything that runs while the server does.
 //! - Tried: worked examples in `src/examples.rt`, as contracts that compute; `test_parts`.
 //!

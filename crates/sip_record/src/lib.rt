@@ -2,7 +2,7 @@
 //! writes each event as a line of a script, so that they can be replayed, and each configuration as lines that give its bytes.
 //!
 //! - Used: `sip_loop` tells it each event before the packets of its step go, `sip_resume` what it takes of a record again; `sipd_start` makes
-//!   the file, `sipd_old_record` reads a first line; `sipd_tools`, `sipd_command`, for what that says; `sip_replay` and `sip_recorded` say what
+//!   the file, `sipd_old_record` reads a first line; `sipd_tools`, `sipd_replay`, for what that says; `sip_replay` and `sip_recorded` say what
 //!   a record comes to.
 //! - Not here: what reads a record as events (`sip_replay_script`).
 //! - Tried: worked examples in `src/examples.rt`, as contracts that compute; `test_server`.

@@ -1,7 +1,7 @@
 //! A script or a record replayed: its events are handed to the engine, each at its moment, and the packets and records that the engine
 //! hands out are printed.
 //!
-//! - Used: `sipd_command`; `sip_recorded` says what a replay prints.
+//! - Used: `sipd_replay`; `sip_recorded` says what a replay prints.
 //! - Not here: the program's words and streams.
 //! - Tried: `test_engine`, and each stored run of `test_server`.
 //!
