@@ -203,6 +203,55 @@ module _ (f : Branch → Branch) (now : ℕ) where
   kept bs keeps (WithCancel b c rest is c_is numbers is_past new branched) =
       both_kept b c rest keeps.0 keeps.1.0 keeps.1.1 is c_is numbers is_past new (kept rest keeps.1.1 branched)
 
+-- ---- no CANCEL joins
+
+-- the branches after an event that only maps them
+module _ (f : Branch → Branch) where
+  one_stays : (b : Branch) (bs : List Branch) → Keeps f b → AllByRecursion (Keeps f) bs → b.is_cancel ≡ false → IsNewNumber b.number bs → AreKept bs (map f bs) → AreKept (b ∷ bs) (f b ∷ map f bs)
+  one_stays b bs keeps others is new rest =
+      let its_new : IsNewNumber (f b).number (map f bs) = new_mapped f b.number (f b).number bs keeps.number others new in
+      record {
+        branched = OneBranch (f b) (map f bs) (keeps.is_cancel ∙ is) its_new rest.branched;
+        matched = met b (f b) bs (map f bs) (same_by b (f b) (sym keeps.number) (sym keeps.is_cancel))
+            (alone (owner_of (f b)) b.number bs (its_number (f b) ∙ keeps.number) new)
+            (alone (owner_of (f b)) (f b).number (map f bs) (its_number (f b)) its_new) rest.matched;
+      }
+
+  both_stay : (b c : Branch) (bs : List Branch) → Keeps f b → Keeps f c → AllByRecursion (Keeps f) bs → b.is_cancel ≡ false → c.is_cancel ≡ true → c.number ≡ b.number → may_be_cancelled b.phase ≡ false → IsNewNumber b.number bs → AreKept bs (map f bs)
+      → AreKept (b ∷ c ∷ bs) (f b ∷ f c ∷ map f bs)
+  both_stay b c bs keeps c_keeps others is c_is numbers is_past new rest =
+      let number_is : (f c).number ≡ (f b).number = c_keeps.number ∙ (numbers ∙ sym keeps.number) in
+      let its_kind : (f b).is_cancel ≡ false = keeps.is_cancel ∙ is in
+      let c_kind : (f c).is_cancel ≡ true = c_keeps.is_cancel ∙ c_is in
+      let its_new : IsNewNumber (f b).number (map f bs) = new_mapped f b.number (f b).number bs keeps.number others new in
+      let not_c : owner_of c ≢ owner_of (f b) = λ e. kinds_differ c.number (f b).number (sym (owner_is c true c_is) ∙ (e ∙ owner_is (f b) false its_kind)) in
+      let not_fc : owner_of (f c) ≢ owner_of (f b) = λ e. kinds_differ (f c).number (f b).number (sym (owner_is (f c) true c_kind) ∙ (e ∙ owner_is (f b) false its_kind)) in
+      record {
+        branched = WithCancel (f b) (f c) (map f bs) its_kind c_kind number_is (keeps.phase is_past) its_new rest.branched;
+        matched = met b (f b) (c ∷ bs) (f c ∷ map f bs) (same_by b (f b) (sym keeps.number) (sym keeps.is_cancel))
+            (not_c, alone (owner_of (f b)) b.number bs (its_number (f b) ∙ keeps.number) new)
+            (not_fc, alone (owner_of (f b)) (f b).number (map f bs) (its_number (f b)) its_new)
+            (met c (f c) bs (map f bs) (same_by c (f c) (sym c_keeps.number) (sym c_keeps.is_cancel))
+            (alone (owner_of (f c)) b.number bs (its_number (f c) ∙ (c_keeps.number ∙ numbers)) new)
+            (alone (owner_of (f c)) (f b).number (map f bs) (its_number (f c) ∙ number_is) its_new)
+            rest.matched);
+      }
+
+  pub mapped : (bs : List Branch) → AllByRecursion (Keeps f) bs → AreBranched bs → AreKept bs (map f bs)
+  mapped bs keeps NoBranch = record { branched = NoBranch; matched = tt }
+  mapped bs keeps (OneBranch b rest is new branched) = one_stays b rest keeps.0 keeps.1 is new (mapped rest keeps.1 branched)
+  mapped bs keeps (WithCancel b c rest is c_is numbers is_past new branched) =
+      both_stay b c rest keeps.0 keeps.1.0 keeps.1.1 is c_is numbers is_past new (mapped rest keeps.1.1 branched)
+
+-- all branches join where there were none
+pub all_join : (bs : List Branch) → AreBranched bs → AreMatched [] bs
+all_join bs NoBranch = tt
+all_join bs (OneBranch b rest is new branched) = joins [] rest b tt (alone (owner_of b) b.number rest (its_number b) new) (all_join rest branched)
+all_join bs (WithCancel b c rest is c_is numbers is_past new branched) =
+    let differ : owner_of c ≢ owner_of b = λ e. kinds_differ c.number b.number (sym (owner_is c true c_is) ∙ (e ∙ owner_is b false is)) in
+    joins [] (c ∷ rest) b tt (differ, alone (owner_of b) b.number rest (its_number b) new)
+    (joins [] rest c tt (alone (owner_of c) b.number rest (its_number c ∙ numbers) new) (all_join rest branched))
+
 -- ---- branches that are one are as far
 
 abbrev pub IsAsFarAs : Branch → Branch → Type 0

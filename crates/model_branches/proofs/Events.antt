@@ -14,13 +14,15 @@ use Rattle.model_transactions.specs.state.declared.branch.Phase.TheVariants.{Unh
 use Rattle.model_transactions.specs.state.declared.open_request.OpenRequest.{OpenRequest}
 use Rattle.model_transactions.specs.state.declared.open_request.Side.TheVariants.{Closed}
 use Rattle.model_transactions.specs.state.declared.open_request.Upward.{Upward}
+use Rattle.model_transactions.specs.state.declared.resend.Resend.{Resend}
 use Rattle.model_transactions.specs.state.declared.server.Server.{Server}
 use Rattle.model_transactions.specs.state.State.{is_answering, is_decline, is_final, is_invite, is_provisional, is_success}
-use Rattle.model_transactions.specs.context_model.Branches.{is_same_branch, turned, phased, with_phase, with_final, marked_branch, marked, given_up, best_upward, after_upward, settled, invite_heard, other_heard, heard, relayed_provisional, relayed_success, search_ended, told_to, final_of, linger, with_answer, acks_of, further, target_responded, cancel_responded, responded, target_overdue, branch_overdue, overdue, side_overdue, send_failed, cancelled, with_cancel}
+use Rattle.model_transactions.specs.context_model.Branches.{is_same_branch, turned, phased, with_phase, with_final, marked_branch, marked, given_up, best_upward, after_upward, settled, invite_heard, other_heard, heard, relayed_provisional, relayed_success, search_ended, told_to, final_of, linger, with_answer, acks_of, further, target_responded, cancel_responded, responded, target_overdue, branch_overdue, overdue, side_overdue, send_failed, cancelled, with_cancel, acknowledged, acknowledged_side, was_refused}
+use Rattle.model_transactions.specs.context_model.Retransmission.{branch_next, resent_branch, with_resend}
 use Rattle.model_transactions.specs.context_model.Opening.{branch_to, branches_from, dialog_branch, opening, tried, trying}
 use Rattle.model_transactions.specs.Matching.{may_be_cancelled, IsNewNumber, AreBranched, NoBranch, OneBranch}
 use Rattle.model_branches.specs.Kept.{AreKept}
-use Rattle.model_branches.proofs.Branched.{Keeps, kept, all_as_far}
+use Rattle.model_branches.proofs.Branched.{Keeps, kept, mapped, all_as_far, all_join}
 
 -- ---- branches that are mapped
 
@@ -262,3 +264,38 @@ pub opens : (server : Server) (now : ℕ) (r : OpenRequest) → AreBranched r.br
 opens server now r branched =
     (settles server now [] None r.branches (tried now (trying server r) r) branched
     (subst (λ (xs : List Branch). AreMapped r.branches xs) (sym (tried_branches now (trying server r) r)) (mapped_same r.branches))).branched
+
+-- ---- what only maps the branches
+
+goes_one : (b : Branch) (next : Resend) (x : Branch) → Keeps (resent_branch b next) x
+goes_one b next x = record { number = by_number (is_same_branch x b); is_cancel = by_kind (is_same_branch x b); phase = λ e. by_phase (is_same_branch x b) e } where
+  by_number : (t : Bool) → (cond t (record x { again = next }) x).number ≡ x.number
+  by_number true = refl
+  by_number false = refl
+
+  by_kind : (t : Bool) → (cond t (record x { again = next }) x).is_cancel ≡ x.is_cancel
+  by_kind true = refl
+  by_kind false = refl
+
+  by_phase : (t : Bool) → may_be_cancelled x.phase ≡ false → may_be_cancelled (cond t (record x { again = next }) x).phase ≡ false
+  by_phase true e = e
+  by_phase false e = e
+
+all_go : (b : Branch) (next : Resend) (bs : List Branch) → AllByRecursion (Keeps (resent_branch b next)) bs
+all_go b next [] = tt
+all_go b next (x ∷ bs) = (goes_one b next x, all_go b next bs)
+
+pub stays : (bs : List Branch) → AreBranched bs → AreKept bs bs
+stays bs branched = subst (λ (xs : List Branch). AreKept bs xs) (map-id bs) (mapped (λ b. b) bs (unchanged bs) branched)
+
+pub goes_again : (r : OpenRequest) (b : Branch) → AreBranched r.branches → AreKept r.branches (with_resend b r).branches
+goes_again r b branched = mapped (resent_branch b (branch_next r b)) r.branches (all_go b (branch_next r b) r.branches) branched
+
+pub acknowledges : (now : ℕ) (r : OpenRequest) → AreBranched r.branches → AreKept r.branches (acknowledged now r).branches
+acknowledges now r branched = by_test (is_invite r && was_refused r.answer) where
+  by_test : (t : Bool) → AreKept r.branches (cond t (record r { side = acknowledged_side now r.side }) r).branches
+  by_test true = stays r.branches branched
+  by_test false = stays r.branches branched
+
+pub begins : (bs : List Branch) → AreBranched bs → AreKept [] bs
+begins bs branched = record { branched = branched; matched = all_join bs branched }

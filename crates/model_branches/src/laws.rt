@@ -4,8 +4,9 @@ ghost use Rattle.sip_message_form.specs.declared.message.Message.{Message};
 ghost use Rattle.sip_targets.specs.declared.target.Target.{Target};
 ghost use Rattle.sip_uri.specs.declared.addr.Addr.{Addr};
 ghost use Rattle.model_transactions.specs.Matching.{AreBranched};
-ghost use Rattle.model_transactions.specs.context_model.Branches.{responded, overdue, side_overdue, send_failed, cancelled};
+ghost use Rattle.model_transactions.specs.context_model.Branches.{acknowledged, responded, overdue, side_overdue, send_failed, cancelled};
 ghost use Rattle.model_transactions.specs.context_model.Opening.{branches_from, dialog_branch, opening};
+ghost use Rattle.model_transactions.specs.context_model.Retransmission.{with_resend};
 ghost use Rattle.model_transactions.specs.state.declared.branch.Branch.{Branch};
 ghost use Rattle.model_transactions.specs.state.declared.open_request.OpenRequest.{OpenRequest};
 ghost use Rattle.model_transactions.specs.state.declared.server.Server.{Server};
@@ -23,11 +24,20 @@ pub fn branches_are_kept()
     ensures cancelled { (server : Server) (now : ℕ) (r : OpenRequest) → AreBranched r.branches → AreKept r.branches (cancelled server now r).request.branches }
 {}
 
+/// What sends no CANCEL keeps the branches, too: what goes again of one of them, the caller's ACK, and what leaves them as they are
+/// (RFC 3261 17).
+pub fn branches_stay()
+    ensures branch_again { (r : OpenRequest) (b : Branch) → AreBranched r.branches → AreKept r.branches (with_resend b r).branches }
+    ensures acknowledged { (now : ℕ) (r : OpenRequest) → AreBranched r.branches → AreKept r.branches (acknowledged now r).branches }
+    ensures unchanged { (bs : List Branch) → AreBranched bs → AreKept bs bs }
+{}
+
 /// A request that is sent on has branches with numbers of their own, before anything is sent and after it (RFC 3261 16.6, 16.12).
 pub fn branches_begin()
     ensures targets { (now number : ℕ) (targets : List Target) → AreBranched (branches_from now number targets) }
     ensures dialog { (server : Server) (now : ℕ) (m : Message) (address : Addr) → AreBranched (dialog_branch server now m address ∷ []) }
     ensures opening { (server : Server) (now : ℕ) (r : OpenRequest) → AreBranched r.branches → AreBranched (opening server now r).request.branches }
+    ensures joined { (bs : List Branch) → AreBranched bs → AreKept [] bs }
 {}
 
 /// Where open requests stand in rising order of their numbers, each with such branches, no two of their timers are alike.

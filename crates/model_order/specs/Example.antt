@@ -4,8 +4,7 @@ use Rattle.sip_timers.specs.declared.letter.Letter.{Letter}
 use Rattle.sip_timers.specs.declared.timer.Owner.{Owner}
 use Rattle.sip_model.specs.state.declared.proxy_state.ProxyState.{ProxyState}
 use Rattle.sip_model.specs.steps_model.Examples.{arriving_at, calling, cancel_request, hearing, ringing_from, whole_effect}
-use Rattle.model_transactions.specs.Queue.{Entry}
-use Rattle.model_order.specs.Order.{queue_through}
+use Rattle.model_transactions.specs.Queue.{Entry, entries_of, queue_after}
 
 -- an INVITE goes to two bindings
 abbrev pub called : ProxyState
@@ -23,6 +22,10 @@ cancelled = (whole_effect rung (arriving_at 6 62000 5070) cancel_request).state
 abbrev pub then_due : ℕ → Owner → Letter → Entry
 then_due number owner letter = record { due = 94000; name = record { request = number; owner = owner; letter = letter } }
 
--- those that are, in the order in which they fire
+-- the timers that stand then, in the order in which they fire
+abbrev pub queue_then : List Entry
+queue_then = queue_after (queue_after (queue_after [] (entries_of called.requests)) (entries_of rung.requests)) (entries_of cancelled.requests)
+
+-- those that are due 32 seconds later
 abbrev pub all_then : List Entry
-all_then = filter (λ e. e.due == 94000) (queue_through (cancelled.requests ∷ rung.requests ∷ called.requests ∷ []))
+all_then = filter (λ e. e.due == 94000) queue_then

@@ -1,6 +1,6 @@
 -- In which order what is due happens, as a function of the history: by the moment at which it is due, and at one moment in the order in
 -- which it came to stand (RFC 3261 17).
-use Rattle.std.specs.Prelude.{◌≡◌, ◌≢◌, ◌⊎◌, ℕ, List, [], ◌∷◌, map, Some}
+use Rattle.std.specs.Prelude.{◌≡◌, ◌≢◌, ◌⊎◌, ℕ, List, [], ◌∷◌, Some}
 use mathlib.Core.Logic.{inl, inr}
 use Rattle.sip_event.specs.declared.event.StepOut.{StepOut}
 use Rattle.sip_event.specs.declared.packet.Packet.{Packet}
@@ -13,19 +13,38 @@ use Rattle.sip_model.specs.context_model.Retransmission.{IsResent, OfAnswer, OfR
 use Rattle.sip_model.specs.state.declared.open_request.OpenRequest.{OpenRequest}
 use Rattle.sip_model.specs.state.declared.proxy_state.ProxyState.{ProxyState}
 use Rattle.sip_model.specs.state.declared.server.Server.{Server}
+use Rattle.sip_model.specs.state.State.{first_state}
 use Rattle.sip_model.specs.steps_model.Step.{IsDeadline, IsOverdue, IsResend, OfSide, OfBranch}
 use Rattle.sip_model.specs.Run.{Link}
 
 -- ---- the queue
 
--- the timers that stand after some states, the newest first, in the order in which they fire; none stood before the first of them
-abbrev pub queue_through : List (List OpenRequest) → List Entry
-queue_through [] = []
-queue_through (requests ∷ before) = queue_after (queue_through before) (entries_of requests)
+-- the timers that stand after a history, the newest step first, in the order in which they fire, where these stood before it
+abbrev pub queue_from : List Entry → List Link → List Entry
+queue_from queue [] = queue
+queue_from queue (link ∷ history) = queue_after (queue_from queue history) (entries_of link.after.requests)
 
 -- those that stand after a history that began with no open request
 abbrev pub queue_of : List Link → List Entry
-queue_of history = queue_through (map (λ (link : Link). link.after.requests) history)
+queue_of history = queue_from [] history
+
+-- what holds of each step of a history, and of the timers that stood before it
+abbrev pub AllQueued : (List Entry → Link → Type 0) → List Entry → List Link → Type 0
+AllQueued Holds queue [] = Unit {0}
+AllQueued Holds queue (link ∷ history) = Holds (queue_from queue history) link × AllQueued Holds queue history
+
+-- A state, and the timers that stand in it, in the order in which they fire.
+pub record Standing : Type 0 where
+  pub state : ProxyState
+  pub queue : List Entry
+
+-- those that stand after a step: what stood before it and stands still, in its place, and then what came to stand
+abbrev pub IsQueueAfter : Standing → Standing → Type 0
+IsQueueAfter old new = new.queue ≡ queue_after old.queue (entries_of new.state.requests)
+
+-- a first state, in which none stands
+abbrev pub first_standing : ℕ → Standing
+first_standing first = record { state = first_state first; queue = [] }
 
 -- ---- what happens first
 

@@ -16,6 +16,8 @@ use Rattle.sip_model.specs.context_model.Sending.{branch_packets}
 use Rattle.sip_model.specs.context_model.Retransmission.{IsResent, OfAnswer, OfRequest, answers_again, answer_next, with_resend}
 use Rattle.sip_model.specs.steps_model.Effect.{Effect, changed, dialogs_after}
 use Rattle.sip_model.specs.steps_model.Step.{Does, IsDeadline, IsResend, IsOverdue, OfSide, OfBranch, resent}
+use Rattle.model_transactions.specs.Queue.{Entry}
+use Rattle.model_order.specs.Order.{IsOfEntry}
 use Rattle.model_ties.specs.Ties.{Due, due_of, overdue_branch, resent_branch}
 use Rattle.model_ties.proofs.Lists.{at_one_place}
 use Rattle.model_ties.proofs.Sent.{GoesOneWay, one_packets, one_step}
@@ -42,6 +44,11 @@ others_alone left right h =
 
 -- ---- in states that are the same
 
+-- what happens is of each timer of which something else that happens is
+abbrev OfEntries : {server : Server} {old other : ProxyState} {at : ℕ} {out : StepOut} {new : ProxyState}
+    → IsDeadline server old at out new ⊎ IsResend server old at out new → IsDeadline server other at out new ⊎ IsResend server other at out new → Type 0
+OfEntries h k = (entry : Entry) → IsOfEntry entry h → IsOfEntry entry k
+
 module _ (laws : Sameness) (server : Server) where
   -- what does an effect does each that leaves a state that is the same
   does_so : (left right : ProxyState) (at : ℕ) (one other : Effect) (out : StepOut) (new : ProxyState) → one.originals ≡ other.originals → one.again ≡ other.again → one.records ≡ other.records
@@ -58,7 +65,7 @@ module _ (laws : Sameness) (server : Server) where
   -- with other bindings when dialogs
   with_others_so : (s : ProxyState) (rows : List Binding) (dialogs : List Dialog) → SameBindings s.moment s.bindings rows → SameDialogs s.moment s.dialogs dialogs
       → (at : ℕ) (out : StepOut) (new : ProxyState) → s.moment ≤ out.at → (h : IsDeadline server s at out new ⊎ IsResend server s at out new)
-      → (k : IsDeadline server (with_others s rows dialogs) at out new ⊎ IsResend server (with_others s rows dialogs) at out new) × (due_of k ≡ due_of h)
+      → (k : IsDeadline server (with_others s rows dialogs) at out new ⊎ IsResend server (with_others s rows dialogs) at out new) × (due_of k ≡ due_of h) × OfEntries h k
   with_others_so s rows dialogs bound known at out new later (inl passed) = (
     inl (record {
       request = passed.request;
@@ -79,6 +86,7 @@ module _ (laws : Sameness) (server : Server) where
           }) passed.does;
     }),
     refl,
+    (λ entry is. is),
   )
   with_others_so s rows dialogs bound known at out new later (inr gone) = (
     inr (record {
@@ -101,14 +109,15 @@ module _ (laws : Sameness) (server : Server) where
           }) gone.does;
     }),
     refl,
+    (λ entry is. is),
   )
 
   -- in each that is the same
   pub happens_alike : (left right : ProxyState) → SameState left right → (at : ℕ) (out : StepOut) (new : ProxyState) → left.moment ≤ out.at
       → (h : IsDeadline server left at out new ⊎ IsResend server left at out new)
-      → (k : IsDeadline server right at out new ⊎ IsResend server right at out new) × (due_of k ≡ due_of h)
+      → (k : IsDeadline server right at out new ⊎ IsResend server right at out new) × (due_of k ≡ due_of h) × OfEntries h k
   happens_alike left right same at out new later h =
-      subst (λ (s : ProxyState). (k : IsDeadline server s at out new ⊎ IsResend server s at out new) × (due_of k ≡ due_of h)) (others_alone left right same)
+      subst (λ (s : ProxyState). (k : IsDeadline server s at out new ⊎ IsResend server s at out new) × (due_of k ≡ due_of h) × OfEntries h k) (others_alone left right same)
       (with_others_so left right.bindings right.dialogs same.bindings same.dialogs at out new later h)
 
   -- ---- one effect

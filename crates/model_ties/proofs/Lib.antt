@@ -2,8 +2,10 @@ pub mod Lists
 pub mod Sent
 pub mod Firsts
 pub mod Alike
+pub mod OneEntry
 pub mod Reached
 pub mod Steps
 pub mod Runs
 pub mod RunsUnder
 pub mod Faults
+pub mod Orderly

@@ -24,8 +24,10 @@ use Rattle.sip_model.specs.context_model.Opening.{forking, tried, trying}
 use Rattle.sip_model.specs.context_model.Retransmission.{IsResent, OfAnswer, OfRequest, acked_again, acks_again, branch_next, resent_branch}
 use Rattle.sip_model.specs.steps_model.Effect.{change_packets, replaced, upward_packets}
 use Rattle.sip_model.specs.steps_model.Step.{Act, IsStep, IsOverdue, OfSide, OfBranch, originals, retransmissions}
+use Rattle.sip_model.specs.Order.{AreRising}
 use Rattle.sip_model.specs.Run.{Link, under, IsChain}
 use Rattle.sip_model.specs.Parts.{IsOpening, Answered, Sent, IsChangeAt, ByResponse, ByDeadline, ByFault, ByCancel, IsPart, Stays, Passes, Copies, TurnsAway, Opens, Changes, Resends, Acknowledges, AreParts, One, Two, HasParts}
+use Rattle.model_transactions.specs.Matching.{AreBranched}
 use Rattle.model_ties.proofs.Lists.{in_from_contains, all_in, all_push}
 use Rattle.model_ties.proofs.Sent.{GoesOneWay}
 
@@ -278,6 +280,9 @@ pub record Histories : Type 0 where
   pub parts : (server : Server) (old : ProxyState) (act : Act) (out : StepOut) (new : ProxyState) → IsStep server old act out new → HasParts server old act out new
   pub waits : (server : Server) (first : ℕ) (history : List Link) (last : ProxyState) → IsChain server (first_state first) history last
       → AllByRecursion (λ (r : OpenRequest). is_answering r.side ≡ true → all_final r ≡ false) last.requests
+  pub rising : (server : Server) (first : ℕ) (history : List Link) (last : ProxyState) → IsChain server (first_state first) history last → AreRising last.requests
+  pub branched : (server : Server) (first : ℕ) (history : List Link) (last : ProxyState) → IsChain server (first_state first) history last
+      → AllByRecursion (λ (r : OpenRequest). AreBranched r.branches) last.requests
 
 module _ (laws : Histories) (server : Server) (first : ℕ) where
   -- none is outstanding after a history

@@ -1,38 +1,50 @@
 -- Two runs, side by side, from their first steps on.
-use Rattle.std.proofs.Common.{◌≡◌, ◌≢◌, ◌⊎◌, inl, inr, ◌∙◌, ℕ, ◌≤◌, ◌==◌, Bool, true, false, List, [], ◌∷◌, ◌++◌, drop, reverse, append-nil, Option, Some, None, refl, sym, ap, ap₂, subst, arith}
-use Rattle.std.proofs.lemmas.Bool.Decides.{nat_tests}
+use Rattle.std.proofs.Common.{◌≡◌, ◌⊎◌, ◌∙◌, ℕ, ◌≤◌, List, [], ◌∷◌, ◌++◌, drop, reverse, append-nil, Option, Some, None, refl, sym, ap, ap₂, subst, arith}
 use Rattle.std.specs.List.{AllByRecursion}
 use Rattle.sip_config_types.specs.declared.config.Config.{Config}
 use Rattle.sip_event.specs.declared.event.Event.{Event}
 use Rattle.sip_event.specs.declared.event.Event.TheVariants.{Datagram, Time, Fault}
 use Rattle.sip_event.specs.declared.event.StepOut.{StepOut}
 use Rattle.sip_model.specs.state.declared.server.Server.{Server}
+use Rattle.sip_model.specs.state.declared.open_request.OpenRequest.{OpenRequest}
 use Rattle.sip_model.specs.state.declared.proxy_state.ProxyState.{ProxyState}
 use Rattle.sip_model.specs.state.SameState.{SameState}
 use Rattle.sip_model.specs.state.State.{first_state}
 use Rattle.sip_model.specs.steps_model.Step.{Act, Given, Passing, IsDeadline, IsResend, IsStep, NoneBy, NoneAgainBy, moment_of}
 use Rattle.sip_model.specs.Run.{Link, under, IsChain, IsPaced, IsRun, IsUnder, IsUpTo, event_moment, event_of, events_of, first_moment, next_moment, steps_of}
-use Rattle.model_ties.specs.Ties.{AreOne, ArePrompt, Due, IsPrompt, Label, PartAtTie, configurations_of, due_of, label_of, labels_of}
+use Rattle.model_transactions.specs.Queue.{Entry, entries_of, queue_after}
+use Rattle.model_order.specs.Order.{IsFirstOf, IsOfEntry, queue_from}
+use Rattle.model_ties.specs.Ties.{AreOne, AreOrderly, ArePrompt, IsOrderly, IsPrompt, Label, configurations_of, due_of, label_of, labels_of}
 use Rattle.model_ties.proofs.Lists.{onto, turned_round}
 use Rattle.model_ties.proofs.Firsts.{at_one_moment, nothing_happens}
 use Rattle.model_ties.proofs.Alike.{Sameness, happens_alike, one_due}
 use Rattle.model_ties.proofs.Reached.{Histories, step_one_way}
+use Rattle.model_ties.proofs.OneEntry.{one_happens}
 use Rattle.model_ties.proofs.Steps.{one_given}
 
 -- ---- a history from its first step on
 
--- a step comes next: it begins in a state, and time passes in it up to the first of the events that are left
-record ComesNext (server : Server) (state : ProxyState) (link : Link) (left : List Event) : Type 0 where
+-- a step comes next: it begins in a state in which these timers stand, and time passes in it up to the first of the events that are left
+record ComesNext (server : Server) (queue : List Entry) (state : ProxyState) (link : Link) (left : List Event) : Type 0 where
   begins : link.before ≡ state
   configured : IsUnder server.config link
   step : IsStep server link.before link.act link.out link.after
-  prompt : IsPrompt server link.before link.act link.out link.after
+  orderly : IsOrderly server queue link.before link.act link.out link.after
   paced : IsUpTo (first_moment left None) link.act
 
--- steps, the first one first, lead from one state to another
-abbrev Follows : Server → ProxyState → List Link → ProxyState → Type 0
-Follows server first [] last = last ≡ first
-Follows server first (link ∷ later) last = ComesNext server first link (events_of later) × Follows server link.after later last
+-- the timers that stand after a step
+abbrev queue_then : List Entry → Link → List Entry
+queue_then queue link = queue_after queue (entries_of link.after.requests)
+
+-- steps, the first one first, lead from one state, in which these timers stand, to another
+abbrev Follows : Server → List Entry → ProxyState → List Link → ProxyState → Type 0
+Follows server queue first [] last = last ≡ first
+Follows server queue first (link ∷ later) last = ComesNext server queue first link (events_of later) × Follows server (queue_then queue link) link.after later last
+
+-- the timers that stand after them
+abbrev queue_along : List Entry → List Link → List Entry
+queue_along queue [] = queue
+queue_along queue (link ∷ later) = queue_along (queue_then queue link) later
 
 -- the moment of the event that comes next is that of the first of the events
 next_is : (act : Act) (events : List Event) → next_moment (first_moment events None) act ≡ first_moment (event_of act events) None
@@ -40,21 +52,26 @@ next_is (Given event) events = refl
 next_is (Passing at) events = refl
 
 -- a history, turned round
-turned : (server : Server) (first middle last : ProxyState) (history later : List Link) → IsChain server first history middle → AllByRecursion (IsUnder server.config) history → ArePrompt server history
-    → IsPaced (first_moment (events_of later) None) history → Follows server middle later last → Follows server first (onto history later) last
-turned server first middle last [] later chain configured prompt paced follows = subst (λ (s : ProxyState). Follows server s later last) chain follows
-turned server first middle last (link ∷ history) later chain configured prompt paced follows =
-    turned server first link.before last history (link ∷ later) chain.2 configured.1 prompt.1
+turned : (server : Server) (queue : List Entry) (first middle last : ProxyState) (history later : List Link) → IsChain server first history middle → AllByRecursion (IsUnder server.config) history → AreOrderly server queue history
+    → IsPaced (first_moment (events_of later) None) history → Follows server (queue_from queue history) middle later last → Follows server queue first (onto history later) last
+turned server queue first middle last [] later chain configured orderly paced follows = subst (λ (s : ProxyState). Follows server queue s later last) chain follows
+turned server queue first middle last (link ∷ history) later chain configured orderly paced follows =
+    turned server queue first link.before last history (link ∷ later) chain.2 configured.1 orderly.1
     (subst (λ (o : Option ℕ). IsPaced o history) (next_is link.act (events_of later)) paced.1) (
       record {
         begins = refl;
         configured = configured.0;
         step = subst (λ (c : Config). IsStep (under server c) link.before link.act link.out link.after) configured.0 chain.1;
-        prompt = subst (λ (c : Config). IsPrompt (under server c) link.before link.act link.out link.after) configured.0 prompt.0;
+        orderly = subst (λ (c : Config). IsOrderly (under server c) (queue_from queue history) link.before link.act link.out link.after) configured.0 orderly.0;
         paced = paced.0;
       },
-      subst (λ (s : ProxyState). Follows server s later last) chain.0 follows,
+      subst (λ (s : ProxyState). Follows server (queue_then (queue_from queue history) link) s later last) chain.0 follows,
     )
+
+-- the timers that stand after it
+queue_turned : (queue : List Entry) (history later : List Link) → queue_along queue (onto history later) ≡ queue_along (queue_from queue history) later
+queue_turned queue [] later = refl
+queue_turned queue (link ∷ history) later = queue_turned queue history (link ∷ later)
 
 -- its events
 events_turned : (history later : List Link) → events_of (onto history later) ≡ reverse (events_of history) ++ events_of later
@@ -106,42 +123,18 @@ no_passing server left right same event at out another new newer step prompt mom
     nothing_happens server right at (moment_of left (event_moment event)) another newer (subst (NoneBy (moment_of left (event_moment event))) same.requests none.0)
     (subst (NoneAgainBy (moment_of left (event_moment event))) same.requests none.1) (omega (arith, begins, moment)) happens
 
--- ---- which part
+-- ---- what happens first
 
-same_branch : (o p : Option ℕ) → (o ≡ p) ⊎ (o ≢ p)
-same_branch None None = inl refl
-same_branch None (Some k) = inr (λ e. cc)
-same_branch (Some j) None = inr (λ e. cc)
-same_branch (Some j) (Some k) = by_test (j == k) refl where
-  by_test : (t : Bool) → (j == k) ≡ t → (Some j ≡ Some k) ⊎ (Some j ≢ Some k)
-  by_test true is = let same : j ≡ k = grind (arith, nat_tests) in inl (ap Some same)
-  by_test false is = inr (λ e. let same : j ≡ k = cc in grind (arith, nat_tests))
+-- the first of one list is one
+one_first : {X : Type 0} {x y : X} {xs ys : List X} → x ∷ xs ≡ y ∷ ys → x ≡ y
+one_first e = cc
 
-same_kind : (t u : Bool) → (t ≡ u) ⊎ (t ≢ u)
-same_kind true true = inl refl
-same_kind false false = inl refl
-same_kind true false = inr (λ e. cc)
-same_kind false true = inr (λ e. cc)
+-- two things that are of the first timer of one queue are of one
+first_entry : (server : Server) (queue : List Entry) (old other : ProxyState) (at when : ℕ) (out another : StepOut) (new newer : ProxyState) → (h : IsFirstOf server queue old at out new)
+    → (k : IsFirstOf server queue other when another newer) → h.entry ≡ k.entry
+first_entry server queue old other at when out another new newer h k = one_first (sym h.stands ∙ k.stands)
 
-same_place : (j k : ℕ) → (j ≡ k) ⊎ (j ≢ k)
-same_place j k = by_test (j == k) refl where
-  by_test : (t : Bool) → (j == k) ≡ t → (j ≡ k) ⊎ (j ≢ k)
-  by_test true is = inl (grind (arith, nat_tests))
-  by_test false is = inr (λ e. grind (arith, nat_tests))
-
--- what is due of its parts
-abbrev due_with : Bool → ℕ → Option ℕ → Due
-due_with kind request branch = record { is_deadline = kind; request = request; branch = branch }
-
--- it is the same, or it isn't
-same_due : (d e : Due) → (d ≡ e) ⊎ (d ≢ e)
-same_due d e = by_parts (same_kind d.is_deadline e.is_deadline) (same_place d.request e.request) (same_branch d.branch e.branch) where
-  by_parts : (d.is_deadline ≡ e.is_deadline) ⊎ (d.is_deadline ≢ e.is_deadline) → (d.request ≡ e.request) ⊎ (d.request ≢ e.request) → (d.branch ≡ e.branch) ⊎ (d.branch ≢ e.branch) → (d ≡ e) ⊎ (d ≢ e)
-  by_parts (inl kinds) (inl requests) (inl branches) =
-      inl (ap₂ (λ (t : Bool) (k : ℕ). due_with t k d.branch) kinds requests ∙ ap (λ (o : Option ℕ). due_with e.is_deadline e.request o) branches)
-  by_parts (inr kinds) requests branches = inr (λ same. kinds (ap (λ (x : Due). x.is_deadline) same))
-  by_parts (inl kinds) (inr requests) branches = inr (λ same. requests (ap (λ (x : Due). x.request) same))
-  by_parts (inl kinds) (inl requests) (inr branches) = inr (λ same. branches (ap (λ (x : Due). x.branch) same))
+-- ---- labels
 
 -- the first label of a list
 abbrev head_label : List Label → Option Label
@@ -153,27 +146,28 @@ label_first e = cc
 
 -- ---- side by side
 
+-- two runs take the same steps from here on, after which the same timers stand
+record Same (queue : List Entry) (one other : List Link) (last end : ProxyState) : Type 0 where
+  are : AreOne (steps_of one) (steps_of other) last end
+  queues : queue_along queue one ≡ queue_along queue other
+
 module _ (sameness : Sameness)
     (steps_same : (server : Server) (left right : ProxyState) (act : Act) (out : StepOut) (new : ProxyState) → SameState left right → left.moment ≤ out.at → IsStep server left act out new → IsStep server right act out new)
     (histories : Histories)
     (stands : (server : Server) (old new : ProxyState) (act : Act) (out : StepOut) → IsStep server old act out new → new.moment ≡ out.at)
     (rises : (server : Server) (first : ℕ) (link : Link) (history : List Link) (last : ProxyState) → IsChain server (first_state first) (link ∷ history) last → link.before.moment ≤ last.moment)
     (server : Server) (first : ℕ) (past : List Link) (start : ProxyState) (reached : IsChain server (first_state first) past start) where
-  -- two runs took the same steps so far; those that are left are the same, or part
-  abbrev Runs : List Link → List Link → List Link → ProxyState → ProxyState → Type 0
-  Runs walked one other last end = AreOne (steps_of one) (steps_of other) last end ⊎ PartAtTie server start (reverse (steps_of walked) ++ steps_of one) (reverse (steps_of walked) ++ steps_of other)
-
   -- one more step, which was the same
-  with_one : (walked : List Link) (link twin : Link) (one other : List Link) (last end : ProxyState) → link.out ≡ twin.out → Runs (link ∷ walked) one other last end → Runs walked (link ∷ one) (twin ∷ other) last end
-  with_one walked link twin one other last end same (inl are) = inl (record { steps_are = ap₂ (λ (x : StepOut) (xs : List StepOut). x ∷ xs) same are.steps_are; state = are.state })
-  with_one walked link twin one other last end same (inr part) =
-      inr (subst (λ (xs : List StepOut). PartAtTie server start xs (reverse (steps_of walked) ++ steps_of (twin ∷ other))) (turned_round link.out (steps_of walked) (steps_of one))
-      (subst (λ (ys : List StepOut). PartAtTie server start (reverse (steps_of (link ∷ walked)) ++ steps_of one) ys)
-      (turned_round link.out (steps_of walked) (steps_of other) ∙ ap (λ (x : StepOut). reverse (steps_of walked) ++ x ∷ steps_of other) same) part))
+  with_one : (queue : List Entry) (link twin : Link) (one other : List Link) (last end : ProxyState) → link.out ≡ twin.out → SameState link.after twin.after → Same (queue_then queue link) one other last end
+      → Same queue (link ∷ one) (twin ∷ other) last end
+  with_one queue link twin one other last end out states same = record {
+    are = record { steps_are = ap₂ (λ (x : StepOut) (xs : List StepOut). x ∷ xs) out same.are.steps_are; state = same.are.state };
+    queues = same.queues ∙ ap (λ (rs : List OpenRequest). queue_along (queue_after queue (entries_of rs)) other) states.requests;
+  }
 
   -- a step on the way
-  walked_on : (walked : List Link) (state : ProxyState) (link : Link) (left : List Event) → IsChain server start walked state → ComesNext server state link left → IsChain server start (link ∷ walked) link.after
-  walked_on walked state link left chain next = (refl, own_step server link next.configured next.step, subst (λ (s : ProxyState). IsChain server start walked s) (sym next.begins) chain)
+  walked_on : (queue : List Entry) (walked : List Link) (state : ProxyState) (link : Link) (left : List Event) → IsChain server start walked state → ComesNext server queue state link left → IsChain server start (link ∷ walked) link.after
+  walked_on queue walked state link left chain next = (refl, own_step server link next.configured next.step, subst (λ (s : ProxyState). IsChain server start walked s) (sym next.begins) chain)
 
   -- from a first state on
   from_first : (walked : List Link) (state : ProxyState) → IsChain server start walked state → IsChain server (first_state first) (walked ++ past) state
@@ -213,12 +207,12 @@ module _ (sameness : Sameness)
       (λ theirs prompted e. one_label config left right act its out another new newer walked chain same mine theirs prompt prompted e)
 
   -- the steps that come next in both, and what is left of both behind them if they are the same
-  module _ (walked : List Link) (link twin : Link) (one other : List Link) (last end : ProxyState) (here : IsChain server start walked link.before) (begin : SameState link.before twin.before)
+  module _ (queue : List Entry) (walked : List Link) (link twin : Link) (one other : List Link) (last end : ProxyState) (here : IsChain server start walked link.before) (begin : SameState link.before twin.before)
       (step : IsStep server link.before link.act link.out link.after) (is_under : IsUnder server.config link)
-      (further : SameState link.after twin.after → events_of one ≡ events_of other → Runs (link ∷ walked) one other last end) where
+      (further : SameState link.after twin.after → events_of one ≡ events_of other → Same (queue_then queue link) one other last end) where
     -- both are the same
-    go_on : events_of one ≡ events_of other → (link.out ≡ twin.out) × SameState link.after twin.after → Runs walked (link ∷ one) (twin ∷ other) last end
-    go_on rest same = with_one walked link twin one other last end same.0 (further same.1 rest)
+    go_on : events_of one ≡ events_of other → (link.out ≡ twin.out) × SameState link.after twin.after → Same queue (link ∷ one) (twin ∷ other) last end
+    go_on rest same = with_one queue link twin one other last end same.0 same.1 (further same.1 rest)
 
     -- the first isn't before the moment of its state
     later : link.before.moment ≤ link.out.at
@@ -227,63 +221,48 @@ module _ (sameness : Sameness)
         let at = stands server link.before link.after link.act link.out step in
         omega (arith, risen, at)
 
-    -- something that is due happens in both
-    by_due : (at : ℕ) → IsDeadline server link.before at link.out link.after ⊎ IsResend server link.before at link.out link.after
-        → IsDeadline server twin.before at twin.out twin.after ⊎ IsResend server twin.before at twin.out twin.after → events_of one ≡ events_of other → Runs walked (link ∷ one) (twin ∷ other) last end
-    by_due at d its rest =
-        by_same (same_due (due_of d) (due_of moved.0)) where
-          at_once : link.out.at ≡ twin.out.at
-          at_once = at_one_moment server link.before twin.before at at link.out twin.out link.after twin.after begin.requests d its
+    -- what is due first happens in both
+    by_due : (at : ℕ) → IsFirstOf server queue link.before at link.out link.after → IsFirstOf server queue twin.before at twin.out twin.after → (link.out ≡ twin.out) × SameState link.after twin.after
+    by_due at d its = one_due sameness server link.before at at link.out twin.out link.after twin.after at_once d.happens moved.0 (dues ∙ sym moved.1) where
+      entries : d.entry ≡ its.entry
+      entries = first_entry server queue link.before twin.before at at link.out twin.out link.after twin.after d its
 
-          moved : (x : IsDeadline server link.before at twin.out twin.after ⊎ IsResend server link.before at twin.out twin.after) × (due_of x ≡ due_of its)
-          moved =
-              happens_alike sameness server twin.before link.before (sameness.turned link.before twin.before begin) at twin.out twin.after
-              (let moment = begin.moment in omega (arith, later, at_once, moment)) its
+      at_once : link.out.at ≡ twin.out.at
+      at_once = d.at_due ∙ ap (λ (e : Entry). e.due) entries ∙ sym its.at_due
 
-          by_same : (due_of d ≡ due_of moved.0) ⊎ (due_of d ≢ due_of moved.0) → Runs walked (link ∷ one) (twin ∷ other) last end
-          by_same (inl is) = go_on rest (one_due sameness server link.before at at link.out twin.out link.after twin.after at_once d moved.0 is)
-          by_same (inr differ) =
-              inr (record {
-                history = walked;
-                state = link.before;
-                chain = here;
-                config = server.config;
-                at = at;
-                out = link.out;
-                new = link.after;
-                happens = d;
-                further = steps_of one;
-                other_out = twin.out;
-                other_new = twin.after;
-                other_happens = moved.0;
-                other_further = steps_of other;
-                at_once = at_once;
-                differ = differ;
-                steps_are = refl;
-                others_are = refl;
-              })
+      moved : (x : IsDeadline server link.before at twin.out twin.after ⊎ IsResend server link.before at twin.out twin.after) × (due_of x ≡ due_of its.happens)
+          × ((entry : Entry) → IsOfEntry entry its.happens → IsOfEntry entry x)
+      moved =
+          happens_alike sameness server twin.before link.before (sameness.turned link.before twin.before begin) at twin.out twin.after
+          (let moment = begin.moment in omega (arith, later, at_once, moment)) its.happens
+
+      dues : due_of d.happens ≡ due_of its.happens
+      dues =
+          one_happens server link.before (histories.rising server first (walked ++ past) link.before (from_first walked link.before here))
+          (histories.branched server first (walked ++ past) link.before (from_first walked link.before here))
+          its.entry at at link.out twin.out link.after twin.after at_once d.happens moved.0 (subst (λ (e : Entry). IsOfEntry e d.happens) entries d.is_its) (moved.2 its.entry its.is_its)
+          ∙ moved.1
 
     -- whatever comes next
     by_acts : (act its : Act) → event_of act (events_of one) ≡ event_of its (events_of other) → IsStep server link.before act link.out link.after → IsStep server twin.before its twin.out twin.after
-        → IsPrompt server link.before act link.out link.after → IsPrompt server twin.before its twin.out twin.after → IsUpTo (first_moment (events_of one) None) act → IsUpTo (first_moment (events_of other) None) its
-        → Runs walked (link ∷ one) (twin ∷ other) last end
-    by_acts (Given event) (Given its) e mine theirs prompt prompted up upon =
+        → IsOrderly server queue link.before act link.out link.after → IsOrderly server queue twin.before its twin.out twin.after → IsUpTo (first_moment (events_of one) None) act → IsUpTo (first_moment (events_of other) None) its
+        → Same queue (link ∷ one) (twin ∷ other) last end
+    by_acts (Given event) (Given its) e mine theirs orderly ordered up upon =
         let events : event ≡ its = cc in
         let rest : events_of one ≡ events_of other = cc in
         go_on rest
         (one_given sameness steps_same server link.before twin.before begin event link.out twin.out link.after twin.after
         (step_one_way histories server first (walked ++ past) link.before (from_first walked link.before here) (Given event) link.out link.after mine)
         mine (subst (λ (x : Event). IsStep server twin.before (Given x) twin.out twin.after) (sym events) theirs))
-    by_acts (Given event) (Passing when) e mine theirs prompt prompted up upon =
-        absurd (no_passing server link.before twin.before begin event when link.out twin.out link.after twin.after mine prompt
-        (subst (λ (es : List Event). IsUpTo (first_moment es None) (Passing when)) (sym e) upon) prompted)
-    by_acts (Passing at) (Given its) e mine theirs prompt prompted up upon =
-        absurd (no_passing server twin.before link.before (sameness.turned link.before twin.before begin) its at twin.out link.out twin.after link.after theirs prompted
-        (subst (λ (es : List Event). IsUpTo (first_moment es None) (Passing at)) e up) prompt)
-    by_acts (Passing at) (Passing when) e mine theirs prompt prompted up upon =
+    by_acts (Given event) (Passing when) e mine theirs orderly ordered up upon =
+        absurd (no_passing server link.before twin.before begin event when link.out twin.out link.after twin.after mine orderly
+        (subst (λ (es : List Event). IsUpTo (first_moment es None) (Passing when)) (sym e) upon) ordered.happens)
+    by_acts (Passing at) (Given its) e mine theirs orderly ordered up upon =
+        absurd (no_passing server twin.before link.before (sameness.turned link.before twin.before begin) its at twin.out link.out twin.after link.after theirs ordered
+        (subst (λ (es : List Event). IsUpTo (first_moment es None) (Passing at)) e up) orderly.happens)
+    by_acts (Passing at) (Passing when) e mine theirs orderly ordered up upon =
         let moments : at ≡ when = one_moment (events_of one) at when up (subst (λ (es : List Event). IsUpTo (first_moment es None) (Passing when)) (sym e) upon) in
-        by_due at prompt
-        (subst (λ (m : ℕ). IsDeadline server twin.before m twin.out twin.after ⊎ IsResend server twin.before m twin.out twin.after) (sym moments) prompted) e
+        go_on e (by_due at orderly (subst (λ (m : ℕ). IsFirstOf server queue twin.before m twin.out twin.after) (sym moments) ordered))
 
   -- one run is over, and the other goes on with a step: no
   goes_no_further : (act : Act) (left : List Event) → [] ≡ event_of act left → IsUpTo (first_moment left None) act → ⊥
@@ -291,19 +270,22 @@ module _ (sameness : Sameness)
   goes_no_further (Passing at) left e up = subst (λ (es : List Event). IsUpTo (first_moment es None) (Passing at)) (sym e) up
 
   -- both, step by step
-  side_by_side : (one other walked : List Link) (left right last end : ProxyState) → IsChain server start walked left → SameState left right → Follows server left one last → Follows server right other end
-      → events_of one ≡ events_of other → Runs walked one other last end
-  side_by_side [] [] walked left right last end chain same h k e =
-      inl (record { steps_are = refl; state = subst (λ (s : ProxyState). SameState s end) (sym h) (subst (λ (s : ProxyState). SameState left s) (sym k) same) })
-  side_by_side [] (twin ∷ other) walked left right last end chain same h k e = absurd (goes_no_further twin.act (events_of other) e k.0.paced)
-  side_by_side (link ∷ one) [] walked left right last end chain same h k e = absurd (goes_no_further link.act (events_of one) (sym e) h.0.paced)
-  side_by_side (link ∷ one) (twin ∷ other) walked left right last end chain same h k e =
-      by_acts walked link twin one other last end
+  side_by_side : (queue : List Entry) (one other walked : List Link) (left right last end : ProxyState) → IsChain server start walked left → SameState left right → Follows server queue left one last
+      → Follows server queue right other end → events_of one ≡ events_of other → Same queue one other last end
+  side_by_side queue [] [] walked left right last end chain same h k e = record {
+    are = record { steps_are = refl; state = subst (λ (s : ProxyState). SameState s end) (sym h) (subst (λ (s : ProxyState). SameState left s) (sym k) same) };
+    queues = refl;
+  }
+  side_by_side queue [] (twin ∷ other) walked left right last end chain same h k e = absurd (goes_no_further twin.act (events_of other) e k.0.paced)
+  side_by_side queue (link ∷ one) [] walked left right last end chain same h k e = absurd (goes_no_further link.act (events_of one) (sym e) h.0.paced)
+  side_by_side queue (link ∷ one) (twin ∷ other) walked left right last end chain same h k e =
+      by_acts queue walked link twin one other last end
       (subst (λ (s : ProxyState). IsChain server start walked s) (sym h.0.begins) chain)
       (subst (λ (s : ProxyState). SameState s twin.before) (sym h.0.begins) (subst (λ (s : ProxyState). SameState left s) (sym k.0.begins) same))
       h.0.step h.0.configured
-      (λ states rest. side_by_side one other (link ∷ walked) link.after twin.after last end (walked_on walked left link (events_of one) chain h.0) states h.1 k.1 rest)
-      link.act twin.act e h.0.step k.0.step h.0.prompt k.0.prompt h.0.paced k.0.paced
+      (λ states rest. side_by_side (queue_then queue link) one other (link ∷ walked) link.after twin.after last end (walked_on queue walked left link (events_of one) chain h.0) states h.1
+      (subst (λ (rs : List OpenRequest). Follows server (queue_after queue (entries_of rs)) twin.after other end) (sym states.requests) k.1) rest)
+      link.act twin.act e h.0.step k.0.step h.0.orderly k.0.orderly h.0.paced k.0.paced
 
   -- ---- where both let the same happen
 
@@ -324,22 +306,23 @@ module _ (sameness : Sameness)
         state = subst (λ (s : ProxyState). SameState s end) (sym chain.0) (subst (λ (s : ProxyState). SameState link.after s) (sym other_chain.0) step.1);
       }
 
-  -- two whole runs
-  pub runs_part : (other_start last end : ProxyState) (events : List Event) (steps others : List StepOut) (history its : List Link) → SameState start other_start → IsRun server start events None steps history last
-      → IsRun server other_start events None others its end → ArePrompt server history → ArePrompt server its → AreOne steps others last end ⊎ PartAtTie server start steps others
-  runs_part other_start last end events steps others history its same run other_run prompt other_prompt =
-      by_either (side_by_side (onto history []) (onto its []) [] start other_start last end refl same
-      (turned server start last last history [] run.chain run.configured prompt run.paced refl) (turned server other_start end end its [] other_run.chain other_run.configured other_prompt other_run.paced refl)
-      (told history run.of_events ∙ sym (told its other_run.of_events))) where
-        told : (h : List Link) → reverse (events_of h) ≡ events → events_of (onto h []) ≡ events
-        told h is = events_turned h [] ∙ append-nil (reverse (events_of h)) ∙ is
+  -- two whole runs took the same steps, after which the same timers stand
+  pub runs_one : (queue : List Entry) (other_start last end : ProxyState) (events : List Event) (steps others : List StepOut) (history its : List Link) → SameState start other_start
+      → IsRun server start events None steps history last → IsRun server other_start events None others its end → AreOrderly server queue history → AreOrderly server queue its
+      → AreOne steps others last end × (queue_from queue history ≡ queue_from queue its)
+  runs_one queue other_start last end events steps others history its same run other_run orderly ordered = (
+    record { steps_are = sym (taken history steps run.of_steps) ∙ both.are.steps_are ∙ taken its others other_run.of_steps; state = both.are.state },
+    sym (queue_turned queue history []) ∙ both.queues ∙ queue_turned queue its [],
+  ) where
+    told : (h : List Link) → reverse (events_of h) ≡ events → events_of (onto h []) ≡ events
+    told h is = events_turned h [] ∙ append-nil (reverse (events_of h)) ∙ is
 
-        taken : (h : List Link) (outs : List StepOut) → reverse (steps_of h) ≡ outs → steps_of (onto h []) ≡ outs
-        taken h outs is = steps_turned h [] ∙ append-nil (reverse (steps_of h)) ∙ is
+    taken : (h : List Link) (outs : List StepOut) → reverse (steps_of h) ≡ outs → steps_of (onto h []) ≡ outs
+    taken h outs is = steps_turned h [] ∙ append-nil (reverse (steps_of h)) ∙ is
 
-        by_either : AreOne (steps_of (onto history [])) (steps_of (onto its [])) last end ⊎ PartAtTie server start (steps_of (onto history [])) (steps_of (onto its []))
-            → AreOne steps others last end ⊎ PartAtTie server start steps others
-        by_either (inl are) = inl (record { steps_are = sym (taken history steps run.of_steps) ∙ are.steps_are ∙ taken its others other_run.of_steps; state = are.state })
-        by_either (inr part) =
-            inr (subst (λ (xs : List StepOut). PartAtTie server start xs others) (taken history steps run.of_steps)
-            (subst (λ (ys : List StepOut). PartAtTie server start (steps_of (onto history [])) ys) (taken its others other_run.of_steps) part))
+    both : Same queue (onto history []) (onto its []) last end
+    both =
+        side_by_side queue (onto history []) (onto its []) [] start other_start last end refl same
+        (turned server queue start last last history [] run.chain run.configured orderly run.paced refl)
+        (turned server queue other_start end end its [] other_run.chain other_run.configured ordered other_run.paced refl)
+        (told history run.of_events ∙ sym (told its other_run.of_events))

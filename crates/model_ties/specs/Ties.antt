@@ -1,5 +1,5 @@
--- Two runs over the same events: what each lets happen of what is due, and where they may part.
-use Rattle.std.specs.Prelude.{◌≡◌, ◌≢◌, ◌⊎◌, ⊤, ℕ, Bool, true, false, List, [], ◌∷◌, ◌++◌, reverse, Option, Some, None}
+-- Two runs over the same events: what each lets happen of what is due, and in which order.
+use Rattle.std.specs.Prelude.{◌≡◌, ◌⊎◌, ⊤, ℕ, Bool, true, false, List, [], ◌∷◌, Option, Some, None}
 use mathlib.Core.Logic.{inl, inr}
 use Rattle.std.specs.List.{AllByRecursion}
 use Rattle.sip_event.specs.declared.packet.Packet.{Packet}
@@ -14,7 +14,9 @@ use Rattle.sip_model.specs.state.SameState.{SameState}
 use Rattle.sip_model.specs.context_model.Branches.{Change}
 use Rattle.sip_model.specs.context_model.Retransmission.{IsResent, OfAnswer, OfRequest}
 use Rattle.sip_model.specs.steps_model.Step.{Act, Given, Passing, IsDeadline, IsResend, IsOverdue, OfSide, OfBranch, NoneBy, NoneAgainBy, moment_of}
-use Rattle.sip_model.specs.Run.{Link, IsChain, steps_of, under}
+use Rattle.sip_model.specs.Run.{Link, under}
+use Rattle.model_transactions.specs.Queue.{Entry}
+use Rattle.model_order.specs.Order.{AllQueued, IsFirstOf}
 
 -- ---- what happens as time passes
 
@@ -77,30 +79,21 @@ abbrev pub configurations_of : List Link → List Config
 configurations_of [] = []
 configurations_of (link ∷ history) = link.config ∷ configurations_of history
 
+-- ---- runs in order
+
+-- A step is prompt, and where time passes, what happens is of the first of the timers that stand.
+abbrev pub IsOrderly : Server → List Entry → ProxyState → Act → StepOut → ProxyState → Type 0
+IsOrderly server queue before (Given event) out after = IsPrompt server before (Given event) out after
+IsOrderly server queue before (Passing at) out after = IsFirstOf server queue before at out after
+
+-- the same of each step of a history, under the configuration that was in force then, where these timers stood before the first of them
+abbrev pub AreOrderly : Server → List Entry → List Link → Type 0
+AreOrderly server queue history =
+    AllQueued (λ (standing : List Entry) (link : Link). IsOrderly (under server link.config) standing link.before link.act link.out link.after) queue history
+
 -- ---- what two runs have in common
 
 -- two runs took the same steps, and their last states are the same
 pub record AreOne (steps others : List StepOut) (last end : ProxyState) : Type 0 where
   pub steps_are : steps ≡ others
   pub state : SameState last end
-
--- Two runs part at a tie: up to some state they took the same steps. There, under the configuration in force, of what is due at one
--- moment, which is the first at which anything is, each lets something else happen.
-pub record PartAtTie (server : Server) (first : ProxyState) (steps others : List StepOut) : Type 0 where
-  pub history : List Link
-  pub state : ProxyState
-  pub chain : IsChain server first history state
-  pub config : Config
-  pub at : ℕ
-  pub out : StepOut
-  pub new : ProxyState
-  pub happens : IsDeadline (under server config) state at out new ⊎ IsResend (under server config) state at out new
-  pub further : List StepOut
-  pub other_out : StepOut
-  pub other_new : ProxyState
-  pub other_happens : IsDeadline (under server config) state at other_out other_new ⊎ IsResend (under server config) state at other_out other_new
-  pub other_further : List StepOut
-  pub at_once : out.at ≡ other_out.at
-  pub differ : due_of happens ≢ due_of other_happens
-  pub steps_are : steps ≡ reverse (steps_of history) ++ out ∷ further
-  pub others_are : others ≡ reverse (steps_of history) ++ other_out ∷ other_further

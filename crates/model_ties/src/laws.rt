@@ -1,4 +1,4 @@
-ghost use Rattle.std.specs.Prelude.{◌≡◌, ◌⊎◌, ℕ, List, None};
+ghost use Rattle.std.specs.Prelude.{◌≡◌, ℕ, List, None};
 ghost use Rattle.sip_event.specs.declared.event.Event.{Event};
 ghost use Rattle.sip_event.specs.declared.event.StepOut.{StepOut};
 ghost use Rattle.sip_event.specs.declared.packet.Ticket.{Ticket};
@@ -9,36 +9,34 @@ ghost use Rattle.sip_model.specs.state.SameState.{SameState};
 ghost use Rattle.sip_model.specs.steps_model.Step.{IsFault, NoneAgainBy, NoneBy, moment_of};
 ghost use Rattle.sip_model.specs.Run.{Link, IsChain, IsRun, steps_of};
 ghost use Rattle.sip_model.specs.Periods.{Period, IsRunUnder};
-ghost use Rattle.model_ties.specs.Ties.{AreOne, ArePrompt, PartAtTie, configurations_of, labels_of};
+ghost use Rattle.model_transactions.specs.Queue.{Entry};
+ghost use Rattle.model_ties.specs.Ties.{AreOne, AreOrderly, ArePrompt, configurations_of, labels_of};
 
+use model_order::laws::open_requests_are_branched;
 use sip_dialog::laws::same_dialogs;
 use sip_location::laws::same_bindings;
 use sip_model::histories::{
     dialogs_after_same, moment_rises, steps_same, steps_stand_at_their_moments,
 };
-use sip_model::order::requests_can_end;
+use sip_model::order::{numbers_rise, requests_can_end};
 use sip_model::parts::steps_have_parts;
 use sip_state::laws::same_states;
 
-/// Two runs over the same events, from states that are the same, to which steps of the model led, take the same steps and come to
-/// states that are the same, or they part at a tie: up to some state their steps are the same, and then two things are due at one
-/// moment, the first at which anything is, of which each lets another one happen first. Nothing else is open: a step is all that
-/// it hands out, in its order, and all that it records. In both time passes only where something that is due happens, and all that
-/// is due by the moment of an event happens before it. The same is said of two runs over the same periods, each under its configuration
-/// (`periods`).
-pub fn runs_part_at_ties_alone()
-    ensures events { (server : Server) (first : ℕ) (past : List Link) (start other_start last end : ProxyState) (events : List Event)
-        (steps others : List StepOut) (history its : List Link)
+/// Two runs over the same events, from states that are the same, to which steps of the model led, and in which the same timers stand,
+/// take the same steps and come to states that are the same. A step is all that it hands out, in its order, and all that it records. In
+/// both time passes only where something that is due happens, which is of the first timer that stands, and all that is due by the
+/// moment of an event happens before it. The same is said of two runs over the same periods, each under its configuration (`periods`).
+pub fn runs_are_one()
+    ensures events { (server : Server) (first : ℕ) (past : List Link) (queue : List Entry) (start other_start last end : ProxyState)
+        (events : List Event) (steps others : List StepOut) (history its : List Link)
         → IsChain server (first_state first) past start → SameState start other_start
         → IsRun server start events None steps history last → IsRun server other_start events None others its end
-        → ArePrompt server history → ArePrompt server its
-        → AreOne steps others last end ⊎ PartAtTie server start steps others }
-    ensures periods { (server : Server) (first : ℕ) (past : List Link) (start other_start last end : ProxyState) (periods : List Period)
-        (steps others : List StepOut) (history its : List Link)
+        → AreOrderly server queue history → AreOrderly server queue its → AreOne steps others last end }
+    ensures periods { (server : Server) (first : ℕ) (past : List Link) (queue : List Entry) (start other_start last end : ProxyState)
+        (periods : List Period) (steps others : List StepOut) (history its : List Link)
         → IsChain server (first_state first) past start → SameState start other_start
         → IsRunUnder server start periods None steps history last → IsRunUnder server other_start periods None others its end
-        → ArePrompt server history → ArePrompt server its
-        → AreOne steps others last end ⊎ PartAtTie server start steps others }
+        → AreOrderly server queue history → AreOrderly server queue its → AreOne steps others last end }
 {
     same_bindings();
     same_dialogs();
@@ -47,6 +45,8 @@ pub fn runs_part_at_ties_alone()
     moment_rises();
     steps_same();
     steps_stand_at_their_moments();
+    numbers_rise();
+    open_requests_are_branched();
     requests_can_end();
     steps_have_parts();
 }
@@ -70,6 +70,8 @@ pub fn order_decides()
     moment_rises();
     steps_same();
     steps_stand_at_their_moments();
+    numbers_rise();
+    open_requests_are_branched();
     requests_can_end();
     steps_have_parts();
 }

@@ -4,3 +4,4 @@ mod Places
 mod Leading
 mod Numbered
 mod Waiting
+mod FirstOf

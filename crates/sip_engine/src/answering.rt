@@ -1,4 +1,5 @@
-ghost use Rattle.std.specs.Prelude.{◌≡◌, position, false, None, Some, IfOk, OnErr};
+ghost use Rattle.std.specs.Prelude.{◌≡◌, position, false, None, Some, IfOk, OnOk, OnErr};
+ghost use Rattle.sip_engine_open.specs.fork.Firing.{KeepsOrder};
 ghost use Rattle.sip_engine_open.specs.proxy.Proxy.{IsComing};
 ghost use Rattle.sip_edit.specs.ReceivedRequest.{top_via};
 ghost use Rattle.sip_engine_open.specs.transactions_model.Fits.{IsFinalAnswer};
@@ -40,6 +41,7 @@ pub(crate) fn answer<T: Timers>(
         (Definition.Answer status extras.now) out proxy.new.state) }
     ensures unchanged { OnErr result (proxy.new.state ≡ proxy.old.state) }
     ensures timers { OnErr result (proxy.new.timers ≡ proxy.old.timers) }
+    ensures queue { OnOk result (KeepsOrder proxy.old.timers proxy.new.timers proxy.new.state.requests) }
 {
     let arrival = request.arrival;
     let message = keep(alloc, request)?;
@@ -66,6 +68,7 @@ pub(crate) fn cancel<T: Timers>(
         proxy.new.state) }
     ensures unchanged { OnErr result (proxy.new.state ≡ proxy.old.state) }
     ensures timers { OnErr result (proxy.new.timers ≡ proxy.old.timers) }
+    ensures queue { OnOk result (KeepsOrder proxy.old.timers proxy.new.timers proxy.new.state.requests) }
 {
     let arrival = request.arrival;
     let message = keep(alloc, request)?;

@@ -1,4 +1,5 @@
-ghost use Rattle.std.specs.Prelude.{◌≡◌, position, true, false, None, Some, IfOk, OnErr};
+ghost use Rattle.std.specs.Prelude.{◌≡◌, position, true, false, None, Some, IfOk, OnOk, OnErr};
+ghost use Rattle.sip_engine_open.specs.fork.Firing.{KeepsOrder};
 ghost use Rattle.sip_engine_request.specs.Admitting.{IsAnswered};
 ghost use Rattle.sip_engine_open.specs.proxy.Proxy.{IsComing};
 ghost use Rattle.sip_core.specs.Verdict.{HasRoomFor, Is};
@@ -50,6 +51,7 @@ fn answer_judged<T: Timers>(
         → Takes server.now proxy.old.state request.now.arrival request.now.message.now verdict out proxy.new.state) }
     ensures unchanged { OnErr result (proxy.new.state ≡ proxy.old.state) }
     ensures timers { OnErr result (proxy.new.timers ≡ proxy.old.timers) }
+    ensures queue { OnOk result (KeepsOrder proxy.old.timers proxy.new.timers proxy.new.state.requests) }
 {
     let arrival = request.arrival;
     let message = keep(alloc, request)?;
@@ -89,6 +91,7 @@ fn send_judged<T: Timers>(
         → Takes configured.now.server.now proxy.old.state request.now.arrival request.now.message.now verdict out proxy.new.state) }
     ensures unchanged { OnErr result (proxy.new.state ≡ proxy.old.state) }
     ensures timers { OnErr result (proxy.new.timers ≡ proxy.old.timers) }
+    ensures queue { OnOk result (KeepsOrder proxy.old.timers proxy.new.timers proxy.new.state.requests) }
 {
     match &judged.outcome {
         Outcome::Send(rule, targets) => {
@@ -127,6 +130,7 @@ pub(crate) fn take_asked<T: Timers>(
         → Takes configured.now.server.now proxy.old.state request.now.arrival request.now.message.now verdict out proxy.new.state) }
     ensures unchanged { OnErr result (proxy.new.state ≡ proxy.old.state) }
     ensures timers { OnErr result (proxy.new.timers ≡ proxy.old.timers) }
+    ensures queue { OnOk result (KeepsOrder proxy.old.timers proxy.new.timers proxy.new.state.requests) }
 {
     if is_answered_here(&judged.get().outcome) {
         return answer_judged(alloc, configured.server, proxy, request, key, judged);

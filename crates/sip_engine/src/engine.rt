@@ -2,8 +2,10 @@ ghost use Rattle.std.specs.Prelude.{◌≡◌, ◌≤◌, ◌<◌, ◌^◌, ◌�
 ghost use Rattle.sip_event.specs.declared.event.Event.TheVariants.{Datagram, Fault};
 ghost use Rattle.sip_engine_open.specs.Faults.{failed_of};
 ghost use Rattle.sip_engine_open.specs.Next.{IsNext};
-ghost use Rattle.sip_engine_open.specs.Timers.{IsFiredFirst};
 ghost use Rattle.sip_engine_open.specs.fork.Due.{IsNothingDue};
+ghost use Rattle.sip_engine_open.specs.fork.request.Queued.{entries};
+ghost use Rattle.sip_engine_open.specs.fork.request.transactions_model.Queue.{entries_of, queue_after};
+ghost use Rattle.model_order.specs.Order.{IsFirstOf};
 ghost use Rattle.sip_location.specs.Binding.{live};
 ghost use Rattle.sip_model.specs.steps_model.Step.{Given, Passing, IsDeadline, IsResend, IsStep, IsTime, NoneAgainBefore, NoneAgainBy};
 ghost use Rattle.sip_model.specs.steps_model.Step.{NoneBefore, NoneBy, moment_of};
@@ -170,6 +172,7 @@ impl<T: Timers, R: Rules> Engine<T, R> {
             → NoneAgainBy (moment_of self.old.state at) self.old.state.requests → IsOk result }
         ensures unchanged { OnErr result (self.new ≡ self.old) }
         ensures server { self.new.server ≡ self.old.server }
+        ensures queue { OnOk result (entries self.new.timers ≡ queue_after (entries self.old.timers) (entries_of self.new.state.requests)) }
         ensures step { IfOk result (λ out. IsStep self.old.server self.old.state (Passing at) out self.new.state) }
         ensures waited { NoneBy (moment_of self.old.state at) self.old.state.requests
             → NoneAgainBy (moment_of self.old.state at) self.old.state.requests
@@ -178,7 +181,7 @@ impl<T: Timers, R: Rules> Engine<T, R> {
             → IfOk result (λ out. IsDeadline self.old.server self.old.state at out self.new.state
             ⊎ IsResend self.old.server self.old.state at out self.new.state) }
         ensures in_order { (due : ℕ) → IsNext self.old.state.requests due → due ≤ moment_of self.old.state at
-            → IfOk result (λ out. IsFiredFirst self.old.server self.old.timers self.old.state at out self.new.state) }
+            → IfOk result (λ out. IsFirstOf self.old.server (entries self.old.timers) self.old.state at out self.new.state) }
         ensures at_first { (due : ℕ) → IsNext self.old.state.requests due → due ≤ moment_of self.old.state at → IfOk result (λ out. out.at ≡ due) }
         ensures at_moment { IfOk result (λ out. out.at ≡ self.new.state.moment) }
         ensures in_time { IfOk result (λ out. out.at ≤ moment_of self.old.state at) }
@@ -202,6 +205,7 @@ impl<T: Timers, R: Rules> Engine<T, R> {
         ensures otherwise { refusal_of self.old.state at ≡ None → IfErr result (λ e. e ≡ NoMemory) }
         ensures unchanged { OnErr result (self.new ≡ self.old) }
         ensures server { self.new.server ≡ self.old.server }
+        ensures queue { OnOk result (entries self.new.timers ≡ queue_after (entries self.old.timers) (entries_of self.new.state.requests)) }
         ensures step { IfOk result (λ out. IsStep self.old.server self.old.state (Given (Datagram at word from bytes.now)) out self.new.state) }
     {
         stepping::deliver(
@@ -226,6 +230,7 @@ impl<T: Timers, R: Rules> Engine<T, R> {
         ensures never_refused { refusal_at at ≡ None → failed_of ticket self.old.state.requests ≡ None → IsOk result }
         ensures unchanged { OnErr result (self.new ≡ self.old) }
         ensures server { self.new.server ≡ self.old.server }
+        ensures queue { OnOk result (entries self.new.timers ≡ queue_after (entries self.old.timers) (entries_of self.new.state.requests)) }
         ensures step { IfOk result (λ out. IsStep self.old.server self.old.state (Given (Fault at ticket)) out self.new.state) }
     {
         stepping::fault(self.alloc, &self.judge, &mut self.proxy, at, ticket)

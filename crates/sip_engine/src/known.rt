@@ -1,5 +1,6 @@
-ghost use Rattle.std.specs.Prelude.{◌≡◌, ◌<◌, ◌&&◌, codes, length, slice_get, Some, IfOk, OnErr};
+ghost use Rattle.std.specs.Prelude.{◌≡◌, ◌<◌, ◌&&◌, codes, length, slice_get, Some, IfOk, OnOk, OnErr};
 ghost use Rattle.std.specs.Str.{bytes_eq};
+ghost use Rattle.sip_engine_open.specs.fork.Firing.{KeepsOrder};
 ghost use Rattle.sip_engine_open.specs.proxy.Proxy.{IsComing};
 ghost use Rattle.sip_core.specs.Verdict.{IsRequestOf};
 ghost use Rattle.sip_edit.specs.ReceivedRequest.{top_via};
@@ -63,6 +64,7 @@ fn take_ack<T: Timers, R: Rules>(
         (Definition.ack_verdict judge.now proxy.old.state ack.now.arrival.now ack.now.message.now ack.now.short) out proxy.new.state) }
     ensures unchanged { OnErr result (proxy.new.state ≡ proxy.old.state) }
     ensures timers { OnErr result (proxy.new.timers ≡ proxy.old.timers) }
+    ensures queue { OnOk result (KeepsOrder proxy.old.timers proxy.new.timers proxy.new.state.requests) }
 {
     acks_are_dropped_or_go_on();
     let decided = proxy.ack_verdict(
@@ -113,6 +115,7 @@ pub(crate) fn take_known<T: Timers, R: Rules>(
         request.now.method.now key (Some r)) out proxy.new.state) }
     ensures unchanged { OnErr result (proxy.new.state ≡ proxy.old.state) }
     ensures timers { OnErr result (proxy.new.timers ≡ proxy.old.timers) }
+    ensures queue { OnOk result (KeepsOrder proxy.old.timers proxy.new.timers proxy.new.state.requests) }
 {
     if acknowledges_success(request.method, proxy.get(place)) {
         return take_ack(alloc, judge, proxy, request);

@@ -1,4 +1,5 @@
-ghost use Rattle.std.specs.Prelude.{◌≡◌, position, None, Some, IfOk, OnErr};
+ghost use Rattle.std.specs.Prelude.{◌≡◌, position, None, Some, IfOk, OnOk, OnErr};
+ghost use Rattle.sip_engine_open.specs.fork.Firing.{KeepsOrder};
 ghost use Rattle.sip_engine_open.specs.proxy.Proxy.{IsComing};
 ghost use Rattle.sip_core.specs.Verdict.{IsRequestOf};
 ghost use Rattle.sip_edit.specs.ReceivedRequest.{top_via};
@@ -41,6 +42,7 @@ pub(crate) fn take_new<T: Timers, R: Rules>(
         received.now.method.now key) out proxy.new.state) }
     ensures unchanged { OnErr result (proxy.new.state ≡ proxy.old.state) }
     ensures timers { OnErr result (proxy.new.timers ≡ proxy.old.timers) }
+    ensures queue { OnOk result (KeepsOrder proxy.old.timers proxy.new.timers proxy.new.state.requests) }
 {
     new_requests_need_room();
     new_verdict_answers_finally();

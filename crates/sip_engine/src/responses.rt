@@ -1,4 +1,5 @@
-ghost use Rattle.std.specs.Prelude.{◌≡◌, ◌||◌, if◌then◌else◌, Some, IsSome, IfOk, OnErr};
+ghost use Rattle.std.specs.Prelude.{◌≡◌, ◌||◌, if◌then◌else◌, Some, IsSome, IfOk, OnOk, OnErr};
+ghost use Rattle.sip_engine_open.specs.fork.Firing.{KeepsOrder};
 ghost use Rattle.sip_core.specs.Incoming.{IsResponse};
 ghost use Rattle.sip_engine_open.specs.proxy.Proxy.{IsComing};
 ghost use Rattle.sip_engine_open.specs.fork.Places.{branch_at};
@@ -45,6 +46,7 @@ fn take_found<T: Timers>(
         proxy.new.state) }
     ensures unchanged { OnErr result (proxy.new.state ≡ proxy.old.state) }
     ensures timers { OnErr result (proxy.new.timers ≡ proxy.old.timers) }
+    ensures queue { OnOk result (KeepsOrder proxy.old.timers proxy.new.timers proxy.new.state.requests) }
 {
     if is_taken(proxy, place, branch, response.has_more_vias) {
         return take_response(
@@ -79,6 +81,7 @@ pub(crate) fn take_reply<T: Timers>(
         response.now.short) out proxy.new.state) }
     ensures unchanged { OnErr result (proxy.new.state ≡ proxy.old.state) }
     ensures timers { OnErr result (proxy.new.timers ≡ proxy.old.timers) }
+    ensures queue { OnOk result (KeepsOrder proxy.old.timers proxy.new.timers proxy.new.state.requests) }
 {
     laws::responses();
     match proxy.find_branch(configured.server, response.branch, response.method) {

@@ -1,4 +1,5 @@
-ghost use Rattle.std.specs.Prelude.{◌≡◌, ◌≤◌, ◌<◌, ◌^◌, ◌⊎◌, ℕ, false, None, Err, IsOk, IfOk, IfErr, IfSome, OnErr};
+ghost use Rattle.std.specs.Prelude.{◌≡◌, ◌≤◌, ◌<◌, ◌^◌, ◌⊎◌, ℕ, false, None, Err, IsOk, IfOk, IfErr, IfSome, OnOk, OnErr};
+ghost use Rattle.sip_engine_open.specs.fork.Firing.{KeepsOrder};
 ghost use Rattle.sip_event.specs.declared.event.Event.TheVariants.{Datagram, Fault};
 ghost use Rattle.sip_engine_open.specs.Faults.{failed_of};
 ghost use Rattle.sip_engine_open.specs.Next.{IsNext};
@@ -56,6 +57,7 @@ pub(crate) fn fire<T: Timers, R: Rules>(
         → NoneAgainBy (moment_of proxy.old.state at) proxy.old.state.requests → IsOk result }
     ensures unchanged { OnErr result (proxy.new.state ≡ proxy.old.state) }
     ensures timers { OnErr result (proxy.new.timers ≡ proxy.old.timers) }
+    ensures queue { OnOk result (KeepsOrder proxy.old.timers proxy.new.timers proxy.new.state.requests) }
     ensures step { IfOk result (λ out. IsStep judge.now proxy.old.state (Passing at) out proxy.new.state) }
     ensures waited { NoneBy (moment_of proxy.old.state at) proxy.old.state.requests
         → NoneAgainBy (moment_of proxy.old.state at) proxy.old.state.requests
@@ -95,6 +97,7 @@ pub(crate) fn deliver<T: Timers, R: Rules>(
     ensures otherwise { refusal_of proxy.old.state at ≡ None → IfErr result (λ e. e ≡ NoMemory) }
     ensures unchanged { OnErr result (proxy.new.state ≡ proxy.old.state) }
     ensures timers { OnErr result (proxy.new.timers ≡ proxy.old.timers) }
+    ensures queue { OnOk result (KeepsOrder proxy.old.timers proxy.new.timers proxy.new.state.requests) }
     ensures step { IfOk result (λ out. IsStep judge.now proxy.old.state (Given (Datagram at word from bytes.now)) out proxy.new.state) }
 {
     if is_too_large(at) {
@@ -132,6 +135,7 @@ pub(crate) fn fault<T: Timers, R: Rules>(
     ensures never_refused { refusal_at at ≡ None → failed_of ticket proxy.old.state.requests ≡ None → IsOk result }
     ensures unchanged { OnErr result (proxy.new.state ≡ proxy.old.state) }
     ensures timers { OnErr result (proxy.new.timers ≡ proxy.old.timers) }
+    ensures queue { OnOk result (KeepsOrder proxy.old.timers proxy.new.timers proxy.new.state.requests) }
     ensures step { IfOk result (λ out. IsStep judge.now proxy.old.state (Given (Fault at ticket)) out proxy.new.state) }
 {
     if is_too_large(at) {

@@ -14,7 +14,8 @@ use Rattle.sip_proxy.specs.context_model.Retransmission.{answer_due, branch_due}
 use Rattle.sip_dialog_lessons.specs.state.declared.branch.Branch.{Branch}
 use Rattle.sip_dialog_lessons.specs.state.declared.open_request.OpenRequest.{OpenRequest}
 use Rattle.sip_dialog_lessons.specs.state.declared.server.Server.{Server}
-use Rattle.sip_engine_open.specs.TimeSteps.{IsBranchDue, IsDueAs, IsFired, IsOfPart}
+use Rattle.sip_proxy.specs.fork.Due.{GoesAgainBefore}
+use Rattle.sip_engine_open.specs.TimeSteps.{IsBranchDue, IsDueAs, IsFired, IsLastOf, IsOfPart}
 use Rattle.sip_engine_open.proofs.Lists.{contained}
 
 -- ---- what is due, as an input
@@ -56,12 +57,12 @@ module _ (rows : List HostAddress) (server : Server) (now : ℕ) where
   IsDraftAt requests place input draft = (r : OpenRequest) → slice_get requests place ≡ Some r → IsDrafted rows server now r input draft
 
   pub draft_fired : (what : Due) (requests : List OpenRequest) (place : ℕ) (x : OpenRequest) (input : Input) (result : Result Draft AllocError) → slice_get requests place ≡ Some x → IsDueAs x now input
-      → IsOfPart x what input → IfOk result (IsDraftAt requests place input) → IfOk result (λ draft. (r : OpenRequest) → slice_get requests place ≡ Some r → IsFired rows server now what r draft)
-  draft_fired what requests place x input (Ok draft) here due part h = λ r at.
+      → IsOfPart x what input → (GoesAgainBefore x now what → IsLastOf x now input) → IfOk result (IsDraftAt requests place input) → IfOk result (λ draft. (r : OpenRequest) → slice_get requests place ≡ Some r → IsFired rows server now what r draft)
+  draft_fired what requests place x input (Ok draft) here due part last h = λ r at.
       let drafted : IsDrafted rows server now x input draft = h x here in
-      let fired : IsFired rows server now what x draft = record { input = input; is_due = due; is_part = part; drafted = drafted } in
+      let fired : IsFired rows server now what x draft = record { input = input; is_due = due; is_part = part; is_last = last; drafted = drafted } in
       subst (λ (v : OpenRequest). IsFired rows server now what v draft) (read_twice requests place x r here at) fired
-  draft_fired what requests place x input (Err e) here due part h = tt
+  draft_fired what requests place x input (Err e) here due part last h = tt
 
   pub draft_kept : (requests : List OpenRequest) (place : ℕ) (input : Input) (result : Result Draft AllocError) → IfOk result (IsDraftAt requests place input)
       → IfOk result (λ draft. (r : OpenRequest) → slice_get requests place ≡ Some r → IsKeptAs now r draft.change)

@@ -66,6 +66,7 @@ quiet_fired rows server due what r next h kept = record {
   input = h.input;
   is_due = h.is_due;
   is_part = h.is_part;
+  is_last = h.is_last;
   drafted = record {
     request = sym (ap (λ (o : Outcome). o.request) (h.outcome server));
     kept = kept;

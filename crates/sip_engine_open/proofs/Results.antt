@@ -4,7 +4,7 @@ use Rattle.std.specs.declared.alloc.AllocError.{AllocError}
 use Rattle.sip_event.specs.declared.event.StepOut.{StepOut}
 use Rattle.sip_event.specs.declared.packet.Packet.{Packet}
 use Rattle.sip_proxy.specs.declared.drafting.Draft.{Draft}
-use Rattle.sip_proxy.specs.fork.Due.{IsFirst, IsOfFirst}
+use Rattle.sip_proxy.specs.fork.Due.{GoesAgainBefore, IsFirst, IsOfFirst}
 use Rattle.sip_proxy.specs.fork.declared.due.First.{First}
 use Rattle.sip_hops.specs.declared.host_address.HostAddress.{HostAddress}
 use Rattle.sip_dialog_lessons.specs.declared.lesson.Lesson.{Lesson}
@@ -55,7 +55,7 @@ module _ (server : Server) (old new : ProxyState) (timers : List Timer) where
     stands = of.stands;
     at_due = stands ∙ of.due;
     happens = done.0;
-    is_its = done.1 of.timer (of.request r there) (of.part r there);
+    is_its = done.1 of.timer (of.request r there) (of.part r there) (subst (λ (n : ℕ). GoesAgainBefore r n first.what) (sym stands) (of.again r there));
   }
 
   pub first_done : (rows : List HostAddress) (first : First) (draft : Draft) (result : Result StepOut AllocError) → rows ≡ server.config.addresses → IsFirst old.requests first

@@ -12,7 +12,7 @@ use Rattle.sip_proxy.specs.declared.drafting.Draft.{Draft}
 use Rattle.sip_dialog.specs.Sameness.{SameDialogs}
 use Rattle.sip_dialog.specs.Dialogs.{after_invite}
 use Rattle.sip_dialog.specs.declared.dialog.Dialog.{Dialog}
-use Rattle.sip_proxy.specs.fork.Due.{IsOfOwner}
+use Rattle.sip_proxy.specs.fork.Due.{GoesAgainBefore, IsOfOwner}
 use Rattle.sip_proxy.specs.fork.declared.due.Due.{Due}
 use Rattle.sip_proxy.specs.forwarding.Forwarding.{AreSent, Teach}
 use Rattle.sip_hops.specs.declared.host_address.HostAddress.{HostAddress}
@@ -38,7 +38,7 @@ use Rattle.sip_dialog_lessons.specs.state.declared.proxy_state.ProxyState.{Proxy
 use Rattle.sip_dialog_lessons.specs.state.declared.resend.Resend.{Resend}
 use Rattle.sip_dialog_lessons.specs.state.declared.server.Server.{Server}
 use Rattle.sip_timers.specs.declared.timer.Timer.{Timer}
-use Rattle.sip_engine_open.specs.TimeSteps.{IsDraftOf, IsDueAs, IsFired, IsOfPart, Leaves}
+use Rattle.sip_engine_open.specs.TimeSteps.{IsDraftOf, IsDueAs, IsFired, IsLastOf, IsOfPart, Leaves}
 use Rattle.sip_engine_open.specs.Timers.{IsOfTimer}
 
 -- ---- what goes again stays open
@@ -214,15 +214,15 @@ module _ (server : Server) (due at : ℕ) (old : ProxyState) (out : StepOut) (ne
 -- what happened of an open request as this of it was due, and that it is of each timer that names the request and the part
 abbrev pub IsDone : Server → ProxyState → ℕ → StepOut → ProxyState → OpenRequest → Due → Type 0
 IsDone server old at out new r what =
-    (happens : IsDeadline server old at out new ⊎ IsResend server old at out new) × ((timer : Timer) → r.number ≡ timer.name.request → IsOfOwner r timer.name.owner what → IsOfTimer timer happens)
+    (happens : IsDeadline server old at out new ⊎ IsResend server old at out new) × ((timer : Timer) → r.number ≡ timer.name.request → IsOfOwner r timer.name.owner what → GoesAgainBefore r out.at what → IsOfTimer timer happens)
 
 module _ (server : Server) (at : ℕ) (old : ProxyState) (out : StepOut) (new : ProxyState) (rows : List HostAddress) (known : rows ≡ server.config.addresses) (what : Due) (r : OpenRequest) (draft : Draft) where
   fired_then : IsFired rows server out.at what r draft → LeavesDraft server out.at old out new draft → Contains old.requests r → out.at ≤ moment_of old at → NoneBefore out.at old.requests
       → NoneAgainBefore out.at old.requests → IsDone server old at out new r what
-  fired_then fired l there by none again = by_input fired.input fired.is_due fired.is_part fired.drafted where
-    by_input : (input : Input) → IsDueAs r out.at input → IsOfPart r what input → IsDrafted rows server out.at r input draft → IsDone server old at out new r what
-    by_input (Response branch status response) is part d = absurd is
-    by_input (BranchDeadline branch) is part d =
+  fired_then fired l there by none again = by_input fired.input fired.is_due fired.is_part fired.is_last fired.drafted where
+    by_input : (input : Input) → IsDueAs r out.at input → IsOfPart r what input → (GoesAgainBefore r out.at what → IsLastOf r out.at input) → IsDrafted rows server out.at r input draft → IsDone server old at out new r what
+    by_input (Response branch status response) is part last d = absurd is
+    by_input (BranchDeadline branch) is part last d =
         let passed : IsDeadline server old at out new = record {
           request = r;
           change = overdue server out.at r branch.now;
@@ -233,8 +233,8 @@ module _ (server : Server) (at : ℕ) (old : ProxyState) (out : StepOut) (new : 
           none_again = again;
           does = change_done server out.at old out new rows (overdue server out.at r branch.now) draft known (record { request = d.request; sent = d.drafted.sent; lessons = d.drafted.lessons }) l;
         } in
-        (inl passed, λ timer number of. (number, part timer.name.owner of))
-    by_input SideDeadline is part d =
+        (inl passed, λ timer number of before. (number, (part timer.name.owner of, last before)))
+    by_input SideDeadline is part last d =
         let passed : IsDeadline server old at out new = record {
           request = r;
           change = side_overdue server out.at r;
@@ -245,11 +245,11 @@ module _ (server : Server) (at : ℕ) (old : ProxyState) (out : StepOut) (new : 
           none_again = again;
           does = change_done server out.at old out new rows (side_overdue server out.at r) draft known (record { request = d.request; sent = d.drafted.sent; lessons = d.drafted.lessons }) l;
         } in
-        (inl passed, λ timer number of. (number, part timer.name.owner of))
-    by_input (SendFault branch) is part d = absurd is
-    by_input Cancel is part d = absurd is
-    by_input Ack is part d = absurd is
-    by_input (BranchAgain branch) is part d =
+        (inl passed, λ timer number of before. (number, (part timer.name.owner of, last before)))
+    by_input (SendFault branch) is part last d = absurd is
+    by_input Cancel is part last d = absurd is
+    by_input Ack is part last d = absurd is
+    by_input (BranchAgain branch) is part last d =
         let gone : IsResend server old at out new = record {
           request = r;
           packets = branch_packets server true r branch.now;
@@ -262,8 +262,8 @@ module _ (server : Server) (at : ℕ) (old : ProxyState) (out : StepOut) (new : 
           does = resend_done server out.at old out new rows (branch_packets server true r branch.now) (with_resend branch.now r) draft known d.request d.drafted.sent d.drafted.lessons
               (branch_stays r branch.now out.at is.there is.is) l;
         } in
-        (inr gone, λ timer number of. (number, part timer.name.owner of))
-    by_input AnswerAgain is part d =
+        (inr gone, λ timer number of before. (number, part timer.name.owner of))
+    by_input AnswerAgain is part last d =
         let gone : IsResend server old at out new = record {
           request = r;
           packets = answers_again r r.answer;
@@ -276,7 +276,7 @@ module _ (server : Server) (at : ℕ) (old : ProxyState) (out : StepOut) (new : 
           does = resend_done server out.at old out new rows (answers_again r r.answer) (record r { again = answer_next r }) draft known d.request d.drafted.sent d.drafted.lessons
               (answer_stays r out.at is) l;
         } in
-        (inr gone, λ timer number of. (number, part timer.name.owner of))
+        (inr gone, λ timer number of before. (number, part timer.name.owner of))
 
   pub fired_done : (due : ℕ) → IsFired rows server due what r draft → LeavesDraft server due old out new draft → Contains old.requests r → due ≤ moment_of old at → NoneBefore due old.requests
       → NoneAgainBefore due old.requests → IsDone server old at out new r what

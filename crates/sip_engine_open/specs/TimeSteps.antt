@@ -1,12 +1,12 @@
 -- What a step without a datagram is made of.
-use Rattle.std.specs.Prelude.{ℕ, ◌≡◌, true, List, [], Contains, Option, Some, None}
+use Rattle.std.specs.Prelude.{ℕ, ◌≡◌, ◌≢◌, true, List, [], Contains, Option, Some, None}
 use Rattle.sip_event.specs.declared.event.StepOut.{StepOut}
 use Rattle.sip_event.specs.declared.packet.Packet.{Packet}
 use Rattle.sip_proxy.specs.Drafts.{IsDrafted}
 use Rattle.sip_proxy.specs.Proxy.{Becomes}
 use Rattle.sip_proxy.specs.context_model.Branches.{Change}
 use Rattle.sip_proxy.specs.declared.drafting.Draft.{Draft}
-use Rattle.sip_proxy.specs.fork.Due.{IsOfOwner, is_of}
+use Rattle.sip_proxy.specs.fork.Due.{GoesAgainBefore, IsOfOwner, is_of}
 use Rattle.sip_proxy.specs.fork.declared.due.Due.{Due}
 use Rattle.sip_proxy.specs.fork.declared.due.Due.TheVariants as What
 use Rattle.sip_proxy.specs.fork.transaction_table.declared.transaction.Transaction.{Transaction}
@@ -76,11 +76,23 @@ IsInputOf owner AnswerAgain = owner ≡ Of.Server
 abbrev pub IsOfPart : OpenRequest → Due → Input → Type 0
 IsOfPart r what input = (owner : Owner) → IsOfOwner r owner what → IsInputOf owner input
 
+-- an input is a deadline only where nothing of its part goes again at that moment
+abbrev pub IsLastOf : OpenRequest → ℕ → Input → Type 0
+IsLastOf r due (Response branch status response) = Unit {0}
+IsLastOf r due (BranchDeadline branch) = branch_due r branch.now ≢ Some due
+IsLastOf r due SideDeadline = answer_due r ≢ Some due
+IsLastOf r due (SendFault branch) = Unit {0}
+IsLastOf r due Cancel = Unit {0}
+IsLastOf r due Ack = Unit {0}
+IsLastOf r due (BranchAgain branch) = Unit {0}
+IsLastOf r due AnswerAgain = Unit {0}
+
 -- What was drafted of an open request is what it does by which is due of it.
 pub record IsFired (rows : List HostAddress) (server : Server) (due : ℕ) (what : Due) (r : OpenRequest) (draft : Draft) : Type 0 where
   pub input : Input
   pub is_due : IsDueAs r due input
   pub is_part : IsOfPart r what input
+  pub is_last : GoesAgainBefore r due what → IsLastOf r due input
   pub drafted : IsDrafted rows server due r input draft
 
 -- ---- the end of a transaction
@@ -97,4 +109,5 @@ pub record IsQuietEnd (due : ℕ) (what : Due) (r next : OpenRequest) : Type 0 w
   pub input : Input
   pub is_due : IsDueAs r due input
   pub is_part : IsOfPart r what input
+  pub is_last : GoesAgainBefore r due what → IsLastOf r due input
   pub outcome : (server : Server) → outcome_of server due r input ≡ changing (alone next) []

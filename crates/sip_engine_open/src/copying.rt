@@ -1,5 +1,6 @@
-ghost use Rattle.std.specs.Prelude.{◌≡◌, ◌≤◌, ◌<◌, ◌^◌, ℕ, [], true, false, codes, length, slice_get, Some, IfOk, OnErr};
+ghost use Rattle.std.specs.Prelude.{◌≡◌, ◌≤◌, ◌<◌, ◌^◌, ℕ, [], true, false, codes, length, slice_get, Some, IfOk, OnOk, OnErr};
 ghost use Rattle.std.specs.Str.{bytes_eq};
+ghost use Rattle.sip_proxy.specs.fork.Firing.{KeepsOrder};
 ghost use Rattle.sip_proxy.specs.Proxy.{IsComing};
 ghost use Rattle.sip_core.specs.Verdict.{IsRequestOf};
 ghost use Rattle.sip_core.specs.context_model.Branches.{acknowledged};
@@ -75,6 +76,7 @@ fn acknowledge<T: Timers>(
         (counted (arrival_of arrival) proxy.old.state)) out proxy.new.state) }
     ensures unchanged { OnErr result (proxy.new.state ≡ proxy.old.state) }
     ensures timers { OnErr result (proxy.new.timers ≡ proxy.old.timers) }
+    ensures queue { OnOk result (KeepsOrder proxy.old.timers proxy.new.timers proxy.new.state.requests) }
 {
     let draft = draft_ack(alloc, server, hops, proxy, arrival.now, place)?;
     change(alloc, proxy, arrival, place, draft)
@@ -96,6 +98,7 @@ fn answer_again<T: Timers>(
         (counted (arrival_of arrival) proxy.old.state)) out proxy.new.state) }
     ensures unchanged { OnErr result (proxy.new.state ≡ proxy.old.state) }
     ensures timers { proxy.new.timers ≡ proxy.old.timers }
+    ensures queue { OnOk result (KeepsOrder proxy.old.timers proxy.new.timers proxy.new.state.requests) }
 {
     let mut packets = Items::new(alloc);
     copy_packets(alloc, &mut packets, proxy.get(place))?;
@@ -123,6 +126,7 @@ pub fn take_copy<T: Timers>(
         (counted (arrival_of arrival) proxy.old.state)) out proxy.new.state) }
     ensures unchanged { OnErr result (proxy.new.state ≡ proxy.old.state) }
     ensures timers { OnErr result (proxy.new.timers ≡ proxy.old.timers) }
+    ensures queue { OnOk result (KeepsOrder proxy.old.timers proxy.new.timers proxy.new.state.requests) }
 {
     if is_ack(method) {
         return acknowledge(alloc, server, hops, proxy, arrival, place);

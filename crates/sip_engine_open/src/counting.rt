@@ -1,4 +1,5 @@
-ghost use Rattle.std.specs.Prelude.{◌≡◌, ◌≤◌, ◌<◌, length, slice_get, Some, IfOk, OnErr};
+ghost use Rattle.std.specs.Prelude.{◌≡◌, ◌≤◌, ◌<◌, length, slice_get, Some, IfOk, OnOk, OnErr};
+ghost use Rattle.sip_proxy.specs.fork.Firing.{KeepsOrder};
 ghost use Rattle.sip_proxy.specs.Proxy.{IsComing};
 ghost use Rattle.sip_proxy.specs.fork.Keeping.{IsKeptAs};
 ghost use Rattle.sip_dialog_lessons.specs.Lessons.{after_lessons, beginnings};
@@ -23,6 +24,7 @@ pub(crate) fn pass<T: Timers>(
     requires { IsComing proxy.old.state arrival }
     ensures leaves { Leaves arrival packets proxy.old.state.requests proxy.old.state.dialogs proxy.old.state result proxy.new.state }
     ensures timers { proxy.new.timers ≡ proxy.old.timers }
+    ensures queue { KeepsOrder proxy.old.timers proxy.new.timers proxy.new.state.requests }
 {
     proxy.wait(arrival.now);
     let _number = proxy.count();
@@ -50,6 +52,7 @@ pub(crate) fn change<T: Timers>(
         (after_lessons arrival.now draft.drafted.lessons proxy.old.state.dialogs) proxy.old.state out proxy.new.state) }
     ensures unchanged { OnErr result (proxy.new.state ≡ proxy.old.state) }
     ensures timers { OnErr result (proxy.new.timers ≡ proxy.old.timers) }
+    ensures queue { OnOk result (KeepsOrder proxy.old.timers proxy.new.timers proxy.new.state.requests) }
 {
     let packets = proxy.change(arrival.now, place, draft)?;
     let _number = proxy.count();

@@ -1,11 +1,11 @@
 ghost use Rattle.std.specs.Prelude.{◌≡◌, ◌≤◌, ◌<◌, ◌^◌, length, slice_get, Some, IfOk, IfSome};
-ghost use Rattle.sip_proxy.specs.fork.Due.{IsDue, IsFirst};
+ghost use Rattle.sip_proxy.specs.fork.Due.{GoesAgainBefore, IsDue, IsFirst};
 ghost use Rattle.sip_proxy.specs.fork.Keeping.{IsKeptAs};
 ghost use Rattle.sip_dialog_lessons.specs.Lessons.{beginnings};
 ghost use Rattle.sip_dialog_lessons.specs.state.declared.open_request.OpenRequest.{OpenRequest};
 ghost use Rattle.sip_dialog_lessons.specs.state.declared.server.Server as Declared;
 ghost use Rattle.sip_proxy.specs.fork.Ending.{IsDeadlineOf, ended};
-ghost use Rattle.sip_engine_open.specs.TimeSteps.{IsDueAs, IsFired, IsOfPart, IsQuietEnd, ending_of};
+ghost use Rattle.sip_engine_open.specs.TimeSteps.{IsDueAs, IsFired, IsLastOf, IsOfPart, IsQuietEnd, ending_of};
 
 use sip_dialog_lessons::state::{Branch, OpenRequest, Server};
 use sip_hops::Hops;
@@ -29,6 +29,7 @@ fn input_of<'a>(request: &'a OpenRequest, first: First) -> Input<'a>
     requires { IsDue request.now first.due first.what }
     ensures due { IsDueAs request.now first.due result }
     ensures part { IsOfPart request.now first.what result }
+    ensures last { GoesAgainBefore request.now first.due first.what → IsLastOf request.now first.due result }
     ensures ends { IfSome (ending_of first.what) (λ transaction. IsDeadlineOf request.now transaction result) }
 {
     match first.what {

@@ -1,4 +1,5 @@
 ghost use Rattle.std.specs.Prelude.{◌≡◌};
+ghost use Rattle.sip_proxy.specs.fork.Firing.{KeepsOrder};
 ghost use Rattle.sip_proxy.specs.Proxy.{IsComing};
 ghost use Rattle.sip_message_form.specs.declared.message.Message.{Message};
 ghost use Rattle.sip_proxy.specs.steps_model.Effect.{counted, effect_of, nothing};
@@ -24,6 +25,7 @@ pub fn take_dropped<T: Timers>(alloc: Global, proxy: &mut Proxy<T>, arrival: Arr
     ensures drops { (server : Server) (m : Message) → Does server proxy.old.state arrival.now
         (effect_of server (arrival_of arrival) m Drop (counted (arrival_of arrival) proxy.old.state)) result proxy.new.state }
     ensures timers { proxy.new.timers ≡ proxy.old.timers }
+    ensures queue { KeepsOrder proxy.old.timers proxy.new.timers proxy.new.state.requests }
 {
     pass(alloc, proxy, arrival, Items::new(alloc))
 }

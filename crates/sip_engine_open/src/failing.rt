@@ -1,4 +1,5 @@
-ghost use Rattle.std.specs.Prelude.{◌≡◌, ◌≤◌, ◌<◌, ◌^◌, ℕ, List, length, slice_get, position, None, Some, IsOk, IsSome, IfNone, IfOk, IfSome, OnErr};
+ghost use Rattle.std.specs.Prelude.{◌≡◌, ◌≤◌, ◌<◌, ◌^◌, ℕ, List, length, slice_get, position, None, Some, IsOk, IsSome, IfNone, IfOk, IfSome, OnOk, OnErr};
+ghost use Rattle.sip_proxy.specs.fork.Firing.{KeepsOrder};
 ghost use Rattle.sip_proxy.specs.Proxy.{MayCome};
 ghost use Rattle.sip_proxy.specs.context_model.Branches.{is_unheard, send_failed};
 ghost use Rattle.sip_proxy.specs.fork.Places.{branch_at};
@@ -117,6 +118,7 @@ fn fail<T: Timers>(
     ensures next_stays { IfOk result (λ out. proxy.new.state.next ≡ proxy.old.state.next) }
     ensures unchanged { OnErr result (proxy.new.state ≡ proxy.old.state) }
     ensures timers { OnErr result (proxy.new.timers ≡ proxy.old.timers) }
+    ensures queue { OnOk result (KeepsOrder proxy.old.timers proxy.new.timers proxy.new.state.requests) }
 {
     found_places_are_within();
     let draft = draft_fault(alloc, server, hops, proxy, now, place, branch)?;
@@ -143,6 +145,7 @@ pub fn fault<T: Timers>(
     ensures next_stays { IfOk result (λ out. proxy.new.state.next ≡ proxy.old.state.next) }
     ensures unchanged { OnErr result (proxy.new.state ≡ proxy.old.state) }
     ensures timers { OnErr result (proxy.new.timers ≡ proxy.old.timers) }
+    ensures queue { OnOk result (KeepsOrder proxy.old.timers proxy.new.timers proxy.new.state.requests) }
 {
     if let Some((place, branch)) = find_failed(proxy, ticket) {
         return fail(alloc, server, hops, proxy, now, place, branch);

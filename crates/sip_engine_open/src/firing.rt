@@ -1,4 +1,5 @@
-ghost use Rattle.std.specs.Prelude.{◌≡◌, ◌≤◌, ◌<◌, ◌^◌, ◌⊎◌, ℕ, IsOk, IfOk, OnErr};
+ghost use Rattle.std.specs.Prelude.{◌≡◌, ◌≤◌, ◌<◌, ◌^◌, ◌⊎◌, ℕ, IsOk, IfOk, OnOk, OnErr};
+ghost use Rattle.sip_proxy.specs.fork.Firing.{KeepsOrder};
 ghost use Rattle.sip_proxy.specs.fork.Due.{IsFirst, IsOfFirst};
 ghost use Rattle.sip_proxy.specs.steps_model.Step.{IsDeadline, IsResend, IsStep, IsTime, NoneAgainBefore, NoneAgainBy, NoneBefore, NoneBy, Passing};
 ghost use Rattle.sip_engine_open.specs.Next.{IsNext};
@@ -36,6 +37,7 @@ fn fire_first<T: Timers>(
     ensures next_stays { IfOk result (λ out. proxy.new.state.next ≡ proxy.old.state.next) }
     ensures unchanged { OnErr result (proxy.new.state ≡ proxy.old.state) }
     ensures timers { OnErr result (proxy.new.timers ≡ proxy.old.timers) }
+    ensures queue { OnOk result (KeepsOrder proxy.old.timers proxy.new.timers proxy.new.state.requests) }
 {
     if let Some(transaction) = quiet_end(proxy, first) {
         return Ok(end(alloc, proxy, first.due, first.place, transaction));
@@ -76,6 +78,7 @@ pub fn fire<T: Timers>(
     ensures next_stays { IfOk result (λ out. proxy.new.state.next ≡ proxy.old.state.next) }
     ensures unchanged { OnErr result (proxy.new.state ≡ proxy.old.state) }
     ensures timers { OnErr result (proxy.new.timers ≡ proxy.old.timers) }
+    ensures queue { OnOk result (KeepsOrder proxy.old.timers proxy.new.timers proxy.new.state.requests) }
 {
     if let Some(first) = due_by(proxy, now) {
         return fire_first(alloc, server, hops, proxy, first);

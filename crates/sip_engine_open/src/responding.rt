@@ -1,4 +1,5 @@
-ghost use Rattle.std.specs.Prelude.{◌≡◌, ◌≤◌, ◌<◌, ◌^◌, ℕ, List, length, slice_get, Some, IsSome, IfOk, OnErr};
+ghost use Rattle.std.specs.Prelude.{◌≡◌, ◌≤◌, ◌<◌, ◌^◌, ℕ, List, length, slice_get, Some, IsSome, IfOk, OnOk, OnErr};
+ghost use Rattle.sip_proxy.specs.fork.Firing.{KeepsOrder};
 ghost use Rattle.sip_proxy.specs.Proxy.{IsComing};
 ghost use Rattle.sip_core.specs.context_model.Branches.{responded};
 ghost use Rattle.sip_proxy.specs.fork.Places.{branch_at};
@@ -93,6 +94,7 @@ pub fn take_response<T: Timers>(
         (Respond found.0 found.1 status) (counted (arrival_of arrival) proxy.old.state)) out proxy.new.state) }
     ensures unchanged { OnErr result (proxy.new.state ≡ proxy.old.state) }
     ensures timers { OnErr result (proxy.new.timers ≡ proxy.old.timers) }
+    ensures queue { OnOk result (KeepsOrder proxy.old.timers proxy.new.timers proxy.new.state.requests) }
 {
     found_places_are_within();
     let draft = draft_response(

@@ -1,4 +1,5 @@
-ghost use Rattle.std.specs.Prelude.{◌≡◌, ◌≤◌, ◌<◌, [], length, slice_get, Some, IfOk, OnErr};
+ghost use Rattle.std.specs.Prelude.{◌≡◌, ◌≤◌, ◌<◌, [], length, slice_get, Some, IfOk, OnOk, OnErr};
+ghost use Rattle.sip_proxy.specs.fork.Firing.{KeepsOrder};
 ghost use Rattle.sip_proxy.specs.Proxy.{MayCome};
 ghost use Rattle.sip_proxy.specs.fork.Ending.{ended, left_invite};
 ghost use Rattle.sip_proxy.specs.Expiring.{expiring};
@@ -20,6 +21,7 @@ pub(crate) fn pass<T: Timers>(alloc: Global, proxy: &mut Proxy<T>, now: u64) -> 
     requires { MayCome proxy.old.state now }
     ensures leaves { Leaves now [] proxy.old.state.requests [] proxy.old.state result proxy.new.state }
     ensures timers { proxy.new.timers ≡ proxy.old.timers }
+    ensures queue { KeepsOrder proxy.old.timers proxy.new.timers proxy.new.state.requests }
 {
     proxy.wait(now);
     StepOut {
@@ -46,6 +48,7 @@ pub(crate) fn change<T: Timers>(
         draft.drafted.lessons proxy.old.state out proxy.new.state) }
     ensures unchanged { OnErr result (proxy.new.state ≡ proxy.old.state) }
     ensures timers { OnErr result (proxy.new.timers ≡ proxy.old.timers) }
+    ensures queue { OnOk result (KeepsOrder proxy.old.timers proxy.new.timers proxy.new.state.requests) }
 {
     let packets = proxy.change(now, place, draft)?;
     Ok(StepOut {
@@ -66,9 +69,10 @@ pub(crate) fn end<T: Timers>(
     requires moment { MayCome proxy.old.state now }
     requires place { place < length proxy.old.state.requests }
     requires kept { (r : OpenRequest) → slice_get proxy.old.state.requests place ≡ Some r → IsKeptAs now r (ended transaction r) }
-    ensures { (r : OpenRequest) → slice_get proxy.old.state.requests place ≡ Some r
+    ensures leaves { (r : OpenRequest) → slice_get proxy.old.state.requests place ≡ Some r
         → Leaves now [] (replaced (ended transaction r) proxy.old.state.requests) (expiring (left_invite (ended transaction r))) proxy.old.state result
         proxy.new.state }
+    ensures queue { KeepsOrder proxy.old.timers proxy.new.timers proxy.new.state.requests }
 {
     proxy.end(now, place, transaction);
     StepOut {

@@ -79,6 +79,7 @@ openable state a key (Some r) alone space can =
       number_is = can.number_is;
       fits = can.fits;
       within = can.within;
+      branched = can.branched;
     }
 
 -- what was drafted can be opened in the state in which its request comes

@@ -12,6 +12,7 @@ use Rattle.sip_dialog.specs.Sameness.{SameDialogs}
 use Rattle.sip_dialog.specs.declared.dialog.Dialog.{Dialog}
 use Rattle.sip_event.specs.declared.packet.Packet.{Packet}
 use Rattle.sip_uas.specs.transactions_model.Fits.{Fits}
+use Rattle.sip_uas.specs.transactions_model.Matching.{NoBranch}
 use Rattle.sip_message_form.specs.declared.message.Message.{Message}
 use Rattle.sip_hops.specs.declared.host_address.HostAddress.{HostAddress}
 use Rattle.sip_uri.specs.declared.addr.Addr.{Addr}
@@ -53,7 +54,7 @@ pub agreed_opens : (a : Arrival) (key : Key) (m : Message) (text : List ℕ) (r 
     → IsWithin a.now (closing (arrival_of a) m 200 text) → IsOpenable a key r
 agreed_opens a key m text r is same fits within =
     let opens : IsOpenable a key (closing (arrival_of a) m 200 text) =
-    record { fits = fits; within = within; number_is = refl; key_is = ap (λ (o : Option Key). unwrap_or o (record { branch = []; host = []; port = 0; method = [] })) is } in
+    record { fits = fits; within = within; branched = NoBranch; number_is = refl; key_is = ap (λ (o : Option Key). unwrap_or o (record { branch = []; host = []; port = 0; method = [] })) is } in
     subst (IsOpenable a key) (sym same) opens
 
 -- ---- the step

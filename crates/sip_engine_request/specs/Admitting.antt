@@ -4,6 +4,7 @@ use Rattle.sip_core.specs.Verdict.{Is}
 use Rattle.sip_core.specs.declared.verdict.Judged.{Judged}
 use Rattle.sip_core.specs.declared.verdict.Verdict.TheVariants as Arrived
 use Rattle.sip_uas.specs.transactions_model.Fits.{Fits}
+use Rattle.sip_uas.specs.transactions_model.Matching.{AreBranched}
 use Rattle.sip_location.specs.declared.binding.Binding.{Binding}
 use Rattle.sip_uas.specs.transactions_model.Near.{IsWithin}
 use Rattle.sip_uas.specs.forwarding.declared.arrival.Arrival.{Arrival}
@@ -26,10 +27,12 @@ pub record IsAnswered (server : Server) (rows : List Binding) (now : ℕ) (judge
 -- ---- what is opened
 
 -- A request that came in a datagram can be opened in a state: there is room for it, no open one has its key, its parts fit their
--- transactions, and its moments are near that of the datagram.
+-- transactions, its moments are near that of the datagram, and its branches are targets with numbers of their own and CANCELs behind
+-- them.
 pub record IsOpenableIn (state : ProxyState) (a : Arrival) (r : OpenRequest) : Type 0 where
   pub space : Definition.is_full state ≡ false
   pub alone : position (has_key r.key) state.requests ≡ None
   pub number_is : r.number ≡ a.number
   pub fits : Fits r
   pub within : IsWithin a.now r
+  pub branched : AreBranched r.branches

@@ -1,5 +1,6 @@
 ghost use Rattle.std.specs.Prelude.{◌≡◌, ◌+◌, ◌<◌, ◌^◌, ◌++◌, ◌∷◌, [], false, length, position, slice_get, None, Some, IfOk, IfSome, OnOk, OnErr};
 ghost use Rattle.std.specs.Option.{option_and_then};
+ghost use Rattle.sip_proxy.specs.fork.Firing.{KeepsOrder};
 ghost use Rattle.sip_proxy.specs.Proxy.{IsComing};
 ghost use Rattle.sip_core.specs.context_model.Opening.{closing};
 ghost use Rattle.sip_message_form.specs.Text.{text_of};
@@ -138,6 +139,7 @@ fn cancel_at<T: Timers>(
         (counted (arrival_of arrival) proxy.old.state)) out proxy.new.state) }
     ensures unchanged { OnErr result (proxy.new.state ≡ proxy.old.state) }
     ensures timers { OnErr result (proxy.new.timers ≡ proxy.old.timers) }
+    ensures queue { OnOk result (KeepsOrder proxy.old.timers proxy.new.timers proxy.new.state.requests) }
 {
     let _named = proxy.get(place);
     let agreed = agree(alloc, server, arrival, key, request)?;
@@ -175,6 +177,7 @@ pub fn take_cancel<T: Timers>(
         proxy.new.state) }
     ensures unchanged { OnErr result (proxy.new.state ≡ proxy.old.state) }
     ensures timers { OnErr result (proxy.new.timers ≡ proxy.old.timers) }
+    ensures queue { OnOk result (KeepsOrder proxy.old.timers proxy.new.timers proxy.new.state.requests) }
 {
     match find_named(proxy, key.get(), arrival.from) {
         Some(place) => cancel_at(alloc, server, hops, proxy, arrival, key, request, place),

@@ -1,4 +1,6 @@
 ghost use Rattle.std.specs.Prelude.{◌≡◌, ℕ, List};
+ghost use Rattle.sip_timers.specs.declared.timer.Timer.{Timer};
+ghost use Rattle.sip_proxy.specs.fork.Firing.{KeepsOrder};
 ghost use Rattle.sip_proxy.specs.Proxy.{with_bindings, with_nonces};
 ghost use Rattle.sip_core.specs.Verdict.{HasRoomFor, plan_of};
 ghost use Rattle.sip_location.specs.Sameness.{SameBindings};
@@ -16,6 +18,7 @@ use sip_uas::forwarding::Arrival;
 fn take_challenge<T: Timers>(proxy: &mut Proxy<T>, arrival: Arrival, outcome: &Outcome)
     ensures state { proxy.new.state ≡ with_nonces (after_outcome (arrival_of arrival) outcome.now proxy.old.state.nonces) proxy.old.state }
     ensures room { proxy.new.room ≡ proxy.old.room }
+    ensures queue { (old : List Timer) → KeepsOrder old proxy.old.timers proxy.old.state.requests → KeepsOrder old proxy.new.timers proxy.new.state.requests }
 {
     match outcome {
         Outcome::Challenge => proxy.issue(arrival.word, arrival.now),
@@ -29,6 +32,7 @@ fn take_plan<T: Timers>(proxy: &mut Proxy<T>, outcome: Outcome)
     ensures bound { (now : ℕ) (after : List Binding) → AreBound now (plan_of outcome) proxy.old.state.bindings after
         → SameBindings now proxy.new.state.bindings after }
     ensures rest { proxy.new.state ≡ with_bindings proxy.new.state.bindings proxy.old.state }
+    ensures queue { (old : List Timer) → KeepsOrder old proxy.old.timers proxy.old.state.requests → KeepsOrder old proxy.new.timers proxy.new.state.requests }
 {
     match outcome.into_plan() {
         Some(plan) => proxy.register(plan),
@@ -44,6 +48,7 @@ pub(crate) fn take_decision<T: Timers>(proxy: &mut Proxy<T>, arrival: Arrival, j
         → SameBindings now proxy.new.state.bindings after }
     ensures rest { proxy.new.state ≡ with_nonces (after_asking (arrival_of arrival) judged.entry proxy.old.state.nonces)
         (with_bindings proxy.new.state.bindings proxy.old.state) }
+    ensures queue { (old : List Timer) → KeepsOrder old proxy.old.timers proxy.old.state.requests → KeepsOrder old proxy.new.timers proxy.new.state.requests }
 {
     proxy.spend(&judged.question.proof, arrival.now);
     take_challenge(proxy, arrival, &judged.outcome);

@@ -1,4 +1,6 @@
-ghost use Rattle.std.specs.Prelude.{◌≡◌, false, position, None, IfOk, OnOk, OnErr};
+ghost use Rattle.std.specs.Prelude.{◌≡◌, List, false, position, None, IfOk, OnOk, OnErr};
+ghost use Rattle.sip_timers.specs.declared.timer.Timer.{Timer};
+ghost use Rattle.sip_proxy.specs.fork.Firing.{KeepsOrder};
 ghost use Rattle.sip_proxy.specs.Proxy.{Becomes, IsComing};
 ghost use Rattle.sip_proxy.specs.forwarding.Forwarding.{IsOpenable};
 ghost use Rattle.sip_dialog_lessons.specs.Lessons.{beginnings};
@@ -36,6 +38,7 @@ pub(crate) fn take_request<T: Timers>(
     ensures packets { IfOk result (λ packets. packets ≡ forwarded.packets) }
     ensures unchanged { OnErr result (proxy.new.state ≡ proxy.old.state) }
     ensures timers { OnErr result (proxy.new.timers ≡ proxy.old.timers) }
+    ensures queue { OnOk result (KeepsOrder proxy.old.timers proxy.new.timers proxy.new.state.requests) }
 {
     let Forwarded {
         packets,
@@ -61,6 +64,7 @@ pub(crate) fn take_lessons<T: Timers>(
         proxy.new.state) }
     ensures unchanged { OnErr result (proxy.new.state ≡ proxy.old.state) }
     ensures timers { OnErr result (proxy.new.timers ≡ proxy.old.timers) }
+    ensures queue { OnOk result (KeepsOrder proxy.old.timers proxy.new.timers proxy.new.state.requests) }
 {
     proxy.learn(arrival.now, lessons)?;
     proxy.count();
@@ -75,6 +79,7 @@ pub(crate) fn take_credential<T: Timers>(
 )
     ensures state { proxy.new.state ≡ asked (arrival_of arrival) judged.now.question proxy.old.state }
     ensures timers { proxy.new.timers ≡ proxy.old.timers }
+    ensures queue { (old : List Timer) → KeepsOrder old proxy.old.timers proxy.old.state.requests → KeepsOrder old proxy.new.timers proxy.new.state.requests }
 {
     proxy.spend(&judged.question.proof, arrival.now);
 }

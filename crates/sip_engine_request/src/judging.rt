@@ -1,4 +1,5 @@
-ghost use Rattle.std.specs.Prelude.{◌≡◌, true, position, None, Some, Option, IfOk, OnErr};
+ghost use Rattle.std.specs.Prelude.{◌≡◌, true, position, None, Some, Option, IfOk, OnOk, OnErr};
+ghost use Rattle.sip_proxy.specs.fork.Firing.{KeepsOrder};
 ghost use Rattle.sip_proxy.specs.Proxy.{IsComing};
 ghost use Rattle.sip_core.specs.Verdict.{HasRoomFor, Is};
 ghost use Rattle.sip_core.specs.declared.verdict.Verdict.TheVariants as Arrived;
@@ -51,6 +52,7 @@ pub fn take_judged<T: Timers>(
         (counted (arrival_of arrival) proxy.old.state)) out proxy.new.state) }
     ensures unchanged { OnErr result (proxy.new.state ≡ proxy.old.state) }
     ensures timers { OnErr result (proxy.new.timers ≡ proxy.old.timers) }
+    ensures queue { OnOk result (KeepsOrder proxy.old.timers proxy.new.timers proxy.new.state.requests) }
 {
     let is_full = proxy.is_full();
     let draft = draft_judged(alloc, server, arrival, key, request, &judged, is_full)?;

@@ -1,4 +1,5 @@
-ghost use Rattle.std.specs.Prelude.{◌≡◌, true, false, position, None, Some, IfOk, OnErr};
+ghost use Rattle.std.specs.Prelude.{◌≡◌, true, false, position, None, Some, IfOk, OnOk, OnErr};
+ghost use Rattle.sip_proxy.specs.fork.Firing.{KeepsOrder};
 ghost use Rattle.sip_proxy.specs.Proxy.{IsComing};
 ghost use Rattle.sip_transaction_table.specs.Key.{key_of};
 ghost use Rattle.sip_proxy.specs.steps_model.Effect.{counted, effect_of};
@@ -52,6 +53,7 @@ pub fn send_to<T: Timers>(
         (counted (arrival_of arrival) proxy.old.state)) out proxy.new.state) }
     ensures unchanged { OnErr result (proxy.new.state ≡ proxy.old.state) }
     ensures timers { OnErr result (proxy.new.timers ≡ proxy.old.timers) }
+    ensures queue { OnOk result (KeepsOrder proxy.old.timers proxy.new.timers proxy.new.state.requests) }
 {
     let records = records_of(alloc, arrival, request.get(), judged, rule, targets)?;
     let forwarded = forward_to(alloc, server, hops, arrival, key, request, targets)?;

@@ -1,4 +1,5 @@
 ghost use Rattle.std.specs.Prelude.{◌≡◌, [], IfOk, IfSome, OnOk, OnErr};
+ghost use Rattle.sip_proxy.specs.fork.Firing.{KeepsOrder};
 ghost use Rattle.sip_proxy.specs.Proxy.{Becomes, IsComing};
 ghost use Rattle.sip_proxy.specs.steps_model.Effect.{counted};
 ghost use Rattle.sip_uas.specs.forwarding.Arrivals.{arrival_of};
@@ -28,6 +29,7 @@ fn open<T: Timers>(
     ensures becomes { OnOk result (Becomes arrival.now (with_one_more request proxy.old.state.requests) [] proxy.old.state proxy.new.state) }
     ensures unchanged { OnErr result (proxy.new.state ≡ proxy.old.state) }
     ensures timers { OnErr result (proxy.new.timers ≡ proxy.old.timers) }
+    ensures queue { OnOk result (KeepsOrder proxy.old.timers proxy.new.timers proxy.new.state.requests) }
     ensures room { proxy.new.room ≡ proxy.old.room }
 {
     proxy.open(arrival.now, request, Lessons::new(alloc))
@@ -46,6 +48,7 @@ fn open_drafted<T: Timers>(
     ensures becomes { OnOk result (Becomes arrival.now (with_opened opened proxy.old.state.requests) [] proxy.old.state proxy.new.state) }
     ensures unchanged { OnErr result (proxy.new.state ≡ proxy.old.state) }
     ensures timers { OnErr result (proxy.new.timers ≡ proxy.old.timers) }
+    ensures queue { OnOk result (KeepsOrder proxy.old.timers proxy.new.timers proxy.new.state.requests) }
     ensures room { proxy.new.room ≡ proxy.old.room }
 {
     match opened {
@@ -73,6 +76,7 @@ pub(crate) fn take_draft<T: Timers>(
     ensures out { IfOk result (λ out. out ≡ record { at = arrival.now; packets = draft.packets; records = draft.records }) }
     ensures unchanged { OnErr result (proxy.new.state ≡ proxy.old.state) }
     ensures timers { OnErr result (proxy.new.timers ≡ proxy.old.timers) }
+    ensures queue { OnOk result (KeepsOrder proxy.old.timers proxy.new.timers proxy.new.state.requests) }
     ensures room { proxy.new.room ≡ proxy.old.room }
 {
     let Draft {

@@ -1,5 +1,5 @@
 -- Moments of parts.
-use Rattle.std.proofs.Common.{◌≡◌, ℕ, ◌<◌, Bool, true, false, List, [], ◌∷◌, length, get_or, position, Option, Some, None, refl, sym, ◌∙◌, subst, arith, ap}
+use Rattle.std.proofs.Common.{◌≡◌, ◌≢◌, ℕ, ◌<◌, Bool, true, false, List, [], ◌∷◌, length, get_or, position, Option, Some, None, refl, sym, ◌∙◌, subst, arith, ap}
 use Rattle.std.specs.Prelude.{◌||◌, ◌&&◌}
 use Rattle.std.proofs.lemmas.Bool.Decides.{nat_tests}
 use Rattle.std.proofs.lemmas.List.Quantifiers.{position-Some}
@@ -12,11 +12,15 @@ use Rattle.sip_dialog_lessons.specs.state.State.{phase_deadline, side_deadline}
 use Rattle.model_steps.specs.context_model.Retransmission.{answer_due, branch_due}
 use Rattle.sip_fork.specs.declared.due.Due.{Due}
 use Rattle.sip_fork.specs.declared.due.Due.TheVariants as What
-use Rattle.sip_fork.specs.Due.{IsBranchAt, IsBranchOf, IsDue, IsNotDue, is_at, is_branch_due, is_either, is_of}
+use Rattle.sip_fork.specs.Due.{GoesAgainBefore, IsBranchAt, IsBranchOf, IsDue, IsNotDue, is_at, is_branch_due, is_either, is_of}
 
 pub at_is : (moment : Option ℕ) (due : ℕ) → is_at moment due ≡ true → moment ≡ Some due
 at_is None due e = absurd (cc)
 at_is (Some m) due e = let same : m ≡ due = grind (arith, nat_tests) in ap (λ n. Some n) same
+
+pub not_at : (moment : Option ℕ) (due : ℕ) → is_at moment due ≡ false → moment ≢ Some due
+not_at None due e is = absurd (cc)
+not_at (Some m) due e is = let same : m ≡ due = cc in absurd (grind (arith, nat_tests))
 
 pub neither : (again deadline : Option ℕ) (due : ℕ) → is_at again due ≡ false → is_at deadline due ≡ false → is_either again deadline due ≡ false
 neither again deadline due a b = rw a b
@@ -38,6 +42,10 @@ ends_then r owner due i x found here none =
       within = is.0;
       is = λ b at. subst (λ (y : Branch). phase_deadline y.phase ≡ Some due) (sym here ∙ get_or_from_slice_get r.branches i b x at) (at_is (phase_deadline x.phase) due ends);
     }
+
+-- and it isn't one of which something does
+pub none_again : (r : OpenRequest) (due i : ℕ) (x : Branch) → get_or r.branches i x ≡ x → is_at (branch_due r x) due ≡ false → GoesAgainBefore r due (What.BranchEnds i)
+none_again r due i x here none b at = subst (λ (y : Branch). branch_due r y ≢ Some due) (sym here ∙ get_or_from_slice_get r.branches i b x at) (not_at (branch_due r x) due none)
 
 the_first : (a b : Bool) → (a && b) ≡ true → a ≡ true
 the_first true b e = refl

@@ -15,7 +15,7 @@ use Rattle.sip_dialog_lessons.specs.state.declared.open_request.OpenRequest.{Ope
 use Rattle.sip_request.specs.Named.{named_by}
 use Rattle.sip_request.specs.declared.request.Request.{Request}
 use Rattle.sip_fork.specs.Contexts.{AreTied}
-use Rattle.sip_fork.specs.Due.{IsDue, IsFirst, IsFirstAt, IsNotDue, IsNothingDue, IsOfFirst, IsOfOwner}
+use Rattle.sip_fork.specs.Due.{GoesAgainBefore, IsDue, IsFirst, IsFirstAt, IsNotDue, IsNothingDue, IsOfFirst, IsOfOwner}
 use Rattle.sip_fork.specs.Queue.{IsQueue}
 use Rattle.sip_fork.specs.Timing.{Timing}
 use Rattle.sip_fork.specs.declared.due.Due.{Due}
@@ -135,9 +135,10 @@ module _ (timing : Timing) (pending : List Timer) (reached : ℕ) (rows : List R
 
 -- it is of the timer at the head
 pub of_first : (pending : List Timer) (rows : List Request) (due : ℕ) (name : Name) → first_named pending ≡ Some (due, name) → (i : ℕ) (r : Request) (what : Due) → slice_get rows i ≡ Some r
-    → r.open_request.number ≡ name.request → IsOfOwner r.open_request name.owner what → IsOfFirst pending (contexts rows) (record { due = due; place = i; what = what })
-of_first [] rows due name e i r what at same is = absurd (cc)
-of_first (t ∷ ts) rows due name e i r what at same is =
+    → r.open_request.number ≡ name.request → IsOfOwner r.open_request name.owner what → GoesAgainBefore r.open_request due what
+    → IsOfFirst pending (contexts rows) (record { due = due; place = i; what = what })
+of_first [] rows due name e i r what at same is again = absurd (cc)
+of_first (t ∷ ts) rows due name e i r what at same is again =
     let both : (t.due, t.name) ≡ (due, name) = some_same {X = ℕ × Name} (t.due, t.name) (due, name) e in
     let named : name ≡ t.name = sym (ap (λ (x : ℕ × Name). x.1) both) in
     let seen : (x : OpenRequest) → slice_get (contexts rows) i ≡ Some x → r.open_request ≡ x =
@@ -149,6 +150,7 @@ of_first (t ∷ ts) rows due name e i r what at same is =
       due = sym (ap (λ (x : ℕ × Name). x.0) both);
       request = λ x there. subst (λ (y : OpenRequest). y.number ≡ t.name.request) (seen x there) (same ∙ ap (λ (n : Name). n.request) named);
       part = λ x there. subst (λ (y : OpenRequest). IsOfOwner y t.name.owner what) (seen x there) (subst (λ (n : Name). IsOfOwner r.open_request n.owner what) named is);
+      again = λ x there. subst (λ (y : OpenRequest). GoesAgainBefore y due what) (seen x there) again;
     }
 
 -- ---- what calls answer

@@ -21,11 +21,12 @@ use Rattle.sip_context.specs.declared.input.Input.{Input}
 use Rattle.sip_context.specs.declared.input.Input.TheVariants.{Response, BranchDeadline, SideDeadline, SendFault, Cancel, Ack, BranchAgain, AnswerAgain}
 use Rattle.sip_context.specs.Inputs.{changing, outcome_of}
 use Rattle.sip_fork.specs.Quiet.{alone, branch_ends_alone, ends_alone, found_ends_alone}
-use Rattle.sip_request.specs.Ended.{become, branch_ended, ended_at, side_ended}
+use Rattle.sip_request.specs.Ended.{become, branch_ended, ended_at}
 use Rattle.sip_request.specs.Named.{HasKeys}
 use Rattle.sip_request.specs.declared.request.Request.{Request}
 use Rattle.sip_request.specs.transactions_model.Fits.{Fits}
 use Rattle.sip_request.specs.transactions_model.Near.{IsWithin}
+use Rattle.sip_request.specs.transactions_model.Matching.{AreBranched}
 use Rattle.sip_fork.specs.Contexts.{IsKept}
 use Rattle.sip_fork.specs.Ending.{IsDeadlineOf, ended, left_invite}
 
@@ -162,12 +163,14 @@ still_numbers Of.Server r h = record { number_fits = h.number_fits; targets_fit 
 still_numbers (Of.Client place) r h = record { number_fits = h.number_fits; targets_fit = same_targets r.branches place h.targets_fit }
 
 -- a request of which a transaction ended is kept where it fits
-pub kept_ended : (reached : ℕ) (t : Transaction) (r : Request) → IsKept reached r → Fits (ended t r.open_request) → IsWithin (reached + 1) (ended t r.open_request) → IsKept reached (become (ended t r.open_request) r)
-kept_ended reached t r h fits within = record {
+pub kept_ended : (reached : ℕ) (t : Transaction) (r : Request) → IsKept reached r → Fits (ended t r.open_request) → IsWithin (reached + 1) (ended t r.open_request) → AreBranched (ended t r.open_request).branches
+    → IsKept reached (become (ended t r.open_request) r)
+kept_ended reached t r h fits within branched = record {
   keys = still_keys t r.open_request r.branches h.keys;
   fits = fits;
   within = within;
   numbers = still_numbers t r.open_request h.numbers;
+  branched = branched;
 }
 
 -- its number and its key stay

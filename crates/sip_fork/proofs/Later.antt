@@ -20,8 +20,9 @@ pub tied_later : Passes → (pending new : List Timer) (reached later : ℕ) (ro
 tied_later passes pending new reached later rows h still le early = subst (λ (ts : List Timer). AreTied ts later rows) (sym still) (record {
   same = h.same;
   keys_differ = h.keys_differ;
-  kept = λ i d lt. (let k : IsKept reached _ = h.kept i d lt in record { keys = k.keys; fits = k.fits; within = passes (reached + 1) (later + 1) _ (omega (arith, le)) k.within; numbers = k.numbers });
+  kept = λ i d lt. (let k : IsKept reached _ = h.kept i d lt in record { keys = k.keys; fits = k.fits; within = passes (reached + 1) (later + 1) _ (omega (arith, le)) k.within; numbers = k.numbers; branched = k.branched });
   early = early;
+  numbered = h.numbered;
 })
 
 -- no timer is due before

@@ -4,11 +4,13 @@ pub mod Copied
 mod Dues
 mod Earliest
 mod Firsts
+mod Joined
 mod Later
 mod Lists
 mod Mapped
 mod Moments
 mod Named
+mod Numbered
 mod NearTimes
 mod OnTime
 mod Ordering

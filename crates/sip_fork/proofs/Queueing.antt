@@ -1,7 +1,8 @@
 -- The timers that stand are a queue in which what stood keeps its place.
-use Rattle.std.proofs.Common.{◌≡◌, ℕ, zero, suc, ◌+◌, ◌<◌, ◌≤◌, Bool, true, false, cond, List, [], ◌∷◌, ◌++◌, length, map, take, drop, get_or, set, remove, slice_get, Some, refl, sym, ap, ◌∙◌, subst, append-nil, arith}
+use Rattle.std.proofs.Common.{◌≡◌, ℕ, zero, suc, ◌+◌, ◌<◌, ◌≤◌, Bool, true, false, cond, List, [], ◌∷◌, ◌++◌, length, map, take, drop, get_or, set, remove, slice_get, Some, refl, sym, ap, ◌∙◌, subst, append-nil, arith, ltb}
 use Rattle.std.specs.Prelude.{not, filter, count_by, reverse}
 use Rattle.std.specs.List.{AllByRecursion, flat_map, sum_by}
+use Rattle.std.proofs.lemmas.Bool.Decides.{nat_tests}
 use Rattle.std.proofs.lemmas.List.{map-append, reverse-append}
 use Rattle.std.proofs.lemmas.List.Concat.{flat_map-append}
 use Rattle.std.proofs.lemmas.List.Elements.{filter-append, recursion_from_All}
@@ -12,21 +13,23 @@ use Rattle.sip_timers.specs.declared.timer.Owner.{Owner}
 use Rattle.sip_timers.specs.declared.timer.Owner.TheVariants as Of
 use Rattle.sip_timers.specs.declared.timer.Timer.{Timer}
 use Rattle.sip_timers.specs.Setting.{all_placed, AreSome, NoMore, IsNew, SetsInOrder}
-use Rattle.sip_timers.specs.Timers.{AreOrdered}
+use Rattle.sip_timers.specs.Timers.{AreOrdered, due_before}
 use Rattle.sip_timers.proofs.Setting.{AreSome-none}
 use Rattle.sip_dialog_lessons.specs.state.declared.branch.Branch.{Branch}
 use Rattle.sip_dialog_lessons.specs.state.declared.open_request.OpenRequest.{OpenRequest}
-use Rattle.sip_request.specs.transactions_model.Queue.{Entry, entry_of, same_entry, has, part_entries, request_entries, entries_of, AreApart, queue_after}
+use Rattle.sip_request.specs.transactions_model.Matching.{AreBranched}
+use Rattle.sip_request.specs.transactions_model.Queue.{Entry, entry_of, same_entry, has, part_entries, request_entries, entries_of, all_behind, AreApart, AreDueInOrder, queue_after}
 use Rattle.sip_request.specs.transactions_model.Ties.{branch_timers, branches_timers, owner_of, part_timers, side_timers}
 use Rattle.sip_request.specs.transactions_model.declared.timer_keys.TimerKeys.{TimerKeys}
 use Rattle.sip_request.specs.Named.{HasKeys, named_by}
 use Rattle.sip_request.specs.Order.{branches_in_order, keyed, named_in_order}
 use Rattle.sip_request.specs.Queued.{entries, AreQueued}
 use Rattle.sip_request.specs.declared.request.Request.{Request}
-use Rattle.sip_request.proofs.of_entries.{entry_is, entries-cons, entries-append, has_counts, has_by_count, all_there, every}
+use Rattle.sip_request.proofs.of_entries.{entry_is, entries-cons, entries-append, has_counts, has_by_count, lacks_by_count, lacks_counts, all_there, every}
 use Rattle.sip_request.proofs.Queued.{queued, by_entries}
 use Rattle.sip_fork.specs.Contexts.{AreTied, IsKept}
-use Rattle.sip_fork.specs.Firing.{KeepsOrder}
+use Rattle.model_branches.specs.Kept.{AreNumbered}
+use Rattle.sip_fork.specs.Firing.{IsQueueOf, KeepsOrder}
 use Rattle.sip_fork.specs.Queue.{IsQueue}
 use Rattle.sip_fork.proofs.Tying.{contexts, kept_at}
 
@@ -271,7 +274,18 @@ any_named ts us before named sets = record {
   order = λ ordered. sets.order ordered ∙ ap (λ (xs : List Timer). all_placed (filter sets.stays ts) xs) (some_none sets.set sets.are_named);
 }
 
-module _ (old new : List Timer) (reached later : ℕ) (rows : List Request) (tied : AreTied old reached rows) (ordered : IsQueue old) where
+-- where numbers rise, and branches are targets with numbers of their own and CANCELs behind them, no two timers are alike
+abbrev pub Apart : Type 0
+Apart = (requests : List OpenRequest) → AreNumbered requests → AllByRecursion (λ (r : OpenRequest). AreBranched r.branches) requests → AreApart requests
+
+branched-rows : (reached : ℕ) (rows : List Request) → AllByRecursion (IsKept reached) rows → AllByRecursion (λ (r : OpenRequest). AreBranched r.branches) (contexts rows)
+branched-rows reached [] all = tt
+branched-rows reached (r ∷ rows) all = (all.0.branched, branched-rows reached rows all.1)
+
+pub apart_of : Apart → (pending : List Timer) (reached : ℕ) (rows : List Request) → AreTied pending reached rows → AreApart (contexts rows)
+apart_of apart pending reached rows tied = apart (contexts rows) tied.numbered (branched-rows reached rows (recursion_from_All (IsKept reached) rows tied.kept))
+
+module _ (apart : Apart) (old new : List Timer) (reached later : ℕ) (rows : List Request) (tied : AreTied old reached rows) (ordered : IsQueue old) where
   keys_at : (i : ℕ) (r : Request) → slice_get rows i ≡ Some r → IsKept reached r → (p : Entry → Bool) → count_by p (entries (named_by r)) ≡ count_by p (entries_of (contexts (r ∷ [])))
   keys_at i r at kept p = count-entries p (named_by r) ∙ count-row p r kept.keys ∙ ap (λ es. count_by p es) (sym (entries_of-one r.open_request))
 
@@ -282,49 +296,101 @@ module _ (old new : List Timer) (reached later : ℕ) (rows : List Request) (tie
   old_at i r at = split-at rows i r (slice_get_within rows i r at) (get_or_from_slice_get rows i r r at)
 
   -- one request becomes another one
-  pub changed_queue : (i : ℕ) (r x : Request) → slice_get rows i ≡ Some r → AreTied new later (set rows i x) → HasKeys x.open_request x.branches → SetsInOrder old (named_by r) new (named_in_order x) → KeepsOrder old (contexts rows) new (contexts (set rows i x))
-  changed_queue i r x at tied_new has_keys sets apart apart_after =
+  pub changed_queue : (i : ℕ) (r x : Request) → slice_get rows i ≡ Some r → AreTied new later (set rows i x) → HasKeys x.open_request x.branches → SetsInOrder old (named_by r) new (named_in_order x) → KeepsOrder old new (contexts (set rows i x))
+  changed_queue i r x at tied_new has_keys sets =
       let within : i < length rows = slice_get_within rows i r at in
       let a : List Request = take i rows in
       let b : List Request = drop (suc i) rows in
       let before_is : rows ≡ a ++ ((r ∷ []) ++ b) = old_at i r at in
       let after_is : set rows i x ≡ a ++ ((x ∷ []) ++ b) = split-set rows i x within in
-      subst (λ (ys : List Request). entries new ≡ queue_after (entries old) (entries_of (contexts ys))) (sym after_is)
-      (in_queue old new a b (r ∷ []) (x ∷ []) (named_by r) (named_in_order x)
-      (subst (λ (ys : List Request). (p : Entry → Bool) → count_by p (entries old) ≡ count_by p (entries_of (contexts ys))) before_is (exact_of old reached rows tied))
-      (subst (λ (ys : List Request). (p : Entry → Bool) → count_by p (entries new) ≡ count_by p (entries_of (contexts ys))) after_is (exact_of new later (set rows i x) tied_new))
-      (subst (λ (ys : List Request). AreApart (contexts ys)) before_is apart)
-      (subst (λ (ys : List Request). AreApart (contexts ys)) after_is apart_after)
-      (keys_at i r at (row_kept i r at))
-      (entries-named x has_keys ∙ sym (entries_of-one x.open_request))
-      ordered.ordered sets)
+      record {
+        queue = subst (λ (ys : List Request). entries new ≡ queue_after (entries old) (entries_of (contexts ys))) (sym after_is)
+            (in_queue old new a b (r ∷ []) (x ∷ []) (named_by r) (named_in_order x)
+            (subst (λ (ys : List Request). (p : Entry → Bool) → count_by p (entries old) ≡ count_by p (entries_of (contexts ys))) before_is (exact_of old reached rows tied))
+            (subst (λ (ys : List Request). (p : Entry → Bool) → count_by p (entries new) ≡ count_by p (entries_of (contexts ys))) after_is (exact_of new later (set rows i x) tied_new))
+            (subst (λ (ys : List Request). AreApart (contexts ys)) before_is (apart_of apart old reached rows tied))
+            (subst (λ (ys : List Request). AreApart (contexts ys)) after_is (apart_of apart new later (set rows i x) tied_new))
+            (keys_at i r at (row_kept i r at))
+            (entries-named x has_keys ∙ sym (entries_of-one x.open_request))
+            ordered.ordered sets);
+      }
 
   -- one is closed
-  pub closed_queue : (i : ℕ) (r : Request) → slice_get rows i ≡ Some r → AreTied new later (remove rows i) → SetsInOrder old [] new [] → KeepsOrder old (contexts rows) new (contexts (remove rows i))
-  closed_queue i r at tied_new sets apart apart_after =
+  pub closed_queue : (i : ℕ) (r : Request) → slice_get rows i ≡ Some r → AreTied new later (remove rows i) → SetsInOrder old [] new [] → KeepsOrder old new (contexts (remove rows i))
+  closed_queue i r at tied_new sets =
       let a : List Request = take i rows in
       let b : List Request = drop (suc i) rows in
       let before_is : rows ≡ a ++ ((r ∷ []) ++ b) = old_at i r at in
-      in_queue old new a b (r ∷ []) [] (named_by r) []
-      (subst (λ (ys : List Request). (p : Entry → Bool) → count_by p (entries old) ≡ count_by p (entries_of (contexts ys))) before_is (exact_of old reached rows tied))
-      (exact_of new later (remove rows i) tied_new)
-      (subst (λ (ys : List Request). AreApart (contexts ys)) before_is apart)
-      apart_after
-      (keys_at i r at (row_kept i r at))
-      refl
-      ordered.ordered (any_named old new (named_by r) [] sets)
+      record {
+        queue = in_queue old new a b (r ∷ []) [] (named_by r) []
+            (subst (λ (ys : List Request). (p : Entry → Bool) → count_by p (entries old) ≡ count_by p (entries_of (contexts ys))) before_is (exact_of old reached rows tied))
+            (exact_of new later (remove rows i) tied_new)
+            (subst (λ (ys : List Request). AreApart (contexts ys)) before_is (apart_of apart old reached rows tied))
+            (apart_of apart new later (remove rows i) tied_new)
+            (keys_at i r at (row_kept i r at))
+            refl
+            ordered.ordered (any_named old new (named_by r) [] sets);
+      }
 
   -- one is opened
-  pub opened_queue : (x : Request) → AreTied new later (rows ++ x ∷ []) → HasKeys x.open_request x.branches → SetsInOrder old [] new (named_in_order x) → KeepsOrder old (contexts rows) new (contexts (rows ++ x ∷ []))
-  opened_queue x tied_new has_keys sets apart apart_after =
-      in_queue old new rows [] [] (x ∷ []) [] (named_in_order x)
-      (subst (λ (ys : List Request). (p : Entry → Bool) → count_by p (entries old) ≡ count_by p (entries_of (contexts ys))) (sym (append-nil rows)) (exact_of old reached rows tied))
-      (exact_of new later (rows ++ x ∷ []) tied_new)
-      (subst (λ (ys : List Request). AreApart (contexts ys)) (sym (append-nil rows)) apart)
-      apart_after
-      (λ p. refl)
-      (entries-named x has_keys ∙ sym (entries_of-one x.open_request))
-      ordered.ordered sets
+  pub opened_queue : (x : Request) → AreTied new later (rows ++ x ∷ []) → HasKeys x.open_request x.branches → SetsInOrder old [] new (named_in_order x) → KeepsOrder old new (contexts (rows ++ x ∷ []))
+  opened_queue x tied_new has_keys sets =
+      record {
+        queue = in_queue old new rows [] [] (x ∷ []) [] (named_in_order x)
+            (subst (λ (ys : List Request). (p : Entry → Bool) → count_by p (entries old) ≡ count_by p (entries_of (contexts ys))) (sym (append-nil rows)) (exact_of old reached rows tied))
+            (exact_of new later (rows ++ x ∷ []) tied_new)
+            (subst (λ (ys : List Request). AreApart (contexts ys)) (sym (append-nil rows)) (apart_of apart old reached rows tied))
+            (apart_of apart new later (rows ++ x ∷ []) tied_new)
+            (λ p. refl)
+            (entries-named x has_keys ∙ sym (entries_of-one x.open_request))
+            ordered.ordered sets;
+      }
+
+-- ---- what stands is a queue
+
+all_due : (moment : ℕ) (ts : List Timer) → due_before moment ts ≡ 0 → AllByRecursion (λ (x : Entry). moment ≤ x.due) (entries ts)
+all_due moment [] none = tt
+all_due moment (t ∷ ts) none = by_due (ltb t.due moment) refl (λ fewer. all_due moment ts fewer) where
+  counted : due_before moment (t ∷ ts) ≡ cond (ltb t.due moment) 1 0 + due_before moment ts
+  counted = sum_by-cons (λ (u : Timer). cond (ltb u.due moment) 1 0) t ts
+
+  by_due : (b : Bool) → ltb t.due moment ≡ b → (due_before moment ts ≡ 0 → AllByRecursion (λ (x : Entry). moment ≤ x.due) (entries ts)) → AllByRecursion (λ (x : Entry). moment ≤ x.due) (entry_of t ∷ entries ts)
+  by_due true is rest = absurd (omega (arith, none, counted, ap (λ (v : Bool). cond {A = ℕ} v 1 0) is))
+  by_due false is rest = (grind (arith, nat_tests), rest (omega (arith, none, counted, ap (λ (v : Bool). cond {A = ℕ} v 1 0) is)))
+
+due_in_order : (ts : List Timer) → AreOrdered ts → AreDueInOrder (entries ts)
+due_in_order [] ordered = tt
+due_in_order (t ∷ ts) ordered = (all_due t.due ts ordered.0, due_in_order ts ordered.1)
+
+-- what is counted alike is there alike
+there_alike : (e : Entry) (xs ys : List Entry) → count_by (same_entry e) xs ≡ count_by (same_entry e) ys → has e xs ≡ has e ys
+there_alike e xs ys same = by_test (has e ys) refl where
+  by_test : (t : Bool) → has e ys ≡ t → has e xs ≡ has e ys
+  by_test true is = has_by_count e xs (omega (arith, same, has_counts e ys is)) ∙ sym is
+  by_test false is = lacks_by_count e xs (omega (arith, same, lacks_counts e ys is)) ∙ sym is
+
+pub queue_of_rows : Apart → (pending : List Timer) (reached : ℕ) (rows : List Request) → AreTied pending reached rows → IsQueue pending → IsQueueOf pending (contexts rows)
+queue_of_rows apart pending reached rows tied ordered = record {
+  in_order = due_in_order pending ordered.ordered;
+  exact = λ e. there_alike e (entries pending) (entries_of (contexts rows)) (exact_of pending reached rows tied (same_entry e));
+  apart = apart_of apart pending reached rows tied;
+}
+
+-- where each is among some, all that are among them are left
+all_left : (these : List Entry) (es : List Entry) → AllByRecursion (λ e. has e these ≡ true) es → filter (λ e. has e these) es ≡ es
+all_left these [] all = refl
+all_left these (e ∷ es) all = ap (λ (b : Bool). cond b (e ∷ filter (λ x. has x these) es) (filter (λ x. has x these) es)) all.0 ∙ ap (λ xs. e ∷ xs) (all_left these es all.1)
+
+-- a queue of what stands stays as it is
+pub queue_stays : (pending : List Timer) (requests : List OpenRequest) → IsQueueOf pending requests → KeepsOrder pending pending requests
+queue_stays pending requests h =
+    let queue : List Entry = entries pending in
+    let standing : List Entry = entries_of requests in
+    let left : filter (λ e. has e standing) queue ≡ queue =
+    all_left standing queue (every queue (λ e there. sym (h.exact e) ∙ has_by_count e queue there) (all_there queue)) in
+    let none : filter (λ e. not (has e queue)) standing ≡ [] =
+    nothing_new queue standing (every standing (λ e there. h.exact e ∙ has_by_count e standing there) (all_there standing)) in
+    record { queue = sym (ap (λ es. all_behind es (filter (λ e. not (has e queue)) standing)) left ∙ ap (λ es. all_behind queue es) none) }
 
 -- all branches have keys
 pub keyed_all : (bs : List Branch) (ks : List TimerKeys) → length ks ≡ length bs → keyed bs ks ≡ bs

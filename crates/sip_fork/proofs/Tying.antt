@@ -1,9 +1,10 @@
 -- Exactly the timers that open requests name stand, also after one was opened, changed or closed.
 use Rattle.std.proofs.Common.{◌≡◌, ℕ, ◌+◌, ◌<◌, ◌^◌, zero, Bool, true, false, cond, List, [], ◌∷◌, ◌++◌, map, take, drop, suc, get_or, set, remove, slice_get, position, Some, refl, sym, ◌∙◌, ap, subst, arith, eqb}
 use Rattle.std.specs.Prelude.{count_by}
+use Rattle.std.specs.List.{All}
 use Rattle.std.specs.Option.{option_map}
 use Rattle.std.proofs.lemmas.List.{map-append, drop-map, take-map}
-use Rattle.std.proofs.lemmas.List.Elements.{All-get_or, All-append, All-take, All-drop, All-set, All-push}
+use Rattle.std.proofs.lemmas.List.Elements.{All-get_or, All-append, All-take, All-drop, All-set, All-push, recursion_from_All}
 use Rattle.std.proofs.lemmas.List.Sums.{sum_by_push, sum_by-set, sum_by-remove, get_or-le-sum_by}
 use Rattle.std.proofs.lemmas.Option.{slice_get_within, slice_get-map, get_or_from_slice_get}
 use Rattle.sip_timers.specs.declared.timer.Timer.{Timer}
@@ -15,11 +16,13 @@ use Rattle.sip_fork.proofs.Walks.{removed_at, replaced_at}
 use Rattle.model_steps.specs.context_model.BranchById.{HasNumbers}
 use Rattle.sip_request.specs.Named.{HasKeys, IsReady, named_by}
 use Rattle.sip_request.specs.Near.{IsNear}
+use Rattle.sip_request.specs.transactions_model.Matching.{AreBranched}
 use Rattle.sip_request.specs.declared.request.Plan.{Plan}
 use Rattle.sip_request.specs.declared.request.Request.{Request}
 use Rattle.sip_fork.specs.Contexts.{AreTied, IsFitting, IsKept}
 use Rattle.sip_fork.proofs.NearTimes.{IsNear-within}
 use Rattle.sip_fork.proofs.Mapped.{position-map}
+use Rattle.sip_fork.proofs.Numbered.{numbered-push, numbered-remove, numbered-set}
 
 -- what a request names at a place
 pub at_place : (p : Timer → Bool) (rows : List Request) (i : ℕ) (r : Request) → slice_get rows i ≡ Some r → count_by p (named_by (get_or rows i r)) ≡ count_by p (named_by r)
@@ -55,8 +58,8 @@ ready pending reached room rows plan h keys fitting =
       moments = omega (arith, early);
     }
 
-pub kept_new : (reached room : ℕ) (r : Request) (next : OpenRequest) → r.open_request ≡ next → HasKeys r.open_request r.branches → HasNumbers next → IsFitting reached room next → IsKept reached r
-kept_new reached room r next is keys numbers fitting = record { keys = keys; fits = rw is fitting.fits; within = rw is fitting.within; numbers = rw is numbers }
+pub kept_new : (reached room : ℕ) (r : Request) (next : OpenRequest) → r.open_request ≡ next → HasKeys r.open_request r.branches → HasNumbers next → AreBranched next.branches → IsFitting reached room next → IsKept reached r
+kept_new reached room r next is keys numbers branched fitting = record { keys = keys; fits = rw is fitting.fits; within = rw is fitting.within; numbers = rw is numbers; branched = rw is branched }
 
 -- one was closed
 pub closed : (old new : List Timer) (reached later : ℕ) (rows : List Request) (i : ℕ) (r : Request) → AreTied old reached rows → slice_get rows i ≡ Some r → later ≡ reached → Moves old (named_by r) new [] → AreTied new later (remove rows i)
@@ -65,25 +68,29 @@ closed old new reached later rows i r h at still m = rw still (record {
   keys_differ = m.keys_differ h.keys_differ;
   kept = All-append (IsKept reached) (take i rows) (drop (suc i) rows) (All-take (IsKept reached) i rows h.kept) (All-drop (IsKept reached) (suc i) rows h.kept);
   early = h.early;
+  numbered = numbered-remove rows i (slice_get_within rows i r at) h.numbered;
 })
 
 -- one was changed
-pub changed : (old new : List Timer) (reached later : ℕ) (rows : List Request) (i : ℕ) (r next : Request) → AreTied old reached rows → slice_get rows i ≡ Some r → later ≡ reached → IsKept reached next
+pub changed : (old new : List Timer) (reached later : ℕ) (rows : List Request) (i : ℕ) (r next : Request) → AreTied old reached rows → slice_get rows i ≡ Some r → next.open_request.number ≡ r.open_request.number → later ≡ reached → IsKept reached next
     → Moves old (named_by r) new (named_by next) → AreTied new later (set rows i next)
-changed old new reached later rows i r next h at still kept m = rw still (record {
+changed old new reached later rows i r next h at same still kept m = rw still (record {
   same = λ p. omega (arith, h.same p, m.same p, sum_by-set (λ (x : Request). count_by p (named_by x)) rows i next r (slice_get_within rows i r at), at_place p rows i r at);
   keys_differ = m.keys_differ h.keys_differ;
   kept = All-set (IsKept reached) rows i next kept h.kept;
   early = h.early;
+  numbered = numbered-set rows i r next (slice_get_within rows i r at) (get_or_from_slice_get rows i r r at) same h.numbered;
 })
 
 -- one was opened
-pub opened : (old new : List Timer) (reached later : ℕ) (rows : List Request) (next : Request) → AreTied old reached rows → later ≡ reached → IsKept reached next → Moves old [] new (named_by next) → AreTied new later (rows ++ next ∷ [])
-opened old new reached later rows next h still kept m = rw still (record {
+pub opened : (old new : List Timer) (reached later : ℕ) (rows : List Request) (next : Request) → AreTied old reached rows → All (λ (r : Request). r.open_request.number < next.open_request.number) rows → later ≡ reached → IsKept reached next
+    → Moves old [] new (named_by next) → AreTied new later (rows ++ next ∷ [])
+opened old new reached later rows next h last still kept m = rw still (record {
   same = λ p. omega (arith, h.same p, m.same p, sum_by_push (λ (x : Request). count_by p (named_by x)) rows next);
   keys_differ = m.keys_differ h.keys_differ;
   kept = All-push (IsKept reached) rows next h.kept kept;
   early = h.early;
+  numbered = numbered-push rows next (recursion_from_All (λ (r : Request). r.open_request.number < next.open_request.number) rows last) h.numbered;
 })
 
 -- ---- what the model says

@@ -7,6 +7,8 @@ use Rattle.sip_dialog_lessons.specs.state.declared.open_request.OpenRequest.{Ope
 use Rattle.model_steps.specs.context_model.BranchById.{HasNumbers}
 use Rattle.sip_request.specs.transactions_model.Near.{IsWithin}
 use Rattle.sip_request.specs.transactions_model.Fits.{Fits}
+use Rattle.sip_request.specs.transactions_model.Matching.{AreBranched}
+use Rattle.model_branches.specs.Kept.{AreNumbered}
 use Rattle.sip_request.specs.declared.request.Request.{Request}
 use Rattle.sip_request.specs.Named.{HasKeys, named_by}
 use Rattle.sip_request.specs.Near.{most_timers}
@@ -36,21 +38,23 @@ pub record IsFitting (reached free : ℕ) (r : OpenRequest) : Type 0 where
 
 -- ---- inside
 
--- An open request is kept: its numbers are of their types, each branch has its keys, its parts fit their transactions, and
--- its moments are near the next one that may come.
+-- An open request is kept: its numbers are of their types, each branch has its keys, its parts fit their transactions, its
+-- moments are near the next one that may come, and its branches are targets with numbers of their own and CANCELs behind them.
 pub record IsKept (reached : ℕ) (r : Request) : Type 0 where
   pub keys : HasKeys r.open_request r.branches
   pub fits : Fits r.open_request
   pub within : IsWithin (reached + 1) r.open_request
   pub numbers : HasNumbers r.open_request
+  pub branched : AreBranched r.open_request.branches
 
--- Exactly the timers that open requests name stand, by every test as many, no two with one key; each request is kept; and
--- moments are far below the end of their numbers.
+-- Exactly the timers that open requests name stand, by every test as many, no two with one key; each request is kept;
+-- moments are far below the end of their numbers; and the numbers of requests rise.
 pub record AreTied (pending : List Timer) (reached : ℕ) (rows : List Request) : Type 0 where
   pub same : (p : Timer → Bool) → count_by p pending ≡ sum_by (λ r. count_by p (named_by r)) rows
   pub keys_differ : KeysDiffer pending
   pub kept : All (IsKept reached) rows
   pub early : reached < 2 ^ 62
+  pub numbered : AreNumbered (map (λ (r : Request). r.open_request) rows)
 
 -- A request as it is to be opened, or to take the place of another one, is placed: there are keys for its branches, and its
 -- numbers are of their types.

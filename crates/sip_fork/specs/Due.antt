@@ -1,5 +1,5 @@
 -- What of an open request is due at a moment (RFC 3261 17).
-use Rattle.std.specs.Prelude.{ℕ, ◌≡◌, ◌<◌, ◌&&◌, ◌||◌, ◌==◌, not, Bool, true, false, List, ◌∷◌, length, position, slice_get, Option, Some, None}
+use Rattle.std.specs.Prelude.{ℕ, ◌≡◌, ◌≢◌, ◌<◌, ◌&&◌, ◌||◌, ◌==◌, not, Bool, true, false, List, ◌∷◌, length, position, slice_get, Option, Some, None}
 use Rattle.sip_timers.specs.declared.timer.Timer.{Timer}
 use Rattle.sip_timers.specs.declared.timer.Owner.{Owner}
 use Rattle.sip_timers.specs.declared.timer.Owner.TheVariants as Of
@@ -56,7 +56,15 @@ IsOfOwner r owner What.AnswerEnds = owner ≡ Of.Server
 IsOfOwner r owner (What.BranchAgain place) = IsBranchOf owner r.branches place
 IsOfOwner r owner (What.BranchEnds place) = IsBranchOf owner r.branches place
 
--- What is due first is what the first timer that stands is set for: of those due at one moment, the one that was set first.
+-- a deadline passes only where nothing of its part goes again at that moment
+abbrev pub GoesAgainBefore : OpenRequest → ℕ → Due → Type 0
+GoesAgainBefore r due What.AnswerAgain = Unit {0}
+GoesAgainBefore r due What.AnswerEnds = answer_due r ≢ Some due
+GoesAgainBefore r due (What.BranchAgain place) = Unit {0}
+GoesAgainBefore r due (What.BranchEnds place) = (b : Branch) → slice_get r.branches place ≡ Some b → branch_due r b ≢ Some due
+
+-- What is due first is what the first timer that stands is set for: of those due at one moment, the one that was set first, and of one
+-- part what goes again before its deadline.
 pub record IsOfFirst (pending : List Timer) (requests : List OpenRequest) (first : First) : Type 0 where
   pub timer : Timer
   pub later : List Timer
@@ -64,6 +72,7 @@ pub record IsOfFirst (pending : List Timer) (requests : List OpenRequest) (first
   pub due : first.due ≡ timer.due
   pub request : (r : OpenRequest) → slice_get requests first.place ≡ Some r → r.number ≡ timer.name.request
   pub part : (r : OpenRequest) → slice_get requests first.place ≡ Some r → IsOfOwner r timer.name.owner first.what
+  pub again : (r : OpenRequest) → slice_get requests first.place ≡ Some r → GoesAgainBefore r first.due first.what
 
 -- Nothing is due before any moment: no deadline stands, and nothing is to go again.
 pub record IsNothingDue (requests : List OpenRequest) : Type 0 where

@@ -7,7 +7,9 @@ use Rattle.sip_context.specs.declared.input.Input.{Input}
 use Rattle.sip_context.specs.declared.input.Input.TheVariants.{Response, BranchDeadline, SideDeadline, SendFault, Cancel, Ack, BranchAgain}
 use Rattle.sip_context.specs.declared.input.Input.TheVariants.{AnswerAgain}
 use Rattle.sip_request.specs.transactions_model.Fits.{Fits}
+use Rattle.sip_request.specs.transactions_model.Matching.{AreBranched}
 use Rattle.sip_request.specs.transactions_model.Near.{IsWithin}
+use Rattle.model_branches.specs.Kept.{AreKept}
 
 -- a branch of a request is one whose moment has come to send again (RFC 3261 17.1.1.2, 17.1.2.2)
 pub record IsToSendAgain (r : OpenRequest) (now : ℕ) (b : Branch) : Type 0 where
@@ -25,10 +27,11 @@ IsOf r now Ack = Unit {0}
 IsOf r now (BranchAgain branch) = IsToSendAgain r now branch.now
 IsOf r now AnswerAgain = IsSomeAnd (answer_due r) (λ due. due ≤ now)
 
--- What a request becomes at a moment is kept: its parts fit their transactions, its moments are near that one, and its number and
--- its key are what they were.
+-- What a request becomes at a moment is kept: its parts fit their transactions, its moments are near that one, its number and
+-- its key are what they were, and its branches are those that it had, in their order, with CANCELs that join them.
 pub record IsKeptAs (now : ℕ) (r x : OpenRequest) : Type 0 where
   pub fits : Fits x
   pub within : IsWithin now x
   pub number : x.number ≡ r.number
   pub key : x.key ≡ r.key
+  pub branches : AreBranched r.branches → AreKept r.branches x.branches

@@ -20,8 +20,9 @@ ghost use Rattle.sip_context.specs.declared.input.Input as Inputs;
 ghost use Rattle.sip_dialog_lessons.specs.state.declared.server.Server as Servers;
 ghost use Rattle.sip_fork.specs.Ending.{IsDeadlineOf, ended, left_invite};
 ghost use Rattle.sip_fork.specs.Contexts.{IsFitting, IsSame};
-ghost use Rattle.sip_fork.specs.Firing.{KeepsOrder};
-ghost use Rattle.sip_request.specs.transactions_model.Matching.{AreMatched};
+ghost use Rattle.sip_fork.specs.Firing.{IsQueueOf, KeepsOrder};
+ghost use Rattle.sip_request.specs.transactions_model.Matching.{AreBranched};
+ghost use Rattle.model_branches.specs.Kept.{AreKept};
 ghost use Rattle.sip_fork.specs.Due.{IsFirst, IsFirstAt, IsNothingDue, IsOfFirst};
 ghost use Rattle.sip_fork.specs.Places.{branch_at};
 
@@ -35,6 +36,7 @@ use crate::planning::prepared;
 use crate::queue::Queue;
 use crate::row::Standing;
 use crate::timing::timers_stand_for_moments;
+use model_branches::laws::timers_are_apart;
 use model_steps::context_model::laws::found_by_numbers;
 use sip_context::Input;
 use sip_dialog_lessons::state::{OpenRequest, Server};
@@ -251,10 +253,10 @@ impl<T: Timers> Contexts<T> {
         requires place { place < length self.old.requests }
         requires same { (r : OpenRequest) → slice_get self.old.requests place ≡ Some r → IsSame r change }
         requires within { IsWithin self.old.moment change }
+        requires branches { (r : OpenRequest) → slice_get self.old.requests place ≡ Some r → AreBranched r.branches → AreKept r.branches change.branches }
         requires fitting { IsFitting self.old.reached self.old.room change }
         ensures requests { self.new.requests ≡ replaced change self.old.requests }
-        ensures queue { (r : OpenRequest) → slice_get self.old.requests place ≡ Some r → AreMatched r.branches change.branches
-            → KeepsOrder self.old.pending self.old.requests self.new.pending self.new.requests }
+        ensures queue { KeepsOrder self.old.pending self.new.pending self.new.requests }
         ensures moment { self.new.moment ≡ self.old.moment }
         ensures reached { self.new.reached ≡ self.old.reached }
         ensures places { self.old.places ≤ self.new.places }
@@ -291,7 +293,7 @@ impl<T: Timers> Contexts<T> {
         requires kept { (r : OpenRequest) → slice_get self.old.requests place ≡ Some r → IsKeptAs self.old.moment r (ended transaction r) }
         ensures requests { (r : OpenRequest) → slice_get self.old.requests place ≡ Some r
             → self.new.requests ≡ replaced (ended transaction r) self.old.requests }
-        ensures queue { KeepsOrder self.old.pending self.old.requests self.new.pending self.new.requests }
+        ensures queue { KeepsOrder self.old.pending self.new.pending self.new.requests }
         ensures left { (r : OpenRequest) → slice_get self.old.requests place ≡ Some r → result ≡ left_invite (ended transaction r) }
         ensures moment { self.new.moment ≡ self.old.moment }
         ensures reached { self.new.reached ≡ self.old.reached }
@@ -318,9 +320,10 @@ impl<T: Timers> Contexts<T> {
         requires last { All (λ (r : OpenRequest). r.number < opening.number) self.old.requests }
         requires alone { position (has_key opening.key) self.old.requests ≡ None }
         requires within { IsWithin self.old.moment opening }
+        requires branched { AreBranched opening.branches }
         requires fitting { IsFitting self.old.reached self.old.room opening }
         ensures requests { self.new.requests ≡ with_one_more opening self.old.requests }
-        ensures queue { KeepsOrder self.old.pending self.old.requests self.new.pending self.new.requests }
+        ensures queue { KeepsOrder self.old.pending self.new.pending self.new.requests }
         ensures moment { self.new.moment ≡ self.old.moment }
         ensures reached { self.new.reached ≡ self.old.reached }
         ensures places { self.old.places ≤ self.new.places + 1 }
@@ -356,6 +359,16 @@ impl<T: Timers> Contexts<T> {
         Some(first.0)
     }
 
+    /// The timers that stand are those that open requests name, in the order in which they are due, and no two are alike; so they stay as
+    /// they are where nothing changes. Does nothing.
+    pub fn stand_in_order(&self)
+        ensures timers { IsQueueOf self.now.pending self.now.requests }
+        ensures still { KeepsOrder self.now.pending self.now.pending self.now.requests }
+    {
+        timers_are_apart();
+        self.timers.stand_in_order();
+    }
+
     /// A moment comes before which nothing is due. Takes no memory.
     pub fn reach(&mut self, moment: u64)
         requires none { NoneBefore moment self.old.requests }
@@ -363,6 +376,7 @@ impl<T: Timers> Contexts<T> {
         requires early { moment < 2 ^ 62 }
         ensures requests { self.new.requests ≡ self.old.requests }
         ensures pending { self.new.pending ≡ self.old.pending }
+        ensures queue { KeepsOrder self.old.pending self.new.pending self.new.requests }
         ensures moment { self.new.moment ≡ max self.old.moment moment }
         ensures reached { self.new.reached ≡ max self.old.reached (moment - 1) }
         ensures places { self.new.places ≡ self.old.places }
@@ -370,6 +384,7 @@ impl<T: Timers> Contexts<T> {
     {
         timers_stand_for_moments();
         time_passes();
+        self.stand_in_order();
         self.moment = self.moment.max(moment);
         if moment > 0 {
             self.timers.reach(moment - 1);

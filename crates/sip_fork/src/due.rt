@@ -1,7 +1,7 @@
 ghost use Rattle.std.specs.Prelude.{◌≡◌, false, position, None, IfSome, IfNone};
 ghost use Rattle.sip_dialog_lessons.specs.state.State.{side_deadline, phase_deadline};
 ghost use Rattle.model_steps.specs.context_model.Retransmission.{answer_due, branch_due};
-ghost use Rattle.sip_fork.specs.Due.{IsDue, IsNotDue, IsOfOwner, is_at, is_branch_due, is_either, is_of};
+ghost use Rattle.sip_fork.specs.Due.{GoesAgainBefore, IsDue, IsNotDue, IsOfOwner, is_at, is_branch_due, is_either, is_of};
 ghost use Rattle.sip_timers.specs.declared.timer.Owner.TheVariants.{Server};
 
 use sip_context::context_branches::{answer_due, branch_due};
@@ -77,10 +77,11 @@ fn is_of(owner: Owner, branch: &Branch) -> bool
 }
 
 /// What of the answering side is due at a moment.
-#[tactic(auto, using(crate::proofs::Dues::at_is, crate::proofs::Dues::neither))]
+#[tactic(auto, using(crate::proofs::Dues::at_is, crate::proofs::Dues::not_at, crate::proofs::Dues::neither))]
 fn answer_what(request: &OpenRequest, due: u64) -> Option<Due>
     ensures some { IfSome result (IsDue request.now due) }
     ensures side { IfSome result (IsOfOwner request.now Server) }
+    ensures again { IfSome result (GoesAgainBefore request.now due) }
     ensures none { IfNone result (is_either (answer_due request.now) (side_deadline request.now.side) due ≡ false) }
 {
     if is_at(answer_due(request), due) {
@@ -120,6 +121,7 @@ fn place_of(request: &OpenRequest, owner: Owner, due: u64) -> Option<usize>
 fn branch_what(request: &OpenRequest, owner: Owner, due: u64) -> Option<Due>
     ensures some { IfSome result (IsDue request.now due) }
     ensures part { IfSome result (IsOfOwner request.now owner) }
+    ensures again { IfSome result (GoesAgainBefore request.now due) }
     ensures none { IfNone result (position (is_branch_due request.now owner due) request.now.branches ≡ None) }
 {
     let place = place_of(request, owner, due)?;
@@ -136,6 +138,7 @@ fn branch_what(request: &OpenRequest, owner: Owner, due: u64) -> Option<Due>
 pub(crate) fn what_at(request: &OpenRequest, owner: Owner, due: u64) -> Option<Due>
     ensures some { IfSome result (IsDue request.now due) }
     ensures part { IfSome result (IsOfOwner request.now owner) }
+    ensures again { IfSome result (GoesAgainBefore request.now due) }
     ensures none { IfNone result (IsNotDue request.now due owner) }
 {
     match owner {

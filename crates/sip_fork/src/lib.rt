@@ -15,6 +15,7 @@ mod contexts;
 pub mod dialogs;
 mod due;
 mod ending;
+pub mod firing;
 pub mod keeping;
 mod lookup;
 mod moving;

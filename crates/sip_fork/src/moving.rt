@@ -5,7 +5,8 @@ ghost use Rattle.sip_request.specs.Named.{HasKeys, IsReady, named_by};
 ghost use Rattle.sip_request.specs.Near.{IsNear, most_timers};
 ghost use Rattle.sip_timers.specs.Moves.{IsHeld, Moves};
 ghost use Rattle.sip_timers.specs.Setting.{SetsInOrder};
-ghost use Rattle.sip_request.specs.transactions_model.Matching.{AreMatched};
+ghost use Rattle.sip_request.specs.transactions_model.Matching.{AreBranched, AreMatched};
+ghost use Rattle.model_branches.specs.Kept.{AreKept};
 ghost use Rattle.sip_request.specs.Order.{keyed, named_in_order};
 ghost use Rattle.sip_fork.specs.Firing.{KeepsOrder};
 ghost use Rattle.sip_timers.specs.Timers.{KeysDiffer};
@@ -19,6 +20,7 @@ use crate::change::{Change, Opening};
 use crate::ending::stop;
 use crate::queue::Queue;
 use crate::row::Standing;
+use model_branches::laws::timers_are_apart;
 use sip_request::Request;
 use sip_timers::Timers;
 use sip_transaction_table::{Held, Table, Transaction};
@@ -29,12 +31,12 @@ pub(crate) fn close_row<T: Timers>(table: &mut Table<Standing>, timers: &mut Que
     requires tied { AreTied timers.old.pending timers.old.reached table.old.rows }
     ensures rows { table.new.rows ≡ remove table.old.rows place }
     ensures tied { AreTied timers.new.pending timers.new.reached table.new.rows }
-    ensures queue { KeepsOrder timers.old.pending (map (λ (r : Request). r.open_request) table.old.rows) timers.new.pending
-        (map (λ (r : Request). r.open_request) table.new.rows) }
+    ensures queue { KeepsOrder timers.old.pending timers.new.pending (map (λ (r : Request). r.open_request) table.new.rows) }
     ensures places { table.old.room ≤ table.new.room }
     ensures room { timers.old.room ≤ timers.new.room }
     ensures still { timers.new.reached ≡ timers.old.reached }
 {
+    timers_are_apart();
     timers.stand_in_order();
     let row = table.remove(place);
     let standing = row.get();
@@ -68,17 +70,18 @@ pub(crate) fn change_row<T: Timers>(
     requires place { place < length table.old.rows }
     requires tied { AreTied timers.old.pending timers.old.reached table.old.rows }
     requires same { (r : Request) → slice_get table.old.rows place ≡ Some r → IsSame r.open_request change }
+    requires branches { (r : Request) → slice_get table.old.rows place ≡ Some r → AreBranched r.open_request.branches
+        → AreKept r.open_request.branches change.branches }
     requires fitting { IsFitting timers.old.reached timers.old.room change }
     ensures rows { map (λ (r : Request). r.open_request) table.new.rows
         ≡ slice_set (map (λ (r : Request). r.open_request) table.old.rows) place change }
     ensures tied { AreTied timers.new.pending timers.new.reached table.new.rows }
-    ensures queue { (r : Request) → slice_get table.old.rows place ≡ Some r → AreMatched r.open_request.branches change.branches
-        → KeepsOrder timers.old.pending (map (λ (r : Request). r.open_request) table.old.rows) timers.new.pending
-        (map (λ (r : Request). r.open_request) table.new.rows) }
+    ensures queue { KeepsOrder timers.old.pending timers.new.pending (map (λ (r : Request). r.open_request) table.new.rows) }
     ensures places { table.new.room ≡ table.old.room }
     ensures room { timers.old.room ≤ timers.new.room + most_timers change }
     ensures still { timers.new.reached ≡ timers.old.reached }
 {
+    timers_are_apart();
     timers.stand_in_order();
     let Change { mut row } = change;
     let stood = table.get(place);
@@ -97,15 +100,17 @@ pub(crate) fn end_row<T: Timers>(
     requires tied { AreTied timers.old.pending timers.old.reached table.old.rows }
     requires fits { (r : Request) → slice_get table.old.rows place ≡ Some r → Fits (ended transaction r.open_request) }
     requires within { (r : Request) → slice_get table.old.rows place ≡ Some r → IsWithin (timers.old.reached + 1) (ended transaction r.open_request) }
+    requires branches { (r : Request) → slice_get table.old.rows place ≡ Some r → AreBranched r.open_request.branches
+        → AreKept r.open_request.branches (ended transaction r.open_request).branches }
     ensures rows { (r : Request) → slice_get table.old.rows place ≡ Some r → map (λ (r : Request). r.open_request) table.new.rows
         ≡ slice_set (map (λ (r : Request). r.open_request) table.old.rows) place (ended transaction r.open_request) }
     ensures tied { AreTied timers.new.pending timers.new.reached table.new.rows }
-    ensures queue { KeepsOrder timers.old.pending (map (λ (r : Request). r.open_request) table.old.rows) timers.new.pending
-        (map (λ (r : Request). r.open_request) table.new.rows) }
+    ensures queue { KeepsOrder timers.old.pending timers.new.pending (map (λ (r : Request). r.open_request) table.new.rows) }
     ensures places { table.new.room ≡ table.old.room }
     ensures room { timers.old.room ≤ timers.new.room }
     ensures still { timers.new.reached ≡ timers.old.reached }
 {
+    timers_are_apart();
     timers.stand_in_order();
     let row = table.get(place);
     stop(timers, &row.request, transaction);
@@ -138,15 +143,16 @@ pub(crate) fn open_row<T: Timers>(
     requires last { All (λ (r : Request). r.open_request.number < opening.number) table.old.rows }
     requires alone { position (λ (r : Request). same_key r.open_request.key opening.key) table.old.rows ≡ None }
     requires tied { AreTied timers.old.pending timers.old.reached table.old.rows }
+    requires branched { AreBranched opening.branches }
     requires fitting { IsFitting timers.old.reached timers.old.room opening }
     ensures rows { map (λ (r : Request). r.open_request) table.new.rows ≡ map (λ (r : Request). r.open_request) table.old.rows ++ opening ∷ [] }
     ensures tied { AreTied timers.new.pending timers.new.reached table.new.rows }
-    ensures queue { KeepsOrder timers.old.pending (map (λ (r : Request). r.open_request) table.old.rows) timers.new.pending
-        (map (λ (r : Request). r.open_request) table.new.rows) }
+    ensures queue { KeepsOrder timers.old.pending timers.new.pending (map (λ (r : Request). r.open_request) table.new.rows) }
     ensures places { table.old.room ≤ table.new.room + 1 }
     ensures room { timers.old.room ≤ timers.new.room + most_timers opening }
     ensures still { timers.new.reached ≡ timers.old.reached }
 {
+    timers_are_apart();
     timers.stand_in_order();
     let Opening { mut place } = opening;
     begin(&mut place, timers);

@@ -12,6 +12,7 @@ use Rattle.sip_dialog_lessons.specs.state.declared.open_request.Upward.{Upward}
 use Rattle.sip_forwarding.specs.context_model.Branches.{answered, after_upward, best_upward}
 use Rattle.sip_forwarding.specs.context_model.Opening.{request_key, forking, trying, tried, opening}
 use Rattle.model_transactions.specs.Fits.{Fits}
+use Rattle.model_transactions.specs.Matching.{AreBranched}
 use Rattle.model_transactions.specs.Near.{IsWithin}
 use Rattle.sip_forwarding.specs.Forwarding.{IsOpenable}
 
@@ -44,11 +45,13 @@ key_is m key is = ap (λ (o : Option Key). unwrap_or o (record { branch = []; ho
 
 -- so a request that comes can be opened
 pub openable : (server : Server) (a : Arrival) (m : Message) (key : Key) (branches : List Branch) → key_of m ≡ Some key → Fits (opening server a.now (forking a m branches)).request
-    → IsWithin a.now (opening server a.now (forking a m branches)).request → IsOpenable a key (opening server a.now (forking a m branches)).request
-openable server a m key branches is fits within =
+    → IsWithin a.now (opening server a.now (forking a m branches)).request → AreBranched (opening server a.now (forking a m branches)).request.branches
+    → IsOpenable a key (opening server a.now (forking a m branches)).request
+openable server a m key branches is fits within branched =
     record {
       number = opening_number server a.now (forking a m branches);
       key = opening_key server a.now (forking a m branches) ∙ key_is m key is;
       fits = fits;
       within = within;
+      branched = branched;
     }

@@ -22,6 +22,7 @@ use Rattle.sip_context.specs.declared.input.Input.TheVariants.{Response, BranchD
 use Rattle.sip_context.specs.declared.input.Input.TheVariants.{AnswerAgain}
 use Rattle.sip_context.specs.Inputs.{Outcome}
 use Rattle.model_transactions.specs.Fits.{Fits}
+use Rattle.model_transactions.specs.Matching.{AreBranched}
 use Rattle.model_transactions.specs.Near.{IsWithin}
 use Rattle.sip_forwarding.specs.declared.changing.Drafted.{Drafted}
 
@@ -35,13 +36,14 @@ call_to a m targets = forking a m (branches_from a.now 1 (target_list targets))
 abbrev pub call_within : Server → Arrival → Message → Addr → OpenRequest
 call_within server a m address = forking a m (dialog_branch server a.now m address ∷ [])
 
--- A request can be opened: it has the number and the key with which it came, its parts fit their transactions, and its moments are
--- near the one at which it came.
+-- A request can be opened: it has the number and the key with which it came, its parts fit their transactions, its moments are near
+-- the one at which it came, and its branches are targets with numbers of their own and CANCELs behind them.
 pub record IsOpenable (a : Arrival) (under : Key) (r : OpenRequest) : Type 0 where
   pub number : r.number ≡ a.number
   pub key : r.key ≡ under
   pub fits : Fits r
   pub within : IsWithin a.now r
+  pub branched : AreBranched r.branches
 
 -- ---- what is sent, and what dialogs learn
 

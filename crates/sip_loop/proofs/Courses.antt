@@ -12,8 +12,9 @@ use Rattle.sip_event.specs.declared.packet.Packet.{Packet}
 use Rattle.sip_audit.specs.declared.record.Record.{Record}
 use Rattle.sip_record.specs.Record.{Notes}
 use Rattle.model_bounds.specs.state.declared.server.Server.{Server}
-use Rattle.model_bounds.specs.state.declared.proxy_state.ProxyState.{ProxyState}
+use Rattle.model_order.specs.Order.{Standing, queue_from}
 use Rattle.model_bounds.specs.model.Run.{Link, IsRun}
+use Rattle.model_order.proofs.Along.{queue_behind}
 use Rattle.sip_loop.specs.Printing.{Prints}
 use Rattle.sip_loop.specs.Serving.{AreDrawn, AreInTurn, AreTold, AreAt, Asked, Asks, Cause, Clear, FallsAt, FallsDue, Fires, HasFailed, IsToldMore, Kept, Logs, MayCome, MayFallDue, Point, Reads, Sends, Stage, Stopped, Takes, Tells, Told, Turn, Unlogged, Untold}
 use Rattle.sip_loop.specs.Serving.{ahead, between_turns, event_for, event_taken, event_told, failing, gathered, heard_of_turn, moment_read, packets_of, reading_of, records_logged, records_of, steps_taken, told_by, told_more, turn_asked, turn_behind, untold_in}
@@ -62,13 +63,14 @@ twice_nil : {A : Type 0} (xs : List A) → (xs ++ []) ++ [] ≡ xs
 twice_nil xs = append-nil (xs ++ []) ∙ append-nil xs
 
 module _ (server : Server) where
-  pub course_nothing : (state : ProxyState) (p : Point) (t : Told) → IsThrough p.stage → Course server state state p p t t [] 0 0
+  pub course_nothing : (state : Standing) (p : Point) (t : Told) → IsThrough p.stage → Course server state state p p t t [] 0 0
   course_nothing state p t is = record {
     done = [];
     path = refl;
     history = [];
-    is_run = run_nothing server state None;
+    is_run = run_nothing server state.state None;
     turns = tt;
+    queue = refl;
     sayable = tt;
     told = told_nothing t;
     whole = whole_nothing t;
@@ -80,7 +82,7 @@ module _ (server : Server) where
     asked = refl;
   }
 
-  pub course_on : (old middle new : ProxyState) (from mid to : Point) (before half after : Told) (records more : List Record) (reads asks more_reads more_asks : ℕ) → IsThrough mid.stage
+  pub course_on : (old middle new : Standing) (from mid to : Point) (before half after : Told) (records more : List Record) (reads asks more_reads more_asks : ℕ) → IsThrough mid.stage
       → Course server old middle from mid before half records reads asks → Course server middle new mid to half after more more_reads more_asks
       → Course server old new from to before after (records ++ more) (reads + more_reads) (asks + more_asks)
   course_on old middle new from mid to before half after records more reads asks more_reads more_asks is first second =
@@ -93,12 +95,13 @@ module _ (server : Server) where
         path = path_on from mid to first.done second.done first.path second.path;
         history = second.history ++ first.history;
         is_run =
-            subst (λ (es : List Event). IsRun server old es (ahead (second.done ++ first.done)) (gathered steps_taken (second.done ++ first.done)) (second.history ++ first.history) new) (sym (gathered_behind event_taken second.done first.done))
-            (subst (λ (o : Option ℕ). IsRun server old (gathered event_taken first.done ++ gathered event_taken second.done) o (gathered steps_taken (second.done ++ first.done)) (second.history ++ first.history) new) (sym until)
-            (subst (λ (ss : List StepOut). IsRun server old (gathered event_taken first.done ++ gathered event_taken second.done) (ahead second.done) ss (second.history ++ first.history) new) (sym (gathered_behind steps_taken second.done first.done))
-            (run_on server old middle new (gathered event_taken first.done) (gathered event_taken second.done) (ahead second.done) (gathered steps_taken first.done) (gathered steps_taken second.done) first.history second.history
-            (subst (λ (o : Option ℕ). IsRun server old (gathered event_taken first.done) o (gathered steps_taken first.done) first.history middle) none first.is_run) second.is_run)));
-        turns = in_turn_on server first.history second.history first.turns second.turns;
+            subst (λ (es : List Event). IsRun server old.state es (ahead (second.done ++ first.done)) (gathered steps_taken (second.done ++ first.done)) (second.history ++ first.history) new.state) (sym (gathered_behind event_taken second.done first.done))
+            (subst (λ (o : Option ℕ). IsRun server old.state (gathered event_taken first.done ++ gathered event_taken second.done) o (gathered steps_taken (second.done ++ first.done)) (second.history ++ first.history) new.state) (sym until)
+            (subst (λ (ss : List StepOut). IsRun server old.state (gathered event_taken first.done ++ gathered event_taken second.done) (ahead second.done) ss (second.history ++ first.history) new.state) (sym (gathered_behind steps_taken second.done first.done))
+            (run_on server old.state middle.state new.state (gathered event_taken first.done) (gathered event_taken second.done) (ahead second.done) (gathered steps_taken first.done) (gathered steps_taken second.done) first.history second.history
+            (subst (λ (o : Option ℕ). IsRun server old.state (gathered event_taken first.done) o (gathered steps_taken first.done) first.history middle.state) none first.is_run) second.is_run)));
+        turns = in_turn_on server old middle first.history second.history first.queue first.turns second.turns;
+        queue = queue_behind old middle new first.history second.history first.queue second.queue;
         sayable =
             subst (λ (es : List Event). AllByRecursion (λ (event : Event). is_sayable event ≡ true) es) (sym (gathered_behind event_taken second.done first.done))
             (all_on (gathered event_taken first.done) (gathered event_taken second.done) first.sayable second.sayable);
@@ -128,14 +131,15 @@ module _ (server : Server) where
   -- ---- one doing
 
   -- the clock is read
-  pub course_reads : (state : ProxyState) (m at : ℕ) (h : Option (List (Option Heard))) (g : Option (List Given)) (r r2 : Option (List ℕ)) (w p : Kept) (ws : Stream) → IsToldMore r (at ∷ []) r2
+  pub course_reads : (state : Standing) (m at : ℕ) (h : Option (List (Option Heard))) (g : Option (List Given)) (r r2 : Option (List ℕ)) (w p : Kept) (ws : Stream) → IsToldMore r (at ∷ []) r2
       → Course server state state (between_turns m) (waiting_at (Some at) [] m) (told_by h g r w p ws) (told_by h g r2 w p ws) [] 1 0
   course_reads state m at h g r r2 w p ws told = record {
     done = Reads at ∷ [];
     path = (between_turns m, refl, record { idle = record { clear = refl; whole = refl; all_sent = refl }; none_open = refl; leads = refl });
     history = [];
-    is_run = run_nothing server state None;
+    is_run = run_nothing server state.state None;
     turns = tt;
+    queue = refl;
     sayable = tt;
     told = record { heard = told_none h; given = told_none g; readings = told; words = refl; noted = notes_nothing w.bytes; printed = prints_nothing p.bytes };
     whole = record { journal = λ some. absurd (some refl); log = λ some. absurd (some refl) };
@@ -148,15 +152,16 @@ module _ (server : Server) where
   }
 
   -- the link is asked
-  pub course_asks : (state : ProxyState) (m at : ℕ) (turn : Turn) (h h2 : Option (List (Option Heard))) (g : Option (List Given)) (r : Option (List ℕ)) (w p : Kept) (ws ws2 : Stream) → reading_of turn ≡ at
+  pub course_asks : (state : Standing) (m at : ℕ) (turn : Turn) (h h2 : Option (List (Option Heard))) (g : Option (List Given)) (r : Option (List ℕ)) (w p : Kept) (ws ws2 : Stream) → reading_of turn ≡ at
       → h2 ≡ told_more h (heard_of_turn turn ∷ []) → AreDrawn ws (turn ∷ []) ws2
       → Course server state state (waiting_at (Some at) [] m) (asked_at at turn m) (told_by h g r w p ws) (told_by h2 g r w p ws2) [] 0 1
   course_asks state m at turn h h2 g r w p ws ws2 is heard drawn = record {
     done = Asks turn ∷ [];
     path = (waiting_at (Some at) [] m, refl, record { idle = record { clear = refl; whole = refl; all_sent = refl }; is_open = ap Some (sym is); leads = refl });
     history = [];
-    is_run = run_nothing server state None;
+    is_run = run_nothing server state.state None;
     turns = tt;
+    queue = refl;
     sayable = tt;
     told = record { heard = heard; given = told_none g; readings = told_if_none r; words = drawn; noted = notes_nothing w.bytes; printed = prints_nothing p.bytes };
     whole = record { journal = λ some. absurd (some refl); log = λ some. absurd (some refl) };
@@ -169,15 +174,16 @@ module _ (server : Server) where
   }
 
   -- a packet is given to the link
-  pub course_sends : (state : ProxyState) (turn : Option ℕ) (p : Packet) (sending : Sending) (rest : List Packet) (m : ℕ) (h : Option (List (Option Heard))) (g g2 : Option (List Given)) (r : Option (List ℕ)) (w l : Kept) (ws : Stream)
+  pub course_sends : (state : Standing) (turn : Option ℕ) (p : Packet) (sending : Sending) (rest : List Packet) (m : ℕ) (h : Option (List (Option Heard))) (g g2 : Option (List Given)) (r : Option (List ℕ)) (w l : Kept) (ws : Stream)
       → g2 ≡ told_more g (record { to = p.to; bytes = p.bytes; sending = sending } ∷ [])
       → Course server state state (waiting_at turn (p ∷ rest) m) (sent_at turn (failing p sending) rest m) (told_by h g r w l ws) (told_by h g2 r w l ws) [] 0 0
   course_sends state turn p sending rest m h g g2 r w l ws given = record {
     done = Sends p sending ∷ [];
     path = (waiting_at turn (p ∷ rest) m, refl, record { clear = refl; whole = refl; rest = rest; first = refl; leads = refl });
     history = [];
-    is_run = run_nothing server state None;
+    is_run = run_nothing server state.state None;
     turns = tt;
+    queue = refl;
     sayable = tt;
     told = record { heard = told_none h; given = given; readings = told_if_none r; words = refl; noted = notes_nothing w.bytes; printed = prints_nothing l.bytes };
     whole = record { journal = λ some. absurd (some refl); log = λ some. absurd (some refl) };
@@ -190,14 +196,15 @@ module _ (server : Server) where
   }
 
   -- what is due happens, and the event behind it isn't taken
-  pub course_fires : (old new : ProxyState) (p : Point) (at : ℕ) (outs : List StepOut) (history : List Link) (t : Told) → MayFallDue at p → AreAt at outs → IsRun server old [] (Some at) outs history new → AreInTurn server history
-      → records_of outs ≡ [] → Course server old new p (stopped_at p (FallsDue at) outs) t t [] 0 0
-  course_fires old new p at outs history t comes falls run turns none = record {
+  pub course_fires : (old new : Standing) (p : Point) (at : ℕ) (outs : List StepOut) (history : List Link) (t : Told) → MayFallDue at p → AreAt at outs → IsRun server old.state [] (Some at) outs history new.state → AreInTurn server old.queue history
+      → new.queue ≡ queue_from old.queue history → records_of outs ≡ [] → Course server old new p (stopped_at p (FallsDue at) outs) t t [] 0 0
+  course_fires old new p at outs history t comes falls run turns queue none = record {
     done = Fires (FallsDue at) outs ∷ [];
     path = (p, refl, record { comes = comes; falls = falls; leads = refl });
     history = history;
     is_run = run;
     turns = turns;
+    queue = queue;
     sayable = tt;
     told = let told = told_nothing t in record { heard = told.heard; given = told.given; readings = told.readings; words = told.words; noted = told.noted; printed = told.printed };
     whole = record { journal = λ some. absurd (some refl); log = λ some. absurd (some refl) };
@@ -211,8 +218,8 @@ module _ (server : Server) where
 
   -- ---- an event
 
-  module _ (old new : ProxyState) (p : Point) (cause : Cause) (outs : List StepOut) (own : StepOut) (history : List Link) (comes : MayCome cause p) (falls : FallsAt cause outs)
-      (run : IsRun server old (event_for cause ∷ []) None (outs ++ own ∷ []) history new) (turns : AreInTurn server history) (recorded : records_of (outs ++ own ∷ []) ≡ own.records) (says : is_sayable (event_for cause) ≡ true) where
+  module _ (old new : Standing) (p : Point) (cause : Cause) (outs : List StepOut) (own : StepOut) (history : List Link) (comes : MayCome cause p) (falls : FallsAt cause outs)
+      (run : IsRun server old.state (event_for cause ∷ []) None (outs ++ own ∷ []) history new.state) (turns : AreInTurn server old.queue history) (queue : new.queue ≡ queue_from old.queue history) (recorded : records_of (outs ++ own ∷ []) ≡ own.records) (says : is_sayable (event_for cause) ≡ true) where
     -- it was taken, and isn't told
     pub course_takes : (t t2 : Told) → AreTold t t2 [] → HasFailed t2.journal → t2.log.faulted ≡ t.log.faulted → Course server old new p (taken_at p cause outs own) t t2 own.records 0 0
     course_takes t t2 told failed same = record {
@@ -221,6 +228,7 @@ module _ (server : Server) where
       history = history;
       is_run = run;
       turns = turns;
+      queue = queue;
       sayable = (says, tt);
       told = record { heard = told.heard; given = told.given; readings = told.readings; words = told.words; noted = told.noted; printed = told.printed };
       whole = record { journal = λ some. absurd (some refl); log = λ some. absurd (some refl) };
@@ -239,8 +247,9 @@ module _ (server : Server) where
       done = Tells (event_for cause) ∷ Takes cause outs own ∷ [];
       path = (taken_at p cause outs own, (p, refl, record { comes = comes; falls = falls; leads = refl }), record { cause = cause; records = own.records; untold = refl; same = refl; leads = refl });
       history = history;
-      is_run = subst (λ (ss : List StepOut). IsRun server old (event_for cause ∷ []) None ss history new) (sym (append-nil (outs ++ own ∷ []))) run;
+      is_run = subst (λ (ss : List StepOut). IsRun server old.state (event_for cause ∷ []) None ss history new.state) (sym (append-nil (outs ++ own ∷ []))) run;
       turns = turns;
+      queue = queue;
       sayable = (says, tt);
       told = record { heard = told_none h; given = told_none g; readings = told_if_none r; words = refl; noted = noted; printed = printed };
       whole = record { journal = λ some. whole.0; log = λ some. absurd (some refl) };
@@ -265,8 +274,9 @@ module _ (server : Server) where
         record { unlogged = refl; leads = ap₂ (λ (l : List Packet) (n : ℕ). waiting_at (turn_behind cause p.turn) l n) waits stands },
       );
       history = history;
-      is_run = subst (λ (ss : List StepOut). IsRun server old (event_for cause ∷ []) None ss history new) (sym (twice_nil (outs ++ own ∷ []))) run;
+      is_run = subst (λ (ss : List StepOut). IsRun server old.state (event_for cause ∷ []) None ss history new.state) (sym (twice_nil (outs ++ own ∷ []))) run;
       turns = turns;
+      queue = queue;
       sayable = (says, tt);
       told = record { heard = told_none h; given = told_none g; readings = told_if_none r; words = refl; noted = noted; printed = printed };
       whole = record { journal = λ some. whole.0; log = sound };

@@ -8,7 +8,10 @@ use Rattle.model_bounds.specs.state.declared.server.Server.{Server}
 use Rattle.model_bounds.specs.state.declared.proxy_state.ProxyState.{ProxyState}
 use Rattle.model_bounds.specs.steps_model.Step.{Act, Given as ForEvent, Passing}
 use Rattle.model_bounds.specs.model.Run.{Link, IsChain, IsPaced, IsRun, IsUpTo, event_of, events_of, next_moment, steps_of, IsUnder}
-use Rattle.sip_loop.specs.Serving.{AreInTurn}
+use Rattle.model_transactions.specs.Queue.{Entry}
+use Rattle.model_order.specs.Order.{Standing, queue_from}
+use Rattle.model_order.proofs.Along.{queued_joined}
+use Rattle.sip_loop.specs.Serving.{AreInTurn, IsTurnOf}
 
 -- ---- histories
 
@@ -64,6 +67,7 @@ run_on server first middle last events more until steps further history later h 
 pub run_nothing : (server : Server) (state : ProxyState) (until : Option ℕ) → IsRun server state [] until [] [] state
 run_nothing server state until = record { chain = refl; paced = tt; of_events = refl; of_steps = refl; configured = tt }
 
-pub in_turn_on : (server : Server) (history later : List Link) → AreInTurn server history → AreInTurn server later → AreInTurn server (later ++ history)
-in_turn_on server history [] h k = h
-in_turn_on server history (link ∷ later) h k = (k.0, in_turn_on server history later h k.1)
+pub in_turn_on : (server : Server) (old mid : Standing) (history later : List Link) → mid.queue ≡ queue_from old.queue history → AreInTurn server old.queue history → AreInTurn server mid.queue later
+    → AreInTurn server old.queue (later ++ history)
+in_turn_on server old mid history later is h k =
+    queued_joined (λ (standing : List Entry) (link : Link). IsTurnOf server standing link.before link.act link.out link.after) old.queue history later h (subst (λ (q : List Entry). AreInTurn server q later) is k)

@@ -12,6 +12,7 @@ use Rattle.sip_event.specs.declared.packet.Packet.{Packet}
 use Rattle.sip_audit.specs.declared.record.Record.{Record}
 use Rattle.model_bounds.specs.state.declared.server.Server.{Server}
 use Rattle.model_bounds.specs.state.declared.proxy_state.ProxyState.{ProxyState}
+use Rattle.model_order.specs.Order.{IsFirstOf, IsQueueAfter, Standing}
 use Rattle.model_bounds.specs.state.State.{deadlines, first_state}
 use Rattle.sip_run.specs.engine.context_model.Retransmission.{resends}
 use Rattle.model_bounds.specs.model.Ends.{steps_left}
@@ -20,6 +21,9 @@ use Rattle.model_bounds.specs.steps_model.Step.{Act, Given as ForEvent, Passing,
 use Rattle.sip_run.specs.engine.declared.error.StepError.{StepError}
 use Rattle.sip_run.specs.engine.declared.error.StepError.TheVariants as steps
 use Rattle.sip_run.specs.engine.StepError.{refusal_at}
+use Rattle.model_transactions.specs.Queue.{Entry}
+use Rattle.model_order.proofs.Along.{queue_next}
+use Rattle.model_order.proofs.Settled.{stays_settled}
 use Rattle.sip_run.specs.Due.{Fires, NothingDueBy}
 use Rattle.sip_run.specs.Refusals.{RefusesStep}
 use Rattle.sip_record.specs.Record.{Notes}
@@ -129,31 +133,37 @@ abbrev pub StepsStand : Server → Type 0
 StepsStand server = (old new : ProxyState) (act : Act) (out : StepOut) → IsStep server old act out new → new.moment ≡ out.at
 
 module _ (server : Server) (ends : DueEnds server) (rises : MomentRises server) (stands : StepsStand server) where
-  pub fires_one : (old new : ProxyState) (at first : ℕ) (history : List Link) (out : StepOut) → IsChain server (first_state first) history old → IsDeadline server old at out new ⊎ IsResend server old at out new
+  -- fewer such steps are left by each moment by which it stands
+  fewer_by : (old new : ProxyState) (at first : ℕ) (history : List Link) (out : StepOut) → IsChain server (first_state first) history old → IsDeadline server old at out new ⊎ IsResend server old at out new → LeavesFewer at old new
+  fewer_by old new at first history out chain (inl d) = λ by le.
+      (let fewer : steps_left by new < steps_left by old = ends first history old new by out chain (inl (by_deadline server old new at by out (let due : out.at ≤ moment_of old at = d.is_due in omega (arith, due, le)) d)) in omega (arith, fewer))
+  fewer_by old new at first history out chain (inr d) = λ by le.
+      (let fewer : steps_left by new < steps_left by old = ends first history old new by out chain (inr (by_resend server old new at by out (let due : out.at ≤ moment_of old at = d.is_due in omega (arith, due, le)) d)) in omega (arith, fewer))
+
+  by_then : (old new : ProxyState) (at : ℕ) (out : StepOut) → IsDeadline server old at out new ⊎ IsResend server old at out new → out.at ≤ moment_of old at
+  by_then old new at out (inl d) = d.is_due
+  by_then old new at out (inr d) = d.is_due
+
+  none_recorded : (old new : ProxyState) (at : ℕ) (out : StepOut) → IsDeadline server old at out new ⊎ IsResend server old at out new → out.records ≡ []
+  none_recorded old new at out (inl d) = d.does.records
+  none_recorded old new at out (inr d) = d.does.records
+
+  pub fires_one : (old new : Standing) (at first : ℕ) (history : List Link) (out : StepOut) → IsChain server (first_state first) history old.state → IsFirstOf server old.queue old.state at out new.state → IsQueueAfter old new
       → FiresOne server old at out new
-  fires_one old new at first history out chain (inl d) = record {
-    happens = inl d;
-    rises = rises first (record { config = server.config; before = old; act = Passing at; out = out; after = new }) history new (refl, inr (inl d), chain);
-    stands = stands old new (Passing at) out (inr (inl d));
-    in_time = d.is_due;
-    no_records = d.does.records;
-    fewer = λ by le.
-        (let fewer : steps_left by new < steps_left by old = ends first history old new by out chain (inl (by_deadline server old new at by out (let due : out.at ≤ moment_of old at = d.is_due in omega (arith, due, le)) d)) in omega (arith, fewer));
-  }
-  fires_one old new at first history out chain (inr d) = record {
-    happens = inr d;
-    rises = rises first (record { config = server.config; before = old; act = Passing at; out = out; after = new }) history new (refl, inr (inr d), chain);
-    stands = stands old new (Passing at) out (inr (inr d));
-    in_time = d.is_due;
-    no_records = d.does.records;
-    fewer = λ by le.
-        (let fewer : steps_left by new < steps_left by old = ends first history old new by out chain (inr (by_resend server old new at by out (let due : out.at ≤ moment_of old at = d.is_due in omega (arith, due, le)) d)) in omega (arith, fewer));
+  fires_one old new at first history out chain happens queue = record {
+    happens = happens;
+    queue = queue;
+    rises = rises first (record { config = server.config; before = old.state; act = Passing at; out = out; after = new.state }) history new.state (refl, inr happens.happens, chain);
+    stands = stands old.state new.state (Passing at) out (inr happens.happens);
+    in_time = by_then old.state new.state at out happens.happens;
+    no_records = none_recorded old.state new.state at out happens.happens;
+    fewer = fewer_by old.state new.state at first history out chain happens.happens;
   }
 
-  pub fires_some : (old new : ProxyState) (at first : ℕ) (history : List Link) (fired : Option StepOut) → IsChain server (first_state first) history old → IfSome fired (λ out. Fires server old at out new)
+  pub fires_some : (old new : Standing) (at first : ℕ) (history : List Link) (fired : Option StepOut) → IsChain server (first_state first) history old.state → IfSome fired (λ out. Fires server old at out new)
       → IfSome fired (λ out. FiresOne server old at out new)
   fires_some old new at first history None chain h = tt
-  fires_some old new at first history (Some out) chain h = fires_one old new at first history out chain h.happens
+  fires_some old new at first history (Some out) chain h = fires_one old new at first history out chain h.happens h.queue
 
 -- ---- what happened
 
@@ -162,8 +172,8 @@ abbrev pub own_at : ℕ → StepOut
 own_at at = record { at = at; packets = []; records = [] }
 
 module _ (server : Server) where
-  pub happens_nothing : (state : ProxyState) (at : ℕ) → Happens server state state at []
-  happens_nothing state at = record { history = []; is_run = record { chain = refl; paced = tt; of_events = refl; of_steps = refl; configured = tt }; turns = tt; no_records = refl; stand = tt }
+  pub happens_nothing : (state : Standing) (at : ℕ) → Happens server state state at []
+  happens_nothing state at = record { history = []; is_run = record { chain = refl; paced = tt; of_events = refl; of_steps = refl; configured = tt }; turns = tt; queue = refl; no_records = refl; stand = tt }
 
   at_more : (at : ℕ) (outs : List StepOut) (out : StepOut) → AreAt at outs → out.at ≡ at → AreAt at (outs ++ out ∷ [])
   at_more at [] out all is = (is, tt)
@@ -173,42 +183,45 @@ module _ (server : Server) where
   is_some_more [] out e = cc
   is_some_more (x ∷ outs) out e = cc
 
-  pub happens_more : (old middle new : ProxyState) (at : ℕ) (outs : List StepOut) (out : StepOut) → Happens server old middle at outs → FiresOne server middle at out new → out.at ≡ at → Happens server old new at (outs ++ out ∷ [])
+  pub happens_more : (old middle new : Standing) (at : ℕ) (outs : List StepOut) (out : StepOut) → Happens server old middle at outs → FiresOne server middle at out new → out.at ≡ at → Happens server old new at (outs ++ out ∷ [])
   happens_more old middle new at outs out h fires is = record {
-    history = record { config = server.config; before = middle; act = Passing at; out = out; after = new } ∷ h.history;
+    history = record { config = server.config; before = middle.state; act = Passing at; out = out; after = new.state } ∷ h.history;
     is_run = record {
-      chain = (refl, inr fires.happens, h.is_run.chain);
+      chain = (refl, inr fires.happens.happens, h.is_run.chain);
       paced = (refl, h.is_run.paced);
       of_events = h.is_run.of_events;
       of_steps = reverse-append (out ∷ []) (steps_of h.history) ∙ ap (λ (l : List StepOut). l ++ out ∷ []) h.is_run.of_steps;
       configured = (refl, h.is_run.configured);
     };
-    turns = (fires.happens, h.turns);
+    turns = (subst (λ (q : List Entry). IsFirstOf server q middle.state at out new.state) h.queue fires.happens, h.turns);
+    queue = queue_next old middle new h.history h.queue fires.queue;
     no_records = records_both outs (out ∷ []) ∙ ap₂ (λ (a b : List Record). a ++ b) h.no_records (append-nil out.records ∙ fires.no_records);
     stand = at_more at outs out h.stand is;
   }
 
   -- the first
-  pub all_first : (old new : ProxyState) (at : ℕ) (out : StepOut) (before after : List Packet) → FiresOne server old at out new → out.at ≡ at → after ≡ before ++ out.packets → HappensAll server old new at before after
+  pub all_first : (old new : Standing) (at : ℕ) (out : StepOut) (before after : List Packet) → FiresOne server old at out new → out.at ≡ at → after ≡ before ++ out.packets → HappensAll server old new at before after
   all_first old new at out before after fires is more = record {
     outs = out ∷ [];
     some = is_some_more [] out;
     happens = happens_more old old new at [] out (happens_nothing old at) fires is;
+    settled = stays_settled old new fires.queue;
     added = more ∙ ap (λ (l : List Packet). before ++ l) (sym (append-nil out.packets));
   }
 
-  pub all_more : (old middle new : ProxyState) (at : ℕ) (out : StepOut) (before half after : List Packet) → HappensAll server old middle at before half → FiresOne server middle at out new → out.at ≡ at
+  pub all_more : (old middle new : Standing) (at : ℕ) (out : StepOut) (before half after : List Packet) → HappensAll server old middle at before half → FiresOne server middle at out new → out.at ≡ at
       → after ≡ half ++ out.packets → HappensAll server old new at before after
   all_more old middle new at out before half after h fires is more = record {
     outs = h.outs ++ out ∷ [];
     some = is_some_more h.outs out;
     happens = happens_more old middle new at h.outs out h.happens fires is;
+    settled = stays_settled middle new fires.queue;
     added =
         more ∙ ap (λ (l : List Packet). l ++ out.packets) h.added ∙ append_assoc before (packets_of h.outs) out.packets
         ∙ ap (λ (l : List Packet). before ++ l) (sym (packets_both h.outs (out ∷ []) ∙ ap (λ (l : List Packet). packets_of h.outs ++ l) (append-nil out.packets)));
   }
 
-  pub to_more : (old middle new : ProxyState) (at : ℕ) (out : StepOut) → HappensTo server old middle at → FiresOne server middle at out new → out.at ≡ at → HappensTo server old new at
+  pub to_more : (old middle new : Standing) (at : ℕ) (out : StepOut) → HappensTo server old middle at → FiresOne server middle at out new → out.at ≡ at → HappensTo server old new at
   to_more old middle new at out h fires is = record { outs = h.outs ++ out ∷ []; happens = happens_more old middle new at h.outs out h.happens fires is }
 
   -- ---- and the moment was taken
@@ -240,22 +253,23 @@ module _ (server : Server) where
         };
       }
 
-  pub takes_due : (old new : ProxyState) (at : ℕ) (before after : List Packet) → HappensAll server old new at before after → refusal_at at ≡ None → NothingDueBy (moment_of new at) new
-      → new.moment ≡ at → TakesDue server old new at before after
+  pub takes_due : (old new : Standing) (at : ℕ) (before after : List Packet) → HappensAll server old new at before after → refusal_at at ≡ None → NothingDueBy (moment_of new.state at) new.state
+      → new.state.moment ≡ at → TakesDue server old new at before after
   takes_due old new at before after h not_refused none stands = record {
     outs = h.outs;
     own = own_at at;
     some = h.some;
     stand = h.happens.stand;
-    history = record { config = server.config; before = new; act = ForEvent (Time at); out = own_at at; after = new } ∷ h.happens.history;
+    history = record { config = server.config; before = new.state; act = ForEvent (Time at); out = own_at at; after = new.state } ∷ h.happens.history;
     is_run = record {
-      chain = (refl, is_taken new at stands none, h.happens.is_run.chain);
+      chain = (refl, is_taken new.state at stands none, h.happens.is_run.chain);
       paced = (tt, h.happens.is_run.paced);
       of_events = reverse-append (Time at ∷ []) (events_of h.happens.history) ∙ ap (λ (l : List Event). l ++ Time at ∷ []) h.happens.is_run.of_events;
       of_steps = reverse-append (own_at at ∷ []) (steps_of h.happens.history) ∙ ap (λ (l : List StepOut). l ++ own_at at ∷ []) h.happens.is_run.of_steps;
       configured = (refl, h.happens.is_run.configured);
     };
     turns = (record { none_due = none; not_refused = not_refused }, h.happens.turns);
+    queue = queue_next old new new h.happens.history h.happens.queue h.settled;
     no_records = records_both h.outs (own_at at ∷ []) ∙ ap₂ (λ (a b : List Record). a ++ b) h.happens.no_records refl;
     none_recorded = refl;
     stands = stands;
@@ -271,22 +285,22 @@ module _ (server : Server) where
   may_fall reading due m le = record { idle = record { clear = refl; whole = refl; all_sent = refl }; reading = reading; is_open = refl; in_time = le }
 
   -- it was taken and told, and what it hands out waits
-  pub due_told : (old new : ProxyState) (reading due : ℕ) (waiting : List Packet) (others : Others) (g : Option (List Given)) (w w2 : Kept) → due ≤ max reading old.moment → TakesDue server old new due [] waiting
-      → Notes w.bytes w2.bytes (Time due ∷ []) → (w.faulted ≡ false) × (w2.faulted ≡ false) → Course server old new (waiting_at (Some reading) [] old.moment) (waiting_at (Some reading) waiting new.moment) (told_with others g w) (told_with others g w2) [] 0 0
+  pub due_told : (old new : Standing) (reading due : ℕ) (waiting : List Packet) (others : Others) (g : Option (List Given)) (w w2 : Kept) → due ≤ max reading old.state.moment → TakesDue server old new due [] waiting
+      → Notes w.bytes w2.bytes (Time due ∷ []) → (w.faulted ≡ false) × (w2.faulted ≡ false) → Course server old new (waiting_at (Some reading) [] old.state.moment) (waiting_at (Some reading) waiting new.state.moment) (told_with others g w) (told_with others g w2) [] 0 0
   due_told old new reading due waiting others g w w2 le t noted whole =
-      subst (λ (rs : List Record). Course server old new (waiting_at (Some reading) [] old.moment) (waiting_at (Some reading) waiting new.moment) (told_with others g w) (told_with others g w2) rs 0 0) t.none_recorded
-      (course_event server old new (waiting_at (Some reading) [] old.moment) (FallsDue due) t.outs t.own t.history (may_fall reading due old.moment le) (t.some, t.stand) t.is_run t.turns (t.no_records ∙ sym t.none_recorded) t.sayable
-      waiting new.moment others.heard g others.readings w w2 others.log others.log others.words t.added t.stands noted whole
+      subst (λ (rs : List Record). Course server old new (waiting_at (Some reading) [] old.state.moment) (waiting_at (Some reading) waiting new.state.moment) (told_with others g w) (told_with others g w2) rs 0 0) t.none_recorded
+      (course_event server old new (waiting_at (Some reading) [] old.state.moment) (FallsDue due) t.outs t.own t.history (may_fall reading due old.state.moment le) (t.some, t.stand) t.is_run t.turns t.queue (t.no_records ∙ sym t.none_recorded) t.sayable
+      waiting new.state.moment others.heard g others.readings w w2 others.log others.log others.words t.added t.stands noted whole
       (subst (λ (rs : List Record). Prints others.log.bytes others.log.bytes rs) (sym t.none_recorded) (prints_nothing others.log.bytes)) (λ some. absurd (some t.none_recorded)) refl)
 
   -- it was taken, and the journal failed
-  pub due_untold : (old new : ProxyState) (reading due : ℕ) (waiting : List Packet) (others : Others) (g : Option (List Given)) (w w2 : Kept) → due ≤ max reading old.moment
-      → TakesDue server old new due [] waiting → HasFailed w2 → Breaks server old new (waiting_at (Some reading) [] old.moment) (told_with others g w) (told_with others g w2) 0 refusals.Journal
+  pub due_untold : (old new : Standing) (reading due : ℕ) (waiting : List Packet) (others : Others) (g : Option (List Given)) (w w2 : Kept) → due ≤ max reading old.state.moment
+      → TakesDue server old new due [] waiting → HasFailed w2 → Breaks server old new (waiting_at (Some reading) [] old.state.moment) (told_with others g w) (told_with others g w2) 0 refusals.Journal
   due_untold old new reading due waiting others g w w2 le h failed = record {
-    to = taken_at (waiting_at (Some reading) [] old.moment) (FallsDue due) h.outs h.own;
+    to = taken_at (waiting_at (Some reading) [] old.state.moment) (FallsDue due) h.outs h.own;
     records = h.own.records;
     asks = 0;
-    course = course_takes server old new (waiting_at (Some reading) [] old.moment) (FallsDue due) h.outs h.own h.history (may_fall reading due old.moment le) (h.some, h.stand) h.is_run h.turns (h.no_records ∙ sym h.none_recorded) h.sayable
+    course = course_takes server old new (waiting_at (Some reading) [] old.state.moment) (FallsDue due) h.outs h.own h.history (may_fall reading due old.state.moment le) (h.some, h.stand) h.is_run h.turns h.queue (h.no_records ∙ sym h.none_recorded) h.sayable
         (told_with others g w) (told_with others g w2) (told_failed others.heard g others.readings w w2 others.log others.words failed.0) failed refl;
     why = record { cause = FallsDue due; records = h.own.records; untold = refl };
   }
@@ -299,33 +313,33 @@ module _ (server : Server) where
   why_not due p state refusals.Step comes first h = record { cause = FallsDue due; comes = comes; first = first; refused = h }
 
   -- it wasn't taken
-  pub due_broken : (old new : ProxyState) (reading due : ℕ) (t : Told) (e : ServeError) → due ≤ max reading old.moment → IsNext old.requests due → HappensSome server old new due e → Breaks server old new (waiting_at (Some reading) [] old.moment) t t 0 e
+  pub due_broken : (old new : Standing) (reading due : ℕ) (t : Told) (e : ServeError) → due ≤ max reading old.state.moment → IsNext old.state.requests due → HappensSome server old new due e → Breaks server old new (waiting_at (Some reading) [] old.state.moment) t t 0 e
   due_broken old new reading due t e le first (inl some) =
-      let comes : MayFallDue due (waiting_at (Some reading) [] old.moment) = may_fall reading due old.moment le in
+      let comes : MayFallDue due (waiting_at (Some reading) [] old.state.moment) = may_fall reading due old.state.moment le in
       record {
-        to = stopped_at (waiting_at (Some reading) [] old.moment) (FallsDue due) some.1.outs;
+        to = stopped_at (waiting_at (Some reading) [] old.state.moment) (FallsDue due) some.1.outs;
         records = [];
         asks = 0;
-        course = course_fires server old new (waiting_at (Some reading) [] old.moment) due some.1.outs some.1.happens.history t comes some.1.happens.stand some.1.happens.is_run some.1.happens.turns some.1.happens.no_records;
-        why = subst (λ (x : ServeError). IsWhy x (stopped_at (waiting_at (Some reading) [] old.moment) (FallsDue due) some.1.outs) new) (sym some.0) refl;
+        course = course_fires server old new (waiting_at (Some reading) [] old.state.moment) due some.1.outs some.1.happens.history t comes some.1.happens.stand some.1.happens.is_run some.1.happens.turns some.1.happens.queue some.1.happens.no_records;
+        why = subst (λ (x : ServeError). IsWhy x (stopped_at (waiting_at (Some reading) [] old.state.moment) (FallsDue due) some.1.outs) new.state) (sym some.0) refl;
       }
   due_broken old new reading due t e le first (inr none) =
-      subst (λ (s : ProxyState). Breaks server old s (waiting_at (Some reading) [] old.moment) t t 0 e) (sym none.same)
+      subst (λ (s : Standing). Breaks server old s (waiting_at (Some reading) [] old.state.moment) t t 0 e) (sym none.same)
       (record {
-        to = waiting_at (Some reading) [] old.moment;
+        to = waiting_at (Some reading) [] old.state.moment;
         records = [];
         asks = 0;
-        course = course_nothing server old (waiting_at (Some reading) [] old.moment) t tt;
-        why = why_not due (waiting_at (Some reading) [] old.moment) old e (may_fall reading due old.moment le) first none.why;
+        course = course_nothing server old (waiting_at (Some reading) [] old.state.moment) t tt;
+        why = why_not due (waiting_at (Some reading) [] old.state.moment) old.state e (may_fall reading due old.state.moment le) first none.why;
       })
 
   -- ---- refusals
 
-  pub some_not_link : (old new : ProxyState) (at : ℕ) (e : ServeError) → HappensSome server old new at e → e ≡ refusals.Link → ⊥
+  pub some_not_link : (old new : Standing) (at : ℕ) (e : ServeError) → HappensSome server old new at e → e ≡ refusals.Link → ⊥
   some_not_link old new at e (inl some) is = (let nothing : e ≡ refusals.NoMemory = some.0 in cc)
   some_not_link old new at e (inr none) is = due_not_link at e none.why is
 
-  pub some_not_journal : (old new : ProxyState) (at : ℕ) (e : ServeError) → HappensSome server old new at e → e ≡ refusals.Journal → ⊥
+  pub some_not_journal : (old new : Standing) (at : ℕ) (e : ServeError) → HappensSome server old new at e → e ≡ refusals.Journal → ⊥
   some_not_journal old new at e (inl some) is = (let nothing : e ≡ refusals.NoMemory = some.0 in cc)
   some_not_journal old new at e (inr none) is = due_not_journal at e none.why is
 

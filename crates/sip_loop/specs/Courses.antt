@@ -15,7 +15,8 @@ use Rattle.model_bounds.specs.state.declared.server.Server.{Server}
 use Rattle.model_bounds.specs.state.declared.proxy_state.ProxyState.{ProxyState}
 use Rattle.model_bounds.specs.model.Run.{Link, IsRun}
 use Rattle.model_bounds.specs.model.Ends.{sends_left, steps_left}
-use Rattle.model_bounds.specs.steps_model.Step.{Given as ForEvent, IsStep, IsDeadline, IsResend, moment_of}
+use Rattle.model_bounds.specs.steps_model.Step.{Given as ForEvent, IsStep, moment_of}
+use Rattle.model_order.specs.Order.{IsFirstOf, IsQueueAfter, Standing, queue_from}
 use Rattle.sip_run.specs.engine.StepError.{refusal_at}
 use Rattle.sip_run.specs.Refusals.{refusal_of_event}
 use Rattle.sip_run.specs.Runs.{IsInTurn}
@@ -37,12 +38,13 @@ IsThrough (Unlogged records) = ⊥
 
 -- Something was done, and led from one point to another: its steps are a run over the events that were taken, each in its turn; the devices
 -- told it; these are the records of its steps, which were printed once it was through; and so many readings and questions are in it.
-pub record Course (server : Server) (old new : ProxyState) (from to : Point) (before after : Told) (records : List Record) (reads asks : ℕ) : Type 0 where
+pub record Course (server : Server) (old new : Standing) (from to : Point) (before after : Told) (records : List Record) (reads asks : ℕ) : Type 0 where
   pub done : List Doing
   pub path : IsPath from done to
   pub history : List Link
-  pub is_run : IsRun server old (gathered event_taken done) (ahead done) (gathered steps_taken done) history new
-  pub turns : AreInTurn server history
+  pub is_run : IsRun server old.state (gathered event_taken done) (ahead done) (gathered steps_taken done) history new.state
+  pub turns : AreInTurn server old.queue history
+  pub queue : new.queue ≡ queue_from old.queue history
   pub sayable : AllByRecursion (λ (event : Event). is_sayable event ≡ true) (gathered event_taken done)
   pub told : AreTold before after done
   pub whole : AreWhole before done
@@ -54,36 +56,36 @@ pub record Course (server : Server) (old new : ProxyState) (from to : Point) (be
   pub asked : length (gathered turn_asked done) ≡ asks
 
 -- Something was done up to a refusal.
-pub record Breaks (server : Server) (old new : ProxyState) (from : Point) (before after : Told) (reads : ℕ) (e : ServeError) : Type 0 where
+pub record Breaks (server : Server) (old new : Standing) (from : Point) (before after : Told) (reads : ℕ) (e : ServeError) : Type 0 where
   pub to : Point
   pub records : List Record
   pub asks : ℕ
   pub course : Course server old new from to before after records reads asks
-  pub why : IsWhy e to new
+  pub why : IsWhy e to new.state
 
 -- Turns were served whole.
-pub record Goes (server : Server) (old new : ProxyState) (before after : Told) (count : ℕ) : Type 0 where
+pub record Goes (server : Server) (old new : Standing) (before after : Told) (count : ℕ) : Type 0 where
   pub records : List Record
-  pub course : Course server old new (between_turns old.moment) (between_turns new.moment) before after records count count
+  pub course : Course server old new (between_turns old.state.moment) (between_turns new.state.moment) before after records count count
 
 -- Turns were served up to a refusal.
-pub record BreaksOff (server : Server) (old new : ProxyState) (before after : Told) (most : ℕ) (e : ServeError) : Type 0 where
+pub record BreaksOff (server : Server) (old new : Standing) (before after : Told) (most : ℕ) (e : ServeError) : Type 0 where
   pub count : ℕ
   pub within : count ≤ most
-  pub breaks : Breaks server old new (between_turns old.moment) before after count e
+  pub breaks : Breaks server old new (between_turns old.state.moment) before after count e
 
 -- nothing is under way, and so much waits to be sent, in a turn that is open or between two, behind a step at a moment
 abbrev pub waiting_at : Option ℕ → List Packet → ℕ → Point
 waiting_at turn waiting at = record { turn = turn; stage = Clear; failed = None; waiting = waiting; at = at }
 
 -- The rest of a turn was served, once what was due by its reading had happened.
-pub record TurnGoes (server : Server) (old new : ProxyState) (at : ℕ) (before after : Told) : Type 0 where
+pub record TurnGoes (server : Server) (old new : Standing) (at : ℕ) (before after : Told) : Type 0 where
   pub records : List Record
-  pub course : Course server old new (waiting_at (Some at) [] old.moment) (between_turns new.moment) before after records 0 1
+  pub course : Course server old new (waiting_at (Some at) [] old.state.moment) (between_turns new.state.moment) before after records 0 1
 
 -- The same, refused.
-abbrev pub TurnBreaks : Server → ProxyState → ProxyState → ℕ → Told → Told → ServeError → Type 0
-TurnBreaks server old new at before after e = Breaks server old new (waiting_at (Some at) [] old.moment) before after 0 e
+abbrev pub TurnBreaks : Server → Standing → Standing → ℕ → Told → Told → ServeError → Type 0
+TurnBreaks server old new at before after e = Breaks server old new (waiting_at (Some at) [] old.state.moment) before after 0 e
 
 -- what the devices tell that have no part in sending
 pub record Others : Type 0 where
@@ -106,11 +108,12 @@ told_with others given journal = record {
 -- ---- a turn's event
 
 -- It was asked for and taken: the link heard it, its word was drawn, and the step is its own.
-pub record TakesTurn (server : Server) (old : ProxyState) (at : ℕ) (heard heard_now : Option (List (Option Heard))) (words left : Stream)
-    (turn : Turn) (out : StepOut) (new : ProxyState) : Type 0 where
+pub record TakesTurn (server : Server) (old : Standing) (at : ℕ) (heard heard_now : Option (List (Option Heard))) (words left : Stream)
+    (turn : Turn) (out : StepOut) (new : Standing) : Type 0 where
   pub is_at : reading_of turn ≡ at
-  pub step : IsStep server old (ForEvent (event_of_turn turn)) out new
-  pub not_refused : refusal_of_event old (event_of_turn turn) ≡ None
+  pub step : IsStep server old.state (ForEvent (event_of_turn turn)) out new.state
+  pub queue : IsQueueAfter old new
+  pub not_refused : refusal_of_event old.state (event_of_turn turn) ≡ None
   pub sayable : is_sayable (event_of_turn turn) ≡ true
   pub hears : heard_now ≡ told_more heard (heard_of_turn turn ∷ [])
   pub draws : AreDrawn words (turn ∷ []) left
@@ -140,18 +143,20 @@ pub record StepFails (old : ProxyState) (at : ℕ) (heard heard_now : Option (Li
 -- ---- what is due
 
 -- What is due by a moment happened: these steps, oldest first, each at its own moment, and nothing is recorded.
-pub record Happens (server : Server) (old new : ProxyState) (at : ℕ) (outs : List StepOut) : Type 0 where
+pub record Happens (server : Server) (old new : Standing) (at : ℕ) (outs : List StepOut) : Type 0 where
   pub history : List Link
-  pub is_run : IsRun server old [] (Some at) outs history new
-  pub turns : AreInTurn server history
+  pub is_run : IsRun server old.state [] (Some at) outs history new.state
+  pub turns : AreInTurn server old.queue history
+  pub queue : new.queue ≡ queue_from old.queue history
   pub no_records : records_of outs ≡ []
   pub stand : AreAt at outs
 
--- and what it hands out was added to what waits; something was
-pub record HappensAll (server : Server) (old new : ProxyState) (at : ℕ) (before after : List Packet) : Type 0 where
+-- and what it hands out was added to what waits; something was, and what stands now stays so while nothing happens
+pub record HappensAll (server : Server) (old new : Standing) (at : ℕ) (before after : List Packet) : Type 0 where
   pub outs : List StepOut
   pub some : outs ≢ []
   pub happens : Happens server old new at outs
+  pub settled : IsQueueAfter new new
   pub added : after ≡ before ++ packets_of outs
 
 -- why what is due isn't done: memory ran out, or the moment is too large
@@ -163,31 +168,32 @@ IsWhyDue LinkFailed at = ⊥
 IsWhyDue Step at = IsSome (refusal_at at)
 
 -- or some of it happened
-pub record HappensTo (server : Server) (old new : ProxyState) (at : ℕ) : Type 0 where
+pub record HappensTo (server : Server) (old new : Standing) (at : ℕ) : Type 0 where
   pub outs : List StepOut
   pub happens : Happens server old new at outs
 
 -- nothing happened, and why
-pub record HappensNot (old new : ProxyState) (at : ℕ) (e : ServeError) : Type 0 where
+pub record HappensNot (old new : Standing) (at : ℕ) (e : ServeError) : Type 0 where
   pub same : new ≡ old
   pub why : IsWhyDue e at
 
 -- Not all of it happened: memory ran out behind some of it; or nothing did.
-abbrev pub HappensSome : Server → ProxyState → ProxyState → ℕ → ServeError → Type 0
+abbrev pub HappensSome : Server → Standing → Standing → ℕ → ServeError → Type 0
 HappensSome server old new at e = ((e ≡ NoMemory) × HappensTo server old new at) ⊎ HappensNot old new at e
 
 -- what is due at a moment happened, and the moment was taken, in its turn
-pub record TakesDue (server : Server) (old new : ProxyState) (at : ℕ) (before after : List Packet) : Type 0 where
+pub record TakesDue (server : Server) (old new : Standing) (at : ℕ) (before after : List Packet) : Type 0 where
   pub outs : List StepOut
   pub own : StepOut
   pub some : outs ≢ []
   pub stand : AreAt at outs
   pub history : List Link
-  pub is_run : IsRun server old (Time at ∷ []) None (outs ++ own ∷ []) history new
-  pub turns : AreInTurn server history
+  pub is_run : IsRun server old.state (Time at ∷ []) None (outs ++ own ∷ []) history new.state
+  pub turns : AreInTurn server old.queue history
+  pub queue : new.queue ≡ queue_from old.queue history
   pub no_records : records_of (outs ++ own ∷ []) ≡ []
   pub none_recorded : own.records ≡ []
-  pub stands : new.moment ≡ own.at
+  pub stands : new.state.moment ≡ own.at
   pub sayable : is_sayable (Time at) ≡ true
   pub added : after ≡ before ++ packets_of (outs ++ own ∷ [])
 
@@ -203,21 +209,23 @@ LeavesFewer at old new = (by : ℕ) → moment_of old at ≤ moment_of old by �
 
 -- The fault of a packet was taken at the state's moment, in its turn: nothing is recorded, nothing falls due by it, and each packet that it
 -- hands out leaves one less that a fault can.
-pub record TakesFault (server : Server) (old : ProxyState) (ticket : Ticket) (out : StepOut) (new : ProxyState) : Type 0 where
-  pub step : IsStep server old (ForEvent (Fault old.moment ticket)) out new
-  pub in_turn : IsInTurn old (Fault old.moment ticket)
-  pub none_due : NothingDueBy new.moment new
-  pub stands : new.moment ≡ out.at
-  pub sayable : is_sayable (Fault old.moment ticket) ≡ true
+pub record TakesFault (server : Server) (old : Standing) (ticket : Ticket) (out : StepOut) (new : Standing) : Type 0 where
+  pub step : IsStep server old.state (ForEvent (Fault old.state.moment ticket)) out new.state
+  pub queue : IsQueueAfter old new
+  pub in_turn : IsInTurn old.state (Fault old.state.moment ticket)
+  pub none_due : NothingDueBy new.state.moment new.state
+  pub stands : new.state.moment ≡ out.at
+  pub sayable : is_sayable (Fault old.state.moment ticket) ≡ true
   pub no_records : out.records ≡ []
-  pub fewer : length out.packets + sends_left new ≤ sends_left old
-  pub no_further : IsNoFurther old new
+  pub fewer : length out.packets + sends_left new.state ≤ sends_left old.state
+  pub no_further : IsNoFurther old.state new.state
 
--- Something that was due by a moment happened.
-pub record FiresOne (server : Server) (old : ProxyState) (at : ℕ) (out : StepOut) (new : ProxyState) : Type 0 where
-  pub happens : (IsDeadline server old at out new) ⊎ (IsResend server old at out new)
-  pub rises : old.moment ≤ new.moment
-  pub stands : new.moment ≡ out.at
-  pub in_time : out.at ≤ moment_of old at
+-- The first of what is due happened, by a moment.
+pub record FiresOne (server : Server) (old : Standing) (at : ℕ) (out : StepOut) (new : Standing) : Type 0 where
+  pub happens : IsFirstOf server old.queue old.state at out new.state
+  pub queue : IsQueueAfter old new
+  pub rises : old.state.moment ≤ new.state.moment
+  pub stands : new.state.moment ≡ out.at
+  pub in_time : out.at ≤ moment_of old.state at
   pub no_records : out.records ≡ []
-  pub fewer : LeavesFewer at old new
+  pub fewer : LeavesFewer at old.state new.state

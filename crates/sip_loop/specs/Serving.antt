@@ -17,10 +17,12 @@ use Rattle.sip_record.specs.Record.{Notes}
 use Rattle.model_bounds.specs.state.declared.server.Server.{Server}
 use Rattle.model_bounds.specs.state.declared.proxy_state.ProxyState.{ProxyState}
 use Rattle.model_bounds.specs.state.State.{first_state}
-use Rattle.model_bounds.specs.steps_model.Step.{Act, Given as ForEvent, Passing, IsDeadline, IsResend, moment_of}
+use Rattle.model_bounds.specs.steps_model.Step.{Act, Given as ForEvent, Passing, moment_of}
 use Rattle.model_bounds.specs.model.Run.{Link, IsChain, IsRun, event_moment}
 use Rattle.model_bounds.specs.model.Access.{Access}
 use Rattle.model_bounds.specs.Bounds.{IsBounded}
+use Rattle.model_transactions.specs.Queue.{Entry}
+use Rattle.model_order.specs.Order.{AllQueued, IsFirstOf, Standing, queue_from}
 use Rattle.sip_run.specs.Due.{NothingDueBy}
 use Rattle.sip_run.specs.engine.engine_time.Next.{IsNext}
 use Rattle.sip_run.specs.Refusals.{refusal_of_event}
@@ -421,36 +423,37 @@ AreFaulted (Unlogged records) before after = (after.journal.faulted ≡ before.j
 -- ---- serving
 
 -- An event comes in its turn: all that was due by its moment has happened, and the server doesn't refuse it; the fault of a packet comes at
--- the moment of the step before it. And time passes only where a deadline does, or something goes again.
-abbrev pub IsTurnOf : Server → ProxyState → Act → StepOut → ProxyState → Type 0
-IsTurnOf server before (ForEvent (Datagram at word from bytes)) out after = IsInTurn before (Datagram at word from bytes)
-IsTurnOf server before (ForEvent (Time at)) out after = IsInTurn before (Time at)
-IsTurnOf server before (ForEvent (Fault at ticket)) out after = (at ≡ before.moment) × IsInTurn before (Fault at ticket)
-IsTurnOf server before (Passing at) out after = IsDeadline server before at out after ⊎ IsResend server before at out after
+-- the moment of the step before it. And time passes only where the first of what is due happens, in the order in which timers stand.
+abbrev pub IsTurnOf : Server → List Entry → ProxyState → Act → StepOut → ProxyState → Type 0
+IsTurnOf server queue before (ForEvent (Datagram at word from bytes)) out after = IsInTurn before (Datagram at word from bytes)
+IsTurnOf server queue before (ForEvent (Time at)) out after = IsInTurn before (Time at)
+IsTurnOf server queue before (ForEvent (Fault at ticket)) out after = (at ≡ before.moment) × IsInTurn before (Fault at ticket)
+IsTurnOf server queue before (Passing at) out after = IsFirstOf server queue before at out after
 
-abbrev pub AreInTurn : Server → List Link → Type 0
-AreInTurn server history = AllByRecursion (λ (link : Link). IsTurnOf server link.before link.act link.out link.after) history
+abbrev pub AreInTurn : Server → List Entry → List Link → Type 0
+AreInTurn server queue history = AllQueued (λ (standing : List Entry) (link : Link). IsTurnOf server standing link.before link.act link.out link.after) queue history
 
 -- A server did these, newest first, in their order: its steps are a run of the model over the events that were taken, each in its turn, from the
--- state in which it was; a script can say each of these events; each step of that run is lawful by its history, whatever history led to that state, as `Access` says, and the
+-- state in which it was, with the timers that stood there; a script can say each of these events; each step of that run is lawful by its history, whatever history led to that state, as `Access` says, and the
 -- whole history is bounded, as `IsBounded` says; and the devices told what was done by them.
-pub record Serves (server : Server) (old new : ProxyState) (before after : Told) (done : List Doing) : Type 0 where
+pub record Serves (server : Server) (old new : Standing) (before after : Told) (done : List Doing) : Type 0 where
   pub history : List Link
-  pub is_run : IsRun server old (gathered event_taken done) (ahead done) (gathered steps_taken done) history new
-  pub turns : AreInTurn server history
+  pub is_run : IsRun server old.state (gathered event_taken done) (ahead done) (gathered steps_taken done) history new.state
+  pub turns : AreInTurn server old.queue history
+  pub queue : new.queue ≡ queue_from old.queue history
   pub sayable : AllByRecursion (λ (event : Event). is_sayable event ≡ true) (gathered event_taken done)
-  pub access : (first : ℕ) (past : List Link) → IsChain server (first_state first) past old → Access server (history ++ past)
-  pub bounded : (first : ℕ) (past : List Link) → IsChain server (first_state first) past old → IsBounded server (history ++ past)
+  pub access : (first : ℕ) (past : List Link) → IsChain server (first_state first) past old.state → Access server (history ++ past)
+  pub bounded : (first : ℕ) (past : List Link) → IsChain server (first_state first) past old.state → IsBounded server (history ++ past)
   pub told : AreTold before after done
   pub whole : AreWhole before done
 
 -- So many turns were served whole: each event was told to the journal, the lines of the records of all steps were printed, all that they hand
 -- out was given to the link; and neither the journal nor the log answered a fault.
-pub record IsServed (turns : ℕ) (server : Server) (old new : ProxyState) (before after : Told) : Type 0 where
+pub record IsServed (turns : ℕ) (server : Server) (old new : Standing) (before after : Told) : Type 0 where
   pub done : List Doing
   pub serves : Serves server old new before after done
   pub counted : length (gathered turn_asked done) ≡ turns
-  pub in_order : IsPath (between_turns old.moment) done (between_turns new.moment)
+  pub in_order : IsPath (between_turns old.state.moment) done (between_turns new.state.moment)
   pub all_told : gathered event_taken done ≡ gathered event_told done
   pub logged : records_of (gathered steps_taken done) ≡ gathered records_logged done
   pub held : AreHeld before after
@@ -498,12 +501,12 @@ IsWhy Step point last = IsRefused point last
 
 -- Serving was refused within so many turns: each event was told to the journal, but for the last one where that failed; and neither the journal nor
 -- the log answered a fault, but the one that made an end of it.
-pub record IsUnserved (turns : ℕ) (server : Server) (old new : ProxyState) (before after : Told) (e : ServeError) : Type 0 where
+pub record IsUnserved (turns : ℕ) (server : Server) (old new : Standing) (before after : Told) (e : ServeError) : Type 0 where
   pub done : List Doing
   pub serves : Serves server old new before after done
   pub within : length (gathered moment_read done) ≤ turns
   pub point : Point
-  pub in_order : IsPath (between_turns old.moment) done point
+  pub in_order : IsPath (between_turns old.state.moment) done point
   pub told_but_last : gathered event_taken done ≡ gathered event_told done ++ untold_in point.stage
   pub faulted : AreFaulted point.stage before after
-  pub why : IsWhy e point new
+  pub why : IsWhy e point new.state

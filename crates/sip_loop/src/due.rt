@@ -1,12 +1,12 @@
 //! What is due by a reading of the clock: each moment at which something is, the first one first, is an event of its own. All that is
 //! due then happens, and the moment is taken and told to the journal, before anything of it is given to the link.
 ghost use Rattle.std.specs.Prelude.{◌≡◌, ◌≤◌, ℕ, List, Option, Some, max, [], IfOk, IfErr, IfSome, IfNone, OnOk, OnErr};
-ghost use Rattle.model_bounds.specs.state.declared.proxy_state.ProxyState.{ProxyState};
+ghost use Rattle.model_order.specs.Order.{Standing};
 ghost use Rattle.sip_event.specs.declared.packet.Packet.{Packet};
 ghost use Rattle.model_bounds.specs.steps_model.Step.{moment_of};
 ghost use Rattle.sip_run.specs.engine.StepError.{refusal_at};
 ghost use Rattle.sip_run.specs.engine.engine_time.Next.{IsNext};
-ghost use Rattle.sip_run.specs.Due.{NothingDueBy};
+ghost use Rattle.sip_run.specs.Due.{NothingDueBy, standing_of};
 ghost use Rattle.sip_loop.specs.Courses.{Breaks, Course, FiresOne, HappensAll, HappensSome, HappensTo, IsNoFurther, IsWhyDue, LeavesFewer, Others, TakesDue, told_with, waiting_at};
 ghost use Rattle.sip_loop.specs.ServeErrors.{IsOfHanding};
 ghost use Rattle.sip_loop.specs.Serving.{kept};
@@ -49,7 +49,7 @@ fn fire_first<T: Timers, R: Rules>(
 ) -> Result<StepOut, ServeError>
     requires { IsNext engine.old.state.requests due }
     ensures server { engine.new.server ≡ engine.old.server }
-    ensures fired { IfOk result (λ out. FiresOne engine.old.server engine.old.state due out engine.new.state) }
+    ensures fired { IfOk result (λ out. FiresOne engine.old.server (standing_of engine.old) due out (standing_of engine.new)) }
     ensures at_first { IfOk result (λ out. out.at ≡ due) }
     ensures not_refused { OnOk result (refusal_at due ≡ Option.None) }
     ensures refused { IfErr result (λ e. IsWhyDue e due) }
@@ -69,7 +69,7 @@ fn fire_one<T: Timers, R: Rules>(
     at: u64,
 ) -> Result<Option<StepOut>, ServeError>
     ensures server { engine.new.server ≡ engine.old.server }
-    ensures fired { IfOk result (λ fired. IfSome fired (λ out. FiresOne engine.old.server engine.old.state at out engine.new.state)) }
+    ensures fired { IfOk result (λ fired. IfSome fired (λ out. FiresOne engine.old.server (standing_of engine.old) at out (standing_of engine.new))) }
     ensures none { IfOk result (λ fired. IfNone fired (NothingDueBy (moment_of engine.old.state at) engine.old.state)) }
     ensures waits { IfOk result (λ fired. IfNone fired (engine.new ≡ engine.old)) }
     ensures refused { IfErr result (λ e. IsWhyDue e at) }
@@ -92,14 +92,14 @@ fn fire_rest<T: Timers, R: Rules>(
     requires moment { engine.old.state.moment ≡ at }
     requires not_refused { refusal_at at ≡ Option.None }
     ensures server { engine.new.server ≡ engine.old.server }
-    ensures fired { OnOk result ((start : ProxyState) (first : List Packet) → HappensAll engine.old.server start engine.old.state at first waiting.old
-        → HappensAll engine.old.server start engine.new.state at first waiting.new) }
+    ensures fired { OnOk result ((start : Standing) (first : List Packet) → HappensAll engine.old.server start (standing_of engine.old) at first waiting.old
+        → HappensAll engine.old.server start (standing_of engine.new) at first waiting.new) }
     ensures none_due { OnOk result (NothingDueBy (moment_of engine.new.state at) engine.new.state) }
     ensures stays { OnOk result (engine.new.state.moment ≡ at) }
     ensures no_further { OnOk result (IsNoFurther engine.old.state engine.new.state) }
     ensures refused { IfErr result (λ e. e ≡ Refusal.NoMemory) }
-    ensures some { OnErr result ((start : ProxyState) → HappensTo engine.old.server start engine.old.state at
-        → HappensTo engine.old.server start engine.new.state at) }
+    ensures some { OnErr result ((start : Standing) → HappensTo engine.old.server start (standing_of engine.old) at
+        → HappensTo engine.old.server start (standing_of engine.new) at) }
 {
     while let Some(mut out) = fire_one(engine, at)? {
         wait_for(waiting, &mut out.packets)?;
@@ -116,10 +116,10 @@ fn take_due<T: Timers, R: Rules>(
 ) -> Result<(), ServeError>
     requires { IsNext engine.old.state.requests due }
     ensures server { engine.new.server ≡ engine.old.server }
-    ensures taken { OnOk result (TakesDue engine.old.server engine.old.state engine.new.state due waiting.old waiting.new) }
+    ensures taken { OnOk result (TakesDue engine.old.server (standing_of engine.old) (standing_of engine.new) due waiting.old waiting.new) }
     ensures none_due { OnOk result (NothingDueBy engine.new.state.moment engine.new.state) }
     ensures fewer { OnOk result (LeavesFewer due engine.old.state engine.new.state) }
-    ensures refused { IfErr result (HappensSome engine.old.server engine.old.state engine.new.state due) }
+    ensures refused { IfErr result (HappensSome engine.old.server (standing_of engine.old) (standing_of engine.new) due) }
 {
     let mut first = fire_first(engine, due)?;
     wait_for(waiting, &mut first.packets)?;
@@ -144,13 +144,13 @@ fn serve_due<T: Timers, R: Rules, L: Link, J: Journal>(
     ensures heard { L.heard link.new ≡ L.heard link.old }
     ensures link_waits { L.waits link.new ≡ L.waits link.old }
     ensures goes { OnOk result ((others : Others) (reading : ℕ) → due ≤ max reading engine.old.state.moment
-        → Course engine.old.server engine.old.state engine.new.state
+        → Course engine.old.server (standing_of engine.old) (standing_of engine.new)
         (waiting_at (Some reading) [] engine.old.state.moment) (waiting_at (Some reading) [] engine.new.state.moment)
         (told_with others (L.given link.old) (kept (J.written journal.old) (J.faulted journal.old)))
         (told_with others (L.given link.new) (kept (J.written journal.new) (J.faulted journal.new))) [] 0 0) }
     ensures fewer { OnOk result (LeavesFewer due engine.old.state engine.new.state) }
     ensures broken { IfErr result (λ e. (others : Others) (reading : ℕ) → due ≤ max reading engine.old.state.moment
-        → Breaks engine.old.server engine.old.state engine.new.state (waiting_at (Some reading) [] engine.old.state.moment)
+        → Breaks engine.old.server (standing_of engine.old) (standing_of engine.new) (waiting_at (Some reading) [] engine.old.state.moment)
         (told_with others (L.given link.old) (kept (J.written journal.old) (J.faulted journal.old)))
         (told_with others (L.given link.new) (kept (J.written journal.new) (J.faulted journal.new))) 0 e) }
     ensures not_link { IfErr result (λ e. ¬ (e ≡ Refusal.Link)) }
@@ -175,12 +175,12 @@ pub(crate) fn pass_due<T: Timers, R: Rules, L: Link, J: Journal>(
     ensures failures { L.failures link.new ≡ L.failures link.old }
     ensures heard { L.heard link.new ≡ L.heard link.old }
     ensures link_waits { L.waits link.new ≡ L.waits link.old }
-    ensures goes { OnOk result ((others : Others) → Course engine.old.server engine.old.state engine.new.state
+    ensures goes { OnOk result ((others : Others) → Course engine.old.server (standing_of engine.old) (standing_of engine.new)
         (waiting_at (Some at) [] engine.old.state.moment) (waiting_at (Some at) [] engine.new.state.moment)
         (told_with others (L.given link.old) (kept (J.written journal.old) (J.faulted journal.old)))
         (told_with others (L.given link.new) (kept (J.written journal.new) (J.faulted journal.new))) [] 0 0) }
     ensures none_due { OnOk result (NothingDueBy (moment_of engine.new.state at) engine.new.state) }
-    ensures broken { IfErr result (λ e. (others : Others) → Breaks engine.old.server engine.old.state engine.new.state
+    ensures broken { IfErr result (λ e. (others : Others) → Breaks engine.old.server (standing_of engine.old) (standing_of engine.new)
         (waiting_at (Some at) [] engine.old.state.moment)
         (told_with others (L.given link.old) (kept (J.written journal.old) (J.faulted journal.old)))
         (told_with others (L.given link.new) (kept (J.written journal.new) (J.faulted journal.new))) 0 e) }

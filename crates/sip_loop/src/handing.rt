@@ -1,7 +1,7 @@
 ghost use Rattle.std.specs.Prelude.{◌≡◌, ◌<◌, ◌≤◌, ◌+◌, ◌++◌, ℕ, Option, [], drop, length, IfOk, IfErr, OnOk, OnErr};
 ghost use Rattle.model_bounds.specs.model.Ends.{sends_left};
 ghost use Rattle.sip_loop.specs.Courses.{Breaks, Course, IsNoFurther, Others, TakesFault, told_with, waiting_at};
-ghost use Rattle.sip_run.specs.Due.{NothingDueBy};
+ghost use Rattle.sip_run.specs.Due.{NothingDueBy, standing_of};
 ghost use Rattle.sip_loop.specs.ServeErrors.{IsOfHanding};
 ghost use Rattle.sip_loop.specs.Serving.{kept};
 ghost use Rattle.sip_loop.specs.declared.served.ServeError.TheVariants.{NoMemory};
@@ -67,7 +67,7 @@ fn take_fault<T: Timers, R: Rules>(
 ) -> Result<StepOut, ServeError>
     requires { NothingDueBy engine.old.state.moment engine.old.state }
     ensures server { engine.new.server ≡ engine.old.server }
-    ensures taken { IfOk result (λ out. TakesFault engine.old.server engine.old.state ticket out engine.new.state) }
+    ensures taken { IfOk result (λ out. TakesFault engine.old.server (standing_of engine.old) ticket out (standing_of engine.new)) }
     ensures refused { IfErr result (λ e. e ≡ NoMemory) }
     ensures unchanged { OnErr result (engine.new ≡ engine.old) }
 {
@@ -97,7 +97,7 @@ fn hand_one<T: Timers, R: Rules, L: Link, J: Journal>(
     ensures failures { L.failures link.new ≡ L.failures link.old }
     ensures heard { L.heard link.new ≡ L.heard link.old }
     ensures link_waits { L.waits link.new ≡ L.waits link.old }
-    ensures handed { OnOk result ((others : Others) (turn : Option ℕ) → Course engine.old.server engine.old.state engine.new.state
+    ensures handed { OnOk result ((others : Others) (turn : Option ℕ) → Course engine.old.server (standing_of engine.old) (standing_of engine.new)
         (waiting_at turn (drop place packets.old) engine.old.state.moment) (waiting_at turn (drop (place + 1) packets.new) engine.new.state.moment)
         (told_with others (L.given link.old) (kept (J.written journal.old) (J.faulted journal.old)))
         (told_with others (L.given link.new) (kept (J.written journal.new) (J.faulted journal.new))) [] 0 0) }
@@ -106,7 +106,7 @@ fn hand_one<T: Timers, R: Rules, L: Link, J: Journal>(
     ensures fewer { OnOk result (length packets.new + sends_left engine.new.state ≤ length packets.old + sends_left engine.old.state) }
     ensures no_further { OnOk result (IsNoFurther engine.old.state engine.new.state) }
     ensures refused { IfErr result (λ e. IsOfHanding e (J.written journal.new)) }
-    ensures broken { IfErr result (λ e. (others : Others) (turn : Option ℕ) → Breaks engine.old.server engine.old.state engine.new.state
+    ensures broken { IfErr result (λ e. (others : Others) (turn : Option ℕ) → Breaks engine.old.server (standing_of engine.old) (standing_of engine.new)
         (waiting_at turn (drop place packets.old) engine.old.state.moment)
         (told_with others (L.given link.old) (kept (J.written journal.old) (J.faulted journal.old)))
         (told_with others (L.given link.new) (kept (J.written journal.new) (J.faulted journal.new))) 0 e) }
@@ -138,13 +138,13 @@ pub(crate) fn hand_out<T: Timers, R: Rules, L: Link, J: Journal>(
     ensures failures { L.failures link.new ≡ L.failures link.old }
     ensures heard { L.heard link.new ≡ L.heard link.old }
     ensures link_waits { L.waits link.new ≡ L.waits link.old }
-    ensures handed { OnOk result ((others : Others) (turn : Option ℕ) → Course engine.old.server engine.old.state engine.new.state
+    ensures handed { OnOk result ((others : Others) (turn : Option ℕ) → Course engine.old.server (standing_of engine.old) (standing_of engine.new)
         (waiting_at turn packets.old engine.old.state.moment) (waiting_at turn [] engine.new.state.moment)
         (told_with others (L.given link.old) (kept (J.written journal.old) (J.faulted journal.old)))
         (told_with others (L.given link.new) (kept (J.written journal.new) (J.faulted journal.new))) [] 0 0) }
     ensures no_further { OnOk result (IsNoFurther engine.old.state engine.new.state) }
     ensures refused { IfErr result (λ e. IsOfHanding e (J.written journal.new)) }
-    ensures broken { IfErr result (λ e. (others : Others) (turn : Option ℕ) → Breaks engine.old.server engine.old.state engine.new.state
+    ensures broken { IfErr result (λ e. (others : Others) (turn : Option ℕ) → Breaks engine.old.server (standing_of engine.old) (standing_of engine.new)
         (waiting_at turn packets.old engine.old.state.moment)
         (told_with others (L.given link.old) (kept (J.written journal.old) (J.faulted journal.old)))
         (told_with others (L.given link.new) (kept (J.written journal.new) (J.faulted journal.new))) 0 e) }

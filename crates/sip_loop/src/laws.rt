@@ -1,5 +1,5 @@
 ghost use Rattle.std.specs.Prelude.{◌≡◌, ℕ, List, None, Some};
-ghost use Rattle.model_bounds.specs.state.declared.proxy_state.ProxyState.{ProxyState};
+ghost use Rattle.model_order.specs.Order.{Standing};
 ghost use Rattle.model_bounds.specs.state.declared.server.Server.{Server};
 ghost use Rattle.sip_loop.specs.Replays.{ReplaysTo};
 ghost use Rattle.sip_loop.specs.Serving.{IsServed, IsUnserved, Told, ahead, gathered, steps_taken};
@@ -11,10 +11,10 @@ ghost use Rattle.sip_loop.specs.declared.served.ServeError.{ServeError};
 /// A text says one list of events alone (`script_says_one_list` of `sip_replay`), and a replay of it, or a server that goes on from it,
 /// takes a run over that list from there.
 pub fn replayed_is_served()
-    ensures served { (turns : ℕ) (server : Server) (old new : ProxyState) (before after : Told) (front all : List ℕ)
+    ensures served { (turns : ℕ) (server : Server) (old new : Standing) (before after : Told) (front all : List ℕ)
         → (served : IsServed turns server old new before after) → before.journal.bytes ≡ Some (Some front) → after.journal.bytes ≡ Some (Some all)
         → ReplaysTo server old new front all None (gathered steps_taken served.done) }
-    ensures unserved { (turns : ℕ) (server : Server) (old new : ProxyState) (before after : Told) (e : ServeError) (front all : List ℕ)
+    ensures unserved { (turns : ℕ) (server : Server) (old new : Standing) (before after : Told) (e : ServeError) (front all : List ℕ)
         → (unserved : IsUnserved turns server old new before after e) → before.journal.bytes ≡ Some (Some front)
         → after.journal.bytes ≡ Some (Some all) → ReplaysTo server old new front all (ahead unserved.done) (gathered steps_taken unserved.done) }
 {}

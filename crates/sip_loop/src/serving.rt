@@ -2,7 +2,7 @@ ghost use Rattle.std.specs.Prelude.{◌≡◌, ◌≢◌, ◌⊎◌, ◌≤◌, 
 ghost use Rattle.sip_loop_link.specs.Told.{counted};
 ghost use Rattle.sip_loop.specs.Counts.{counted_times, IsAskedWithin};
 ghost use Rattle.model_bounds.specs.steps_model.Step.{moment_of};
-ghost use Rattle.sip_run.specs.Due.{NothingDueBy};
+ghost use Rattle.sip_run.specs.Due.{NothingDueBy, standing_of};
 ghost use Rattle.sip_loop.specs.Courses.{Breaks, BreaksOff, Goes, LinkFails, StepFails, TakesTurn, TurnBreaks, TurnGoes, waiting_at};
 ghost use Rattle.sip_loop.specs.Printing.{Prints};
 ghost use Rattle.sip_record.specs.Record.{Notes};
@@ -69,8 +69,8 @@ fn take_event<T: Timers, R: Rules, L: Link, W: Rng>(
     ensures not_journal { IfErr result (λ e. ¬ (e ≡ Refusal.Journal)) }
     ensures given { L.given link.new ≡ L.given link.old }
     ensures link_waits { L.waits link.new ≡ L.waits link.old }
-    ensures taken { IfOk result (λ taken. TakesTurn engine.old.server engine.old.state at (L.heard link.old) (L.heard link.new)
-        (W.stream words.old) (W.stream words.new) (turn_at at taken.arrived (L.held link.new)) taken.out engine.new.state) }
+    ensures taken { IfOk result (λ taken. TakesTurn engine.old.server (standing_of engine.old) at (L.heard link.old) (L.heard link.new)
+        (W.stream words.old) (W.stream words.new) (turn_at at taken.arrived (L.held link.new)) taken.out (standing_of engine.new)) }
     ensures broken { IfErr result (λ e. LinkFails (L.heard link.old) (L.heard link.new) (W.stream words.old) (W.stream words.new) e
         ⊎ StepFails engine.old.state at (L.heard link.old) (L.heard link.new) (W.stream words.old) (W.stream words.new) e) }
     ensures none_left { OnOk result (NothingDueBy engine.new.state.moment engine.new.state) }
@@ -144,12 +144,12 @@ fn take_turn<T: Timers, R: Rules, L: Link, J: Journal, A: AuditLog, W: Rng>(
     ensures link_held { ¬ (result ≡ Err Refusal.Link) → L.failures link.new ≡ L.failures link.old }
     ensures journal_failed { result ≡ Err Refusal.Journal → J.written journal.new ≡ None }
     ensures link_waits { L.waits link.new ≡ L.waits link.old }
-    ensures goes { OnOk result ((readings : Option (List ℕ)) → TurnGoes engine.old.server engine.old.state engine.new.state at
+    ensures goes { OnOk result ((readings : Option (List ℕ)) → TurnGoes engine.old.server (standing_of engine.old) (standing_of engine.new) at
         (told_by (L.heard link.old) (L.given link.old) readings (kept (J.written journal.old) (J.faulted journal.old))
         (kept (A.printed audit.old) (A.faulted audit.old)) (W.stream words.old))
         (told_by (L.heard link.new) (L.given link.new) readings (kept (J.written journal.new) (J.faulted journal.new))
         (kept (A.printed audit.new) (A.faulted audit.new)) (W.stream words.new))) }
-    ensures broken { IfErr result (λ e. (readings : Option (List ℕ)) → TurnBreaks engine.old.server engine.old.state engine.new.state at
+    ensures broken { IfErr result (λ e. (readings : Option (List ℕ)) → TurnBreaks engine.old.server (standing_of engine.old) (standing_of engine.new) at
         (told_by (L.heard link.old) (L.given link.old) readings (kept (J.written journal.old) (J.faulted journal.old))
         (kept (A.printed audit.old) (A.faulted audit.old)) (W.stream words.old))
         (told_by (L.heard link.new) (L.given link.new) readings (kept (J.written journal.new) (J.faulted journal.new))
@@ -180,12 +180,12 @@ fn turn<T: Timers, R: Rules, L: Link, J: Journal, A: AuditLog, C: Clock, W: Rng>
     ensures link_held { ¬ (result ≡ Err Refusal.Link) → L.failures link.new ≡ L.failures link.old }
     ensures journal_failed { result ≡ Err Refusal.Journal → J.written journal.new ≡ None }
     ensures link_waits { L.waits link.new ≡ L.waits link.old }
-    ensures goes { OnOk result (Goes engine.old.server engine.old.state engine.new.state
+    ensures goes { OnOk result (Goes engine.old.server (standing_of engine.old) (standing_of engine.new)
         (told_by (L.heard link.old) (L.given link.old) (C.readings clock.old) (kept (J.written journal.old) (J.faulted journal.old))
         (kept (A.printed audit.old) (A.faulted audit.old)) (W.stream words.old))
         (told_by (L.heard link.new) (L.given link.new) (C.readings clock.new) (kept (J.written journal.new) (J.faulted journal.new))
         (kept (A.printed audit.new) (A.faulted audit.new)) (W.stream words.new)) 1) }
-    ensures broken { IfErr result (Breaks engine.old.server engine.old.state engine.new.state (between_turns engine.old.state.moment)
+    ensures broken { IfErr result (Breaks engine.old.server (standing_of engine.old) (standing_of engine.new) (between_turns engine.old.state.moment)
         (told_by (L.heard link.old) (L.given link.old) (C.readings clock.old) (kept (J.written journal.old) (J.faulted journal.old))
         (kept (A.printed audit.old) (A.faulted audit.old)) (W.stream words.old))
         (told_by (L.heard link.new) (L.given link.new) (C.readings clock.new) (kept (J.written journal.new) (J.faulted journal.new))
@@ -221,12 +221,12 @@ pub fn serve<T: Timers, R: Rules, L: Link, J: Journal, A: AuditLog, C: Clock, W:
     turns: u32,
 ) -> Result<(), ServeError>
     ensures server { engine.new.server ≡ engine.old.server }
-    ensures served { OnOk result (IsServed turns engine.old.server engine.old.state engine.new.state
+    ensures served { OnOk result (IsServed turns engine.old.server (standing_of engine.old) (standing_of engine.new)
         (told_by (L.heard link.old) (L.given link.old) (C.readings clock.old) (kept (J.written journal.old) (J.faulted journal.old))
         (kept (A.printed audit.old) (A.faulted audit.old)) (W.stream words.old))
         (told_by (L.heard link.new) (L.given link.new) (C.readings clock.new) (kept (J.written journal.new) (J.faulted journal.new))
         (kept (A.printed audit.new) (A.faulted audit.new)) (W.stream words.new))) }
-    ensures refused { IfErr result (IsUnserved turns engine.old.server engine.old.state engine.new.state
+    ensures refused { IfErr result (IsUnserved turns engine.old.server (standing_of engine.old) (standing_of engine.new)
         (told_by (L.heard link.old) (L.given link.old) (C.readings clock.old) (kept (J.written journal.old) (J.faulted journal.old))
         (kept (A.printed audit.old) (A.faulted audit.old)) (W.stream words.old))
         (told_by (L.heard link.new) (L.given link.new) (C.readings clock.new) (kept (J.written journal.new) (J.faulted journal.new))

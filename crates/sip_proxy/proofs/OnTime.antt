@@ -25,4 +25,4 @@ pub near : Passes → (old now moment : ℕ) (r : OpenRequest) → moment ≡ ma
 near passes old now moment r e h = subst (λ (n : ℕ). IsWithin n r) (sym e) (passes now (max old now) r (le-max_right old now) h)
 
 pub kept : Passes → (old now moment : ℕ) (r x : OpenRequest) → moment ≡ max old now → IsKeptAs now r x → IsKeptAs moment r x
-kept passes old now moment r x e k = record { fits = k.fits; within = near passes old now moment x e k.within; number = k.number; key = k.key }
+kept passes old now moment r x e k = record { fits = k.fits; within = near passes old now moment x e k.within; number = k.number; key = k.key; branches = k.branches }

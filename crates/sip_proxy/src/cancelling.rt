@@ -1,8 +1,10 @@
 ghost use Rattle.std.specs.Prelude.{◌≡◌, ◌<◌, ◌≤◌, ◌+◌, ◌^◌, ℕ, List, length, position, slice_get, None, Some, IfOk, IfSome, OnOk, OnErr};
 ghost use Rattle.std.specs.List.{All};
+ghost use Rattle.sip_fork.specs.Firing.{KeepsOrder};
 ghost use Rattle.sip_fork.specs.Keeping.{IsKeptAs};
 ghost use Rattle.sip_fork.specs.request.Near.{most_timers};
 ghost use Rattle.sip_forwarding.specs.transactions_model.Fits.{Fits};
+ghost use Rattle.sip_forwarding.specs.transactions_model.Matching.{AreBranched};
 ghost use Rattle.sip_dialog_lessons.specs.Lessons.{beginnings};
 ghost use Rattle.sip_fork.specs.steps_model.Effect.{replaced};
 ghost use Rattle.sip_fork.specs.steps_model.Step.{NoneBefore, NoneAgainBefore};
@@ -16,6 +18,7 @@ use crate::drafting::Draft;
 use crate::proxy::Proxy;
 use sip_dialog_lessons::state::OpenRequest;
 use sip_event::Packet;
+use sip_fork::firing::orders_join;
 use sip_fork::{Change, Contexts, Opening};
 use sip_forwarding::Drafted;
 use sip_text::Items;
@@ -96,16 +99,22 @@ fn open_and_change_at<T: Timers>(
     requires none_again { NoneAgainBefore now contexts.old.requests }
     requires fits { Fits opened }
     requires within { IsWithin now opened }
+    requires branched { AreBranched opened.branches }
     requires kept { (r : OpenRequest) → slice_get contexts.old.requests place ≡ Some r → IsKeptAs now r change }
     requires room { most_timers opened + most_timers change ≤ contexts.old.room }
     ensures requests { contexts.new.requests ≡ replaced change (with_one_more opened contexts.old.requests) }
+    ensures queue { KeepsOrder contexts.old.pending contexts.new.pending contexts.new.requests }
     ensures moment { contexts.new.moment ≡ now }
 {
     fits_once_it_came();
     others_keep_their_places();
+    orders_join();
     let _stood = contexts.get(place);
+    contexts.stand_in_order();
     open_at(contexts, now, opened);
+    contexts.stand_in_order();
     contexts.change(place, change);
+    contexts.stand_in_order();
 }
 
 impl<T: Timers> Proxy<T> {
@@ -126,10 +135,12 @@ impl<T: Timers> Proxy<T> {
         requires alone { position (has_key opened.key) self.old.state.requests ≡ None }
         requires fits { Fits opened }
         requires within { IsWithin now opened }
+        requires branched { AreBranched opened.branches }
         requires kept { (r : OpenRequest) → slice_get self.old.state.requests place ≡ Some r → IsKeptAs now r draft.change }
         requires few { beginnings draft.drafted.lessons ≤ 1 }
         ensures becomes { OnOk result (Becomes now (replaced draft.change (with_one_more opened self.old.state.requests))
             draft.drafted.lessons self.old.state self.new.state) }
+        ensures queue { OnOk result (KeepsOrder self.old.timers self.new.timers self.new.state.requests) }
         ensures sent { IfOk result (λ packets. packets ≡ draft.drafted.packets) }
         ensures unchanged { OnErr result (self.new.state ≡ self.old.state) }
         ensures timers { OnErr result (self.new.timers ≡ self.old.timers) }

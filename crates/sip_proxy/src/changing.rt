@@ -1,8 +1,10 @@
 ghost use Rattle.std.specs.Prelude.{◌≡◌, ◌<◌, ◌≤◌, ◌+◌, ◌-◌, ◌^◌, ℕ, max, length, position, slice_get, None, Some, IfOk, OnOk, OnErr};
 ghost use Rattle.std.specs.List.{All};
 ghost use Rattle.sip_fork.specs.Contexts.{IsFitting};
+ghost use Rattle.sip_fork.specs.Firing.{KeepsOrder};
 ghost use Rattle.sip_fork.specs.request.Near.{most_timers};
 ghost use Rattle.sip_forwarding.specs.transactions_model.Fits.{Fits};
+ghost use Rattle.sip_forwarding.specs.transactions_model.Matching.{AreBranched};
 ghost use Rattle.sip_dialog_lessons.specs.Lessons.{beginnings};
 ghost use Rattle.sip_fork.specs.steps_model.Effect.{replaced};
 ghost use Rattle.sip_fork.specs.steps_model.Step.{NoneBefore, NoneAgainBefore};
@@ -74,6 +76,7 @@ fn change_at<T: Timers>(contexts: &mut Contexts<T>, now: u64, place: usize, chan
     requires kept { (r : OpenRequest) → slice_get contexts.old.requests place ≡ Some r → IsKeptAs now r change }
     requires room { most_timers change ≤ contexts.old.room }
     ensures requests { contexts.new.requests ≡ replaced change contexts.old.requests }
+    ensures queue { KeepsOrder contexts.old.pending contexts.new.pending contexts.new.requests }
     ensures moment { contexts.new.moment ≡ now }
 {
     fits_once_it_came();
@@ -94,8 +97,10 @@ pub(crate) fn open_at<T: Timers>(contexts: &mut Contexts<T>, now: u64, opening: 
     requires none_again { NoneAgainBefore now contexts.old.requests }
     requires fits { Fits opening }
     requires within { IsWithin now opening }
+    requires branched { AreBranched opening.branches }
     requires room { most_timers opening ≤ contexts.old.room }
     ensures requests { contexts.new.requests ≡ with_one_more opening contexts.old.requests }
+    ensures queue { KeepsOrder contexts.old.pending contexts.new.pending contexts.new.requests }
     ensures moment { contexts.new.moment ≡ now }
     ensures reached { contexts.new.reached ≡ max contexts.old.reached (now - 1) }
     ensures room { contexts.old.room ≤ contexts.new.room + most_timers opening }
@@ -136,6 +141,7 @@ impl<T: Timers> Proxy<T> {
         requires few { beginnings draft.drafted.lessons ≤ 1 }
         ensures becomes { OnOk result (Becomes now (replaced draft.change self.old.state.requests) draft.drafted.lessons self.old.state
             self.new.state) }
+        ensures queue { OnOk result (KeepsOrder self.old.timers self.new.timers self.new.state.requests) }
         ensures sent { IfOk result (λ packets. packets ≡ draft.drafted.packets) }
         ensures unchanged { OnErr result (self.new.state ≡ self.old.state) }
         ensures timers { OnErr result (self.new.timers ≡ self.old.timers) }
@@ -160,8 +166,10 @@ impl<T: Timers> Proxy<T> {
         requires alone { position (has_key opening.key) self.old.state.requests ≡ None }
         requires fits { Fits opening }
         requires within { IsWithin now opening }
+        requires branched { AreBranched opening.branches }
         requires few { beginnings lessons ≤ 1 }
         ensures becomes { OnOk result (Becomes now (with_one_more opening self.old.state.requests) lessons self.old.state self.new.state) }
+        ensures queue { OnOk result (KeepsOrder self.old.timers self.new.timers self.new.state.requests) }
         ensures unchanged { OnErr result (self.new.state ≡ self.old.state) }
         ensures timers { OnErr result (self.new.timers ≡ self.old.timers) }
         ensures room { self.new.room ≡ self.old.room }
@@ -180,6 +188,7 @@ impl<T: Timers> Proxy<T> {
         requires few { beginnings lessons ≤ 1 }
         ensures becomes { OnOk result (Becomes now self.old.state.requests lessons self.old.state self.new.state) }
         ensures unchanged { OnErr result (self.new.state ≡ self.old.state) }
+        ensures queue { OnOk result (KeepsOrder self.old.timers self.new.timers self.new.state.requests) }
         ensures timers { self.new.timers ≡ self.old.timers }
         ensures room { self.new.room ≡ self.old.room }
     {

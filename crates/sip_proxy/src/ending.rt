@@ -2,6 +2,7 @@ ghost use Rattle.std.specs.Prelude.{◌≡◌, ◌≤◌, ◌<◌, ◌^◌, ℕ,
 ghost use Rattle.sip_dialog_lessons.specs.state.declared.server.Server.{Server};
 ghost use Rattle.sip_dialog_lessons.specs.state.declared.open_request.OpenRequest.{OpenRequest};
 ghost use Rattle.sip_fork.specs.Ending.{IsDeadlineOf, ended, left_invite};
+ghost use Rattle.sip_fork.specs.Firing.{KeepsOrder};
 ghost use Rattle.sip_fork.specs.Keeping.{IsKeptAs, IsOf};
 ghost use Rattle.sip_fork.specs.context.Inputs.{changing, outcome_of};
 ghost use Rattle.sip_fork.specs.Quiet.{alone, ends_alone};
@@ -32,6 +33,7 @@ fn end_at<T: Timers>(
     requires kept { (r : OpenRequest) → slice_get contexts.old.requests place ≡ Some r → IsKeptAs now r (ended transaction r) }
     ensures requests { (r : OpenRequest) → slice_get contexts.old.requests place ≡ Some r
         → contexts.new.requests ≡ replaced (ended transaction r) contexts.old.requests }
+    ensures queue { KeepsOrder contexts.old.pending contexts.new.pending contexts.new.requests }
     ensures left { (r : OpenRequest) → slice_get contexts.old.requests place ≡ Some r → result ≡ left_invite (ended transaction r) }
     ensures moment { contexts.new.moment ≡ now }
 {
@@ -63,6 +65,7 @@ impl<T: Timers> Proxy<T> {
         ensures becomes { (r : OpenRequest) → slice_get self.old.state.requests place ≡ Some r
             → Becomes now (replaced (ended transaction r) self.old.state.requests) (expiring (left_invite (ended transaction r))) self.old.state
             self.new.state }
+        ensures queue { KeepsOrder self.old.timers self.new.timers self.new.state.requests }
         ensures room { self.new.room ≡ self.old.room }
     {
         if let Some(number) = end_at(&mut self.contexts, now, place, transaction) {

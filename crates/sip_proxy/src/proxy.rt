@@ -1,10 +1,12 @@
-ghost use Rattle.std.specs.Prelude.{◌≡◌, ◌<◌, ◌≤◌, ◌==◌, ◌+◌, ◌^◌, ℕ, [], false, length, position, slice_get, nat_le, find, option_map};
+ghost use Rattle.std.specs.Prelude.{◌≡◌, ◌<◌, ◌≤◌, ◌==◌, ◌+◌, ◌^◌, ℕ, List, [], false, length, position, slice_get, nat_le, find, option_map};
 ghost use Rattle.std.specs.Prelude.{MatchOption, Some, IfOk, IfSome};
 ghost use Rattle.std.specs.List.{AllPairs};
 ghost use Rattle.std.specs.Option.{option_and_then};
 ghost use Rattle.sip_fork.specs.Due.{IsFirst, IsFirstAt, IsNothingDue, IsOfFirst};
+ghost use Rattle.sip_fork.specs.Firing.{KeepsOrder};
 ghost use Rattle.sip_fork.specs.Places.{branch_at};
 ghost use Rattle.sip_core.specs.context_model.FoundBranch.{found_branch};
+ghost use Rattle.sip_timers.specs.declared.timer.Timer.{Timer};
 ghost use Rattle.sip_transaction_table.specs.Key.{same_key};
 ghost use Rattle.sip_location.specs.Binding.{live};
 ghost use Rattle.sip_dialog_lessons.specs.state.State.{first_state, has_key};
@@ -212,6 +214,7 @@ impl<T: Timers> Proxy<T> {
     pub fn wait(&mut self, now: u64)
         requires { MayCome self.old.state now }
         ensures becomes { Becomes now self.old.state.requests [] self.old.state self.new.state }
+        ensures queue { KeepsOrder self.old.timers self.new.timers self.new.state.requests }
         ensures timers { self.new.timers ≡ self.old.timers }
         ensures room { self.new.room ≡ self.old.room }
     {
@@ -223,6 +226,7 @@ impl<T: Timers> Proxy<T> {
         requires { self.old.state.next < 2 ^ 62 }
         ensures number { result ≡ self.old.state.next }
         ensures counted { IsCounted self.old.state self.new.state }
+        ensures queue { (old : List Timer) → KeepsOrder old self.old.timers self.old.state.requests → KeepsOrder old self.new.timers self.new.state.requests }
         ensures timers { self.new.timers ≡ self.old.timers }
         ensures room { self.new.room ≡ self.old.room }
     {

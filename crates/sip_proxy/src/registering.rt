@@ -1,5 +1,7 @@
-ghost use Rattle.std.specs.Prelude.{◌≡◌, ◌≤◌, ℕ, false, Ok};
+ghost use Rattle.std.specs.Prelude.{◌≡◌, ◌≤◌, ℕ, List, false, Ok};
 ghost use Rattle.sip_auth.specs.Proof.{used};
+ghost use Rattle.sip_fork.specs.Firing.{KeepsOrder};
+ghost use Rattle.sip_timers.specs.declared.timer.Timer.{Timer};
 ghost use Rattle.sip_location.specs.Locations.{of_aor, IsPlan};
 ghost use Rattle.sip_location.specs.Registration.{registered};
 ghost use Rattle.sip_location.specs.Sameness.{SameOutcome};
@@ -20,6 +22,7 @@ impl<T: Timers> Proxy<T> {
     pub fn spend(&mut self, proof: &Proof<'_>, now: u64)
         ensures state { self.new.state ≡ with_nonces (used self.old.state.nonces now proof.now) self.old.state }
         ensures timers { self.new.timers ≡ self.old.timers }
+        ensures queue { (old : List Timer) → KeepsOrder old self.old.timers self.old.state.requests → KeepsOrder old self.new.timers self.new.state.requests }
         ensures room { self.new.room ≡ self.old.room }
     {
         proof.spend(&mut self.nonces, now);
@@ -29,6 +32,7 @@ impl<T: Timers> Proxy<T> {
     pub fn issue(&mut self, word: u128, now: u64)
         ensures state { self.new.state ≡ with_nonces (issued self.old.state.nonces word now) self.old.state }
         ensures timers { self.new.timers ≡ self.old.timers }
+        ensures queue { (old : List Timer) → KeepsOrder old self.old.timers self.old.state.requests → KeepsOrder old self.new.timers self.new.state.requests }
         ensures room { self.new.room ≡ self.old.room }
     {
         self.nonces.issue(word, now);
@@ -44,6 +48,7 @@ impl<T: Timers> Proxy<T> {
             → SameOutcome now (Ok self.new.state.bindings) (registered self.old.state.bindings r now) }
         ensures rest { self.new.state ≡ with_bindings self.new.state.bindings self.old.state }
         ensures timers { self.new.timers ≡ self.old.timers }
+        ensures queue { (old : List Timer) → KeepsOrder old self.old.timers self.old.state.requests → KeepsOrder old self.new.timers self.new.state.requests }
     {
         self.locations.apply(plan);
     }

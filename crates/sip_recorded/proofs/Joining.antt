@@ -7,12 +7,14 @@ use Rattle.sip_config_types.specs.declared.config.Config.{Config}
 use Rattle.sip_replay_script.proofs.RecordTexts.{record_all}
 use Rattle.sip_segment_text.specs.Segments.{SaysWhole, Segment}
 use Rattle.model_bounds.specs.state.declared.proxy_state.ProxyState.{ProxyState}
+use Rattle.model_order.specs.Order.{Standing, first_standing, queue_from}
 use Rattle.model_bounds.specs.state.declared.server.Server.{Server}
 use Rattle.model_bounds.specs.state.State.{first_state}
 use Rattle.model_bounds.specs.model.Run.{Link, IsRun, first_moment, under}
 use Rattle.model_bounds.specs.model.Periods.{IsRunUnder, Period, until_of}
-use Rattle.model_bounds.proofs.SendingLists.{all_joined}
-use Rattle.model_ties.specs.Ties.{ArePrompt}
+use Rattle.model_order.proofs.Along.{queue_behind}
+use Rattle.model_ties.specs.Ties.{AreOrderly}
+use Rattle.model_ties.proofs.Orderly.{orderly_joined}
 use Rattle.sip_replay.proofs.of_run.{run_on}
 use Rattle.sip_replay.specs.resume.Whole.{AreStated, KeepsFrame, TakesWhole, config_behind}
 use Rattle.sip_replay.proofs.of_resume.{frames_of, run_back}
@@ -102,7 +104,7 @@ last_frame : (server : Server) (config : Config) (periods : List Period) → rec
 last_frame server config [] own frames = own
 last_frame server config (period ∷ periods) own frames = last_frame server period.config periods frames.0 frames.1
 
-pub is_under : (server now : Server) (first : ℕ) (text : List ℕ) (steps : List StepOut) (last : ProxyState) → (h : IsRecordedUnder server now first text steps last) → now ≡ under server (config_behind server.config h.periods)
+pub is_under : (server now : Server) (first : ℕ) (text : List ℕ) (steps : List StepOut) (last : Standing) → (h : IsRecordedUnder server now first text steps last) → now ≡ under server (config_behind server.config h.periods)
 is_under server now first text steps last h = h.in_force ∙ last_frame server server.config h.periods refl h.frames
 
 frames_joined : (server : Server) (periods : List Period) (more : List Event) (others : List Period) → AllByRecursion (KeepsFrame server) periods → AllByRecursion (KeepsFrame server) others → AllByRecursion (KeepsFrame server) (periods_joined periods more others)
@@ -176,23 +178,24 @@ run_of server config more periods old new steps history h = record {
 }
 
 -- what is taken of a text, by which server
-record TakesSo (server : Server) (config : Config) (old new : ProxyState) (more : List Event) (periods : List Period) (steps : List StepOut) : Type 0 where
+record TakesSo (server : Server) (config : Config) (old new : Standing) (more : List Event) (periods : List Period) (steps : List StepOut) : Type 0 where
   history : List Link
-  is_run : IsRunUnder server old (record { config = config; events = more } ∷ periods) None steps history new
-  prompt : ArePrompt server history
+  is_run : IsRunUnder server old.state (record { config = config; events = more } ∷ periods) None steps history new.state
+  orderly : AreOrderly server old.queue history
+  queue : new.queue ≡ queue_from old.queue history
 
-takes_so : (server mid : Server) (config : Config) (old new : ProxyState) (more : List Event) (periods : List Period) (steps : List StepOut) → mid ≡ under server config → TakesSo mid mid.config old new more periods steps → TakesSo server config old new more periods steps
+takes_so : (server mid : Server) (config : Config) (old new : Standing) (more : List Event) (periods : List Period) (steps : List StepOut) → mid ≡ under server config → TakesSo mid mid.config old new more periods steps → TakesSo server config old new more periods steps
 takes_so server mid config old new more periods steps is h = back (subst (λ (s : Server). TakesSo s s.config old new more periods steps) is h) where
   back : TakesSo (under server config) (under server config).config old new more periods steps → TakesSo server config old new more periods steps
-  back h = record { history = h.history; is_run = run_of server config more periods old new steps h.history h.is_run; prompt = h.prompt }
+  back h = record { history = h.history; is_run = run_of server config more periods old.state new.state steps h.history h.is_run; orderly = h.orderly; queue = h.queue }
 
 -- it goes on by what a further text says
-pub recorded_on : RunsJoin → (server mid server_then : Server) (first : ℕ) (text further : List ℕ) (steps : List StepOut) (old new : ProxyState) (more : List Event) (others : List Segment) → IsRecordedUnder server mid first text steps old
+pub recorded_on : RunsJoin → (server mid server_then : Server) (first : ℕ) (text further : List ℕ) (steps : List StepOut) (old new : Standing) (more : List Event) (others : List Segment) → IsRecordedUnder server mid first text steps old
     → SaysWhole more others further → (takes : TakesWhole mid server_then old new more others) → IsRecordedUnder server server_then first (text ++ further) (steps ++ takes.runs.steps) new
 recorded_on join server mid server_then first text further steps old new more others h says takes =
     let is : mid ≡ under server (config_behind server.config h.periods) = is_under server mid first text steps old h in
     let so : TakesSo server (config_behind server.config h.periods) old new more takes.periods takes.runs.steps =
-    takes_so server mid (config_behind server.config h.periods) old new more takes.periods takes.runs.steps is (record { history = takes.runs.history; is_run = takes.runs.is_run; prompt = takes.runs.prompt }) in
+    takes_so server mid (config_behind server.config h.periods) old new more takes.periods takes.runs.steps is (record { history = takes.runs.history; is_run = takes.runs.is_run; orderly = takes.runs.orderly; queue = takes.runs.queue }) in
     record {
       events = grown h.events h.segments more;
       segments = joined h.segments more others;
@@ -201,9 +204,10 @@ recorded_on join server mid server_then first text further steps old new more ot
       stated = stated_joined h.segments h.periods more others takes.periods h.stated takes.stated;
       frames = frames_joined server h.periods more takes.periods h.frames (frames_of server mid (config_behind server.config h.periods) takes.periods is takes.frames);
       history = so.history ++ h.history;
-      is_run = subst (λ (es : List Event). IsRunUnder server (first_state first) (record { config = server.config; events = es } ∷ periods_joined h.periods more takes.periods) None (steps ++ takes.runs.steps) (so.history ++ h.history) new)
+      is_run = subst (λ (es : List Event). IsRunUnder server (first_state first) (record { config = server.config; events = es } ∷ periods_joined h.periods more takes.periods) None (steps ++ takes.runs.steps) (so.history ++ h.history) new.state)
           (grown_same h.segments h.periods h.events h.events more h.stated refl)
-          (run_joined join server server.config h.events h.periods more takes.periods (first_state first) old new steps takes.runs.steps h.history so.history h.is_run so.is_run);
-      prompt = all_joined _ so.history h.history so.prompt h.prompt;
+          (run_joined join server server.config h.events h.periods more takes.periods (first_state first) old.state new.state steps takes.runs.steps h.history so.history h.is_run so.is_run);
+      orderly = orderly_joined server (first_standing first) old h.history so.history h.queue h.orderly so.orderly;
+      queue = queue_behind (first_standing first) old new h.history so.history h.queue so.queue;
       in_force = in_force_joined server mid server_then h.periods more takes.periods h.in_force takes.in_force;
     }

@@ -11,13 +11,17 @@ use Rattle.sip_replay_script.specs.Events.{SaysEvent, SaysEvents}
 use Rattle.sip_replay_script.specs.Recorded.{SaysRecord}
 use Rattle.sip_segment_text.specs.Segments.{Segment}
 use Rattle.model_bounds.specs.state.declared.proxy_state.ProxyState.{ProxyState}
+use Rattle.model_order.specs.Order.{Standing, first_standing}
 use Rattle.model_bounds.specs.state.declared.server.Server.{Server}
 use Rattle.model_bounds.specs.state.State.{first_state}
 use Rattle.model_bounds.specs.state.SameState.{SameState}
 use Rattle.model_bounds.specs.steps_model.Step.{Act, Given, Passing}
 use Rattle.model_bounds.specs.model.Run.{Link, IsChain, IsRun, IsUnder, first_moment, under}
 use Rattle.model_bounds.specs.model.Periods.{IsRunUnder, Period}
-use Rattle.model_ties.specs.Ties.{AreOne, ArePrompt, IsPrompt, PartAtTie}
+use Rattle.model_transactions.specs.Queue.{Entry}
+use Rattle.model_order.proofs.Along.{queued_weaker}
+use Rattle.model_ties.specs.Ties.{AreOne, AreOrderly, IsOrderly}
+use Rattle.model_ties.proofs.Orderly.{Orderly}
 use Rattle.sip_replay.specs.run.Runs.{AreTurns, IsAtEnd, IsRunOver, IsTurn, IsUnopened}
 use Rattle.sip_replay.specs.resume.Whole.{AreStated, config_behind}
 use Rattle.sip_replay.specs.Refusals.{BeginsWith, StopsAtLine, moment_ahead}
@@ -38,37 +42,37 @@ none_stated : (periods : List Period) → AreStated [] periods → periods ≡ [
 none_stated [] h = refl
 none_stated (period ∷ periods) h = absurd h
 
-pub events_alone : OneIsARun → OneWhole → RecordsSay → (server now : Server) (first : ℕ) (text : List ℕ) (steps : List StepOut) (last : ProxyState) (events : List Event) → IsRecordedUnder server now first text steps last → SaysRecord events text
-    → IsRecorded server first text steps last × (now ≡ server)
+pub events_alone : OneIsARun → OneWhole → RecordsSay → (server now : Server) (first : ℕ) (text : List ℕ) (steps : List StepOut) (last : Standing) (events : List Event) → IsRecordedUnder server now first text steps last → SaysRecord events text
+    → IsRecorded server first text steps last.state × (now ≡ server)
 events_alone run one record_says server now first text steps last events h says =
     let same = one h.events events h.segments [] text h.says (says_alone events text says) in
     let none : h.periods ≡ [] = none_stated h.periods (subst (λ (segments : List Segment). AreStated segments h.periods) same.1 h.stated) in
-    let under_one : IsRunUnder server (first_state first) (record { config = server.config; events = events } ∷ []) None steps h.history last =
-    subst (λ (ps : List Period). IsRunUnder server (first_state first) (record { config = server.config; events = events } ∷ ps) None steps h.history last) none
-    (subst (λ (es : List Event). IsRunUnder server (first_state first) (record { config = server.config; events = es } ∷ h.periods) None steps h.history last) same.0 h.is_run) in (
+    let under_one : IsRunUnder server (first_state first) (record { config = server.config; events = events } ∷ []) None steps h.history last.state =
+    subst (λ (ps : List Period). IsRunUnder server (first_state first) (record { config = server.config; events = events } ∷ ps) None steps h.history last.state) none
+    (subst (λ (es : List Event). IsRunUnder server (first_state first) (record { config = server.config; events = es } ∷ h.periods) None steps h.history last.state) same.0 h.is_run) in (
       record {
         events = events;
         says = record_says events text says;
         history = h.history;
-        is_run = (run server (first_state first) server.config events None steps h.history last).0 under_one;
-        prompt = h.prompt;
+        is_run = (run server (first_state first) server.config events None steps h.history last.state).0 under_one;
+        orderly = h.orderly;
       },
       h.in_force ∙ ap (λ (ps : List Period). let s : Server = record { config = config_behind server.config ps; word = server.word } in s) none,
     )
 
 -- ---- a run over a list
 
--- an event that came in its turn came promptly
-prompt_listed : (server : Server) (before after : ProxyState) (act : Act) (out : StepOut) → IsTurn server before act out after → IsPrompt server before act out after
-prompt_listed server before after (Given (Datagram at word from bytes)) out turn = tt
-prompt_listed server before after (Given (Time at)) out turn = tt
-prompt_listed server before after (Given (Fault at ticket)) out turn = (turn.none_due.none, turn.none_due.none_again)
-prompt_listed server before after (Passing at) out turn = turn
+-- an event that came in its turn came promptly, and the first of what was due happened
+orderly_listed : (server : Server) (queue : List Entry) (before after : ProxyState) (act : Act) (out : StepOut) → IsTurn server queue before act out after → IsOrderly server queue before act out after
+orderly_listed server queue before after (Given (Datagram at word from bytes)) out turn = tt
+orderly_listed server queue before after (Given (Time at)) out turn = tt
+orderly_listed server queue before after (Given (Fault at ticket)) out turn = (turn.none_due.none, turn.none_due.none_again)
+orderly_listed server queue before after (Passing at) out turn = turn
 
-prompt_list : (server : Server) (history : List Link) → AllByRecursion (IsUnder server.config) history → AreTurns server history → ArePrompt server history
-prompt_list server [] configured turns = tt
-prompt_list server (link ∷ history) configured turns =
-    (under_own server link configured.0 (prompt_listed server link.before link.after link.act link.out turns.0), prompt_list server history configured.1 turns.1)
+orderly_list : (server : Server) (queue : List Entry) (history : List Link) → AllByRecursion (IsUnder server.config) history → AreTurns server queue history → AreOrderly server queue history
+orderly_list server queue history configured turns =
+    queued_weaker (IsUnder server.config) (λ (standing : List Entry) (link : Link). IsTurn server standing link.before link.act link.out link.after) (Orderly server)
+    (λ standing link is turn. under_own server standing link is (orderly_listed server standing link.before link.after link.act link.out turn)) queue history configured turns
 
 -- which took all of it
 all_taken : (last : ProxyState) (left : List Event) (history : List Link) → IsAtEnd last left None ⊎ IsUnopened history None → left ≡ []
@@ -85,7 +89,7 @@ run_over server first text events steps over says =
       says = subst (λ (es : List Event). SaysEvents es text) all says;
       history = over.history;
       is_run = subst (λ (es : List Event). IsRun server (first_state first) over.taken (first_moment es None) steps over.history over.last) none over.is_run;
-      prompt = prompt_list server over.history over.is_run.configured over.turns;
+      orderly = orderly_list server [] over.history over.is_run.configured over.turns;
     }
 
 -- ---- a replay
@@ -96,23 +100,22 @@ replayed config word first text old new replay = record {
   says = subst (λ (l : List ℕ). SaysEvents replay.events l) (sym replay.whole) replay.says;
   history = replay.history;
   is_run = replay.is_run;
-  prompt = replay.prompt;
+  orderly = replay.orderly;
 }
 
 -- ---- two of one text
 
-abbrev pub EventsPartAtTiesAlone : Type 0
-EventsPartAtTiesAlone =
-    (server : Server) (first : ℕ) (past : List Link) (start other_start last end : ProxyState) (events : List Event) (steps others : List StepOut) (history its : List Link)
+abbrev pub EventsAreOne : Type 0
+EventsAreOne =
+    (server : Server) (first : ℕ) (past : List Link) (queue : List Entry) (start other_start last end : ProxyState) (events : List Event) (steps others : List StepOut) (history its : List Link)
     → IsChain server (first_state first) past start → SameState start other_start → IsRun server start events None steps history last → IsRun server other_start events None others its end
-    → ArePrompt server history → ArePrompt server its → AreOne steps others last end ⊎ PartAtTie server start steps others
+    → AreOrderly server queue history → AreOrderly server queue its → AreOne steps others last end
 
-pub one_script : EventsPartAtTiesAlone → OneScript → (server : Server) (first : ℕ) (text : List ℕ) (steps others : List StepOut) (last end : ProxyState) → IsRecorded server first text steps last → IsRecorded server first text others end
-    → AreOne steps others last end ⊎ PartAtTie server (first_state first) steps others
-one_script part one server first text steps others last end h k =
+pub one_script : EventsAreOne → OneScript → (server : Server) (first : ℕ) (text : List ℕ) (steps others : List StepOut) (last end : ProxyState) → IsRecorded server first text steps last → IsRecorded server first text others end → AreOne steps others last end
+one_script are one server first text steps others last end h k =
     let same : k.events ≡ h.events = one k.events h.events text k.says h.says in
-    part server first [] (first_state first) (first_state first) last end h.events steps others h.history k.history refl (first_same first)
-    h.is_run (subst (λ (es : List Event). IsRun server (first_state first) es None others k.history end) same k.is_run) h.prompt k.prompt
+    are server first [] [] (first_state first) (first_state first) last end h.events steps others h.history k.history refl (first_same first)
+    h.is_run (subst (λ (es : List Event). IsRun server (first_state first) es None others k.history end) same k.is_run) h.orderly k.orderly
 
 -- ---- a script that was cut
 
@@ -150,33 +153,33 @@ front_scripted : OneEvent → SomeText → (server : Server) (first : ℕ) (text
 front_scripted one something server first text more steps last events h says =
     let split = says_first one something events h.events text more says h.says in
     let run : IsRun server (first_state first) (events ++ split.0) None steps h.history last = subst (λ (es : List Event). IsRun server (first_state first) es None steps h.history last) split.1 h.is_run in
-    let so : RunFront server (first_state first) events steps = run_front server (first_state first) last events split.0 None steps h.history run h.prompt in
+    let so : RunFront server (first_standing first) events steps = run_front server (first_standing first) last events split.0 None steps h.history run h.orderly in
     record {
       front = so.runs.steps;
       further = so.further;
       cut = so.cut;
-      last = so.middle;
-      recorded = record { events = events; says = says; history = so.runs.history; is_run = so.runs.is_run; prompt = so.runs.prompt };
+      last = so.middle.state;
+      recorded = record { events = events; says = says; history = so.runs.history; is_run = so.runs.is_run; orderly = so.runs.orderly };
     }
 
 -- what was replayed of it is recorded by the text of its whole events
-cut_replayed : (config : Config) (word first : ℕ) (script old new : Option (List ℕ)) (line : ℕ) → (refused : StopsAtLine (server_with config word) (first_state first) 0 script old new line) → refused.comes.ahead ≡ None
+cut_replayed : (config : Config) (word first : ℕ) (script old new : Option (List ℕ)) (line : ℕ) → (refused : StopsAtLine (server_with config word) (first_standing first) 0 script old new line) → refused.comes.ahead ≡ None
     → IsRecorded (server_with config word) first refused.comes.text refused.steps refused.comes.last
 cut_replayed config word first script old new line refused none = record {
   events = refused.comes.events;
   says = refused.comes.says;
   history = refused.comes.history;
   is_run = subst (λ (o : Option Event). IsRun (server_with config word) (first_state first) refused.comes.events (moment_ahead o) refused.steps refused.comes.history refused.comes.last) none refused.comes.is_run;
-  prompt = refused.comes.prompt;
+  orderly = refused.comes.orderly;
 }
 
 -- the bytes begin with that text
 begins_so : (bytes text further : List ℕ) → IfSome (Some bytes) (BeginsWith (text ++ further)) → (rest : List ℕ) × (bytes ≡ text ++ rest)
 begins_so bytes text further begins = (further ++ begins.0, begins.1 ∙ append_assoc text further begins.0)
 
-pub cut_prints : EventsPartAtTiesAlone → OneScript → OneEvent → SomeText → (config : Config) (word first : ℕ) (bytes lost : List ℕ) (steps : List StepOut) (last : ProxyState) (old new : Option (List ℕ)) (line : ℕ) → IsRecorded (server_with config word) first (bytes ++ lost) steps last
-    → (refused : StopsAtLine (server_with config word) (first_state first) 0 (Some bytes) old new line) → refused.comes.ahead ≡ None → PrintsFront (server_with config word) first steps refused.steps old new
-cut_prints part one one_event something config word first bytes lost steps last old new line h refused none =
+pub cut_prints : EventsAreOne → OneScript → OneEvent → SomeText → (config : Config) (word first : ℕ) (bytes lost : List ℕ) (steps : List StepOut) (last : ProxyState) (old new : Option (List ℕ)) (line : ℕ) → IsRecorded (server_with config word) first (bytes ++ lost) steps last
+    → (refused : StopsAtLine (server_with config word) (first_standing first) 0 (Some bytes) old new line) → refused.comes.ahead ≡ None → PrintsFront steps old new
+cut_prints are one one_event something config word first bytes lost steps last old new line h refused none =
     let server : Server = server_with config word in
     let begins = begins_so bytes refused.comes.text refused.comes.further refused.comes.begins in
     let whole : IsRecorded server first (refused.comes.text ++ (begins.0 ++ lost)) steps last =
@@ -187,6 +190,6 @@ cut_prints part one one_event something config word first bytes lost steps last 
       front = front.front;
       further = front.further;
       cut = front.cut;
-      written = prints_served server first front.front refused.steps front.last refused.comes.last old new refused.written
-          (one_script part one server first refused.comes.text front.front refused.steps front.last refused.comes.last front.recorded (cut_replayed config word first (Some bytes) old new line refused none));
+      written = prints_served front.front refused.steps front.last refused.comes.last old new refused.written
+          (one_script are one server first refused.comes.text front.front refused.steps front.last refused.comes.last front.recorded (cut_replayed config word first (Some bytes) old new line refused none));
     }

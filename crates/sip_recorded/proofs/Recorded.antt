@@ -1,5 +1,5 @@
 -- Records, one behind the other, and two of one text.
-use Rattle.std.proofs.Common.{◌≡◌, ◌∙◌, ◌⊎◌, inl, inr, ℕ, List, [], ◌∷◌, ◌++◌, append_assoc, append-nil, drop, Option, Some, None, refl, sym, ap, ap₂, subst}
+use Rattle.std.proofs.Common.{◌≡◌, ◌∙◌, ℕ, List, [], ◌∷◌, ◌++◌, append_assoc, append-nil, drop, Option, Some, None, refl, sym, ap, ap₂, subst}
 use Rattle.std.specs.Io.KnownBytes.{Appends}
 use Rattle.std.specs.List.{AllByRecursion}
 use Rattle.sip_config_types.specs.declared.config.Config.{Config}
@@ -14,13 +14,17 @@ use Rattle.sip_config.specs.Stated.{States}
 use Rattle.sip_replay_print.specs.Print.{printed}
 use Rattle.sip_record.specs.Record.{GrewBy, Notes, NotesConfiguration, NotesSegments, NotesText}
 use Rattle.model_bounds.specs.state.declared.proxy_state.ProxyState.{ProxyState}
+use Rattle.model_order.specs.Order.{Standing, first_standing}
 use Rattle.model_bounds.specs.state.declared.server.Server.{Server}
 use Rattle.model_bounds.specs.state.State.{first_state}
 use Rattle.model_bounds.specs.state.SameState.{SameState}
 use Rattle.model_bounds.specs.steps_model.Step.{Act, Given, Passing}
 use Rattle.model_bounds.specs.model.Run.{Link, IsChain, IsUnder, under}
 use Rattle.model_bounds.specs.model.Periods.{IsRunUnder, Period}
-use Rattle.model_ties.specs.Ties.{AreOne, ArePrompt, IsPrompt, PartAtTie}
+use Rattle.model_transactions.specs.Queue.{Entry}
+use Rattle.model_order.proofs.Along.{queued_weaker}
+use Rattle.model_ties.specs.Ties.{AreOne, AreOrderly, IsOrderly}
+use Rattle.model_ties.proofs.Orderly.{Orderly}
 use Rattle.sip_replay.specs.resume.Outputs.{Outputs}
 use Rattle.sip_replay.specs.resume.Resumes.{Runs}
 use Rattle.sip_replay.specs.resume.Whole.{AreStated, IsRecordResumed, TakesWhole, config_behind}
@@ -32,21 +36,21 @@ use Rattle.sip_recorded.proofs.Joining.{RunsJoin, recorded_on}
 
 -- ---- turns
 
--- an event that came in its turn came promptly
-prompt_turn : (server : Server) (before after : ProxyState) (act : Act) (out : StepOut) → IsTurnOf server before act out after → IsPrompt server before act out after
-prompt_turn server before after (Given (Datagram at word from bytes)) out turn = tt
-prompt_turn server before after (Given (Time at)) out turn = tt
-prompt_turn server before after (Given (Fault at ticket)) out turn = (turn.1.none_due.none, turn.1.none_due.none_again)
-prompt_turn server before after (Passing at) out turn = turn
+-- an event that came in its turn came promptly, and the first of what was due happened
+orderly_turn : (server : Server) (queue : List Entry) (before after : ProxyState) (act : Act) (out : StepOut) → IsTurnOf server queue before act out after → IsOrderly server queue before act out after
+orderly_turn server queue before after (Given (Datagram at word from bytes)) out turn = tt
+orderly_turn server queue before after (Given (Time at)) out turn = tt
+orderly_turn server queue before after (Given (Fault at ticket)) out turn = (turn.1.none_due.none, turn.1.none_due.none_again)
+orderly_turn server queue before after (Passing at) out turn = turn
 
 -- under its own configuration
-pub under_own : (server : Server) (link : Link) → IsUnder server.config link → IsPrompt server link.before link.act link.out link.after → IsPrompt (under server link.config) link.before link.act link.out link.after
-under_own server link is prompt = subst (λ (c : Config). IsPrompt (under server c) link.before link.act link.out link.after) (sym is) prompt
+pub under_own : (server : Server) (queue : List Entry) (link : Link) → IsUnder server.config link → IsOrderly server queue link.before link.act link.out link.after → Orderly server queue link
+under_own server queue link is orderly = subst (λ (c : Config). IsOrderly (under server c) queue link.before link.act link.out link.after) (sym is) orderly
 
-pub prompt_turns : (server : Server) (history : List Link) → AllByRecursion (IsUnder server.config) history → AreInTurn server history → ArePrompt server history
-prompt_turns server [] configured turns = tt
-prompt_turns server (link ∷ history) configured turns =
-    (under_own server link configured.0 (prompt_turn server link.before link.after link.act link.out turns.0), prompt_turns server history configured.1 turns.1)
+pub orderly_turns : (server : Server) (queue : List Entry) (history : List Link) → AllByRecursion (IsUnder server.config) history → AreInTurn server queue history → AreOrderly server queue history
+orderly_turns server queue history configured turns =
+    queued_weaker (IsUnder server.config) (λ (standing : List Entry) (link : Link). IsTurnOf server standing link.before link.act link.out link.after) (Orderly server)
+    (λ standing link is turn. under_own server standing link is (orderly_turn server standing link.before link.after link.act link.out turn)) queue history configured turns
 
 -- ---- what is taken under the configuration that is in force
 
@@ -55,12 +59,12 @@ pub says_alone : (events : List Event) (text : List ℕ) → SaysRecord events t
 says_alone events text says = record { taken = text; rest = []; cut = sym (append-nil text); says = says; others = refl }
 
 -- and a run over them
-abbrev pub takes_alone : (server : Server) (old new : ProxyState) (events : List Event) → Runs server old new events None → TakesWhole server server old new events []
+abbrev pub takes_alone : (server : Server) (old new : Standing) (events : List Event) → Runs server old new events None → TakesWhole server server old new events []
 takes_alone server old new events runs = record { periods = []; stated = tt; frames = tt; runs = runs_one server server.config old new events runs; in_force = refl }
 
 -- ---- one record behind another
 
-pub nothing_recorded : (server : Server) (first : ℕ) → IsRecordedUnder server server first [] [] (first_state first)
+pub nothing_recorded : (server : Server) (first : ℕ) → IsRecordedUnder server server first [] [] (first_standing first)
 nothing_recorded server first = record {
   events = [];
   segments = [];
@@ -80,12 +84,13 @@ nothing_recorded server first = record {
     of_steps = refl;
     of_history = refl;
   };
-  prompt = tt;
+  orderly = tt;
+  queue = refl;
   in_force = refl;
 }
 
 -- events more, under the configuration that is in force
-pub events_on : RunsJoin → (server now : Server) (first : ℕ) (text more : List ℕ) (steps : List StepOut) (old new : ProxyState) (events : List Event) → IsRecordedUnder server now first text steps old → SaysRecord events more
+pub events_on : RunsJoin → (server now : Server) (first : ℕ) (text more : List ℕ) (steps : List StepOut) (old new : Standing) (events : List Event) → IsRecordedUnder server now first text steps old → SaysRecord events more
     → (runs : Runs now old new events None) → IsRecordedUnder server now first (text ++ more) (steps ++ runs.steps) new
 events_on join server now first text more steps old new events h says runs =
     recorded_on join server now now first text more steps old new events [] h (says_alone events more says) (takes_alone now old new events runs)
@@ -108,13 +113,13 @@ abbrev pub RecordsSay : Type 0
 RecordsSay = (events : List Event) (text : List ℕ) → SaysRecord events text → SaysEvents events text
 
 -- by serving
-pub served_on : RunsJoin → OneScript → RecordsSay → (server now : Server) (first : ℕ) (text : List ℕ) (steps further : List StepOut) (old new : ProxyState) (front more : List ℕ) (told : List Event) → IsRecordedUnder server now first text steps old
+pub served_on : RunsJoin → OneScript → RecordsSay → (server now : Server) (first : ℕ) (text : List ℕ) (steps further : List StepOut) (old new : Standing) (front more : List ℕ) (told : List Event) → IsRecordedUnder server now first text steps old
     → SaysRecord told more → ReplaysTo now old new front (front ++ more) None further → IsRecordedUnder server now first (text ++ more) (steps ++ further) new
 served_on join one record_says server now first text steps further old new front more told h says replays =
     let is_so : SaysEvents replays.events more = subst (λ (l : List ℕ). SaysEvents replays.events l) (sym (rest_is front more replays.text replays.grown)) replays.says in
     let same : told ≡ replays.events = one told replays.events more (record_says told more says) is_so in
     events_on join server now first text more steps old new replays.events h (subst (λ (es : List Event). SaysRecord es more) same says)
-    (record { steps = further; history = replays.history; is_run = replays.is_run; prompt = prompt_turns now replays.history replays.is_run.configured replays.turns })
+    (record { steps = further; history = replays.history; is_run = replays.is_run; orderly = orderly_turns now old.queue replays.history replays.is_run.configured replays.turns; queue = replays.queue })
 
 -- by a configuration that came into force
 says_configuration : (bytes text : List ℕ) → SaysConfiguration text bytes → SaysWhole [] (record { configuration = bytes; events = [] } ∷ []) text
@@ -126,7 +131,7 @@ says_configuration bytes text says = record {
   others = record { first = text; taken = []; rest = []; cut = sym (append-nil text); configured = says; says = refl; others = refl };
 }
 
-abbrev takes_configuration : (now : Server) (state : ProxyState) (bytes : List ℕ) (config : Config) → States bytes config → record { config = config; word = now.word } ≡ under now config
+abbrev takes_configuration : (now : Server) (state : Standing) (bytes : List ℕ) (config : Config) → States bytes config → record { config = config; word = now.word } ≡ under now config
     → TakesWhole now (record { config = config; word = now.word }) state state [] (record { configuration = bytes; events = [] } ∷ [])
 takes_configuration now state bytes config states keeps = record {
   periods = record { config = config; events = [] } ∷ [];
@@ -140,14 +145,14 @@ takes_configuration now state bytes config states keeps = record {
       further = [];
       earlier = [];
       later = [];
-      middle = state;
+      middle = state.state;
       is_run = record { chain = refl; paced = tt; of_events = refl; of_steps = refl; configured = tt };
       behind = record {
         own = [];
         further = [];
         earlier = [];
         later = [];
-        middle = state;
+        middle = state.state;
         is_run = record { chain = refl; paced = tt; of_events = refl; of_steps = refl; configured = tt };
         behind = record { no_steps = refl; no_history = refl; stays = refl };
         of_steps = refl;
@@ -156,7 +161,8 @@ takes_configuration now state bytes config states keeps = record {
       of_steps = refl;
       of_history = refl;
     };
-    prompt = tt;
+    orderly = tt;
+    queue = refl;
   };
   in_force = refl;
 }
@@ -164,7 +170,7 @@ takes_configuration now state bytes config states keeps = record {
 abbrev pub PolicyIsNew : Type 0
 PolicyIsNew = (old new : Config) → frame_key_of old new ≡ None → record new { own = old.own; realm = old.realm } ≡ new
 
-pub changed_on : RunsJoin → PolicyIsNew → (server now : Server) (first : ℕ) (text : List ℕ) (steps : List StepOut) (last : ProxyState) (bytes : List ℕ) (config : Config) (front more : List ℕ) → IsRecordedUnder server now first text steps last
+pub changed_on : RunsJoin → PolicyIsNew → (server now : Server) (first : ℕ) (text : List ℕ) (steps : List StepOut) (last : Standing) (bytes : List ℕ) (config : Config) (front more : List ℕ) → IsRecordedUnder server now first text steps last
     → States bytes config → frame_key_of now.config config ≡ None → NotesConfiguration (Some (Some front)) (Some (Some (front ++ more))) bytes
     → IsRecordedUnder server (record { config = config; word = now.word }) first (text ++ more) steps last
 changed_on join policy server now first text steps last bytes config front more h states same_frame noted =
@@ -176,7 +182,7 @@ changed_on join policy server now first text steps last bytes config front more 
     (says_configuration bytes more (subst (λ (l : List ℕ). SaysConfiguration l bytes) (sym (rest_is front more so.text so.grown)) so.says)) (takes_configuration now last bytes config states keeps))
 
 -- by going on from a record
-pub resumed_on : RunsJoin → (server now server_then : Server) (first : ℕ) (text : List ℕ) (steps : List StepOut) (old new : ProxyState) (bytes : Option (List ℕ)) (lines lines_then : ℕ) (outs outs_then : Outputs) (last : Option StepOut)
+pub resumed_on : RunsJoin → (server now server_then : Server) (first : ℕ) (text : List ℕ) (steps : List StepOut) (old new : Standing) (bytes : Option (List ℕ)) (lines lines_then : ℕ) (outs outs_then : Outputs) (last : Option StepOut)
     → IsRecordedUnder server now first text steps old → (resumed : IsRecordResumed now server_then old new bytes lines outs outs_then lines_then last)
     → IsRecordedUnder server server_then first (text ++ resumed.text) (steps ++ resumed.takes.runs.steps) new
 resumed_on join server now server_then first text steps old new bytes lines lines_then outs outs_then last h resumed =
@@ -194,7 +200,7 @@ noted_whole front more (Some (Some half)) events segments h k = record {
   others = k.says;
 }
 
-pub told_on : RunsJoin → (server now server_then : Server) (first : ℕ) (text : List ℕ) (steps : List StepOut) (old new : ProxyState) (bytes : Option (List ℕ)) (lines lines_then : ℕ) (outs outs_then : Outputs) (last : Option StepOut) (front more : List ℕ)
+pub told_on : RunsJoin → (server now server_then : Server) (first : ℕ) (text : List ℕ) (steps : List StepOut) (old new : Standing) (bytes : Option (List ℕ)) (lines lines_then : ℕ) (outs outs_then : Outputs) (last : Option StepOut) (front more : List ℕ)
     → IsRecordedUnder server now first text steps old → (resumed : IsRecordResumed now server_then old new bytes lines outs outs_then lines_then last) → outs.written ≡ Some (Some front) → outs_then.written ≡ Some (Some (front ++ more))
     → IsRecordedUnder server server_then first (text ++ more) (steps ++ resumed.takes.runs.steps) new
 told_on join server now server_then first text steps old new bytes lines lines_then outs outs_then last front more h resumed was is =
@@ -205,11 +211,11 @@ told_on join server now server_then first text steps old new bytes lines lines_t
 
 -- ---- two of one text
 
-abbrev pub PartAtTiesAlone : Type 0
-PartAtTiesAlone =
-    (server : Server) (first : ℕ) (past : List Link) (start other_start last end : ProxyState) (periods : List Period) (steps others : List StepOut) (history its : List Link)
+abbrev pub RunsAreOne : Type 0
+RunsAreOne =
+    (server : Server) (first : ℕ) (past : List Link) (queue : List Entry) (start other_start last end : ProxyState) (periods : List Period) (steps others : List StepOut) (history its : List Link)
     → IsChain server (first_state first) past start → SameState start other_start → IsRunUnder server start periods None steps history last → IsRunUnder server other_start periods None others its end
-    → ArePrompt server history → ArePrompt server its → AreOne steps others last end ⊎ PartAtTie server start steps others
+    → AreOrderly server queue history → AreOrderly server queue its → AreOne steps others last end
 
 abbrev pub OneWhole : Type 0
 OneWhole = (events taken : List Event) (segments others : List Segment) (text : List ℕ) → SaysWhole events segments text → SaysWhole taken others text → (events ≡ taken) × (segments ≡ others)
@@ -237,7 +243,7 @@ record SameText (events others : List Event) (periods other_periods : List Perio
   events_are : others ≡ events
   periods_are : other_periods ≡ periods
 
-same_text : OneWhole → (server now then_server : Server) (first : ℕ) (text : List ℕ) (steps others : List StepOut) (last end : ProxyState) → (h : IsRecordedUnder server now first text steps last) → (k : IsRecordedUnder server then_server first text others end)
+same_text : OneWhole → (server now then_server : Server) (first : ℕ) (text : List ℕ) (steps others : List StepOut) (last end : Standing) → (h : IsRecordedUnder server now first text steps last) → (k : IsRecordedUnder server then_server first text others end)
     → SameText h.events k.events h.periods k.periods
 same_text one server now then_server first text steps others last end h k =
     let same = one k.events h.events k.segments h.segments text k.says h.says in
@@ -249,17 +255,17 @@ same_text one server now then_server first text steps others last end h k =
 pub first_same : (first : ℕ) → SameState (first_state first) (first_state first)
 first_same first = record { moment = refl; next = refl; bindings = λ aor moment le. refl; nonces = refl; requests = refl; dialogs = λ p. refl }
 
-pub one_record : PartAtTiesAlone → OneWhole → (server now then_server : Server) (first : ℕ) (text : List ℕ) (steps others : List StepOut) (last end : ProxyState) → IsRecordedUnder server now first text steps last → IsRecordedUnder server then_server first text others end
-    → AreOne steps others last end ⊎ PartAtTie server (first_state first) steps others
-one_record part one server now then_server first text steps others last end h k =
+pub one_record : RunsAreOne → OneWhole → (server now then_server : Server) (first : ℕ) (text : List ℕ) (steps others : List StepOut) (last end : Standing) → IsRecordedUnder server now first text steps last → IsRecordedUnder server then_server first text others end
+    → AreOne steps others last.state end.state
+one_record are one server now then_server first text steps others last end h k =
     let same = same_text one server now then_server first text steps others last end h k in
-    part server first [] (first_state first) (first_state first) last end (record { config = server.config; events = h.events } ∷ h.periods) steps others h.history k.history refl (first_same first) h.is_run
-    (subst (λ (es : List Event). IsRunUnder server (first_state first) (record { config = server.config; events = es } ∷ h.periods) None others k.history end) same.events_are
-    (subst (λ (ps : List Period). IsRunUnder server (first_state first) (record { config = server.config; events = k.events } ∷ ps) None others k.history end) same.periods_are k.is_run))
-    h.prompt k.prompt
+    are server first [] [] (first_state first) (first_state first) last.state end.state (record { config = server.config; events = h.events } ∷ h.periods) steps others h.history k.history refl (first_same first) h.is_run
+    (subst (λ (es : List Event). IsRunUnder server (first_state first) (record { config = server.config; events = es } ∷ h.periods) None others k.history end.state) same.events_are
+    (subst (λ (ps : List Period). IsRunUnder server (first_state first) (record { config = server.config; events = k.events } ∷ ps) None others k.history end.state) same.periods_are k.is_run))
+    h.orderly k.orderly
 
 -- and one configuration is in force behind it
-pub one_in_force : OneWhole → (server now then_server : Server) (first : ℕ) (text : List ℕ) (steps others : List StepOut) (last end : ProxyState) → IsRecordedUnder server now first text steps last → IsRecordedUnder server then_server first text others end
+pub one_in_force : OneWhole → (server now then_server : Server) (first : ℕ) (text : List ℕ) (steps others : List StepOut) (last end : Standing) → IsRecordedUnder server now first text steps last → IsRecordedUnder server then_server first text others end
     → now ≡ then_server
 one_in_force one server now then_server first text steps others last end h k =
     let same = same_text one server now then_server first text steps others last end h k in
@@ -267,7 +273,5 @@ one_in_force one server now then_server first text steps others last end h k =
 
 -- ---- what is printed
 
-pub prints_served : (server : Server) (first : ℕ) (steps others : List StepOut) (last end : ProxyState) (old new : Option (List ℕ)) → Appends old new (printed others)
-    → AreOne steps others last end ⊎ PartAtTie server (first_state first) steps others → Appends old new (printed steps) ⊎ PartAtTie server (first_state first) steps others
-prints_served server first steps others last end old new written (inl one) = inl (subst (λ (outs : List StepOut). Appends old new (printed outs)) (sym one.steps_are) written)
-prints_served server first steps others last end old new written (inr part) = inr part
+pub prints_served : (steps others : List StepOut) (last end : ProxyState) (old new : Option (List ℕ)) → Appends old new (printed others) → AreOne steps others last end → Appends old new (printed steps)
+prints_served steps others last end old new written one = subst (λ (outs : List StepOut). Appends old new (printed outs)) (sym one.steps_are) written

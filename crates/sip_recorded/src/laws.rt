@@ -1,4 +1,4 @@
-ghost use Rattle.std.specs.Prelude.{◌≡◌, ◌⊎◌, ◌++◌, ℕ, List, [], None, Option, Some};
+ghost use Rattle.std.specs.Prelude.{◌≡◌, ◌++◌, ℕ, List, [], None, Option, Some};
 ghost use Rattle.std.specs.Io.KnownBytes.{Appends};
 ghost use Rattle.sip_config_types.specs.declared.config.Config.{Config};
 ghost use Rattle.sip_config_change.specs.Frame.{frame_key_of};
@@ -8,10 +8,9 @@ ghost use Rattle.sip_segment_text.specs.Segments.{SaysWhole, Segment};
 ghost use Rattle.sip_config.specs.Stated.{States};
 ghost use Rattle.sip_record.specs.Record.{NotesConfiguration};
 ghost use Rattle.sip_replay_print.specs.Print.{printed};
-ghost use Rattle.model_bounds.specs.state.declared.proxy_state.ProxyState.{ProxyState};
 ghost use Rattle.model_bounds.specs.state.declared.server.Server.{Server};
-ghost use Rattle.model_bounds.specs.state.State.{first_state};
-ghost use Rattle.model_ties.specs.Ties.{AreOne, PartAtTie};
+ghost use Rattle.model_order.specs.Order.{Standing, first_standing};
+ghost use Rattle.model_ties.specs.Ties.{AreOne};
 ghost use Rattle.sip_replay.specs.resume.Outputs.{Outputs};
 ghost use Rattle.sip_replay.specs.resume.Whole.{IsRecordResumed};
 ghost use Rattle.sip_replay.specs.Records.{IsRecordReplay};
@@ -21,7 +20,7 @@ ghost use Rattle.sip_loop.specs.declared.served.ServeError.{ServeError};
 ghost use Rattle.sip_recorded.specs.Recorded.{IsRecordedUnder, PrintsFront, RecordsFront};
 
 use model_bounds::model::runs::runs_join;
-use model_ties::laws::runs_part_at_ties_alone;
+use model_ties::laws::runs_are_one;
 use sip_config_change::laws::policy_in_the_old_frame_is_new;
 use sip_loop::laws::replayed_is_served;
 use sip_replay::laws::script_says_one_list;
@@ -31,8 +30,8 @@ use sip_segment_text::laws::{next_configuration_is_one, record_says_one_list};
 /// A server that begins has an empty record. Where turns are served whole and the journal tells its bytes, what it grew by is the
 /// record of the steps that were taken, behind that of what the server did before, whichever configurations came into force in it.
 pub fn served_is_recorded()
-    ensures begins { (server : Server) (first : ℕ) → IsRecordedUnder server server first [] [] (first_state first) }
-    ensures goes_on { (server now : Server) (first : ℕ) (text : List ℕ) (steps : List StepOut) (turns : ℕ) (old new : ProxyState)
+    ensures begins { (server : Server) (first : ℕ) → IsRecordedUnder server server first [] [] (first_standing first) }
+    ensures goes_on { (server now : Server) (first : ℕ) (text : List ℕ) (steps : List StepOut) (turns : ℕ) (old new : Standing)
         (before after : Told) (front more : List ℕ)
         → IsRecordedUnder server now first text steps old → (served : IsServed turns now old new before after)
         → before.journal.bytes ≡ Some (Some front) → after.journal.bytes ≡ Some (Some (front ++ more))
@@ -47,7 +46,7 @@ pub fn served_is_recorded()
 /// Where bytes state a configuration by which the server is to others what it was, and the journal was told them, what it grew by is the
 /// record of that: the same steps, to the same state, and this configuration is in force behind them.
 pub fn change_is_recorded()
-    ensures { (server now : Server) (first : ℕ) (text : List ℕ) (steps : List StepOut) (last : ProxyState) (bytes : List ℕ) (config : Config)
+    ensures { (server now : Server) (first : ℕ) (text : List ℕ) (steps : List StepOut) (last : Standing) (bytes : List ℕ) (config : Config)
         (front more : List ℕ)
         → IsRecordedUnder server now first text steps last → States bytes config → frame_key_of now.config config ≡ None
         → NotesConfiguration (Some (Some front)) (Some (Some (front ++ more))) bytes
@@ -61,7 +60,7 @@ pub fn change_is_recorded()
 /// own step of the last event that it was told. Nothing of what came behind that was given to the link: that waits until its event was
 /// told (`IsPath`).
 pub fn unserved_is_recorded()
-    ensures { (server now : Server) (first : ℕ) (text : List ℕ) (steps : List StepOut) (turns : ℕ) (old new : ProxyState)
+    ensures { (server now : Server) (first : ℕ) (text : List ℕ) (steps : List StepOut) (turns : ℕ) (old new : Standing)
         (before after : Told) (e : ServeError) (front more : List ℕ)
         → IsRecordedUnder server now first text steps old → (unserved : IsUnserved turns now old new before after e)
         → before.journal.bytes ≡ Some (Some front) → after.journal.bytes ≡ Some (Some (front ++ more))
@@ -73,7 +72,7 @@ pub fn unserved_is_recorded()
 /// A record that was cut behind one of its events, or one of its configurations, records the first of the steps, up to the own step of
 /// the last event in front of that.
 pub fn front_is_recorded()
-    ensures { (server now : Server) (first : ℕ) (text further : List ℕ) (steps : List StepOut) (last : ProxyState) (events : List Event)
+    ensures { (server now : Server) (first : ℕ) (text further : List ℕ) (steps : List StepOut) (last : Standing) (events : List Event)
         (segments : List Segment)
         → IsRecordedUnder server now first (text ++ further) steps last → SaysWhole events segments text → RecordsFront server first text steps }
 {
@@ -85,12 +84,12 @@ pub fn front_is_recorded()
 /// A server that was brought to where a text leads, by its events and its configurations, has it for its record, behind that of what it
 /// did before; and so it has what its journal was told meanwhile (`told`), where that tells its bytes.
 pub fn resumed_is_recorded()
-    ensures taken { (server now server_then : Server) (first : ℕ) (text : List ℕ) (steps : List StepOut) (old new : ProxyState)
+    ensures taken { (server now server_then : Server) (first : ℕ) (text : List ℕ) (steps : List StepOut) (old new : Standing)
         (bytes : Option (List ℕ)) (lines lines_then : ℕ) (outs outs_then : Outputs) (last : Option StepOut)
         → IsRecordedUnder server now first text steps old
         → (resumed : IsRecordResumed now server_then old new bytes lines outs outs_then lines_then last)
         → IsRecordedUnder server server_then first (text ++ resumed.text) (steps ++ resumed.takes.runs.steps) new }
-    ensures told { (server now server_then : Server) (first : ℕ) (text : List ℕ) (steps : List StepOut) (old new : ProxyState)
+    ensures told { (server now server_then : Server) (first : ℕ) (text : List ℕ) (steps : List StepOut) (old new : Standing)
         (bytes : Option (List ℕ)) (lines lines_then : ℕ) (outs outs_then : Outputs) (last : Option StepOut) (front more : List ℕ)
         → IsRecordedUnder server now first text steps old
         → (resumed : IsRecordResumed now server_then old new bytes lines outs outs_then lines_then last)
@@ -102,29 +101,26 @@ pub fn resumed_is_recorded()
 
 /// What one text records is one: whoever took the events and the configurations that it says, by serving, by going on from them, or
 /// both, again and again, took the same steps, each with all that it hands out in the same order and all that it records, and came to
-/// states that are the same, under the same configuration (`in_force`). Or they part at a tie, where two things are due at one moment,
-/// and each lets another one happen first; up to there the steps are the same.
+/// states that are the same, under the same configuration (`in_force`).
 pub fn records_are_one()
-    ensures steps { (server now server_then : Server) (first : ℕ) (text : List ℕ) (steps others : List StepOut) (last end : ProxyState)
+    ensures steps { (server now server_then : Server) (first : ℕ) (text : List ℕ) (steps others : List StepOut) (last end : Standing)
         → IsRecordedUnder server now first text steps last → IsRecordedUnder server server_then first text others end
-        → AreOne steps others last end ⊎ PartAtTie server (first_state first) steps others }
-    ensures in_force { (server now server_then : Server) (first : ℕ) (text : List ℕ) (steps others : List StepOut) (last end : ProxyState)
+        → AreOne steps others last.state end.state }
+    ensures in_force { (server now server_then : Server) (first : ℕ) (text : List ℕ) (steps others : List StepOut) (last end : Standing)
         → IsRecordedUnder server now first text steps last → IsRecordedUnder server server_then first text others end → now ≡ server_then }
 {
-    runs_part_at_ties_alone();
+    runs_are_one();
     record_says_one_list();
 }
 
 /// So a replay of a record prints what was served: exactly the packets that were handed out, in their order, each at its moment, and
-/// exactly the lines of the records, each step under the configuration that was in force; or the replay parts from it at a tie, and up to
-/// there it takes the same steps.
+/// exactly the lines of the records, each step under the configuration that was in force.
 pub fn replay_prints_what_was_served()
-    ensures { (config : Config) (word first : ℕ) (now : Server) (text : List ℕ) (steps : List StepOut) (last : ProxyState) (lines : ℕ)
+    ensures { (config : Config) (word first : ℕ) (now : Server) (text : List ℕ) (steps : List StepOut) (last : Standing) (lines : ℕ)
         (old new : Option (List ℕ))
         → IsRecordedUnder (server_with config word) now first text steps last
-        → (replay : IsRecordReplay config word first (Some text) lines old new)
-        → Appends old new (printed steps)
-        ⊎ PartAtTie (server_with config word) (first_state first) steps replay.taken.takes.runs.steps }
+        → IsRecordReplay config word first (Some text) lines old new
+        → Appends old new (printed steps) }
 {
     next_configuration_is_one();
     next_event_is_one();
@@ -133,13 +129,13 @@ pub fn replay_prints_what_was_served()
 }
 
 /// And a replay of a record that was cut anywhere has printed what was served at first, up to the last event or configuration that is
-/// whole, and nothing else; or it parts from it at a tie.
+/// whole, and nothing else.
 pub fn cut_replay_prints_what_was_served()
-    ensures { (config : Config) (word first : ℕ) (now : Server) (bytes lost : List ℕ) (steps : List StepOut) (last : ProxyState) (lines : ℕ)
+    ensures { (config : Config) (word first : ℕ) (now : Server) (bytes lost : List ℕ) (steps : List StepOut) (last : Standing) (lines : ℕ)
         (old new : Option (List ℕ))
         → IsRecordedUnder (server_with config word) now first (bytes ++ lost) steps last
-        → (replay : IsRecordReplay config word first (Some bytes) lines old new)
-        → PrintsFront (server_with config word) first steps replay.taken.takes.runs.steps old new }
+        → IsRecordReplay config word first (Some bytes) lines old new
+        → PrintsFront steps old new }
 {
     front_is_recorded();
     records_are_one();

@@ -6,6 +6,7 @@ use Rattle.sip_event.specs.declared.event.Event.{Event}
 use Rattle.sip_config_types.specs.declared.config.Config.{Config}
 use Rattle.model_bounds.specs.state.declared.server.Server.{Server}
 use Rattle.model_bounds.specs.state.declared.proxy_state.ProxyState.{ProxyState}
+use Rattle.model_order.specs.Order.{Standing, first_standing}
 use Rattle.sip_event.specs.declared.event.StepOut.{StepOut}
 use Rattle.model_bounds.specs.model.Access.{Access}
 use Rattle.model_bounds.specs.Bounds.{IsBounded}
@@ -38,7 +39,7 @@ says_more (e ∷ events) event text more h says = record {
 }
 
 -- a replay so far
-pub record Replays (server : Server) (first state : ProxyState) (old new : Reading) (before after start written : Option (List ℕ)) : Type 0 where
+pub record Replays (server : Server) (first state : Standing) (old new : Reading) (before after start written : Option (List ℕ)) : Type 0 where
   pub events : List Event
   pub text : List ℕ
   pub says : SaysEvents events text
@@ -46,7 +47,7 @@ pub record Replays (server : Server) (first state : ProxyState) (old new : Readi
   pub number : new.number ≡ old.number + count_by is_end text
   pub plays : Plays server first state events None start written
 
-pub replays_nothing : (server : Server) (first : ProxyState) (r : Reading) (before start : Option (List ℕ)) → Replays server first first r r before before start start
+pub replays_nothing : (server : Server) (first : Standing) (r : Reading) (before start : Option (List ℕ)) → Replays server first first r r before before start start
 replays_nothing server first r before start = record {
   events = [];
   text = [];
@@ -59,7 +60,7 @@ replays_nothing server first r before start = record {
 numbers_add : (old mid new : ℕ) (text more : List ℕ) → mid ≡ old + count_by is_end text → new ≡ mid + count_by is_end more → new ≡ old + count_by is_end (text ++ more)
 numbers_add old mid new text more h1 h2 = let sum : count_by is_end (text ++ more) ≡ count_by is_end text + count_by is_end more = sum_by-append (λ b. cond (is_end b) 1 0) text more in omega (arith, h1, h2, sum)
 
-pub replays_more : RunsJoin → (server : Server) (first mid new : ProxyState) (old part rest : Reading) (before middle after start half written : Option (List ℕ))
+pub replays_more : RunsJoin → (server : Server) (first mid new : Standing) (old part rest : Reading) (before middle after start half written : Option (List ℕ))
     → Replays server first mid old part before middle start half → PlaysNext server mid new part rest middle after half written → Replays server first new old rest before after start written
 replays_more join server first mid new old part rest before middle after start half written h next = record {
   events = h.events ++ next.event ∷ [];
@@ -71,7 +72,7 @@ replays_more join server first mid new old part rest before middle after start h
 }
 
 -- the same of the server as it is then
-pub replays_next : RunsJoin → (server then_server : Server) (first mid new : ProxyState) (old part rest : Reading) (before middle after start half written : Option (List ℕ)) → then_server ≡ server
+pub replays_next : RunsJoin → (server then_server : Server) (first mid new : Standing) (old part rest : Reading) (before middle after start half written : Option (List ℕ)) → then_server ≡ server
     → Replays server first mid old part before middle start half → PlaysNext then_server mid new part rest middle after half written → Replays server first new old rest before after start written
 replays_next join server then_server first mid new old part rest before middle after start half written same h next =
     replays_more join server first mid new old part rest before middle after start half written h (subst (λ s. PlaysNext s mid new part rest middle after half written) same next)
@@ -83,18 +84,18 @@ whole_of unread (Some xs) None c text none h k e = absurd h
 whole_of unread (Some xs) (Some ys) None text none h k e = absurd k
 whole_of unread (Some xs) (Some ys) (Some zs) text none h k e = sym (ap (λ l. l ++ xs) none) ∙ h ∙ ap (λ l. text ++ l) (sym k ∙ e) ∙ append-nil text
 
-pub replays_over : (config : Config) (word first : ℕ) (state : ProxyState) (old new rest : Reading) (before middle after start written : Option (List ℕ)) → old.unread ≡ []
-    → Replays (server_with config word) (first_state first) state old new before middle start written → IsOver new rest middle after → IsReplay config word first before start written
+pub replays_over : (config : Config) (word first : ℕ) (state : Standing) (old new rest : Reading) (before middle after start written : Option (List ℕ)) → old.unread ≡ []
+    → Replays (server_with config word) (first_standing first) state old new before middle start written → IsOver new rest middle after → IsReplay config word first before start written
 replays_over config word first state old new rest before middle after start written none h over = record {
   text = h.text;
   events = h.events;
   steps = h.plays.steps;
   history = h.plays.history;
-  last = state;
+  last = state.state;
   whole = whole_of old.unread before (pending new middle) (pending rest after) h.text none h.consumes over.kept over.at_end;
   says = h.says;
   is_run = h.plays.is_run;
-  prompt = h.plays.prompt;
+  orderly = h.plays.orderly;
   written = h.plays.written;
 }
 
@@ -109,7 +110,7 @@ replay_kept config word first script a b c h k = record {
   whole = h.whole;
   says = h.says;
   is_run = h.is_run;
-  prompt = h.prompt;
+  orderly = h.orderly;
   written = appends_kept a b c (printed h.steps) h.written k;
 }
 

@@ -3,8 +3,7 @@ use Rattle.std.specs.Prelude.{◌≡◌, ◌⊎◌, ℕ, List, Option, None, Som
 use Rattle.sip_event.specs.declared.event.StepOut.{StepOut}
 use Rattle.sip_config_types.specs.declared.config.Config.{Config}
 use Rattle.model_bounds.specs.state.declared.server.Server.{Server}
-use Rattle.model_bounds.specs.state.declared.proxy_state.ProxyState.{ProxyState}
-use Rattle.model_bounds.specs.state.State.{first_state}
+use Rattle.model_order.specs.Order.{Standing, first_standing}
 use Rattle.model_bounds.specs.model.Access.{Access}
 use Rattle.model_bounds.specs.Bounds.{IsBounded}
 use Rattle.sip_resume.specs.Outputs.{Outputs, outputs_of}
@@ -22,10 +21,10 @@ written_alone contents = outputs_of (Some None) contents
 -- `IsBounded` says.
 pub record IsRecordReplay (config : Config) (word first : ℕ) (record_bytes : Option (List ℕ)) (lines : ℕ) (old new : Option (List ℕ)) : Type 0 where
   pub server_then : Server
-  pub state : ProxyState
+  pub state : Standing
   pub lines_then : ℕ
   pub last : Option StepOut
-  pub taken : IsRecordResumed (server_with config word) server_then (first_state first) state record_bytes lines (written_alone old)
+  pub taken : IsRecordResumed (server_with config word) server_then (first_standing first) state record_bytes lines (written_alone old)
       (written_alone new) lines_then last
   pub access : Access (server_with config word) taken.takes.runs.history
   pub bounded : IsBounded (server_with config word) taken.takes.runs.history
@@ -39,8 +38,8 @@ pub record IsUnbegun (old new : Option (List ℕ)) (e : RecordError) : Type 0 wh
 pub record IsPartlyReplayed (config : Config) (word first longest : ℕ) (spent : Type 0) (record_bytes : Option (List ℕ)) (lines : ℕ)
     (old new : Option (List ℕ)) (e : RecordError) : Type 0 where
   pub server_then : Server
-  pub state : ProxyState
-  pub stopped : IsRecordUnresumed (server_with config word) server_then (first_state first) state longest spent record_bytes lines
+  pub state : Standing
+  pub stopped : IsRecordUnresumed (server_with config word) server_then (first_standing first) state longest spent record_bytes lines
       (written_alone old) (written_alone new) e
   pub access : Access (server_with config word) stopped.takes.runs.history
   pub bounded : IsBounded (server_with config word) stopped.takes.runs.history

@@ -10,7 +10,8 @@ use Rattle.model_bounds.specs.state.State.{first_state}
 use Rattle.model_bounds.specs.model.Run.{Link, IsRun}
 use Rattle.model_bounds.specs.model.Access.{Access}
 use Rattle.model_bounds.specs.Bounds.{IsBounded}
-use Rattle.model_ties.specs.Ties.{ArePrompt}
+use Rattle.model_order.specs.Order.{Standing, queue_from}
+use Rattle.model_ties.specs.Ties.{AreOrderly}
 use Rattle.sip_replay_print.specs.Print.{printed}
 use Rattle.sip_replay_script.specs.Lines.{Reading}
 use Rattle.sip_replay_script.specs.Events.{SaysEvents, GivesEvent}
@@ -19,8 +20,8 @@ use Rattle.sip_replay_script.specs.Events.{SaysEvents, GivesEvent}
 abbrev pub server_with : Config → ℕ → Server
 server_with config word = record { config = config; word = word }
 
--- The script says events, for which the steps of the server, from its first number on, are a run, in which time passes only where something that
--- is due happens, and all that is due by the moment of an event happens before it; and what is printed of these steps was written.
+-- The script says events, for which the steps of the server, from its first number on, are a run, in which time passes only where
+-- the first of what is due happens, in the order in which timers stand, and all that is due by the moment of an event happens before it; and what is printed of these steps was written.
 pub record IsReplay (config : Config) (word first : ℕ) (script old new : Option (List ℕ)) : Type 0 where
   pub text : List ℕ
   pub events : List Event
@@ -30,7 +31,7 @@ pub record IsReplay (config : Config) (word first : ℕ) (script old new : Optio
   pub whole : IfSome script (λ bytes. bytes ≡ text)
   pub says : SaysEvents events text
   pub is_run : IsRun (server_with config word) (first_state first) events None steps history last
-  pub prompt : ArePrompt (server_with config word) history
+  pub orderly : AreOrderly (server_with config word) [] history
   pub written : Appends old new (printed steps)
 
 -- The same, and each step of that run is lawful by its history: what is sent goes to whom the first rule that matches lets it go,
@@ -44,15 +45,16 @@ pub record IsLawfulReplay (config : Config) (word first : ℕ) (script old new :
 -- ---- inside
 
 -- these events have such a run from one state to another, and what is printed of its steps was written
-pub record Plays (server : Server) (old new : ProxyState) (events : List Event) (until : Option ℕ) (before after : Option (List ℕ)) : Type 0 where
+pub record Plays (server : Server) (old new : Standing) (events : List Event) (until : Option ℕ) (before after : Option (List ℕ)) : Type 0 where
   pub steps : List StepOut
   pub history : List Link
-  pub is_run : IsRun server old events until steps history new
-  pub prompt : ArePrompt server history
+  pub is_run : IsRun server old.state events until steps history new.state
+  pub orderly : AreOrderly server old.queue history
+  pub queue : new.queue ≡ queue_from old.queue history
   pub written : Appends before after (printed steps)
 
 -- the same of the next event of the script
-pub record PlaysNext (server : Server) (old new : ProxyState) (part rest : Reading) (middle after : Option (List ℕ))
+pub record PlaysNext (server : Server) (old new : Standing) (part rest : Reading) (middle after : Option (List ℕ))
     (half written : Option (List ℕ)) : Type 0 where
   pub event : Event
   pub gives : GivesEvent part rest middle after event

@@ -1,6 +1,6 @@
 ghost use Rattle.std.specs.Prelude.{◌≡◌, [], Some, IfErr, OnOk};
 ghost use Rattle.model_bounds.specs.steps_model.Step.{moment_of};
-ghost use Rattle.sip_run.specs.Due.{NothingDueBy};
+ghost use Rattle.sip_run.specs.Due.{NothingDueBy, standing_of};
 ghost use Rattle.sip_replay_script.specs.Devices.{GaveUp};
 ghost use Rattle.sip_replay.specs.Refusals.{FiringStops};
 ghost use Rattle.sip_replay.specs.Replays.{Plays};
@@ -23,10 +23,10 @@ pub fn fire_due<T: Timers, R: Rules, W: TellingWriter>(
     room: &mut PrintRoom,
 ) -> Result<(), Stop>
     ensures server { engine.new.server ≡ engine.old.server }
-    ensures fired { OnOk result (Plays engine.old.server engine.old.state engine.new.state [] (Some at) (W.contents writer.old)
+    ensures fired { OnOk result (Plays engine.old.server (standing_of engine.old) (standing_of engine.new) [] (Some at) (W.contents writer.old)
         (W.contents writer.new)) }
     ensures none_due { OnOk result (NothingDueBy (moment_of engine.new.state at) engine.new.state) }
-    ensures stopped { IfErr result (FiringStops engine.old.server engine.old.state at (W.contents writer.old) (W.contents writer.new)
+    ensures stopped { IfErr result (FiringStops engine.old.server (standing_of engine.old) at (W.contents writer.old) (W.contents writer.new)
         (GaveUp (W.has_failed writer.new) (W.called writer.new))) }
 {
     while let Some(out) = fire_next(engine, at)? {

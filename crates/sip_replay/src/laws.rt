@@ -4,7 +4,7 @@ ghost use Rattle.sip_event.specs.declared.event.StepOut.{StepOut};
 ghost use Rattle.sip_config_types.specs.declared.config.Config.{Config};
 ghost use Rattle.model_bounds.specs.model.Access.{Access};
 ghost use Rattle.model_bounds.specs.Bounds.{IsBounded};
-ghost use Rattle.model_bounds.specs.state.State.{first_state};
+ghost use Rattle.model_order.specs.Order.{first_standing};
 ghost use Rattle.sip_replay.specs.Refusals.{ComesTo};
 ghost use Rattle.sip_replay.specs.Replays.{server_with, IsReplay};
 ghost use Rattle.sip_replay_script.specs.Events.{IsNoEvent, SaysEvents};
@@ -22,7 +22,7 @@ pub fn every_replay_has_access()
     ensures whole { (config : Config) (word first : ℕ) (script old new : Option (List ℕ)) → (replay : IsReplay config word first script old new)
         → Access (server_with config word) replay.history }
     ensures refused { (config : Config) (word first : ℕ) (script : Option (List ℕ)) (steps : List StepOut)
-        → (comes : ComesTo (server_with config word) (first_state first) script steps) → Access (server_with config word) comes.history }
+        → (comes : ComesTo (server_with config word) (first_standing first) script steps) → Access (server_with config word) comes.history }
 {
     every_run_has_access();
 }
@@ -34,7 +34,7 @@ pub fn every_replay_is_bounded()
     ensures whole { (config : Config) (word first : ℕ) (script old new : Option (List ℕ)) → (replay : IsReplay config word first script old new)
         → IsBounded (server_with config word) replay.history }
     ensures refused { (config : Config) (word first : ℕ) (script : Option (List ℕ)) (steps : List StepOut)
-        → (comes : ComesTo (server_with config word) (first_state first) script steps) → IsBounded (server_with config word) comes.history }
+        → (comes : ComesTo (server_with config word) (first_standing first) script steps) → IsBounded (server_with config word) comes.history }
 {
     every_history_is_bounded();
 }

@@ -1,8 +1,8 @@
 ghost use Rattle.std.specs.Prelude.{◌≡◌, ◌≤◌, ◌⊎◌, ℕ, List, [], ◌∷◌, true, false, None, Err, IfOk, IfErr, OnOk};
 ghost use Rattle.model_bounds.specs.model.Run.{event_moment};
 ghost use Rattle.model_bounds.specs.steps_model.Step.{Given, IsStep, moment_of};
-ghost use Rattle.model_bounds.specs.state.State.{first_state};
-ghost use Rattle.sip_run.specs.Due.{NothingDueBy};
+ghost use Rattle.model_order.specs.Order.{IsQueueAfter, first_standing};
+ghost use Rattle.sip_run.specs.Due.{NothingDueBy, standing_of};
 ghost use Rattle.sip_run.specs.Refusals.{RefusesStep, refusal_of_event};
 ghost use Rattle.sip_replay_script.specs.Devices.{later, GaveUp};
 ghost use Rattle.sip_replay_script.specs.Lines.{pending, IsOver, IsSpent};
@@ -71,7 +71,7 @@ fn play<T: Timers, R: Rules, I: TellingReader, W: TellingWriter>(
     writer: &mut W,
 ) -> Result<(), ReplayError>
     ensures replayed { OnOk result (IsReplay config boot.word boot.first (I.remaining reader.old) (W.contents writer.old) (W.contents writer.new)) }
-    ensures refused { IfErr result (Refuses (server_with config boot.word) (first_state boot.first) 0 (I.remaining reader.old) (W.contents writer.old)
+    ensures refused { IfErr result (Refuses (server_with config boot.word) (first_standing boot.first) 0 (I.remaining reader.old) (W.contents writer.old)
         (W.contents writer.new)) }
     ensures faulted { IfErr result (IsFaulted (I.has_failed reader.new ⊎ (I.asked reader.new ≡ later 4294967295 (I.asked reader.old)))
         (GaveUp (W.has_failed writer.new) (W.called writer.new))) }
@@ -111,11 +111,11 @@ fn take_next<T: Timers, R: Rules, I: TellingReader, W: TellingWriter>(
     writer: &mut W,
 ) -> Result<bool, ReplayError>
     ensures server { engine.new.server ≡ engine.old.server }
-    ensures taken { IfOk result (λ more. more ≡ true → PlaysNext engine.old.server engine.old.state engine.new.state lines.old lines.new
+    ensures taken { IfOk result (λ more. more ≡ true → PlaysNext engine.old.server (standing_of engine.old) (standing_of engine.new) lines.old lines.new
         (I.remaining reader.old) (I.remaining reader.new) (W.contents writer.old) (W.contents writer.new)) }
     ensures over { IfOk result (λ more. more ≡ false → IsOver lines.old lines.new (I.remaining reader.old) (I.remaining reader.new)) }
     ensures silent { IfOk result (λ more. more ≡ false → W.contents writer.new ≡ W.contents writer.old) }
-    ensures refused { IfErr result (Refuses engine.old.server engine.old.state lines.old.number (pending lines.old (I.remaining reader.old))
+    ensures refused { IfErr result (Refuses engine.old.server (standing_of engine.old) lines.old.number (pending lines.old (I.remaining reader.old))
         (W.contents writer.old) (W.contents writer.new)) }
     ensures faulted { IfErr result (IsFaulted (IsSpent (I.has_failed reader.new) lines.new.asks)
         (GaveUp (W.has_failed writer.new) (W.called writer.new))) }
@@ -146,9 +146,9 @@ fn take_line<T: Timers, R: Rules, W: TellingWriter>(
     writer: &mut W,
 ) -> Result<(), Stop>
     ensures server { engine.new.server ≡ engine.old.server }
-    ensures taken { OnOk result (Plays engine.old.server engine.old.state engine.new.state (event_of line.now bytes.now ∷ []) None
+    ensures taken { OnOk result (Plays engine.old.server (standing_of engine.old) (standing_of engine.new) (event_of line.now bytes.now ∷ []) None
         (W.contents writer.old) (W.contents writer.new)) }
-    ensures stopped { IfErr result (TakingStops engine.old.server engine.old.state (event_of line.now bytes.now) (W.contents writer.old)
+    ensures stopped { IfErr result (TakingStops engine.old.server (standing_of engine.old) (event_of line.now bytes.now) (W.contents writer.old)
         (W.contents writer.new) (GaveUp (W.has_failed writer.new) (W.called writer.new))) }
 {
     fire_due(alloc, engine, line_moment(line), writer, room)?;
@@ -177,6 +177,7 @@ fn own_step<T: Timers, R: Rules>(
     requires { NothingDueBy (moment_of engine.old.state (event_moment (event_of line.now bytes.now))) engine.old.state }
     ensures server { engine.new.server ≡ engine.old.server }
     ensures step { IfOk result (λ out. IsStep engine.old.server engine.old.state (Given (event_of line.now bytes.now)) out engine.new.state) }
+    ensures queue { OnOk result (IsQueueAfter (standing_of engine.old) (standing_of engine.new)) }
     ensures refused { IfErr result (RefusesStep (refusal_of_event engine.old.state (event_of line.now bytes.now))) }
 {
     match line {

@@ -6,6 +6,7 @@ use Rattle.sip_event.specs.declared.event.StepOut.{StepOut}
 use Rattle.sip_config_types.specs.declared.config.Config.{Config}
 use Rattle.model_bounds.specs.state.declared.server.Server.{Server}
 use Rattle.model_bounds.specs.state.declared.proxy_state.ProxyState.{ProxyState}
+use Rattle.model_order.specs.Order.{Standing}
 use Rattle.model_bounds.specs.model.Run.{Link, IsRun, under}
 use Rattle.model_bounds.specs.model.Periods.{IsRunUnder, Period}
 use Rattle.sip_replay_script.specs.Lines.{is_end}
@@ -40,25 +41,25 @@ noted_same events (Some old) (Some mid) (Some new) h k = known_same events old m
 
 -- ---- what the server did
 
-record RunsSo (server : Server) (old new : ProxyState) (events : List Event) (last : Option StepOut) : Type 0 where
+record RunsSo (server : Server) (old new : Standing) (events : List Event) (last : Option StepOut) : Type 0 where
   runs : Runs server old new events None
   last_is : newest_step runs.history ≡ last
 
-runs_so : OneIsARun → (server : Server) (old new : ProxyState) (events : List Event) (last : Option StepOut) → (h : RunsUnder server old new (record { config = server.config; events = events } ∷ [])) → newest_step h.history ≡ last → RunsSo server old new events last
+runs_so : OneIsARun → (server : Server) (old new : Standing) (events : List Event) (last : Option StepOut) → (h : RunsUnder server old new (record { config = server.config; events = events } ∷ [])) → newest_step h.history ≡ last → RunsSo server old new events last
 runs_so one server old new events last h newest = record {
-  runs = record { steps = h.steps; history = h.history; is_run = (one server old server.config events None h.steps h.history new).0 h.is_run; prompt = h.prompt };
+  runs = record { steps = h.steps; history = h.history; is_run = (one server old.state server.config events None h.steps h.history new.state).0 h.is_run; orderly = h.orderly; queue = h.queue };
   last_is = newest;
 }
 
 -- ---- both
 
-record IsBoth (server server_then : Server) (old new : ProxyState) (events : List Event) (last : Option StepOut) : Type 0 where
+record IsBoth (server server_then : Server) (old new : Standing) (events : List Event) (last : Option StepOut) : Type 0 where
   so : RunsSo server old new events last
   same : server_then ≡ server
 
-takes_so : OneIsARun → (server server_then : Server) (old new : ProxyState) (events : List Event) (last : Option StepOut) (h : TakesWhole server server_then old new events []) → newest_step h.runs.history ≡ last → IsBoth server server_then old new events last
+takes_so : OneIsARun → (server server_then : Server) (old new : Standing) (events : List Event) (last : Option StepOut) (h : TakesWhole server server_then old new events []) → newest_step h.runs.history ≡ last → IsBoth server server_then old new events last
 takes_so one server server_then old new events last h newest = takes_by one server server_then old new events last h.periods h.stated h.runs newest h.in_force where
-  takes_by : OneIsARun → (server server_then : Server) (old new : ProxyState) (events : List Event) (last : Option StepOut) (periods : List Period) → AreStated [] periods → (runs : RunsUnder server old new (record { config = server.config; events = events } ∷ periods))
+  takes_by : OneIsARun → (server server_then : Server) (old new : Standing) (events : List Event) (last : Option StepOut) (periods : List Period) → AreStated [] periods → (runs : RunsUnder server old new (record { config = server.config; events = events } ∷ periods))
       → newest_step runs.history ≡ last → server_then ≡ record { config = config_behind server.config periods; word = server.word } → IsBoth server server_then old new events last
   takes_by one server server_then old new events last [] stated runs newest same = record { so = runs_so one server old new events last runs newest; same = same }
   takes_by one server server_then old new events last (period ∷ periods) stated runs newest same = absurd stated
@@ -67,13 +68,13 @@ says_so : (events : List Event) (text : List ℕ) → SaysWhole events [] text �
 says_so events text h = subst (λ (t : List ℕ). SaysRecord events t) (sym (h.cut ∙ ap (λ (t : List ℕ). h.taken ++ t) h.others ∙ append-nil h.taken)) h.says
 
 -- of the parts of it
-pub record WithoutSegments (server server_then : Server) (old new : ProxyState) (events : List Event) (segments : List Segment) (text : List ℕ) (written written_then : Option (Option (List ℕ))) (last : Option StepOut) : Type 0 where
+pub record WithoutSegments (server server_then : Server) (old new : Standing) (events : List Event) (segments : List Segment) (text : List ℕ) (written written_then : Option (Option (List ℕ))) (last : Option StepOut) : Type 0 where
   says : SaysWhole events segments text
   takes : TakesWhole server server_then old new events segments
   last_is : newest_step takes.runs.history ≡ last
   noted : NotesWhole written written_then events segments
 
-none_so : OneIsARun → (server server_then : Server) (old new : ProxyState) (bytes : Option (List ℕ)) (events : List Event) (text further : List ℕ) (written written_then : Option (Option (List ℕ))) (lines : ℕ) (last : Option StepOut)
+none_so : OneIsARun → (server server_then : Server) (old new : Standing) (bytes : Option (List ℕ)) (events : List Event) (text further : List ℕ) (written written_then : Option (Option (List ℕ))) (lines : ℕ) (last : Option StepOut)
     → WithoutSegments server server_then old new events [] text written written_then last → IfSome bytes (λ all. all ≡ text ++ further) → EndsHere further → lines ≡ 0 + count_by is_end text
     → IsResumed server old new bytes written written_then lines last × (server_then ≡ server)
 none_so one server server_then old new bytes events text further written written_then lines last h whole ends counted =
@@ -93,7 +94,7 @@ none_so one server server_then old new bytes events text further written written
       both.same,
     )
 
-pub events_resumed : OneIsARun → (server server_then : Server) (old new : ProxyState) (bytes : Option (List ℕ)) (outs outs_then : Outputs) (lines : ℕ) (last : Option StepOut) → (h : IsRecordResumed server server_then old new bytes 0 outs outs_then lines last)
+pub events_resumed : OneIsARun → (server server_then : Server) (old new : Standing) (bytes : Option (List ℕ)) (outs outs_then : Outputs) (lines : ℕ) (last : Option StepOut) → (h : IsRecordResumed server server_then old new bytes 0 outs outs_then lines last)
     → h.segments ≡ [] → EndsHere h.further → IsResumed server old new bytes outs.written outs_then.written lines last × (server_then ≡ server)
 events_resumed one server server_then old new bytes outs outs_then lines last h none ends =
     let all : WithoutSegments server server_then old new h.events h.segments h.text outs.written outs_then.written last = record { says = h.says; takes = h.takes; last_is = h.last_is; noted = h.noted } in

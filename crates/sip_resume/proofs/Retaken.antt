@@ -5,7 +5,7 @@ use Rattle.std.specs.Io.KnownBytes.{IsAtEnd, Keeps}
 use Rattle.sip_event.specs.declared.event.Event.{Event}
 use Rattle.sip_event.specs.declared.event.StepOut.{StepOut}
 use Rattle.model_bounds.specs.state.declared.server.Server.{Server}
-use Rattle.model_bounds.specs.state.declared.proxy_state.ProxyState.{ProxyState}
+use Rattle.model_order.specs.Order.{Standing}
 use Rattle.sip_replay_script.specs.Lines.{Reading, IsOver, pending}
 use Rattle.sip_replay_script.specs.declared.read_stop.ReadStop.{ReadStop}
 use Rattle.sip_replay_script.specs.declared.read_stop.ReadStop.TheVariants as stops
@@ -18,7 +18,7 @@ use Rattle.sip_resume.specs.declared.error.ResumeError.{ResumeError}
 use Rattle.sip_resume.specs.declared.error.ResumeError.TheVariants as errors
 
 -- the next event, taken and told
-pub takes_next : (server : Server) (old new : ProxyState) (part rest : Reading) (middle after : Option (List ℕ)) (outs outs_then : Outputs) (event : Event) (out : StepOut)
+pub takes_next : (server : Server) (old new : Standing) (part rest : Reading) (middle after : Option (List ℕ)) (outs outs_then : Outputs) (event : Event) (out : StepOut)
     → GivesRecorded part rest middle after event → TakesOwn server old new event outs.shown outs_then.shown out → Notes outs.written outs_then.written (event ∷ []) → TakesNext server old new part rest middle after outs outs_then out
 takes_next server old new part rest middle after outs outs_then event out gives takes noted = record { event = event; gives = gives; takes = takes; noted = noted }
 

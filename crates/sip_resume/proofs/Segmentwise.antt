@@ -6,8 +6,9 @@ use Rattle.std.proofs.KnownBytes.{Appends-nil, Consumes-nil, Consumes-trans}
 use Rattle.sip_event.specs.declared.event.StepOut.{StepOut}
 use Rattle.sip_config_types.specs.declared.config.Config.{Config}
 use Rattle.sip_run.specs.engine.Engine.{Engine}
+use Rattle.sip_run.specs.Due.{standing_of}
 use Rattle.model_bounds.specs.state.declared.server.Server.{Server}
-use Rattle.model_bounds.specs.state.declared.proxy_state.ProxyState.{ProxyState}
+use Rattle.model_order.specs.Order.{Standing}
 use Rattle.model_bounds.specs.model.Run.{under}
 use Rattle.sip_replay_script.specs.Lines.{Reading, IsOver, left, pending}
 use Rattle.sip_replay_script.specs.Recorded.{IsDamagedRecord}
@@ -32,6 +33,7 @@ use Rattle.sip_resume.specs.declared.error.ResumeError.{ResumeError}
 use Rattle.sip_resume.specs.declared.error.ResumeError.TheVariants as events
 use Rattle.sip_resume.specs.declared.record_error.RecordError.{RecordError}
 use Rattle.sip_resume.specs.declared.record_error.RecordError.TheVariants as errors
+use Rattle.sip_run.proofs.Standings.{standing_is}
 use Rattle.sip_resume.proofs.Eventwise.{if_kept, noted_at, numbers_add}
 use Rattle.sip_resume.proofs.Refused.{next_bytes, stays}
 use Rattle.sip_resume.proofs.UnderRuns.{runs_none, runs_one}
@@ -81,7 +83,7 @@ pub noted_none : (old : Option (Option (List ℕ))) → NotesSegments old old []
 noted_none None = tt
 noted_none (Some old) = known_nothing old
 
-abbrev pub segments_nothing : (server : Server) (state : ProxyState) (before : Option (List ℕ)) (lines : ℕ) (outs : Outputs) → TakesSegments server server state state before before lines lines outs outs None
+abbrev pub segments_nothing : (server : Server) (state : Standing) (before : Option (List ℕ)) (lines : ℕ) (outs : Outputs) → TakesSegments server server state state before before lines lines outs outs None
 segments_nothing server state before lines outs = record {
   segments = [];
   text = [];
@@ -99,7 +101,7 @@ segments_nothing server state before lines outs = record {
   noted = noted_none outs.written;
 }
 
-reaches_over : (server : Server) (state : ProxyState) (known : Option (List ℕ)) (part rest : Reading) (after : Option (List ℕ)) (outs : Outputs) → IfSome known EndsCut
+reaches_over : (server : Server) (state : Standing) (known : Option (List ℕ)) (part rest : Reading) (after : Option (List ℕ)) (outs : Outputs) → IfSome known EndsCut
     → ReachesNext server server state state known part rest after outs outs part.number None true
 reaches_over server state known part rest after outs ends = record {
   left_then = known;
@@ -112,13 +114,13 @@ reaches_over server state known part rest after outs ends = record {
 }
 
 pub reaches_end : (old new : Engine) (known : Option (List ℕ)) (part rest : Reading) (before after : Option (List ℕ)) (outs : Outputs) (lines : ℕ) (last : Option StepOut) (is_over : Bool) → Keeps known (pending part before) → new ≡ old
-    → IfSome (pending part before) EndsCut → lines ≡ part.number → last ≡ None → is_over ≡ true → ReachesNext old.server new.server old.state new.state known part rest after outs outs lines last is_over
+    → IfSome (pending part before) EndsCut → lines ≡ part.number → last ≡ None → is_over ≡ true → ReachesNext old.server new.server (standing_of old) (standing_of new) known part rest after outs outs lines last is_over
 reaches_end old new known part rest before after outs lines last is_over kept same ends number none over =
-    subst (λ (e : Engine). ReachesNext old.server e.server old.state e.state known part rest after outs outs lines last is_over) (sym same)
-    (subst (λ (n : ℕ). ReachesNext old.server old.server old.state old.state known part rest after outs outs n last is_over) (sym number)
-    (subst (λ (out : Option StepOut). ReachesNext old.server old.server old.state old.state known part rest after outs outs part.number out is_over) (sym none)
-    (subst (λ (b : Bool). ReachesNext old.server old.server old.state old.state known part rest after outs outs part.number None b) (sym over)
-    (reaches_over old.server old.state known part rest after outs (if_kept EndsCut known (pending part before) kept ends)))))
+    subst (λ (e : Engine). ReachesNext old.server e.server (standing_of old) (standing_of e) known part rest after outs outs lines last is_over) (sym same)
+    (subst (λ (n : ℕ). ReachesNext old.server old.server (standing_of old) (standing_of old) known part rest after outs outs n last is_over) (sym number)
+    (subst (λ (out : Option StepOut). ReachesNext old.server old.server (standing_of old) (standing_of old) known part rest after outs outs part.number out is_over) (sym none)
+    (subst (λ (b : Bool). ReachesNext old.server old.server (standing_of old) (standing_of old) known part rest after outs outs part.number None b) (sym over)
+    (reaches_over old.server (standing_of old) known part rest after outs (if_kept EndsCut known (pending part before) kept ends)))))
 
 -- where events end, no configuration was cut off
 pub events_end : (rest : Option (List ℕ)) → IfSome rest EndsHere → IfSome rest EndsCut
@@ -132,7 +134,7 @@ both_none : (rest : Option (List ℕ)) → IfSome rest IsDamagedRecord → IfSom
 both_none None h k = tt
 both_none (Some rest) h k = record { no_event = h; no_configuration = k }
 
-unbegun_stops : (server : Server) (state : ProxyState) (longest : ℕ) (F : Type 0) (rest : Option (List ℕ)) (lines : ℕ) (outs : Outputs) (e : RecordError) → IfSome rest IsDamagedRecord → UnbegunStops server longest F rest lines e
+unbegun_stops : (server : Server) (state : Standing) (longest : ℕ) (F : Type 0) (rest : Option (List ℕ)) (lines : ℕ) (outs : Outputs) (e : RecordError) → IfSome rest IsDamagedRecord → UnbegunStops server longest F rest lines e
     → RecordStops server server state state longest F rest lines outs outs e
 unbegun_stops server state longest F rest lines outs errors.NoMemory none h = (refl, inl (stays state outs))
 unbegun_stops server state longest F rest lines outs (errors.Damaged line) none h = record { in_force = refl; state = refl; shown = refl; why = both_none rest none h.0; at = h.1 }
@@ -163,18 +165,18 @@ unbegun_kept server longest F known script lines (errors.OtherFrame line key) ke
 unbegun_kept server longest F known script lines errors.Write kept h = absurd h
 
 pub unbegun : (old new : Engine) (longest : ℕ) (F : Type 0) (known script : Option (List ℕ)) (lines : ℕ) (outs : Outputs) (e : RecordError) → Keeps known script → new ≡ old → IfSome known IsDamagedRecord
-    → UnbegunStops old.server longest F script lines e → SegmentsStop old.server new.server old.state new.state longest F known lines outs outs e
+    → UnbegunStops old.server longest F script lines e → SegmentsStop old.server new.server (standing_of old) (standing_of new) longest F known lines outs outs e
 unbegun old new longest F known script lines outs e kept same none h =
-    subst (λ (x : Engine). SegmentsStop old.server x.server old.state x.state longest F known lines outs outs e) (sym same)
+    subst (λ (x : Engine). SegmentsStop old.server x.server (standing_of old) (standing_of x) longest F known lines outs outs e) (sym same)
     (record {
       rest = known;
-      reached = old.state;
+      reached = (standing_of old);
       in_force = old.server;
       lines_then = lines;
       half = outs;
       last = None;
-      takes = segments_nothing old.server old.state known lines outs;
-      why = unbegun_stops old.server old.state longest F known lines outs e none (unbegun_kept old.server longest F known script lines e kept h);
+      takes = segments_nothing old.server (standing_of old) known lines outs;
+      why = unbegun_stops old.server (standing_of old) longest F known lines outs e none (unbegun_kept old.server longest F known script lines e kept h);
       noted = noted_none outs.written;
     })
 
@@ -188,7 +190,7 @@ SegmentNoted =
     (old mid new : Option (Option (List ℕ))) (segment : Segment) → NotesConfiguration old mid segment.configuration → Notes mid new segment.events → NotesSegments old new (segment ∷ [])
 
 -- of the server as it was before
-abbrev segment_under : SegmentSaid → SegmentNoted → (server in_force : Server) (config : Config) (old new : ProxyState) (known : Option (List ℕ)) (part half : Reading) (before middle rest : Option (List ℕ)) (outs : Outputs) (told : Option (Option (List ℕ))) (whole : Outputs) (text : List ℕ) (lines : ℕ) (last : Option StepOut)
+abbrev segment_under : SegmentSaid → SegmentNoted → (server in_force : Server) (config : Config) (old new : Standing) (known : Option (List ℕ)) (part half : Reading) (before middle rest : Option (List ℕ)) (outs : Outputs) (told : Option (Option (List ℕ))) (whole : Outputs) (text : List ℕ) (lines : ℕ) (last : Option StepOut)
     → Keeps known (pending part before) → GivesConfiguration part half before middle text → States text config → in_force ≡ record { config = config; word = server.word } → in_force ≡ under server config → NotesConfiguration outs.written told text
     → TakesEvents (under server config) old new (pending half middle) rest half.number lines (outputs_of told outs.shown) whole last → TakesSegments server in_force old new known rest part.number lines outs whole last
 segment_under said noted server in_force config old new known part half before middle rest outs told whole text lines last kept gives states is is_under configured h = record {
@@ -209,24 +211,24 @@ segment_under said noted server in_force config old new known part half before m
 }
 
 -- events that the changed server takes are taken by the server under that configuration
-events_under : (old mid : Engine) (config : Config) (new : ProxyState) (before rest : Option (List ℕ)) (lines lines_then : ℕ) (outs outs_then : Outputs) (last : Option StepOut) → mid.server ≡ under old.server config → mid.state ≡ old.state
-    → TakesEvents mid.server mid.state new before rest lines lines_then outs outs_then last → TakesEvents (under old.server config) old.state new before rest lines lines_then outs outs_then last
+events_under : (old mid : Engine) (config : Config) (new : Standing) (before rest : Option (List ℕ)) (lines lines_then : ℕ) (outs outs_then : Outputs) (last : Option StepOut) → mid.server ≡ under old.server config → standing_of mid ≡ standing_of old
+    → TakesEvents mid.server (standing_of mid) new before rest lines lines_then outs outs_then last → TakesEvents (under old.server config) (standing_of old) new before rest lines lines_then outs outs_then last
 events_under old mid config new before rest lines lines_then outs outs_then last is same h =
-    subst (λ (s : Server). TakesEvents s old.state new before rest lines lines_then outs outs_then last) is
-    (subst (λ (s : ProxyState). TakesEvents mid.server s new before rest lines lines_then outs outs_then last) same h)
+    subst (λ (s : Server). TakesEvents s (standing_of old) new before rest lines lines_then outs outs_then last) is
+    (subst (λ (s : Standing). TakesEvents mid.server s new before rest lines lines_then outs outs_then last) same h)
 
-segment_of : SegmentSaid → SegmentNoted → (old mid : Engine) (new : ProxyState) (known : Option (List ℕ)) (part half : Reading) (before middle rest : Option (List ℕ)) (outs : Outputs) (told : Option (Option (List ℕ))) (whole : Outputs) (text : List ℕ) (lines : ℕ) (last : Option StepOut)
-    → Keeps known (pending part before) → TakesConfiguration old mid part half before middle text → NotesConfiguration outs.written told text → TakesEvents mid.server mid.state new (pending half middle) rest half.number lines (outputs_of told outs.shown) whole last
-    → TakesSegments old.server mid.server old.state new known rest part.number lines outs whole last
+segment_of : SegmentSaid → SegmentNoted → (old mid : Engine) (new : Standing) (known : Option (List ℕ)) (part half : Reading) (before middle rest : Option (List ℕ)) (outs : Outputs) (told : Option (Option (List ℕ))) (whole : Outputs) (text : List ℕ) (lines : ℕ) (last : Option StepOut)
+    → Keeps known (pending part before) → TakesConfiguration old mid part half before middle text → NotesConfiguration outs.written told text → TakesEvents mid.server (standing_of mid) new (pending half middle) rest half.number lines (outputs_of told outs.shown) whole last
+    → TakesSegments old.server mid.server (standing_of old) new known rest part.number lines outs whole last
 segment_of said noted old mid new known part half before middle rest outs told whole text lines last kept taken configured h =
-    segment_under said noted old.server mid.server taken.taken.config old.state new known part half before middle rest outs told whole text lines last kept taken.gives taken.taken.states taken.taken.changes.server taken.taken.changes.is_under configured
-    (events_under old mid taken.taken.config new (pending half middle) rest half.number lines (outputs_of told outs.shown) whole last taken.taken.changes.is_under taken.taken.changes.state h)
+    segment_under said noted old.server mid.server taken.taken.config (standing_of old) new known part half before middle rest outs told whole text lines last kept taken.gives taken.taken.states taken.taken.changes.server taken.taken.changes.is_under configured
+    (events_under old mid taken.taken.config new (pending half middle) rest half.number lines (outputs_of told outs.shown) whole last taken.taken.changes.is_under (standing_is mid old.state old.timers taken.taken.changes.state taken.taken.changes.timers) h)
 
-pub reaches_next : SegmentSaid → SegmentNoted → (old mid : Engine) (then_server : Server) (new : ProxyState) (known : Option (List ℕ)) (part half rest : Reading) (before middle after : Option (List ℕ)) (outs : Outputs) (told : Option (Option (List ℕ))) (whole : Outputs) (text : List ℕ) (lines : ℕ)
-    (last : Option StepOut) (is_over : Bool) → Keeps known (pending part before) → then_server ≡ mid.server → TakesConfiguration old mid part half before middle text → NotesConfiguration outs.written told text → ReachesEnd mid.server mid.state new half rest middle after (outputs_of told outs.shown) whole lines last is_over
-    → ReachesNext old.server then_server old.state new known part rest after outs whole lines last is_over
+pub reaches_next : SegmentSaid → SegmentNoted → (old mid : Engine) (then_server : Server) (new : Standing) (known : Option (List ℕ)) (part half rest : Reading) (before middle after : Option (List ℕ)) (outs : Outputs) (told : Option (Option (List ℕ))) (whole : Outputs) (text : List ℕ) (lines : ℕ)
+    (last : Option StepOut) (is_over : Bool) → Keeps known (pending part before) → then_server ≡ mid.server → TakesConfiguration old mid part half before middle text → NotesConfiguration outs.written told text → ReachesEnd mid.server (standing_of mid) new half rest middle after (outputs_of told outs.shown) whole lines last is_over
+    → ReachesNext old.server then_server (standing_of old) new known part rest after outs whole lines last is_over
 reaches_next said noted old mid then_server new known part half rest before middle after outs told whole text lines last is_over kept same taken configured h =
-    subst (λ (s : Server). ReachesNext old.server s old.state new known part rest after outs whole lines last is_over) (sym same)
+    subst (λ (s : Server). ReachesNext old.server s (standing_of old) new known part rest after outs whole lines last is_over) (sym same)
     (record {
       left_then = h.left_then;
       takes = segment_of said noted old mid new known part half before middle h.left_then outs told whole text lines last kept taken configured h.takes;
@@ -244,17 +246,17 @@ reaches_next said noted old mid then_server new known part half rest before midd
 
 -- the journal failed behind the configuration
 pub untold : (old mid : Engine) (longest : ℕ) (F : Type 0) (known : Option (List ℕ)) (part half : Reading) (before middle : Option (List ℕ)) (outs : Outputs) (told : Option (Option (List ℕ))) (text : List ℕ) (e : RecordError) → Keeps known (pending part before) → e ≡ errors.Journal → told ≡ None
-    → TakesConfiguration old mid part half before middle text → SegmentsStop old.server mid.server old.state mid.state longest F known part.number outs (outputs_of told outs.shown) e
+    → TakesConfiguration old mid part half before middle text → SegmentsStop old.server mid.server (standing_of old) (standing_of mid) longest F known part.number outs (outputs_of told outs.shown) e
 untold old mid longest F known part half before middle outs told text e kept is failed taken =
-    subst (λ (x : RecordError). SegmentsStop old.server mid.server old.state mid.state longest F known part.number outs (outputs_of told outs.shown) x) (sym is)
+    subst (λ (x : RecordError). SegmentsStop old.server mid.server (standing_of old) (standing_of mid) longest F known part.number outs (outputs_of told outs.shown) x) (sym is)
     (record {
       rest = known;
-      reached = old.state;
+      reached = (standing_of old);
       in_force = old.server;
       lines_then = part.number;
       half = outs;
       last = None;
-      takes = segments_nothing old.server old.state known part.number outs;
+      takes = segments_nothing old.server (standing_of old) known part.number outs;
       why = inr (record {
         config = taken.taken.config;
         next = record {
@@ -263,7 +265,7 @@ untold old mid longest F known part half before middle outs told text e kept is 
           is = taken.taken.states;
         };
         in_force = taken.taken.changes.server;
-        state = taken.taken.changes.state;
+        state = (standing_is mid old.state old.timers taken.taken.changes.state taken.taken.changes.timers);
         shown = refl;
         failed = failed;
       });
@@ -271,7 +273,7 @@ untold old mid longest F known part half before middle outs told text e kept is 
     })
 
 -- why an event isn't taken
-pub event_stops : (server : Server) (old new : ProxyState) (longest : ℕ) (F : Type 0) (rest : Option (List ℕ)) (lines : ℕ) (half whole : Outputs) (e : ResumeError) → NextStops server old new F rest lines half whole e
+pub event_stops : (server : Server) (old new : Standing) (longest : ℕ) (F : Type 0) (rest : Option (List ℕ)) (lines : ℕ) (half whole : Outputs) (e : ResumeError) → NextStops server old new F rest lines half whole e
     → RecordStops server server old new longest F rest lines half whole (record_error_of e)
 event_stops server old new longest F rest lines half whole events.NoMemory h = (refl, h.why)
 event_stops server old new longest F rest lines half whole (events.Damaged line) h = record { in_force = refl; state = h.why.0; shown = h.why.3; why = both_none rest h.why.1 h.none; at = h.why.2 }
@@ -280,7 +282,7 @@ event_stops server old new longest F rest lines half whole events.Step h = (refl
 event_stops server old new longest F rest lines half whole events.Journal h = inl (refl, h.why)
 event_stops server old new longest F rest lines half whole events.Write h = (refl, h.why)
 
-stopped_under : SegmentSaid → SegmentNoted → (server in_force : Server) (config : Config) (old reached new : ProxyState) (longest : ℕ) (F : Type 0) (known : Option (List ℕ)) (part half : Reading) (before middle rest : Option (List ℕ)) (outs : Outputs) (told : Option (Option (List ℕ))) (so_far whole : Outputs)
+stopped_under : SegmentSaid → SegmentNoted → (server in_force : Server) (config : Config) (old reached new : Standing) (longest : ℕ) (F : Type 0) (known : Option (List ℕ)) (part half : Reading) (before middle rest : Option (List ℕ)) (outs : Outputs) (told : Option (Option (List ℕ))) (so_far whole : Outputs)
     (text : List ℕ) (lines : ℕ) (last : Option StepOut) (refusal : ResumeError) → Keeps known (pending part before) → GivesConfiguration part half before middle text → States text config → in_force ≡ record { config = config; word = server.word } → in_force ≡ under server config
     → NotesConfiguration outs.written told text → TakesEvents (under server config) old reached (pending half middle) rest half.number lines (outputs_of told outs.shown) so_far last → NextStops in_force reached new F rest lines so_far whole refusal
     → SegmentsStop server in_force old new longest F known part.number outs whole (record_error_of refusal)
@@ -296,14 +298,14 @@ stopped_under said noted server in_force config old reached new longest F known 
   noted = noted outs.written told whole.written (record { configuration = text; events = h.events }) configured (noted_at told so_far.written whole.written h.events refusal h.noted stops.told);
 }
 
-pub stopped_behind : SegmentSaid → SegmentNoted → (old mid : Engine) (then_server : Server) (new : ProxyState) (longest : ℕ) (F : Type 0) (known : Option (List ℕ)) (part half : Reading) (before middle : Option (List ℕ)) (outs : Outputs) (told : Option (Option (List ℕ))) (whole : Outputs) (text : List ℕ)
+pub stopped_behind : SegmentSaid → SegmentNoted → (old mid : Engine) (then_server : Server) (new : Standing) (longest : ℕ) (F : Type 0) (known : Option (List ℕ)) (part half : Reading) (before middle : Option (List ℕ)) (outs : Outputs) (told : Option (Option (List ℕ))) (whole : Outputs) (text : List ℕ)
     (refusal : ResumeError) (e : RecordError) → Keeps known (pending part before) → e ≡ record_error_of refusal → then_server ≡ mid.server → TakesConfiguration old mid part half before middle text → NotesConfiguration outs.written told text
-    → EventsStop mid.server mid.state new F (pending half middle) half.number (outputs_of told outs.shown) whole refusal → SegmentsStop old.server then_server old.state new longest F known part.number outs whole e
+    → EventsStop mid.server (standing_of mid) new F (pending half middle) half.number (outputs_of told outs.shown) whole refusal → SegmentsStop old.server then_server (standing_of old) new longest F known part.number outs whole e
 stopped_behind said noted old mid then_server new longest F known part half before middle outs told whole text refusal e kept is same taken configured h =
-    subst (λ (x : RecordError). SegmentsStop old.server then_server old.state new longest F known part.number outs whole x) (sym is)
-    (subst (λ (s : Server). SegmentsStop old.server s old.state new longest F known part.number outs whole (record_error_of refusal)) (sym same)
-    (stopped_under said noted old.server mid.server taken.taken.config old.state h.reached new longest F known part half before middle h.rest outs told h.half whole text h.lines_then h.last refusal kept taken.gives taken.taken.states taken.taken.changes.server
-    taken.taken.changes.is_under configured (events_under old mid taken.taken.config h.reached (pending half middle) h.rest half.number h.lines_then (outputs_of told outs.shown) h.half h.last taken.taken.changes.is_under taken.taken.changes.state h.takes) h.stops))
+    subst (λ (x : RecordError). SegmentsStop old.server then_server (standing_of old) new longest F known part.number outs whole x) (sym is)
+    (subst (λ (s : Server). SegmentsStop old.server s (standing_of old) new longest F known part.number outs whole (record_error_of refusal)) (sym same)
+    (stopped_under said noted old.server mid.server taken.taken.config (standing_of old) h.reached new longest F known part half before middle h.rest outs told h.half whole text h.lines_then h.last refusal kept taken.gives taken.taken.states taken.taken.changes.server
+    taken.taken.changes.is_under configured (events_under old mid taken.taken.config h.reached (pending half middle) h.rest half.number h.lines_then (outputs_of told outs.shown) h.half h.last taken.taken.changes.is_under (standing_is mid old.state old.timers taken.taken.changes.state taken.taken.changes.timers) h.takes) h.stops))
 
 -- what holds where no more comes
 pub none_waits : {P : Type 0} {X : Type 0} (found : Option X) → found ≡ None → IfNone found P → P

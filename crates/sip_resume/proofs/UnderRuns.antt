@@ -6,9 +6,11 @@ use Rattle.sip_event.specs.declared.event.StepOut.{StepOut}
 use Rattle.sip_config_types.specs.declared.config.Config.{Config}
 use Rattle.model_bounds.specs.state.declared.server.Server.{Server}
 use Rattle.model_bounds.specs.state.declared.proxy_state.ProxyState.{ProxyState}
+use Rattle.model_order.specs.Order.{Standing}
 use Rattle.model_bounds.specs.model.Run.{Link, IsRun, under}
 use Rattle.model_bounds.specs.model.Periods.{IsNoStep, IsRunUnder, Period, until_of}
-use Rattle.model_bounds.proofs.SendingLists.{all_joined}
+use Rattle.model_order.proofs.Along.{queue_behind}
+use Rattle.model_ties.proofs.Orderly.{orderly_joined}
 use Rattle.sip_run.proofs.RunOn.{run_on}
 use Rattle.sip_segment_text.specs.Segments.{Segment}
 use Rattle.sip_resume.specs.Resumes.{Runs, newest_step}
@@ -49,20 +51,21 @@ run_both server first middle last (period ∷ periods) others until steps furthe
   of_history = ap (λ (links : List Link). later ++ links) h.of_history ∙ sym (append_assoc later h.later h.earlier);
 }
 
-abbrev pub runs_both : (server : Server) (old mid new : ProxyState) (periods others : List Period) → RunsUnder server old mid periods → RunsUnder server mid new others → RunsUnder server old new (periods ++ others)
+abbrev pub runs_both : (server : Server) (old mid new : Standing) (periods others : List Period) → RunsUnder server old mid periods → RunsUnder server mid new others → RunsUnder server old new (periods ++ others)
 runs_both server old mid new periods others h k = record {
   steps = h.steps ++ k.steps;
   history = k.history ++ h.history;
-  is_run = run_both server old mid new periods others None h.steps k.steps h.history k.history h.is_run k.is_run;
-  prompt = all_joined _ k.history h.history k.prompt h.prompt;
+  is_run = run_both server old.state mid.state new.state periods others None h.steps k.steps h.history k.history h.is_run k.is_run;
+  orderly = orderly_joined server old mid h.history k.history h.queue h.orderly k.orderly;
+  queue = queue_behind old mid new h.history k.history h.queue k.queue;
 }
 
 -- ---- none, and one
 
-abbrev pub runs_none : (server : Server) (state : ProxyState) → RunsUnder server state state []
-runs_none server state = record { steps = []; history = []; is_run = record { no_steps = refl; no_history = refl; stays = refl }; prompt = tt }
+abbrev pub runs_none : (server : Server) (state : Standing) → RunsUnder server state state []
+runs_none server state = record { steps = []; history = []; is_run = record { no_steps = refl; no_history = refl; stays = refl }; orderly = tt; queue = refl }
 
-abbrev pub runs_one : (server : Server) (config : Config) (old new : ProxyState) (events : List Event) → Runs (under server config) old new events None → RunsUnder server old new (record { config = config; events = events } ∷ [])
+abbrev pub runs_one : (server : Server) (config : Config) (old new : Standing) (events : List Event) → Runs (under server config) old new events None → RunsUnder server old new (record { config = config; events = events } ∷ [])
 runs_one server config old new events h = record {
   steps = h.steps;
   history = h.history;
@@ -71,13 +74,14 @@ runs_one server config old new events h = record {
     further = [];
     earlier = h.history;
     later = [];
-    middle = new;
+    middle = new.state;
     is_run = h.is_run;
     behind = record { no_steps = refl; no_history = refl; stays = refl };
     of_steps = sym (append-nil h.steps);
     of_history = refl;
   };
-  prompt = h.prompt;
+  orderly = h.orderly;
+  queue = h.queue;
 }
 
 -- ---- a run of the server under another configuration
@@ -97,8 +101,8 @@ run_back server config first (period ∷ periods) steps history last h = record 
   of_history = h.of_history;
 }
 
-abbrev pub runs_back : (server : Server) (config : Config) (old new : ProxyState) (periods : List Period) → RunsUnder (under server config) old new periods → RunsUnder server old new periods
-runs_back server config old new periods h = record { steps = h.steps; history = h.history; is_run = run_back server config old periods h.steps h.history new h.is_run; prompt = h.prompt }
+abbrev pub runs_back : (server : Server) (config : Config) (old new : Standing) (periods : List Period) → RunsUnder (under server config) old new periods → RunsUnder server old new periods
+runs_back server config old new periods h = record { steps = h.steps; history = h.history; is_run = run_back server config old.state periods h.steps h.history new.state h.is_run; orderly = h.orderly; queue = h.queue }
 
 -- ---- what is said of them
 

@@ -8,8 +8,9 @@ use Rattle.sip_event.specs.declared.event.Event.{Event}
 use Rattle.sip_event.specs.declared.event.StepOut.{StepOut}
 use Rattle.sip_config_types.specs.declared.config.Config.{Config}
 use Rattle.sip_run.specs.engine.Engine.{Engine}
+use Rattle.sip_run.specs.Due.{standing_of}
 use Rattle.model_bounds.specs.state.declared.server.Server.{Server}
-use Rattle.model_bounds.specs.state.declared.proxy_state.ProxyState.{ProxyState}
+use Rattle.model_order.specs.Order.{Standing}
 use Rattle.model_bounds.specs.model.Run.{under}
 use Rattle.model_bounds.specs.model.Periods.{Period}
 use Rattle.model_bounds.proofs.SendingLists.{all_joined}
@@ -38,7 +39,7 @@ abbrev pub NotedJoin : Type 0
 NotedJoin = (old mid new : Option (Option (List ℕ))) (segments others : List Segment) → NotesSegments old mid segments → NotesSegments mid new others → NotesSegments old new (segments ++ others)
 
 -- events of a record were taken, and segments behind them
-pub record TakesRecord (server server_then : Server) (old new : ProxyState) (before rest : Option (List ℕ)) (lines lines_then : ℕ) (outs outs_then : Outputs) (last : Option StepOut) : Type 0 where
+pub record TakesRecord (server server_then : Server) (old new : Standing) (before rest : Option (List ℕ)) (lines lines_then : ℕ) (outs outs_then : Outputs) (last : Option StepOut) : Type 0 where
   pub events : List Event
   pub segments : List Segment
   pub text : List ℕ
@@ -58,14 +59,14 @@ pub record TakesRecord (server server_then : Server) (old new : ProxyState) (bef
 -- and that is how far it came
 pub record RecordSoFar (old new : Engine) (part rest : Reading) (before after : Option (List ℕ)) (outs outs_then : Outputs) (lines : ℕ) (last : Option StepOut) (is_over : Bool) : Type 0 where
   pub left_then : Option (List ℕ)
-  pub takes : TakesRecord old.server new.server old.state new.state (pending part before) left_then part.number lines outs outs_then last
+  pub takes : TakesRecord old.server new.server (standing_of old) (standing_of new) (pending part before) left_then part.number lines outs outs_then last
   pub over : is_over ≡ true → IfSome left_then EndsCut
   pub kept : is_over ≡ false → Keeps left_then (pending rest after)
   pub no_event : is_over ≡ false → IfSome left_then IsDamagedRecord
   pub number : is_over ≡ false → rest.number ≡ lines
 
 -- no segment yet
-abbrev pub record_begun : (server : Server) (old new : ProxyState) (before rest : Option (List ℕ)) (lines lines_then : ℕ) (outs outs_then : Outputs) (last : Option StepOut) → TakesEvents server old new before rest lines lines_then outs outs_then last
+abbrev pub record_begun : (server : Server) (old new : Standing) (before rest : Option (List ℕ)) (lines lines_then : ℕ) (outs outs_then : Outputs) (last : Option StepOut) → TakesEvents server old new before rest lines lines_then outs outs_then last
     → TakesRecord server server old new before rest lines lines_then outs outs_then last
 record_begun server old new before rest lines lines_then outs outs_then last h = record {
   events = h.events;
@@ -114,7 +115,7 @@ under_both server mid new periods others h is_under k =
     ∙ ap (λ (c : Config). under server c) (sym (config_both server.config periods others))
 
 -- segments of the server under the configuration that is in force then
-abbrev record_under : SegmentTextsJoin → NotedJoin → (server mid new : Server) (first half last : ProxyState) (before middle rest : Option (List ℕ)) (lines lines_mid lines_then : ℕ) (outs told whole : Outputs) (newest further : Option StepOut)
+abbrev record_under : SegmentTextsJoin → NotedJoin → (server mid new : Server) (first half last : Standing) (before middle rest : Option (List ℕ)) (lines lines_mid lines_then : ℕ) (outs told whole : Outputs) (newest further : Option StepOut)
     → (h : TakesRecord server mid first half before middle lines lines_mid outs told newest) → (k : TakesSegments mid new half last middle rest lines_mid lines_then told whole further)
     → (more : RunsUnder server half last k.periods) → newest_step more.history ≡ further → Shows told.shown whole.shown more.steps → TakesRecord server new first last before rest lines lines_then outs whole (newest_of further newest)
 record_under join noted server mid new first half last before middle rest lines lines_mid lines_then outs told whole newest further h k more is shows = record {
@@ -136,21 +137,21 @@ record_under join noted server mid new first half last before middle rest lines 
 }
 
 -- the run of segments, with its newest step and what was shown, is one of the server that began
-record RunsSo (server : Server) (old new : ProxyState) (periods : List Period) (last : Option StepOut) (a b : Option (List ℕ)) : Type 0 where
+record RunsSo (server : Server) (old new : Standing) (periods : List Period) (last : Option StepOut) (a b : Option (List ℕ)) : Type 0 where
   runs : RunsUnder server old new periods
   last_is : newest_step runs.history ≡ last
   shown : Shows a b runs.steps
 
-so_back : (server : Server) (config : Config) (old new : ProxyState) (periods : List Period) (last : Option StepOut) (a b : Option (List ℕ)) → RunsSo (under server config) old new periods last a b → RunsSo server old new periods last a b
+so_back : (server : Server) (config : Config) (old new : Standing) (periods : List Period) (last : Option StepOut) (a b : Option (List ℕ)) → RunsSo (under server config) old new periods last a b → RunsSo server old new periods last a b
 so_back server config old new periods last a b h = record { runs = runs_back server config old new periods h.runs; last_is = h.last_is; shown = h.shown }
 
-so_of : (server mid : Server) (config : Config) (old new : ProxyState) (periods : List Period) (last : Option StepOut) (a b : Option (List ℕ)) → mid ≡ under server config → (h : RunsUnder mid old new periods) → newest_step h.history ≡ last → Shows a b h.steps
+so_of : (server mid : Server) (config : Config) (old new : Standing) (periods : List Period) (last : Option StepOut) (a b : Option (List ℕ)) → mid ≡ under server config → (h : RunsUnder mid old new periods) → newest_step h.history ≡ last → Shows a b h.steps
     → RunsSo server old new periods last a b
 so_of server mid config old new periods last a b is h newest shows =
     let of_mid : RunsSo mid old new periods last a b = record { runs = h; last_is = newest; shown = shows } in
     so_back server config old new periods last a b (subst (λ (s : Server). RunsSo s old new periods last a b) is of_mid)
 
-pub record_more : SegmentTextsJoin → NotedJoin → (server mid new : Server) (first half last : ProxyState) (before middle rest : Option (List ℕ)) (lines lines_mid lines_then : ℕ) (outs told whole : Outputs) (newest further : Option StepOut)
+pub record_more : SegmentTextsJoin → NotedJoin → (server mid new : Server) (first half last : Standing) (before middle rest : Option (List ℕ)) (lines lines_mid lines_then : ℕ) (outs told whole : Outputs) (newest further : Option StepOut)
     → TakesRecord server mid first half before middle lines lines_mid outs told newest → TakesSegments mid new half last middle rest lines_mid lines_then told whole further
     → TakesRecord server new first last before rest lines lines_then outs whole (newest_of further newest)
 record_more join noted server mid new first half last before middle rest lines lines_mid lines_then outs told whole newest further h k =
@@ -160,11 +161,11 @@ record_more join noted server mid new first half last before middle rest lines l
 -- ---- how far it came
 
 pub front_reached : (old new : Engine) (part rest : Reading) (before after : Option (List ℕ)) (outs outs_then : Outputs) (lines : ℕ) (last : Option StepOut) (is_over : Bool) → new.server ≡ old.server
-    → ReachesEnd old.server old.state new.state part rest before after outs outs_then lines last is_over → RecordSoFar old new part rest before after outs outs_then lines last is_over
+    → ReachesEnd old.server (standing_of old) (standing_of new) part rest before after outs outs_then lines last is_over → RecordSoFar old new part rest before after outs outs_then lines last is_over
 front_reached old new part rest before after outs outs_then lines last is_over same h = record {
   left_then = h.left_then;
-  takes = subst (λ (s : Server). TakesRecord old.server s old.state new.state (pending part before) h.left_then part.number lines outs outs_then last) (sym same)
-      (record_begun old.server old.state new.state (pending part before) h.left_then part.number lines outs outs_then last h.takes);
+  takes = subst (λ (s : Server). TakesRecord old.server s (standing_of old) (standing_of new) (pending part before) h.left_then part.number lines outs outs_then last) (sym same)
+      (record_begun old.server (standing_of old) (standing_of new) (pending part before) h.left_then part.number lines outs outs_then last h.takes);
   over = λ e. events_end h.left_then (h.over e);
   kept = h.kept;
   no_event = h.no_event;
@@ -174,15 +175,15 @@ front_reached old new part rest before after outs outs_then lines last is_over s
 -- of what stands in the loop
 pub further_reached : SegmentTextsJoin → NotedJoin → (old mid new : Engine) (part half rest : Reading) (before middle after : Option (List ℕ)) (outs told whole : Outputs) (lines_mid lines lines_then : ℕ) (newest further last : Option StepOut)
     (was_over over_then is_over : Bool) → was_over ≡ false → lines ≡ lines_then → last ≡ newest_of further newest → is_over ≡ over_then → (h : RecordSoFar old mid part half before middle outs told lines_mid newest was_over)
-    → ReachesNext mid.server new.server mid.state new.state h.left_then half rest after told whole lines_then further over_then → RecordSoFar old new part rest before after outs whole lines last is_over
+    → ReachesNext mid.server new.server (standing_of mid) (standing_of new) h.left_then half rest after told whole lines_then further over_then → RecordSoFar old new part rest before after outs whole lines last is_over
 further_reached join noted old mid new part half rest before middle after outs told whole lines_mid lines lines_then newest further last was_over over_then is_over on same_lines same_last same_over h k =
     subst (λ (n : ℕ). RecordSoFar old new part rest before after outs whole n last is_over) (sym same_lines)
     (subst (λ (out : Option StepOut). RecordSoFar old new part rest before after outs whole lines_then out is_over) (sym same_last)
     (subst (λ (b : Bool). RecordSoFar old new part rest before after outs whole lines_then (newest_of further newest) b) (sym same_over)
     (record {
       left_then = k.left_then;
-      takes = record_more join noted old.server mid.server new.server old.state mid.state new.state (pending part before) h.left_then k.left_then part.number half.number lines_then outs told whole newest further
-          (subst (λ (n : ℕ). TakesRecord old.server mid.server old.state mid.state (pending part before) h.left_then part.number n outs told newest) (sym (h.number on)) h.takes) k.takes;
+      takes = record_more join noted old.server mid.server new.server (standing_of old) (standing_of mid) (standing_of new) (pending part before) h.left_then k.left_then part.number half.number lines_then outs told whole newest further
+          (subst (λ (n : ℕ). TakesRecord old.server mid.server (standing_of old) (standing_of mid) (pending part before) h.left_then part.number n outs told newest) (sym (h.number on)) h.takes) k.takes;
       over = k.over;
       kept = k.kept;
       no_event = k.no_event;
@@ -200,7 +201,7 @@ whole_of None rest text h = tt
 whole_of (Some xs) None text h = absurd h
 whole_of (Some xs) (Some ys) text h = h
 
-pub record_resumed : (server server_then : Server) (old new : ProxyState) (before rest : Option (List ℕ)) (lines lines_then : ℕ) (outs outs_then : Outputs) (last : Option StepOut)
+pub record_resumed : (server server_then : Server) (old new : Standing) (before rest : Option (List ℕ)) (lines lines_then : ℕ) (outs outs_then : Outputs) (last : Option StepOut)
     → TakesRecord server server_then old new before rest lines lines_then outs outs_then last → IfSome rest EndsCut → IsRecordResumed server server_then old new before lines outs outs_then lines_then last
 record_resumed server server_then old new before rest lines lines_then outs outs_then last h ends = record {
   text = h.text;
@@ -224,7 +225,7 @@ rest_is None rest text h = tt
 rest_is (Some xs) None text h = absurd h
 rest_is (Some xs) (Some ys) text h = (ys, refl, h)
 
-stopped_at : (server server_then in_force : Server) (old reached new : ProxyState) (longest : ℕ) (F : Type 0) (before rest : Option (List ℕ)) (lines lines_then : ℕ) (outs half outs_then : Outputs) (last : Option StepOut) (e : RecordError)
+stopped_at : (server server_then in_force : Server) (old reached new : Standing) (longest : ℕ) (F : Type 0) (before rest : Option (List ℕ)) (lines lines_then : ℕ) (outs half outs_then : Outputs) (last : Option StepOut) (e : RecordError)
     → (h : TakesRecord server in_force old reached before rest lines lines_then outs half last) → NotesWhole outs.written outs_then.written h.events h.segments → RecordStops in_force server_then reached new longest F rest lines_then half outs_then e
     → IsRecordUnresumed server server_then old new longest F before lines outs outs_then e
 stopped_at server server_then in_force old reached new longest F before rest lines lines_then outs half outs_then last e h noted why = record {
@@ -244,7 +245,7 @@ stopped_at server server_then in_force old reached new longest F before rest lin
 }
 
 -- behind some segments
-pub record_unresumed : SegmentTextsJoin → NotedJoin → (server mid server_then : Server) (first half new : ProxyState) (longest : ℕ) (F : Type 0) (before middle : Option (List ℕ)) (lines lines_mid : ℕ) (outs told whole : Outputs) (newest : Option StepOut) (e : RecordError)
+pub record_unresumed : SegmentTextsJoin → NotedJoin → (server mid server_then : Server) (first half new : Standing) (longest : ℕ) (F : Type 0) (before middle : Option (List ℕ)) (lines lines_mid : ℕ) (outs told whole : Outputs) (newest : Option StepOut) (e : RecordError)
     → TakesRecord server mid first half before middle lines lines_mid outs told newest → SegmentsStop mid server_then half new longest F middle lines_mid told whole e → IsRecordUnresumed server server_then first new longest F before lines outs whole e
 record_unresumed join noted server mid server_then first half new longest F before middle lines lines_mid outs told whole newest e h s =
     let so = so_of server mid (config_behind server.config h.periods) half s.reached s.takes.periods s.last told.shown s.half.shown h.is_under s.takes.runs s.takes.last_is s.takes.shown in
@@ -253,7 +254,7 @@ record_unresumed join noted server mid server_then first half new longest F befo
     (notes_more noted outs.written told.written whole.written h.events h.segments s.takes.segments h.noted s.noted) s.why
 
 -- among the events in front of them
-pub front_unresumed : (server server_then : Server) (old new : ProxyState) (longest : ℕ) (F : Type 0) (before : Option (List ℕ)) (lines : ℕ) (outs outs_then : Outputs) (refusal : ResumeError) (e : RecordError) → e ≡ record_error_of refusal
+pub front_unresumed : (server server_then : Server) (old new : Standing) (longest : ℕ) (F : Type 0) (before : Option (List ℕ)) (lines : ℕ) (outs outs_then : Outputs) (refusal : ResumeError) (e : RecordError) → e ≡ record_error_of refusal
     → server_then ≡ server → EventsStop server old new F before lines outs outs_then refusal → IsRecordUnresumed server server_then old new longest F before lines outs outs_then e
 front_unresumed server server_then old new longest F before lines outs outs_then refusal e is same s =
     subst (λ (x : RecordError). IsRecordUnresumed server server_then old new longest F before lines outs outs_then x) (sym is)
@@ -264,16 +265,16 @@ front_unresumed server server_then old new longest F before lines outs outs_then
     (event_stops server s.reached new longest F s.rest s.lines_then s.half outs_then refusal s.stops)))
 
 pub unresumed_further : SegmentTextsJoin → NotedJoin → (old mid new : Engine) (longest : ℕ) (F : Type 0) (part half : Reading) (before middle : Option (List ℕ)) (outs told whole : Outputs) (lines : ℕ) (newest : Option StepOut) (was_over : Bool) (e : RecordError) → was_over ≡ false
-    → (h : RecordSoFar old mid part half before middle outs told lines newest was_over) → SegmentsStop mid.server new.server mid.state new.state longest F h.left_then half.number told whole e
-    → IsRecordUnresumed old.server new.server old.state new.state longest F (pending part before) part.number outs whole e
+    → (h : RecordSoFar old mid part half before middle outs told lines newest was_over) → SegmentsStop mid.server new.server (standing_of mid) (standing_of new) longest F h.left_then half.number told whole e
+    → IsRecordUnresumed old.server new.server (standing_of old) (standing_of new) longest F (pending part before) part.number outs whole e
 unresumed_further join noted old mid new longest F part half before middle outs told whole lines newest was_over e on h s =
-    record_unresumed join noted old.server mid.server new.server old.state mid.state new.state longest F (pending part before) h.left_then part.number half.number outs told whole newest e
-    (subst (λ (n : ℕ). TakesRecord old.server mid.server old.state mid.state (pending part before) h.left_then part.number n outs told newest) (sym (h.number on)) h.takes) s
+    record_unresumed join noted old.server mid.server new.server (standing_of old) (standing_of mid) (standing_of new) longest F (pending part before) h.left_then part.number half.number outs told whole newest e
+    (subst (λ (n : ℕ). TakesRecord old.server mid.server (standing_of old) (standing_of mid) (pending part before) h.left_then part.number n outs told newest) (sym (h.number on)) h.takes) s
 
 pub resumed_so : (old new : Engine) (part rest : Reading) (before after : Option (List ℕ)) (outs outs_then : Outputs) (lines : ℕ) (last : Option StepOut) (is_over : Bool) → is_over ≡ true
-    → RecordSoFar old new part rest before after outs outs_then lines last is_over → IsRecordResumed old.server new.server old.state new.state (pending part before) part.number outs outs_then lines last
+    → RecordSoFar old new part rest before after outs outs_then lines last is_over → IsRecordResumed old.server new.server (standing_of old) (standing_of new) (pending part before) part.number outs outs_then lines last
 resumed_so old new part rest before after outs outs_then lines last is_over end h =
-    record_resumed old.server new.server old.state new.state (pending part before) h.left_then part.number lines outs outs_then last h.takes (h.over end)
+    record_resumed old.server new.server (standing_of old) (standing_of new) (pending part before) h.left_then part.number lines outs outs_then last h.takes (h.over end)
 
 -- ---- fewer bytes are left
 

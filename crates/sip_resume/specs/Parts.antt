@@ -5,7 +5,7 @@ use Rattle.std.specs.List.{AllByRecursion}
 use Rattle.sip_event.specs.declared.event.Event.{Event}
 use Rattle.sip_event.specs.declared.event.StepOut.{StepOut}
 use Rattle.model_bounds.specs.state.declared.server.Server.{Server}
-use Rattle.model_bounds.specs.state.declared.proxy_state.ProxyState.{ProxyState}
+use Rattle.model_order.specs.Order.{Standing}
 use Rattle.model_bounds.specs.model.Run.{under}
 use Rattle.model_bounds.specs.model.Periods.{Period}
 use Rattle.sip_replay_script.specs.Lines.{Reading, is_end, left, pending}
@@ -35,7 +35,7 @@ newest_of (Some out) before = Some out
 -- ---- the next event
 
 -- nothing was passed, and no event begins here
-pub record StaysHere (old new : ProxyState) (part rest : Reading) (before after : Option (List ℕ))
+pub record StaysHere (old new : Standing) (part rest : Reading) (before after : Option (List ℕ))
     (outs outs_then : Outputs) : Type 0 where
   pub state : new ≡ old
   pub kept : Keeps (pending part before) (pending rest after)
@@ -45,13 +45,13 @@ pub record StaysHere (old new : ProxyState) (part rest : Reading) (before after 
   pub no_event : IfSome (pending part before) IsDamagedRecord
 
 -- the record ends here
-pub record EndsAt (old new : ProxyState) (part : Reading) (before : Option (List ℕ)) (outs outs_then : Outputs) : Type 0 where
+pub record EndsAt (old new : Standing) (part : Reading) (before : Option (List ℕ)) (outs outs_then : Outputs) : Type 0 where
   pub state : new ≡ old
   pub ends : IfSome (pending part before) EndsHere
   pub noted : outs_then ≡ outs
 
 -- what became of the next event
-abbrev pub GoesTo : Server → ProxyState → ProxyState → Reading → Reading → Option (List ℕ) → Option (List ℕ)
+abbrev pub GoesTo : Server → Standing → Standing → Reading → Reading → Option (List ℕ) → Option (List ℕ)
     → Outputs → Outputs → Next → Type 0
 GoesTo server old new part rest before after outs outs_then (Taken out) = TakesNext server old new part rest before after outs outs_then out
 GoesTo server old new part rest before after outs outs_then Configuration = StaysHere old new part rest before after outs outs_then
@@ -67,7 +67,7 @@ SaysNoneAt rest errors.Journal = ⊤
 SaysNoneAt rest errors.Write = ⊤
 
 -- why it isn't taken
-pub record NextStops (server : Server) (old new : ProxyState) (spent : Type 0) (rest : Option (List ℕ)) (lines : ℕ)
+pub record NextStops (server : Server) (old new : Standing) (spent : Type 0) (rest : Option (List ℕ)) (lines : ℕ)
     (outs outs_then : Outputs) (e : ResumeError) : Type 0 where
   pub why : ResumeStops server old new spent rest lines outs outs_then e
   pub told : JournalAt outs.written outs_then.written e
@@ -76,7 +76,7 @@ pub record NextStops (server : Server) (old new : ProxyState) (spent : Type 0) (
 -- ---- events
 
 -- events were taken that come next in a record, their steps were shown, and they were told to the journal; so many lines were given by then
-pub record TakesEvents (server : Server) (old new : ProxyState) (before rest : Option (List ℕ)) (lines lines_then : ℕ)
+pub record TakesEvents (server : Server) (old new : Standing) (before rest : Option (List ℕ)) (lines lines_then : ℕ)
     (outs outs_then : Outputs) (last : Option StepOut) : Type 0 where
   pub events : List Event
   pub text : List ℕ
@@ -89,7 +89,7 @@ pub record TakesEvents (server : Server) (old new : ProxyState) (before rest : O
   pub noted : Notes outs.written outs_then.written events
 
 -- up to the end of the record, or to where no event begins
-pub record ReachesEnd (server : Server) (old new : ProxyState) (part rest : Reading) (before after : Option (List ℕ))
+pub record ReachesEnd (server : Server) (old new : Standing) (part rest : Reading) (before after : Option (List ℕ))
     (outs outs_then : Outputs) (lines : ℕ) (last : Option StepOut) (is_over : Bool) : Type 0 where
   pub left_then : Option (List ℕ)
   pub takes : TakesEvents server old new (pending part before) left_then part.number lines outs outs_then last
@@ -100,10 +100,10 @@ pub record ReachesEnd (server : Server) (old new : ProxyState) (part rest : Read
   pub fewer : is_over ≡ false → left rest ≤ left part
 
 -- why no more of them are taken
-pub record EventsStop (server : Server) (old new : ProxyState) (spent : Type 0) (before : Option (List ℕ)) (lines : ℕ)
+pub record EventsStop (server : Server) (old new : Standing) (spent : Type 0) (before : Option (List ℕ)) (lines : ℕ)
     (outs outs_then : Outputs) (e : ResumeError) : Type 0 where
   pub rest : Option (List ℕ)
-  pub reached : ProxyState
+  pub reached : Standing
   pub lines_then : ℕ
   pub half : Outputs
   pub last : Option StepOut
@@ -113,7 +113,7 @@ pub record EventsStop (server : Server) (old new : ProxyState) (spent : Type 0) 
 -- ---- segments
 
 -- segments were taken that come next in a record, each under its configuration, their steps were shown, and they were told to the journal
-pub record TakesSegments (server server_then : Server) (old new : ProxyState) (before rest : Option (List ℕ)) (lines lines_then : ℕ)
+pub record TakesSegments (server server_then : Server) (old new : Standing) (before rest : Option (List ℕ)) (lines lines_then : ℕ)
     (outs outs_then : Outputs) (last : Option StepOut) : Type 0 where
   pub segments : List Segment
   pub text : List ℕ
@@ -131,7 +131,7 @@ pub record TakesSegments (server server_then : Server) (old new : ProxyState) (b
   pub noted : NotesSegments outs.written outs_then.written segments
 
 -- up to the end of the record, or to where no event begins
-pub record ReachesNext (server server_then : Server) (old new : ProxyState) (before : Option (List ℕ)) (part rest : Reading) (after : Option (List ℕ))
+pub record ReachesNext (server server_then : Server) (old new : Standing) (before : Option (List ℕ)) (part rest : Reading) (after : Option (List ℕ))
     (outs outs_then : Outputs) (lines : ℕ) (last : Option StepOut) (is_over : Bool) : Type 0 where
   pub left_then : Option (List ℕ)
   pub takes : TakesSegments server server_then old new before left_then part.number lines outs outs_then last
@@ -142,10 +142,10 @@ pub record ReachesNext (server server_then : Server) (old new : ProxyState) (bef
   pub fewer : is_over ≡ false → left rest < left part
 
 -- why no more of them are taken
-pub record SegmentsStop (server server_then : Server) (old new : ProxyState) (longest : ℕ) (spent : Type 0) (before : Option (List ℕ)) (lines : ℕ)
+pub record SegmentsStop (server server_then : Server) (old new : Standing) (longest : ℕ) (spent : Type 0) (before : Option (List ℕ)) (lines : ℕ)
     (outs outs_then : Outputs) (e : RecordError) : Type 0 where
   pub rest : Option (List ℕ)
-  pub reached : ProxyState
+  pub reached : Standing
   pub in_force : Server
   pub lines_then : ℕ
   pub half : Outputs

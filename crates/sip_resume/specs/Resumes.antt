@@ -8,7 +8,8 @@ use Rattle.model_bounds.specs.state.State.{first_state}
 use Rattle.model_bounds.specs.model.Run.{Link, IsRun, event_moment}
 use Rattle.model_bounds.specs.model.Access.{Access}
 use Rattle.model_bounds.specs.Bounds.{IsBounded}
-use Rattle.model_ties.specs.Ties.{ArePrompt}
+use Rattle.model_order.specs.Order.{Standing, queue_from}
+use Rattle.model_ties.specs.Ties.{AreOrderly}
 use Rattle.sip_run.specs.engine.declared.error.StepError.{StepError}
 use Rattle.sip_run.specs.engine.declared.error.StepError.TheVariants as step_errors
 use Rattle.sip_run.specs.engine.StepError.{refusal_at}
@@ -20,13 +21,14 @@ use Rattle.sip_resume.specs.Outputs.{Outputs, Shows, ShowsFront}
 use Rattle.sip_resume.specs.declared.error.ResumeError.{ResumeError}
 use Rattle.sip_resume.specs.declared.error.ResumeError.TheVariants.{NoMemory, Damaged, Read, Step, Journal, Write}
 
--- these events have a run from one state to another, in which time passes only where something that is due happens, and all that is due by
--- the moment of an event happens before it
-pub record Runs (server : Server) (old new : ProxyState) (events : List Event) (until : Option ℕ) : Type 0 where
+-- These events have a run from one state to another, in which time passes only where the first of what is due happens, in the order in which
+-- timers stand, and all that is due by the moment of an event happens before it.
+pub record Runs (server : Server) (old new : Standing) (events : List Event) (until : Option ℕ) : Type 0 where
   pub steps : List StepOut
   pub history : List Link
-  pub is_run : IsRun server old events until steps history new
-  pub prompt : ArePrompt server history
+  pub is_run : IsRun server old.state events until steps history new.state
+  pub orderly : AreOrderly server old.queue history
+  pub queue : new.queue ≡ queue_from old.queue history
 
 -- a record ends here: nothing is left, or the front of what says one event as a record does, of which the rest was cut off
 abbrev pub EndsHere : List ℕ → Type 0
@@ -40,7 +42,7 @@ newest_step (link ∷ links) = Some link.out
 -- A record, where its bytes are known, is a text that says events as a record does, and behind it nothing, or the front of what says one more. The server
 -- took these events, in their order, and what was due by the moment of each before it: the state is where their run leads; the journal was told them;
 -- so many lines said them; and that is the last step of the run, which is the last event's own, since time passes only up to that event.
-pub record IsResumed (server : Server) (old new : ProxyState) (record_bytes : Option (List ℕ)) (written written_then : Option (Option (List ℕ)))
+pub record IsResumed (server : Server) (old new : Standing) (record_bytes : Option (List ℕ)) (written written_then : Option (Option (List ℕ)))
     (lines : ℕ) (last : Option StepOut) : Type 0 where
   pub text : List ℕ
   pub further : List ℕ
@@ -60,46 +62,46 @@ pub record IsNext (rest : Option (List ℕ)) (event : Event) : Type 0 where
   pub begins : IfSome rest (λ bytes. (further : List ℕ) × (bytes ≡ text ++ further))
 
 -- events have such a run, and a front of what is printed of its steps was shown
-pub record RunsPart (server : Server) (old new : ProxyState) (events : List Event) (until : Option ℕ) (shown shown_then : Option (List ℕ)) : Type 0 where
+pub record RunsPart (server : Server) (old new : Standing) (events : List Event) (until : Option ℕ) (shown shown_then : Option (List ℕ)) : Type 0 where
   pub runs : Runs server old new events until
   pub front : ShowsFront shown shown_then runs.steps
 
 -- an event comes next, time passed up to its moment at most, and it wasn't taken
-pub record PassesTime (server : Server) (old new : ProxyState) (rest : Option (List ℕ)) (outs outs_then : Outputs) : Type 0 where
+pub record PassesTime (server : Server) (old new : Standing) (rest : Option (List ℕ)) (outs outs_then : Outputs) : Type 0 where
   pub event : Event
   pub next : IsNext rest event
   pub part : RunsPart server old new [] (Some (event_moment event)) outs.shown outs_then.shown
 
 -- the event that comes next was taken, and its steps weren't all shown
-pub record TakesUnshown (server : Server) (old new : ProxyState) (rest : Option (List ℕ)) (outs outs_then : Outputs) : Type 0 where
+pub record TakesUnshown (server : Server) (old new : Standing) (rest : Option (List ℕ)) (outs outs_then : Outputs) : Type 0 where
   pub event : Event
   pub next : IsNext rest event
   pub part : RunsPart server old new (event ∷ []) None outs.shown outs_then.shown
 
 -- it stopped as time passed up to the event that comes next, or where the steps of that event were shown
-abbrev pub StopsAmong : Server → ProxyState → ProxyState → Option (List ℕ) → Outputs → Outputs → Type 0
+abbrev pub StopsAmong : Server → Standing → Standing → Option (List ℕ) → Outputs → Outputs → Type 0
 StopsAmong server old new rest outs outs_then = PassesTime server old new rest outs outs_then ⊎ TakesUnshown server old new rest outs outs_then
 
 -- it is as it was, and nothing was shown
-pub record StaysAsItWas (old new : ProxyState) (outs outs_then : Outputs) : Type 0 where
+pub record StaysAsItWas (old new : Standing) (outs outs_then : Outputs) : Type 0 where
   pub state : new ≡ old
   pub shown : outs_then.shown ≡ outs.shown
 
 -- memory ran out: before any event was read that comes next, or for that event
-abbrev pub RunsOut : Server → ProxyState → ProxyState → Option (List ℕ) → Outputs → Outputs → Type 0
+abbrev pub RunsOut : Server → Standing → Standing → Option (List ℕ) → Outputs → Outputs → Type 0
 RunsOut server old new rest outs outs_then = StaysAsItWas old new outs outs_then ⊎ StopsAmong server old new rest outs outs_then
 
 -- An event comes next, time passed up to its moment, and the server refuses its step then. A moment that is too large for what is due
 -- is so for the event, too.
-pub record RefusesNext (server : Server) (old new : ProxyState) (rest : Option (List ℕ)) (outs outs_then : Outputs) : Type 0 where
+pub record RefusesNext (server : Server) (old new : Standing) (rest : Option (List ℕ)) (outs outs_then : Outputs) : Type 0 where
   pub event : Event
   pub next : IsNext rest event
   pub runs : Runs server old new [] (Some (event_moment event))
   pub shown : Shows outs.shown outs_then.shown runs.steps
-  pub refused : IsSome (refusal_of_event new event)
+  pub refused : IsSome (refusal_of_event new.state event)
 
 -- the event that comes next was taken, its steps were shown, and the journal wasn't told it, since it failed
-pub record TakesUntold (server : Server) (old new : ProxyState) (rest : Option (List ℕ)) (outs outs_then : Outputs) : Type 0 where
+pub record TakesUntold (server : Server) (old new : Standing) (rest : Option (List ℕ)) (outs outs_then : Outputs) : Type 0 where
   pub event : Event
   pub next : IsNext rest event
   pub runs : Runs server old new (event ∷ []) None
@@ -110,7 +112,7 @@ pub record TakesUntold (server : Server) (old new : ProxyState) (rest : Option (
 -- out, before an event was read or at it, or what steps are shown to stopped; or it is as it was, since what is left is damaged from the next
 -- line on (it begins with no text that says an event as a record does, and is no front of one), or the reader stopped; or the server refuses
 -- the step; or the journal failed behind it.
-abbrev pub ResumeStops : Server → ProxyState → ProxyState → Type 0 → Option (List ℕ) → ℕ → Outputs → Outputs → ResumeError → Type 0
+abbrev pub ResumeStops : Server → Standing → Standing → Type 0 → Option (List ℕ) → ℕ → Outputs → Outputs → ResumeError → Type 0
 ResumeStops server old new spent rest lines outs outs_then NoMemory = RunsOut server old new rest outs outs_then
 ResumeStops server old new spent rest lines outs outs_then (Damaged line) =
     (new ≡ old) × IfSome rest IsDamagedRecord × (line ≡ lines + 1) × (outs_then.shown ≡ outs.shown)
@@ -132,18 +134,18 @@ pub record IsOneRun (server : Server) (first : ℕ) (events more : List Event) (
 -- ---- inside
 
 -- events have such a run, and what is printed of its steps was shown
-pub record RunsShown (server : Server) (old new : ProxyState) (events : List Event) (until : Option ℕ) (shown shown_then : Option (List ℕ)) : Type 0 where
+pub record RunsShown (server : Server) (old new : Standing) (events : List Event) (until : Option ℕ) (shown shown_then : Option (List ℕ)) : Type 0 where
   pub runs : Runs server old new events until
   pub all : Shows shown shown_then runs.steps
 
 -- an event was taken, that is its own step, and its steps were shown
-pub record TakesOwn (server : Server) (old new : ProxyState) (event : Event) (shown shown_then : Option (List ℕ)) (out : StepOut) : Type 0 where
+pub record TakesOwn (server : Server) (old new : Standing) (event : Event) (shown shown_then : Option (List ℕ)) (out : StepOut) : Type 0 where
   pub runs : Runs server old new (event ∷ []) None
   pub last : newest_step runs.history ≡ Some out
   pub all : Shows shown shown_then runs.steps
 
 -- the next event of the record was taken, its steps were shown, and it was told to the journal
-pub record TakesNext (server : Server) (old new : ProxyState) (part rest : Reading) (middle after : Option (List ℕ)) (outs outs_then : Outputs)
+pub record TakesNext (server : Server) (old new : Standing) (part rest : Reading) (middle after : Option (List ℕ)) (outs outs_then : Outputs)
     (out : StepOut) : Type 0 where
   pub event : Event
   pub gives : GivesRecorded part rest middle after event
@@ -157,12 +159,12 @@ StepStops refusal step_errors.MomentTooLarge = IsSome refusal
 StepStops refusal step_errors.Worn = IsSome refusal
 
 -- what is due by a moment was shown as far as it happened, and the next step is refused
-pub record RefusesDue (server : Server) (old new : ProxyState) (until : Option ℕ) (shown shown_then : Option (List ℕ)) (refusal : Option StepError) : Type 0 where
+pub record RefusesDue (server : Server) (old new : Standing) (until : Option ℕ) (shown shown_then : Option (List ℕ)) (refusal : Option StepError) : Type 0 where
   pub due : RunsShown server old new [] until shown shown_then
   pub refused : IsSome refusal
 
 -- why what is due by a moment didn't all happen
-abbrev pub FiringStops : Server → ProxyState → ProxyState → ℕ → Option (List ℕ) → Option (List ℕ) → ResumeError → Type 0
+abbrev pub FiringStops : Server → Standing → Standing → ℕ → Option (List ℕ) → Option (List ℕ) → ResumeError → Type 0
 FiringStops server old new at shown shown_then NoMemory = RunsPart server old new [] (Some at) shown shown_then
 FiringStops server old new at shown shown_then (Damaged line) = ⊥
 FiringStops server old new at shown shown_then Read = ⊥
@@ -171,17 +173,17 @@ FiringStops server old new at shown shown_then Journal = ⊥
 FiringStops server old new at shown shown_then Write = RunsPart server old new [] (Some at) shown shown_then
 
 -- it stopped before an event, or at it
-abbrev pub StopsAround : Server → ProxyState → ProxyState → Event → Option (List ℕ) → Option (List ℕ) → Type 0
+abbrev pub StopsAround : Server → Standing → Standing → Event → Option (List ℕ) → Option (List ℕ) → Type 0
 StopsAround server old new event shown shown_then =
     RunsPart server old new [] (Some (event_moment event)) shown shown_then ⊎ RunsPart server old new (event ∷ []) None shown shown_then
 
 -- why an event that was read isn't taken
-abbrev pub TurnStops : Server → ProxyState → ProxyState → Event → Option (List ℕ) → Option (List ℕ) → ResumeError → Type 0
+abbrev pub TurnStops : Server → Standing → Standing → Event → Option (List ℕ) → Option (List ℕ) → ResumeError → Type 0
 TurnStops server old new event shown shown_then NoMemory = StopsAround server old new event shown shown_then
 TurnStops server old new event shown shown_then (Damaged line) = ⊥
 TurnStops server old new event shown shown_then Read = ⊥
 TurnStops server old new event shown shown_then Step =
-    RefusesDue server old new (Some (event_moment event)) shown shown_then (refusal_of_event new event)
+    RefusesDue server old new (Some (event_moment event)) shown shown_then (refusal_of_event new.state event)
 TurnStops server old new event shown shown_then Journal = ⊥
 TurnStops server old new event shown shown_then Write = StopsAround server old new event shown shown_then
 

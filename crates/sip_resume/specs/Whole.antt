@@ -11,7 +11,8 @@ use Rattle.model_bounds.specs.model.Run.{Link, under}
 use Rattle.model_bounds.specs.model.Periods.{IsRunUnder, Period}
 use Rattle.model_bounds.specs.model.Access.{Access}
 use Rattle.model_bounds.specs.Bounds.{IsBounded}
-use Rattle.model_ties.specs.Ties.{ArePrompt}
+use Rattle.model_order.specs.Order.{Standing, queue_from}
+use Rattle.model_ties.specs.Ties.{AreOrderly}
 use Rattle.sip_replay_script.specs.Lines.{is_end}
 use Rattle.sip_segment_text.specs.Segments.{SaysWhole, Segment}
 use Rattle.sip_segment_text.specs.Configurations.{IsLongConfiguration}
@@ -50,17 +51,18 @@ config_behind config (period ∷ periods) = config_behind period.config periods
 
 -- ---- what a server does with them
 
--- These periods have a run from one state to another, in which time passes only where something that is due happens, and all that is due
--- by the moment of an event happens before it, by the configuration that is in force then.
-pub record RunsUnder (server : Server) (old new : ProxyState) (periods : List Period) : Type 0 where
+-- These periods have a run from one state to another, in which time passes only where the first of what is due happens, in the order in which
+-- timers stand, and all that is due by the moment of an event happens before it, by the configuration that is in force then.
+pub record RunsUnder (server : Server) (old new : Standing) (periods : List Period) : Type 0 where
   pub steps : List StepOut
   pub history : List Link
-  pub is_run : IsRunUnder server old periods None steps history new
-  pub prompt : ArePrompt server history
+  pub is_run : IsRunUnder server old.state periods None steps history new.state
+  pub orderly : AreOrderly server old.queue history
+  pub queue : new.queue ≡ queue_from old.queue history
 
 -- A server takes events under the configuration that was in force, and those of each segment under the one that its text states, by which it is
 -- the same server to others; the last of these is in force then.
-pub record TakesWhole (server server_then : Server) (old new : ProxyState) (events : List Event) (segments : List Segment) : Type 0 where
+pub record TakesWhole (server server_then : Server) (old new : Standing) (events : List Event) (segments : List Segment) : Type 0 where
   pub periods : List Period
   pub stated : AreStated segments periods
   pub frames : AllByRecursion (KeepsFrame server) periods
@@ -79,7 +81,7 @@ pub record NotesWhole (written written_then : Option (Option (List ℕ))) (event
 -- more event or configuration. The server took them in their order: the state is where a run under these configurations leads, and the last
 -- of them is in force; exactly what is printed of the steps was shown, the journal was told the events and segments, and so many lines were
 -- given by then; and that is the last step of the run, which is the last event's own, since time passes only up to that event.
-pub record IsRecordResumed (server server_then : Server) (old new : ProxyState) (record_bytes : Option (List ℕ)) (lines : ℕ)
+pub record IsRecordResumed (server server_then : Server) (old new : Standing) (record_bytes : Option (List ℕ)) (lines : ℕ)
     (outs outs_then : Outputs) (lines_then : ℕ) (last : Option StepOut) : Type 0 where
   pub text : List ℕ
   pub further : List ℕ
@@ -97,7 +99,7 @@ pub record IsRecordResumed (server server_then : Server) (old new : ProxyState) 
 -- ---- a record that isn't taken further
 
 -- the configuration that comes next is in force, and the journal wasn't told it, since it failed
-pub record ChangesUntold (server server_then : Server) (old new : ProxyState) (rest : Option (List ℕ)) (outs outs_then : Outputs) : Type 0 where
+pub record ChangesUntold (server server_then : Server) (old new : Standing) (rest : Option (List ℕ)) (outs outs_then : Outputs) : Type 0 where
   pub config : Config
   pub next : NextIs rest (λ bytes. States bytes config)
   pub in_force : server_then ≡ record { config = config; word = server.word }
@@ -106,7 +108,7 @@ pub record ChangesUntold (server server_then : Server) (old new : ProxyState) (r
   pub failed : outs_then.written ≡ None
 
 -- what comes next isn't taken, and the server is as it was
-pub record IsUntaken (server server_then : Server) (old new : ProxyState) (Why : Type 0) (lines line : ℕ) (outs outs_then : Outputs) : Type 0 where
+pub record IsUntaken (server server_then : Server) (old new : Standing) (Why : Type 0) (lines line : ℕ) (outs outs_then : Outputs) : Type 0 where
   pub in_force : server_then ≡ server
   pub state : new ≡ old
   pub shown : outs_then.shown ≡ outs.shown
@@ -117,7 +119,7 @@ pub record IsUntaken (server server_then : Server) (old new : ProxyState) (Why :
 -- stands then: memory ran out, before an event was read or at it, or what steps are shown to stopped; or it is as it was, since what is left is
 -- damaged, the reader stopped, or the configuration that comes next is too long, none, or another server's; or it refuses the step of the event
 -- that comes next; or the journal failed behind an event or a configuration.
-abbrev pub RecordStops : Server → Server → ProxyState → ProxyState → ℕ → Type 0 → Option (List ℕ) → ℕ → Outputs → Outputs → RecordError → Type 0
+abbrev pub RecordStops : Server → Server → Standing → Standing → ℕ → Type 0 → Option (List ℕ) → ℕ → Outputs → Outputs → RecordError → Type 0
 RecordStops server server_then old new longest spent rest lines outs outs_then NoMemory = (server_then ≡ server) × RunsOut server old new rest outs outs_then
 RecordStops server server_then old new longest spent rest lines outs outs_then (Damaged line) =
     IsUntaken server server_then old new (IfSome rest IsDamagedPart) lines line outs outs_then
@@ -136,13 +138,13 @@ RecordStops server server_then old new longest spent rest lines outs outs_then W
 
 -- It was refused behind some of its events and configurations, by which the server had come to a state, under the last of them; exactly what is
 -- printed of their steps was shown by then; the journal was told them, unless it has failed.
-pub record IsRecordUnresumed (server server_then : Server) (old new : ProxyState) (longest : ℕ) (spent : Type 0)
+pub record IsRecordUnresumed (server server_then : Server) (old new : Standing) (longest : ℕ) (spent : Type 0)
     (record_bytes : Option (List ℕ)) (lines : ℕ) (outs outs_then : Outputs) (e : RecordError) : Type 0 where
   pub text : List ℕ
   pub events : List Event
   pub segments : List Segment
   pub rest : Option (List ℕ)
-  pub reached : ProxyState
+  pub reached : Standing
   pub in_force : Server
   pub half : Outputs
   pub says : SaysWhole events segments text

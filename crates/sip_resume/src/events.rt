@@ -1,6 +1,7 @@
 ghost use Rattle.std.specs.Prelude.{◌≡◌, ◌≤◌, true, IfOk, IfErr};
 ghost use Rattle.sip_replay_script.specs.Devices.{later};
 ghost use Rattle.sip_replay_script.specs.Lines.{pending, IsSpent};
+ghost use Rattle.sip_run.specs.Due.{standing_of};
 ghost use Rattle.sip_resume.specs.Outputs.{outputs_of};
 ghost use Rattle.sip_resume.specs.Parts.{EventsStop, GoesTo, NextStops, ReachesEnd};
 ghost use Rattle.sip_resume.specs.declared.error.ResumeError.TheVariants as Refusal;
@@ -28,9 +29,9 @@ fn take_next<T: Timers, R: Rules, I: TellingReader, J: Journal, S: StepSink>(
     sink: &mut S,
 ) -> Result<Next, ResumeError>
     ensures server { engine.new.server ≡ engine.old.server }
-    ensures next { IfOk result (GoesTo engine.old.server engine.old.state engine.new.state lines.old lines.new (I.remaining reader.old)
+    ensures next { IfOk result (GoesTo engine.old.server (standing_of engine.old) (standing_of engine.new) lines.old lines.new (I.remaining reader.old)
         (I.remaining reader.new) (outputs_of (J.written journal.old) (S.shown sink.old)) (outputs_of (J.written journal.new) (S.shown sink.new))) }
-    ensures refused { IfErr result (NextStops engine.old.server engine.old.state engine.new.state
+    ensures refused { IfErr result (NextStops engine.old.server (standing_of engine.old) (standing_of engine.new)
         (IsSpent (I.has_failed reader.new) lines.new.asks) (pending lines.old (I.remaining reader.old)) lines.old.number
         (outputs_of (J.written journal.old) (S.shown sink.old)) (outputs_of (J.written journal.new) (S.shown sink.new))) }
     ensures whole { ¬ (result ≡ Err Refusal.Journal) → J.faulted journal.new ≡ J.faulted journal.old }
@@ -60,10 +61,10 @@ pub(crate) fn take_events<T: Timers, R: Rules, I: TellingReader, J: Journal, S: 
     sink: &mut S,
 ) -> Result<Reached, ResumeError>
     ensures server { engine.new.server ≡ engine.old.server }
-    ensures taken { IfOk result (λ reached. ReachesEnd engine.old.server engine.old.state engine.new.state lines.old lines.new
+    ensures taken { IfOk result (λ reached. ReachesEnd engine.old.server (standing_of engine.old) (standing_of engine.new) lines.old lines.new
         (I.remaining reader.old) (I.remaining reader.new) (outputs_of (J.written journal.old) (S.shown sink.old)) (outputs_of (J.written journal.new) (S.shown sink.new)) reached.lines reached.last
         reached.is_over) }
-    ensures refused { IfErr result (EventsStop engine.old.server engine.old.state engine.new.state
+    ensures refused { IfErr result (EventsStop engine.old.server (standing_of engine.old) (standing_of engine.new)
         (IsSpent (I.has_failed reader.new) lines.new.asks) (pending lines.old (I.remaining reader.old)) lines.old.number
         (outputs_of (J.written journal.old) (S.shown sink.old)) (outputs_of (J.written journal.new) (S.shown sink.new))) }
     ensures whole { ¬ (result ≡ Err Refusal.Journal) → J.faulted journal.new ≡ J.faulted journal.old }

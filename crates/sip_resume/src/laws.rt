@@ -9,6 +9,7 @@ ghost use Rattle.model_bounds.specs.Bounds.{IsBounded};
 ghost use Rattle.model_bounds.specs.model.Access.{Access};
 ghost use Rattle.model_bounds.specs.model.Run.{IsRun, Link, under};
 ghost use Rattle.model_bounds.specs.model.Periods.{IsRunUnder, Period};
+ghost use Rattle.model_order.specs.Order.{Standing, first_standing};
 ghost use Rattle.sip_segment_text.specs.Segments.{Segment};
 ghost use Rattle.sip_resume.specs.Outputs.{Outputs};
 ghost use Rattle.sip_resume.specs.Resumes.{EndsHere, IsOneRun, IsResumed};
@@ -52,7 +53,7 @@ pub fn restart_under_is_one_run()
 
 /// A record that holds no configuration, and was cut in none, is one of events alone: the server is the same, and the events led there.
 pub fn record_of_events_is_resumed()
-    ensures { (server server_then : Server) (old new : ProxyState) (bytes : Option (List ℕ)) (outs outs_then : Outputs)
+    ensures { (server server_then : Server) (old new : Standing) (bytes : Option (List ℕ)) (outs outs_then : Outputs)
         (lines : ℕ) (last : Option StepOut)
         → (resumed : IsRecordResumed server server_then old new bytes 0 outs outs_then lines last) → resumed.segments ≡ []
         → EndsHere resumed.further → IsResumed server old new bytes outs.written outs_then.written lines last × (server_then ≡ server) }
@@ -63,8 +64,8 @@ pub fn record_of_events_is_resumed()
 /// Over every record that is taken, and over one that isn't as far as it was, each step is lawful by all that went before it, under the
 /// configuration that was in force then; and what is sent and kept is bounded.
 pub fn every_record_is_lawful()
-    ensures { (server server_then : Server) (first : ℕ) (new : ProxyState) (events : List Event) (segments : List Segment)
-        → (takes : TakesWhole server server_then (first_state first) new events segments)
+    ensures { (server server_then : Server) (first : ℕ) (new : Standing) (events : List Event) (segments : List Segment)
+        → (takes : TakesWhole server server_then (first_standing first) new events segments)
         → Access server takes.runs.history × IsBounded server takes.runs.history }
 {
     runs_under_are_one();

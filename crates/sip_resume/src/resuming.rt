@@ -1,6 +1,6 @@
 ghost use Rattle.std.specs.Prelude.{◌≡◌, ◌≤◌, [], ◌∷◌, Some, None, true, IfOk, IfErr, IfNone, IfSome, OnOk, OnErr};
 ghost use Rattle.model_bounds.specs.steps_model.Step.{moment_of};
-ghost use Rattle.sip_run.specs.Due.{NothingDueBy};
+ghost use Rattle.sip_run.specs.Due.{NothingDueBy, standing_of};
 ghost use Rattle.sip_replay_script.specs.Devices.{later};
 ghost use Rattle.sip_replay_script.specs.Lines.{pending, IsSpent};
 ghost use Rattle.sip_replay_script.specs.Recorded.{GivesRecorded};
@@ -31,13 +31,13 @@ pub(crate) fn resume_next<T: Timers, R: Rules, I: TellingReader, J: Journal, S: 
     sink: &mut S,
 ) -> Result<Option<StepOut>, ResumeError>
     ensures server { engine.new.server ≡ engine.old.server }
-    ensures taken { IfOk result (λ found. IfSome found (λ out. TakesNext engine.old.server engine.old.state engine.new.state lines.old
+    ensures taken { IfOk result (λ found. IfSome found (λ out. TakesNext engine.old.server (standing_of engine.old) (standing_of engine.new) lines.old
         lines.new (I.remaining reader.old) (I.remaining reader.new) (outputs_of (J.written journal.old) (S.shown sink.old))
         (outputs_of (J.written journal.new) (S.shown sink.new)) out)) }
     ensures over { IfOk result (λ found. IfNone found (IfSome (pending lines.old (I.remaining reader.old)) EndsHere)) }
     ensures waits { IfOk result (λ found. IfNone found ((engine.new ≡ engine.old) × (outputs_of (J.written journal.new) (S.shown sink.new)
         ≡ outputs_of (J.written journal.old) (S.shown sink.old)))) }
-    ensures refused { IfErr result (ResumeStops engine.old.server engine.old.state engine.new.state
+    ensures refused { IfErr result (ResumeStops engine.old.server (standing_of engine.old) (standing_of engine.new)
         (IsSpent (I.has_failed reader.new) lines.new.asks) (pending lines.old (I.remaining reader.old)) lines.old.number
         (outputs_of (J.written journal.old) (S.shown sink.old)) (outputs_of (J.written journal.new) (S.shown sink.new))) }
     ensures told { IfErr result (JournalAt (J.written journal.old) (J.written journal.new)) }
@@ -98,8 +98,8 @@ fn take_in_turn<T: Timers, R: Rules, S: StepSink>(
     sink: &mut S,
 ) -> Result<StepOut, ResumeError>
     ensures server { engine.new.server ≡ engine.old.server }
-    ensures taken { IfOk result (TakesOwn engine.old.server engine.old.state engine.new.state event.now (S.shown sink.old) (S.shown sink.new)) }
-    ensures stopped { IfErr result (TurnStops engine.old.server engine.old.state engine.new.state event.now (S.shown sink.old) (S.shown sink.new)) }
+    ensures taken { IfOk result (TakesOwn engine.old.server (standing_of engine.old) (standing_of engine.new) event.now (S.shown sink.old) (S.shown sink.new)) }
+    ensures stopped { IfErr result (TurnStops engine.old.server (standing_of engine.old) (standing_of engine.new) event.now (S.shown sink.old) (S.shown sink.new)) }
     ensures gave_up { result ≡ Err Refusal.Write → S.gave_up sink.new }
 {
     let at = event_moment(event);
@@ -116,9 +116,9 @@ fn fire_due<T: Timers, R: Rules, S: StepSink>(
     sink: &mut S,
 ) -> Result<(), ResumeError>
     ensures server { engine.new.server ≡ engine.old.server }
-    ensures fired { OnOk result (RunsShown engine.old.server engine.old.state engine.new.state [] (Some at) (S.shown sink.old) (S.shown sink.new)) }
+    ensures fired { OnOk result (RunsShown engine.old.server (standing_of engine.old) (standing_of engine.new) [] (Some at) (S.shown sink.old) (S.shown sink.new)) }
     ensures none_due { OnOk result (NothingDueBy (moment_of engine.new.state at) engine.new.state) }
-    ensures stopped { IfErr result (FiringStops engine.old.server engine.old.state engine.new.state at (S.shown sink.old) (S.shown sink.new)) }
+    ensures stopped { IfErr result (FiringStops engine.old.server (standing_of engine.old) (standing_of engine.new) at (S.shown sink.old) (S.shown sink.new)) }
     ensures gave_up { result ≡ Err Refusal.Write → S.gave_up sink.new }
 {
     while let Some(out) = fire_next(engine, at)? {

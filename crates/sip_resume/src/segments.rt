@@ -5,6 +5,7 @@ ghost use Rattle.sip_replay_script.specs.Lines.{pending, IsSpent};
 ghost use Rattle.sip_replay_script.specs.Recorded.{IsDamagedRecord};
 ghost use Rattle.sip_segment_config.specs.Last.{EndsCut};
 ghost use Rattle.sip_segments.specs.Takes.{TakesConfiguration};
+ghost use Rattle.sip_run.specs.Due.{standing_of};
 ghost use Rattle.sip_resume.specs.Outputs.{outputs_of};
 ghost use Rattle.sip_resume.specs.RecordErrors;
 ghost use Rattle.sip_resume.specs.Parts.{ReachesNext, SegmentsStop, UnbegunStops};
@@ -79,10 +80,10 @@ pub(crate) fn take_segment<T: Timers, R: Rules, I: TellingReader, J: Journal, S:
     sink: &mut S,
 ) -> Result<Reached, RecordError>
     ensures taken { (before : Option (List ℕ)) → Keeps before (pending lines.old (I.remaining reader.old))
-        → IfOk result (λ reached. ReachesNext engine.old.server engine.new.server engine.old.state engine.new.state before lines.old
+        → IfOk result (λ reached. ReachesNext engine.old.server engine.new.server (standing_of engine.old) (standing_of engine.new) before lines.old
         lines.new (I.remaining reader.new) (outputs_of (J.written journal.old) (S.shown sink.old)) (outputs_of (J.written journal.new) (S.shown sink.new)) reached.lines reached.last reached.is_over) }
     ensures refused { (before : Option (List ℕ)) → Keeps before (pending lines.old (I.remaining reader.old))
-        → IfSome before IsDamagedRecord → IfErr result (SegmentsStop engine.old.server engine.new.server engine.old.state engine.new.state
+        → IfSome before IsDamagedRecord → IfErr result (SegmentsStop engine.old.server engine.new.server (standing_of engine.old) (standing_of engine.new)
         longest (IsSpent (I.has_failed reader.new) lines.new.asks) before lines.old.number (outputs_of (J.written journal.old) (S.shown sink.old)) (outputs_of (J.written journal.new) (S.shown sink.new))) }
     ensures whole { ¬ (result ≡ Err Refusal.Journal) → J.faulted journal.new ≡ J.faulted journal.old }
     ensures said { result ≡ Err Refusal.Journal → J.faulted journal.new ≡ true }

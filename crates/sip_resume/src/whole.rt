@@ -1,6 +1,7 @@
 ghost use Rattle.std.specs.Prelude.{◌≡◌, ◌≤◌, true, IfOk, IfErr};
 ghost use Rattle.sip_replay_script.specs.Devices.{later};
 ghost use Rattle.sip_replay_script.specs.Lines.{pending, IsSpent};
+ghost use Rattle.sip_run.specs.Due.{standing_of};
 ghost use Rattle.sip_resume.specs.Outputs.{outputs_of};
 ghost use Rattle.sip_resume.specs.Whole.{IsRecordResumed, IsRecordUnresumed};
 ghost use Rattle.sip_resume.specs.declared.record_error.RecordError.TheVariants as Refusal;
@@ -47,10 +48,10 @@ pub fn resume_record<T: Timers, R: Rules, I: TellingReader, J: Journal, S: StepS
     journal: &mut J,
     sink: &mut S,
 ) -> Result<Resumed, RecordError>
-    ensures resumed { IfOk result (λ resumed. IsRecordResumed engine.old.server engine.new.server engine.old.state engine.new.state
+    ensures resumed { IfOk result (λ resumed. IsRecordResumed engine.old.server engine.new.server (standing_of engine.old) (standing_of engine.new)
         (pending lines.old (I.remaining reader.old)) lines.old.number (outputs_of (J.written journal.old) (S.shown sink.old)) (outputs_of (J.written journal.new) (S.shown sink.new)) resumed.lines
         resumed.last) }
-    ensures refused { IfErr result (IsRecordUnresumed engine.old.server engine.new.server engine.old.state engine.new.state longest
+    ensures refused { IfErr result (IsRecordUnresumed engine.old.server engine.new.server (standing_of engine.old) (standing_of engine.new) longest
         (IsSpent (I.has_failed reader.new) lines.new.asks) (pending lines.old (I.remaining reader.old)) lines.old.number
         (outputs_of (J.written journal.old) (S.shown sink.old)) (outputs_of (J.written journal.new) (S.shown sink.new))) }
     ensures whole { ¬ (result ≡ Err Refusal.Journal) → J.faulted journal.new ≡ J.faulted journal.old }

@@ -3,3 +3,4 @@ pub mod Refusing
 pub mod Stopping
 pub mod Waiting
 pub mod RunOn
+pub mod Standings

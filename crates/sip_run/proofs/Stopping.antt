@@ -13,6 +13,7 @@ use Rattle.model_bounds.specs.Bounds.{IsBounded}
 use Rattle.sip_engine.specs.declared.error.StepError.{StepError}
 use Rattle.sip_engine.specs.declared.error.StepError.TheVariants.{NoMemory}
 use Rattle.sip_engine.specs.StepError.{refusal_at}
+use Rattle.model_order.specs.Order.{Standing, first_standing}
 use Rattle.sip_run.specs.Due.{Fires, IsDueBy, NothingDueBy}
 use Rattle.sip_run.specs.Refusals.{RefusesStep, refusal_of_event}
 use Rattle.sip_run.specs.Runs.{IsRunOver, Goes, FiringHalts, Halts, Stops}
@@ -25,21 +26,21 @@ no_memory : (refusal : Option StepError) (e : StepError) → refusal ≡ None �
 no_memory refusal e none is = subst (λ r. RefusesStep r e) (sym none) is
 
 -- what happened can't be listed
-pub firing_unlisted : (server then_server : Server) (old mid new : ProxyState) (at : ℕ) (out : StepOut) (a b : List StepOut) (e : StepError) → Goes server old mid [] (Some at) a b
+pub firing_unlisted : (server then_server : Server) (old mid new : Standing) (at : ℕ) (out : StepOut) (a b : List StepOut) (e : StepError) → Goes server old mid [] (Some at) a b
     → Fires then_server mid at out new → e ≡ NoMemory → FiringHalts server old at a b e
 firing_unlisted server then_server old mid new at out a b e h fires is = record { last = mid; goes = h; is_due = fires.is_due; refused = no_memory (refusal_at at) e fires.not_refused is }
 
 -- what is due is refused
-pub halts_firing : (server : Server) (old : ProxyState) (at : ℕ) (event : Event) (a b : List StepOut) (e : StepError) → at ≡ event_moment event → FiringHalts server old at a b e → Halts server old event a b e
+pub halts_firing : (server : Server) (old : Standing) (at : ℕ) (event : Event) (a b : List StepOut) (e : StepError) → at ≡ event_moment event → FiringHalts server old at a b e → Halts server old event a b e
 halts_firing server old at event a b e is h = record {
   last = h.last;
   goes = subst (λ (m : ℕ). Goes server old h.last [] (Some m) a b) is h.goes;
-  refused = inl (subst (λ (m : ℕ). IsDueBy (moment_of h.last m) h.last) is h.is_due, subst (λ (m : ℕ). RefusesStep (refusal_at m) e) is h.refused);
+  refused = inl (subst (λ (m : ℕ). IsDueBy (moment_of h.last.state m) h.last.state) is h.is_due, subst (λ (m : ℕ). RefusesStep (refusal_at m) e) is h.refused);
 }
 
 -- the event's own step is refused
-pub halts_taking : (server : Server) (old mid : ProxyState) (at : ℕ) (event : Event) (a b : List StepOut) (e : StepError) → at ≡ event_moment event → Goes server old mid [] (Some at) a b
-    → NothingDueBy (moment_of mid (event_moment event)) mid → RefusesStep (refusal_of_event mid event) e → Halts server old event a b e
+pub halts_taking : (server : Server) (old mid : Standing) (at : ℕ) (event : Event) (a b : List StepOut) (e : StepError) → at ≡ event_moment event → Goes server old mid [] (Some at) a b
+    → NothingDueBy (moment_of mid.state (event_moment event)) mid.state → RefusesStep (refusal_of_event mid.state event) e → Halts server old event a b e
 halts_taking server old mid at event a b e is h none refused = record {
   last = mid;
   goes = subst (λ (m : ℕ). Goes server old mid [] (Some m) a b) is h;
@@ -47,14 +48,14 @@ halts_taking server old mid at event a b e is h none refused = record {
 }
 
 -- that can't be listed
-pub halts_unlisted : (server : Server) (old mid : ProxyState) (at : ℕ) (event : Event) (a b : List StepOut) (e : StepError) → at ≡ event_moment event → Goes server old mid [] (Some at) a b
-    → NothingDueBy (moment_of mid (event_moment event)) mid → refusal_of_event mid event ≡ None → e ≡ NoMemory → Halts server old event a b e
+pub halts_unlisted : (server : Server) (old mid : Standing) (at : ℕ) (event : Event) (a b : List StepOut) (e : StepError) → at ≡ event_moment event → Goes server old mid [] (Some at) a b
+    → NothingDueBy (moment_of mid.state (event_moment event)) mid.state → refusal_of_event mid.state event ≡ None → e ≡ NoMemory → Halts server old event a b e
 unfolding halts_taking
-halts_unlisted server old mid at event a b e is h none not_refused wants = halts_taking server old mid at event a b e is h none (no_memory (refusal_of_event mid event) e not_refused wants)
+halts_unlisted server old mid at event a b e is h none not_refused wants = halts_taking server old mid at event a b e is h none (no_memory (refusal_of_event mid.state event) e not_refused wants)
 
 -- ---- behind events that were taken
 
-pub stops_at : RunsJoin → (server then_server : Server) (old mid : ProxyState) (events : List Event) (i : ℕ) (event : Event) (a b c : List StepOut) (e : StepError) → i < length events → event ≡ get_or events i event
+pub stops_at : RunsJoin → (server then_server : Server) (old mid : Standing) (events : List Event) (i : ℕ) (event : Event) (a b c : List StepOut) (e : StepError) → i < length events → event ≡ get_or events i event
     → then_server ≡ server → Goes server old mid (take i events) None a b → Halts then_server mid event b c e → Stops server old events a c e
 stops_at join server then_server old mid events i event a b c e lt is same h halts = record {
   taken = take i events;
@@ -90,49 +91,49 @@ AllAreLawful =
 pub by_laws : AllHaveAccess → AllAreBounded → AllAreLawful
 by_laws access bounded = λ server first events until steps history last run. (access server first events until steps history last run, bounded server first history last run.chain)
 
-run_over : AllAreLawful → (server : Server) (first : ℕ) (last : ProxyState) (events : List Event) (list : List StepOut) → Goes server (first_state first) last events None [] list → IsRunOver server first events list None
+run_over : AllAreLawful → (server : Server) (first : ℕ) (last : Standing) (events : List Event) (list : List StepOut) → Goes server (first_standing first) last events None [] list → IsRunOver server first events list None
 run_over law server first last events list h = record {
   taken = events;
   left = [];
   history = h.history;
-  last = last;
+  last = last.state;
   cut = sym (append-nil events);
-  is_run = subst (λ (l : List StepOut). IsRun server (first_state first) events None l h.history last) (sym h.listed) h.is_run;
+  is_run = subst (λ (l : List StepOut). IsRun server (first_state first) events None l h.history last.state) (sym h.listed) h.is_run;
   turns = h.turns;
-  access = (law server first events None h.steps h.history last h.is_run).0;
-  bounded = (law server first events None h.steps h.history last h.is_run).1;
+  access = (law server first events None h.steps h.history last.state h.is_run).0;
+  bounded = (law server first events None h.steps h.history last.state h.is_run).1;
   ended = inl tt;
 }
 
-run_stopped : AllAreLawful → (server : Server) (first : ℕ) (events : List Event) (list : List StepOut) (e : StepError) → Stops server (first_state first) events [] list e → IsRunOver server first events list (Some e)
+run_stopped : AllAreLawful → (server : Server) (first : ℕ) (events : List Event) (list : List StepOut) (e : StepError) → Stops server (first_standing first) events [] list e → IsRunOver server first events list (Some e)
 run_stopped law server first events list e h = record {
   taken = h.taken;
   left = h.event ∷ h.left;
   history = h.goes.history;
-  last = h.last;
+  last = h.last.state;
   cut = h.cut;
-  is_run = subst (λ (l : List StepOut). IsRun server (first_state first) h.taken (Some (event_moment h.event)) l h.goes.history h.last) (sym h.goes.listed) h.goes.is_run;
+  is_run = subst (λ (l : List StepOut). IsRun server (first_state first) h.taken (Some (event_moment h.event)) l h.goes.history h.last.state) (sym h.goes.listed) h.goes.is_run;
   turns = h.goes.turns;
-  access = (law server first h.taken (Some (event_moment h.event)) h.goes.steps h.goes.history h.last h.goes.is_run).0;
-  bounded = (law server first h.taken (Some (event_moment h.event)) h.goes.steps h.goes.history h.last h.goes.is_run).1;
+  access = (law server first h.taken (Some (event_moment h.event)) h.goes.steps h.goes.history h.last.state h.goes.is_run).0;
+  bounded = (law server first h.taken (Some (event_moment h.event)) h.goes.steps h.goes.history h.last.state h.goes.is_run).1;
   ended = inl h.refused;
 }
 
 -- all events were taken by a server that was opened
-pub whole : AllAreLawful → (server then_server : Server) (first : ℕ) (state last : ProxyState) (events : List Event) (start list : List StepOut) → then_server ≡ server → state ≡ first_state first → start ≡ []
-    → Goes then_server state last events None start list → IsRunOver server first events list None
-whole law server then_server first state last events start list same at_first none h =
+pub whole : AllAreLawful → (server then_server : Server) (first : ℕ) (start_at last : Standing) (events : List Event) (start list : List StepOut) → then_server ≡ server → start_at ≡ first_standing first → start ≡ []
+    → Goes then_server start_at last events None start list → IsRunOver server first events list None
+whole law server then_server first start_at last events start list same at_first none h =
     run_over law server first last events list
-    (subst (λ (l : List StepOut). Goes server (first_state first) last events None l list) none
-    (subst (λ (x : ProxyState). Goes server x last events None start list) at_first (subst (λ s. Goes s state last events None start list) same h)))
+    (subst (λ (l : List StepOut). Goes server (first_standing first) last events None l list) none
+    (subst (λ (x : Standing). Goes server x last events None start list) at_first (subst (λ s. Goes s start_at last events None start list) same h)))
 
 -- up to a refusal
-pub stopped : AllAreLawful → (server then_server : Server) (first : ℕ) (state : ProxyState) (events : List Event) (start list : List StepOut) (e : StepError) → then_server ≡ server → state ≡ first_state first
-    → start ≡ [] → Stops then_server state events start list e → IsRunOver server first events list (Some e)
-stopped law server then_server first state events start list e same at_first none h =
+pub stopped : AllAreLawful → (server then_server : Server) (first : ℕ) (start_at : Standing) (events : List Event) (start list : List StepOut) (e : StepError) → then_server ≡ server → start_at ≡ first_standing first
+    → start ≡ [] → Stops then_server start_at events start list e → IsRunOver server first events list (Some e)
+stopped law server then_server first start_at events start list e same at_first none h =
     run_stopped law server first events list e
-    (subst (λ (l : List StepOut). Stops server (first_state first) events l list e) none
-    (subst (λ (x : ProxyState). Stops server x events start list e) at_first (subst (λ s. Stops s state events start list e) same h)))
+    (subst (λ (l : List StepOut). Stops server (first_standing first) events l list e) none
+    (subst (λ (x : Standing). Stops server x events start list e) at_first (subst (λ s. Stops s start_at events start list e) same h)))
 
 -- there was no server
 nothing_run : AllAreLawful → (server : Server) (first : ℕ) (events : List Event) → IsRunOver server first events [] (Some NoMemory)

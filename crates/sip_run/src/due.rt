@@ -1,8 +1,7 @@
 ghost use Rattle.std.specs.Prelude.{◌≡◌, IfOk, IfErr, IfSome, IfNone, OnErr};
 ghost use Rattle.sip_engine.specs.steps_model.Step.{moment_of};
-ghost use Rattle.sip_engine.specs.engine_time.Timers.{IsFiredFirst};
 ghost use Rattle.sip_engine.specs.StepError.{refusal_at};
-ghost use Rattle.sip_run.specs.Due.{Fires, IsDueBy, NothingDueBy};
+ghost use Rattle.sip_run.specs.Due.{Fires, IsDueBy, NothingDueBy, standing_of};
 ghost use Rattle.sip_run.specs.Refusals.{RefusesStep};
 
 use sip_engine::model::runs::what_is_due_ends;
@@ -12,7 +11,7 @@ use sip_policy::Rules;
 use sip_timers::Timers;
 
 /// The first that is due by a moment in milliseconds happens, in a step at its own moment: a deadline passes, or something goes
-/// again; of what is due at one moment, what a timer was set for first. None exactly where nothing is due by then, which takes no
+/// again; of what is due at one moment, what the first timer that stands is for. None exactly where nothing is due by then, which takes no
 /// memory and changes nothing. A moment that goes back counts as the last one. Refused where something is due: with
 /// `MomentTooLarge` from 2^62, and with `NoMemory`; nothing is changed then. Each such step leaves fewer that can be taken by that
 /// moment (`steps_left`), so that who calls again comes to None.
@@ -21,9 +20,7 @@ pub fn fire_next<T: Timers, R: Rules>(
     at: u64,
 ) -> Result<Option<StepOut>, StepError>
     ensures server { engine.new.server ≡ engine.old.server }
-    ensures fired { IfOk result (λ fired. IfSome fired (λ out. Fires engine.old.server engine.old.state at out engine.new.state)) }
-    ensures in_order { IfOk result
-        (λ fired. IfSome fired (λ out. IsFiredFirst engine.old.server engine.old.timers engine.old.state at out engine.new.state)) }
+    ensures fired { IfOk result (λ fired. IfSome fired (λ out. Fires engine.old.server (standing_of engine.old) at out (standing_of engine.new))) }
     ensures none { IfOk result (λ fired. IfNone fired (NothingDueBy (moment_of engine.old.state at) engine.old.state)) }
     ensures waits { IfOk result (λ fired. IfNone fired (engine.new ≡ engine.old)) }
     ensures due { OnErr result (IsDueBy (moment_of engine.old.state at) engine.old.state) }

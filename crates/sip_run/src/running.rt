@@ -1,6 +1,6 @@
 ghost use Rattle.std.specs.Prelude.{◌≡◌, [], ◌∷◌, None, Some, IfErr, OnOk};
 ghost use Rattle.sip_engine.specs.steps_model.Step.{moment_of};
-ghost use Rattle.sip_run.specs.Due.{NothingDueBy};
+ghost use Rattle.sip_run.specs.Due.{NothingDueBy, standing_of};
 ghost use Rattle.sip_run.specs.Runs.{FiringHalts, Goes, Halts, IsRunOver, Stops, server_of};
 
 use crate::due::fire_next;
@@ -57,8 +57,8 @@ fn take_events<T: Timers, R: Rules>(
     events: &[Event],
     steps: &mut Items<StepOut>,
 ) -> Result<(), StepError>
-    ensures taken { OnOk result (Goes engine.old.server engine.old.state engine.new.state events.now None steps.old steps.new) }
-    ensures stopped { IfErr result (Stops engine.old.server engine.old.state events.now steps.old steps.new) }
+    ensures taken { OnOk result (Goes engine.old.server (standing_of engine.old) (standing_of engine.new) events.now None steps.old steps.new) }
+    ensures stopped { IfErr result (Stops engine.old.server (standing_of engine.old) events.now steps.old steps.new) }
 {
     runs_join();
     for event in events {
@@ -74,8 +74,8 @@ fn take_in_turn<T: Timers, R: Rules>(
     steps: &mut Items<StepOut>,
 ) -> Result<(), StepError>
     ensures server { engine.new.server ≡ engine.old.server }
-    ensures taken { OnOk result (Goes engine.old.server engine.old.state engine.new.state (event.now ∷ []) None steps.old steps.new) }
-    ensures stopped { IfErr result (Halts engine.old.server engine.old.state event.now steps.old steps.new) }
+    ensures taken { OnOk result (Goes engine.old.server (standing_of engine.old) (standing_of engine.new) (event.now ∷ []) None steps.old steps.new) }
+    ensures stopped { IfErr result (Halts engine.old.server (standing_of engine.old) event.now steps.old steps.new) }
 {
     let at = event_moment(event);
     fire_due(engine, at, steps)?;
@@ -91,9 +91,9 @@ fn fire_due<T: Timers, R: Rules>(
     steps: &mut Items<StepOut>,
 ) -> Result<(), StepError>
     ensures server { engine.new.server ≡ engine.old.server }
-    ensures fired { OnOk result (Goes engine.old.server engine.old.state engine.new.state [] (Some at) steps.old steps.new) }
+    ensures fired { OnOk result (Goes engine.old.server (standing_of engine.old) (standing_of engine.new) [] (Some at) steps.old steps.new) }
     ensures none_due { OnOk result (NothingDueBy (moment_of engine.new.state at) engine.new.state) }
-    ensures stopped { IfErr result (FiringHalts engine.old.server engine.old.state at steps.old steps.new) }
+    ensures stopped { IfErr result (FiringHalts engine.old.server (standing_of engine.old) at steps.old steps.new) }
 {
     while let Some(out) = fire_next(engine, at)? {
         steps.push(out)?;

@@ -1,8 +1,9 @@
 ghost use Rattle.std.specs.Prelude.{◌≡◌, None, IsOk, IfOk, IfErr, OnOk, OnErr};
+ghost use Rattle.model_order.specs.Order.{IsQueueAfter};
 ghost use Rattle.sip_engine.specs.model.Run.{event_moment};
 ghost use Rattle.sip_engine.specs.steps_model.Step.{Given, IsStep, moment_of};
 ghost use Rattle.sip_event.specs.declared.event.Event.TheVariants.{Datagram};
-ghost use Rattle.sip_run.specs.Due.{NothingDueBy};
+ghost use Rattle.sip_run.specs.Due.{NothingDueBy, standing_of};
 ghost use Rattle.sip_run.specs.Refusals.{NeedsNoMemory, RefusesStep, refusal_of_event};
 
 use sip_engine::{Engine, StepError};
@@ -33,6 +34,7 @@ pub fn take_event<T: Timers, R: Rules>(
     requires { NothingDueBy (moment_of engine.old.state (event_moment event.now)) engine.old.state }
     ensures server { engine.new.server ≡ engine.old.server }
     ensures step { IfOk result (λ out. IsStep engine.old.server engine.old.state (Given event.now) out engine.new.state) }
+    ensures queue { OnOk result (IsQueueAfter (standing_of engine.old) (standing_of engine.new)) }
     ensures not_refused { OnOk result (refusal_of_event engine.old.state event.now ≡ None) }
     ensures never_refused { NeedsNoMemory engine.old.state event.now → refusal_of_event engine.old.state event.now ≡ None → IsOk result }
     ensures unchanged { OnErr result (engine.new ≡ engine.old) }
@@ -62,6 +64,7 @@ pub fn take_datagram<T: Timers, R: Rules>(
     requires { NothingDueBy (moment_of engine.old.state at) engine.old.state }
     ensures server { engine.new.server ≡ engine.old.server }
     ensures step { IfOk result (λ out. IsStep engine.old.server engine.old.state (Given (Datagram at word from bytes.now)) out engine.new.state) }
+    ensures queue { OnOk result (IsQueueAfter (standing_of engine.old) (standing_of engine.new)) }
     ensures not_refused { OnOk result (refusal_of_event engine.old.state (Datagram at word from bytes.now) ≡ None) }
     ensures unchanged { OnErr result (engine.new ≡ engine.old) }
     ensures refused { IfErr result (RefusesStep (refusal_of_event engine.old.state (Datagram at word from bytes.now))) }

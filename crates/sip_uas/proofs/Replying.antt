@@ -17,6 +17,7 @@ use Rattle.sip_dialog_lessons.specs.state.declared.open_request.OpenRequest.{Ope
 use Rattle.sip_dialog_lessons.specs.state.declared.server.Server.{Server}
 use Rattle.sip_dialog_lessons.specs.state.State.{with_one_more}
 use Rattle.model_transactions.specs.Fits.{Fits}
+use Rattle.model_transactions.specs.Matching.{NoBranch}
 use Rattle.model_transactions.specs.Near.{IsWithin}
 use Rattle.sip_uas.specs.declared.draft.Draft.{Draft}
 use Rattle.sip_uas.specs.Drafts.{with_opened, Drafts, IsOpenable}
@@ -70,7 +71,7 @@ opened_has P r false h = h
 closing_openable : (a : Arrival) (key : Key) (m : Message) (status : ℕ) (text : List ℕ) → key_of m ≡ Some key → Fits (closing (arrival_of a) m status text) → IsWithin a.now (closing (arrival_of a) m status text)
     → IsOpenable a key (closing (arrival_of a) m status text)
 closing_openable a key m status text is fits within =
-    record { fits = fits; within = within; number_is = refl; key_is = ap (λ (o : Option Key). unwrap_or o (record { branch = []; host = []; port = 0; method = [] })) is }
+    record { fits = fits; within = within; branched = NoBranch; number_is = refl; key_is = ap (λ (o : Option Key). unwrap_or o (record { branch = []; host = []; port = 0; method = [] })) is }
 
 -- so what is drafted of a reply can be opened
 pub replied_opens : (result : Result Draft AllocError) (a : Arrival) (key : Key) (m : Message) (status : ℕ) (text : List ℕ) (records : List Record) (full : Bool) (packet : Packet) (r : OpenRequest)

@@ -14,6 +14,7 @@ use Rattle.sip_location.specs.Locations.{Planned, IsPlan}
 use Rattle.sip_location.specs.Registration.{registered}
 use Rattle.sip_dialog_lessons.specs.Lessons.{after_lessons}
 use Rattle.model_transactions.specs.Fits.{Fits}
+use Rattle.model_transactions.specs.Matching.{AreBranched}
 use Rattle.model_transactions.specs.Near.{IsWithin}
 use Rattle.sip_uas.specs.declared.draft.Draft.{Draft}
 
@@ -56,9 +57,11 @@ Drafts full now draft nonces plan effect = (state : ProxyState) → is_full stat
 
 -- ---- what is opened
 
--- A request that came in a datagram, with a key, can be opened: its parts fit their transactions, and its moments are near that of the datagram.
+-- A request that came in a datagram, with a key, can be opened: its parts fit their transactions, its moments are near that of the datagram,
+-- and its branches are targets with numbers of their own and CANCELs behind them.
 pub record IsOpenable (a : Arrival) (key : Key) (r : OpenRequest) : Type 0 where
   pub fits : Fits r
   pub within : IsWithin a.now r
+  pub branched : AreBranched r.branches
   pub number_is : r.number ≡ a.number
   pub key_is : r.key ≡ key

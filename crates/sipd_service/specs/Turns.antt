@@ -8,6 +8,7 @@ use Rattle.sip_loop_link.specs.Told.{and_counted, GrewBy}
 use Rattle.sip_run.specs.engine.Engine.{Engine}
 use Rattle.sip_run.specs.engine.engine_time.Next.{IsNext}
 use Rattle.sip_run.specs.engine.engine_time.fork.Due.{IsNothingDue}
+use Rattle.sip_run.specs.Due.{standing_of}
 use Rattle.sip_guard.specs.Guard.{GuardState}
 use Rattle.sip_record.specs.Record.{Notes}
 use Rattle.sip_record.specs.Recorder.{told}
@@ -62,11 +63,12 @@ pub record Begins (before first : ServiceSeen) : Type 0 where
   pub hears : HearsHops before.engine.server first.engine.server before.always first.always
   pub others : first.devices ≡ record seen { journal = first.devices.journal }
   pub still : first.engine.state ≡ before.engine.state
+  pub same_timers : first.engine.timers ≡ before.engine.timers
   pub same_port : first.port ≡ before.port
   pub next : MatchOption due (IsNothingDue before.engine.state.requests) (IsNext before.engine.state.requests)
   pub waited : GrewBy (wait_before due now) before.waits first.waits
 
--- nothing but the engine's state and what the devices tell changed
+-- nothing but the engine's state, its timers and what the devices tell changed
 pub record IsServedOn (first after : ServiceSeen) : Type 0 where
   pub same_server : after.engine.server ≡ first.engine.server
   pub same_port : after.port ≡ first.port
@@ -78,7 +80,7 @@ pub record IsTurn (before after : ServiceSeen) : Type 0 where
   pub first : ServiceSeen
   pub last : Told
   pub begins : Begins before first
-  pub served : IsServed 1 first.engine.server first.engine.state after.engine.state first.devices last
+  pub served : IsServed 1 first.engine.server (standing_of first.engine) (standing_of after.engine) first.devices last
   pub ends : IsLookedAt last after.devices
   pub on : IsServedOn first after
 
@@ -93,7 +95,7 @@ pub record EndsServing (before after : ServiceSeen) (fault : DeviceFault) (exit 
   pub last : Told
   pub why : ServeError
   pub begins : Begins before first
-  pub unserved : IsUnserved 1 first.engine.server first.engine.state after.engine.state first.devices last why
+  pub unserved : IsUnserved 1 first.engine.server (standing_of first.engine) (standing_of after.engine) first.devices last why
   pub ends : IsLookedAt last after.devices
   pub on : IsServedOn first after
   pub exit_is : exit ≡ exit_of_serve why fault
@@ -108,6 +110,7 @@ pub record EndsUnnoted (before after : ServiceSeen) (exit : Exit) : Type 0 where
   pub failed : after.devices.journal.bytes ≡ None
   pub others : after.devices ≡ record before.devices { readings = and_counted before.devices.readings now; journal = after.devices.journal }
   pub still : after.engine.state ≡ before.engine.state
+  pub same_timers : after.engine.timers ≡ before.engine.timers
   pub same_waits : after.waits ≡ before.waits
   pub exit_is : exit ≡ Recording
 

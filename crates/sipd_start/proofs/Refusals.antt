@@ -7,8 +7,7 @@ use Rattle.std.specs.declared.io.ErrorKind.TheVariants.{OutOfMemory}
 use Rattle.std.proofs.lemmas.Option.{none-some}
 use Rattle.model_bounds.specs.model.Periods.{Period}
 use Rattle.model_bounds.specs.state.declared.server.Server.{Server}
-use Rattle.model_bounds.specs.state.declared.proxy_state.ProxyState.{ProxyState}
-use Rattle.model_bounds.specs.state.State.{first_state}
+use Rattle.model_order.specs.Order.{Standing, first_standing}
 use Rattle.rand_core.specs.Stream.{Stream}
 use Rattle.sip_config_change.specs.declared.key.FrameKey.{FrameKey}
 use Rattle.sip_config_change.specs.Frame.{frame_key_of}
@@ -50,7 +49,7 @@ use Rattle.sipd_start.proofs.Beginnings.{is_at_first, is_begun, server_with, sta
 
 -- ---- what is known of the reader
 
-stops_as : (server server_then : Server) (old new : ProxyState) (longest : ℕ) (F G : Type 0) (rest : Option (List ℕ)) (lines : ℕ) (outs outs_then : Outputs) (e : RecordError) → (F → G)
+stops_as : (server server_then : Server) (old new : Standing) (longest : ℕ) (F G : Type 0) (rest : Option (List ℕ)) (lines : ℕ) (outs outs_then : Outputs) (e : RecordError) → (F → G)
     → RecordStops server server_then old new longest F rest lines outs outs_then e → RecordStops server server_then old new longest G rest lines outs outs_then e
 stops_as server server_then old new longest F G rest lines outs outs_then resuming.NoMemory f h = h
 stops_as server server_then old new longest F G rest lines outs outs_then (resuming.Damaged line) f h = h
@@ -62,7 +61,7 @@ stops_as server server_then old new longest F G rest lines outs outs_then (resum
 stops_as server server_then old new longest F G rest lines outs outs_then (resuming.OtherFrame line key) f h = h
 stops_as server server_then old new longest F G rest lines outs outs_then resuming.Write f h = h
 
-unresumed_as : (server server_then : Server) (old new : ProxyState) (longest : ℕ) (F G : Type 0) (rest : Option (List ℕ)) (lines : ℕ) (outs outs_then : Outputs) (e : RecordError) → (F → G)
+unresumed_as : (server server_then : Server) (old new : Standing) (longest : ℕ) (F G : Type 0) (rest : Option (List ℕ)) (lines : ℕ) (outs outs_then : Outputs) (e : RecordError) → (F → G)
     → IsRecordUnresumed server server_then old new longest F rest lines outs outs_then e → IsRecordUnresumed server server_then old new longest G rest lines outs outs_then e
 unresumed_as server server_then old new longest F G rest lines outs outs_then e f h = record {
   text = h.text;
@@ -80,7 +79,7 @@ unresumed_as server server_then old new longest F G rest lines outs outs_then e 
   why = stops_as h.in_force server_then h.reached new longest F G h.rest (lines + count_by is_end h.text) h.half outs_then e f h.why;
 }
 
-events_stop_as : (first : List ℕ) (F G : Type 0) (server : Server) (old : ProxyState) (number : ℕ) (events : Option (List ℕ)) (stop : Stop) → (F → G)
+events_stop_as : (first : List ℕ) (F G : Type 0) (server : Server) (old : Standing) (number : ℕ) (events : Option (List ℕ)) (stop : Stop) → (F → G)
     → EventsStop first F server old number events stop → EventsStop first G server old number events stop
 events_stop_as first F G server old number events stop f h = record {
   in_force = h.in_force;
@@ -124,7 +123,7 @@ stopped_as bytes digest F G head events stop f s = record {
   begun_by = s.begun_by;
   server = s.server;
   is_server = s.is_server;
-  stops = events_stop_as s.first F G s.server (first_state head.first) s.reading.number (pending s.reading s.rest) stop f s.stops;
+  stops = events_stop_as s.first F G s.server (first_standing head.first) s.reading.number (pending s.reading s.rest) stop f s.stops;
 }
 
 not_gone_on_as : (bytes digest : List ℕ) (F G : Type 0) (head : RecordHead) (events : Option (List ℕ)) (stop : Stop) → (F → G) → IsNotGoneOn bytes digest F head events stop
@@ -135,7 +134,7 @@ not_gone_on_as bytes digest F G head events (NotResumed reason) f (inr h) = inr 
 
 -- ---- what is left isn't taken
 
-events_stop : (first : List ℕ) (server server_then : Server) (old new : ProxyState) (F G : Type 0) (events : Option (List ℕ)) (number : ℕ) (written : Written) (outs outs_then : Outputs) (e : RecordError)
+events_stop : (first : List ℕ) (server server_then : Server) (old new : Standing) (F G : Type 0) (events : Option (List ℕ)) (number : ℕ) (written : Written) (outs outs_then : Outputs) (e : RecordError)
     → (F → G) → NotesConfiguration written outs.written first → IsRecordUnresumed server server_then old new most_bytes F events number outs outs_then e → EventsStop first G server old number events (untaken e)
 events_stop first server server_then old new F G events number written outs outs_then e f told h = record {
   in_force = server_then;
@@ -149,7 +148,7 @@ events_stop first server server_then old new F G events number written outs outs
   same = refl;
 }
 
-at_stop : (first bytes : List ℕ) (F : Type 0) (server : Server) (old : ProxyState) (number : ℕ) (events : Option (List ℕ)) (e : RecordError) → (e ≡ resuming.Write → ⊥)
+at_stop : (first bytes : List ℕ) (F : Type 0) (server : Server) (old : Standing) (number : ℕ) (events : Option (List ℕ)) (e : RecordError) → (e ≡ resuming.Write → ⊥)
     → EventsStop first F server old number events (untaken e) → StopsAt first bytes F server old number events (untaken e)
 at_stop first bytes F server old number events resuming.NoMemory other h = λ frame. inl refl
 at_stop first bytes F server old number events (resuming.Damaged line) other h = h
@@ -161,7 +160,7 @@ at_stop first bytes F server old number events (resuming.NoConfiguration line er
 at_stop first bytes F server old number events (resuming.OtherFrame line key) other h = h
 at_stop first bytes F server old number events resuming.Write other h = absurd (other refl)
 
-pub stops_at : {A : Type 0} (result : Result A RecordError) (first bytes : List ℕ) (server server_then : Server) (old new : ProxyState) (F : Type 0) (asks least : ℕ) (before now : Option ℕ)
+pub stops_at : {A : Type 0} (result : Result A RecordError) (first bytes : List ℕ) (server server_then : Server) (old new : Standing) (F : Type 0) (asks least : ℕ) (before now : Option ℕ)
     (events : Option (List ℕ)) (number : ℕ) (written : Written) (outs outs_then : Outputs) (e : RecordError) (stop : Stop) → SpentLaw → result ≡ Err e → (result ≡ Err resuming.Write → ⊥)
     → stop ≡ untaken e → NotesConfiguration written outs.written first → later asks now ≡ later least before
     → IsRecordUnresumed server server_then old new most_bytes (IsSpent F asks) events number outs outs_then e → StopsAt first bytes (HasStopped F least before now) server old number events stop
@@ -170,11 +169,11 @@ stops_at result first bytes server server_then old new F asks least before now e
     subst (λ s. StopsAt first bytes (HasStopped F least before now) server old number events s) (sym is) (at_stop first bytes (HasStopped F least before now) server old number events e not_written
     (events_stop first server server_then old new (IsSpent F asks) (HasStopped F least before now) events number written outs outs_then e (has_stopped spent F asks least before now asked) told h))
 
-pub exits_at : (first bytes : List ℕ) (F : Type 0) (server : Server) (old : ProxyState) (number : ℕ) (events : Option (List ℕ)) (exit : Exit) (stop : Stop) → stop ≡ Exits exit → IsUnmade exit
+pub exits_at : (first bytes : List ℕ) (F : Type 0) (server : Server) (old : Standing) (number : ℕ) (events : Option (List ℕ)) (exit : Exit) (stop : Stop) → stop ≡ Exits exit → IsUnmade exit
     → StopsAt first bytes F server old number events stop
 exits_at first bytes F server old number events exit stop is h = subst (λ s. StopsAt first bytes F server old number events s) (sym is) (λ frame. h)
 
-pub untold_at : (first bytes : List ℕ) (F : Type 0) (server : Server) (old : ProxyState) (number : ℕ) (events : Option (List ℕ)) (exit : Exit) (stop : Stop) → stop ≡ Exits exit → exit ≡ exits.Recording
+pub untold_at : (first bytes : List ℕ) (F : Type 0) (server : Server) (old : Standing) (number : ℕ) (events : Option (List ℕ)) (exit : Exit) (stop : Stop) → stop ≡ Exits exit → exit ≡ exits.Recording
     → StopsAt first bytes F server old number events stop
 untold_at first bytes F server old number events exit stop is h = exits_at first bytes F server old number events exit stop is (inr (inr h))
 
@@ -201,7 +200,7 @@ frame_behind server config [] same all = same
 frame_behind server config (period ∷ periods) same all =
     frame_behind server period.config periods (ap (λ (s : Server). s.config.own) all.0, ap (λ (s : Server). s.config.realm) all.0) all.1
 
-keeps_frame : (server server_then : Server) (old new : ProxyState) (events : Option (List ℕ)) (number lines : ℕ) (outs outs_then : Outputs) (last : Option StepOut)
+keeps_frame : (server server_then : Server) (old new : Standing) (events : Option (List ℕ)) (number lines : ℕ) (outs outs_then : Outputs) (last : Option StepOut)
     → IsRecordResumed server server_then old new events number outs outs_then lines last → SameFrame server_then.config server.config
 keeps_frame server server_then old new events number lines outs outs_then last h =
     let behind : SameFrame (config_behind server.config h.takes.periods) server.config = frame_behind server server.config h.takes.periods (refl, refl) h.takes.frames in
@@ -225,7 +224,7 @@ of_frame bytes server server_then exit law same frame refused =
     let kept = (law frame.config server.config).0 frame.same in
     under_own bytes frame.config server_then.config exit ((law server_then.config frame.config).1 (sym kept.0 ∙ sym same.0, sym kept.1 ∙ sym same.1)) frame.states refused
 
-pub under_exits : (first bytes : List ℕ) (F : Type 0) (server server_then : Server) (old new : ProxyState) (events rest : Option (List ℕ)) (number lines : ℕ) (outs outs_then : Outputs) (last : Option StepOut) (exit : Exit) (stop : Stop)
+pub under_exits : (first bytes : List ℕ) (F : Type 0) (server server_then : Server) (old new : Standing) (events rest : Option (List ℕ)) (number lines : ℕ) (outs outs_then : Outputs) (last : Option StepOut) (exit : Exit) (stop : Stop)
     → FramesLaw → IsRecordResumed server server_then old new events number outs outs_then lines last → IsNotUnder bytes server_then.config exit → stop ≡ Exits exit → StopsAt first bytes F server old number rest stop
 under_exits first bytes F server server_then old new events rest number lines outs outs_then last exit stop law h refused is =
     let here : HaveFrameOf bytes server.config → IsUnmade exit =
@@ -234,8 +233,8 @@ under_exits first bytes F server server_then old new events rest number lines ou
 
 -- ---- it isn't gone on from a record
 
-not_gone_on : (first bytes digest : List ℕ) (F : Type 0) (before middle now : Option ℕ) (head : RecordHead) (words : Stream) (boot : Boot) (events : Option (List ℕ)) (reading : Reading) (rest : Option (List ℕ)) (config : Config) (server : Server) (old : ProxyState) (stop : Stop)
-    → FurtherLaw → boot ≡ boot_again head words → States first config → server ≡ server_with config boot.word → old ≡ first_state boot.first → IsBegunBy bytes digest head events reading rest first → HaveFrameOf bytes config
+not_gone_on : (first bytes digest : List ℕ) (F : Type 0) (before middle now : Option ℕ) (head : RecordHead) (words : Stream) (boot : Boot) (events : Option (List ℕ)) (reading : Reading) (rest : Option (List ℕ)) (config : Config) (server : Server) (old : Standing) (stop : Stop)
+    → FurtherLaw → boot ≡ boot_again head words → States first config → server ≡ server_with config boot.word → old ≡ first_standing boot.first → IsBegunBy bytes digest head events reading rest first → HaveFrameOf bytes config
     → later reading.asks middle ≡ later most_asks before → StopsAt first bytes (HasStopped F reading.asks middle now) server old reading.number (pending reading rest) stop → IsNotGoneOn bytes digest (HasStopped F most_asks before now) head events stop
 not_gone_on first bytes digest F before middle now head words boot events reading rest config server old (Exits exit) further is states opened fresh by frame asked h =
     inl (h (subst (λ (c : Config). HaveFrameOf bytes c) (sym (ap (λ (s : Server). s.config) opened)) frame))
@@ -253,8 +252,8 @@ not_gone_on first bytes digest F before middle now head words boot events readin
       stops = subst (λ s. EventsStop first (HasStopped F most_asks before now) server s reading.number (pending reading rest) (NotResumed reason)) (is_at_first head words boot old is fresh) stops;
     })
 
-pub not_gone_on_so : {A : Type 0} (result : Result A Stop) (first bytes digest : List ℕ) (F : Type 0) (before middle now : Option ℕ) (head : RecordHead) (words : Stream) (boot : Boot) (events : Option (List ℕ)) (reading : Reading) (rest : Option (List ℕ)) (config : Config) (server : Server) (old : ProxyState)
-    → FurtherLaw → boot ≡ boot_again head words → States first config → server ≡ server_with config boot.word → old ≡ first_state boot.first → IsBegunBy bytes digest head events reading rest first → HaveFrameOf bytes config
+pub not_gone_on_so : {A : Type 0} (result : Result A Stop) (first bytes digest : List ℕ) (F : Type 0) (before middle now : Option ℕ) (head : RecordHead) (words : Stream) (boot : Boot) (events : Option (List ℕ)) (reading : Reading) (rest : Option (List ℕ)) (config : Config) (server : Server) (old : Standing)
+    → FurtherLaw → boot ≡ boot_again head words → States first config → server ≡ server_with config boot.word → old ≡ first_standing boot.first → IsBegunBy bytes digest head events reading rest first → HaveFrameOf bytes config
     → later reading.asks middle ≡ later most_asks before → IfErr result (StopsAt first bytes (HasStopped F reading.asks middle now) server old reading.number (pending reading rest)) → IfErr result (IsNotGoneOn bytes digest (HasStopped F most_asks before now) head events)
 not_gone_on_so (Ok a) first bytes digest F before middle now head words boot events reading rest config server old further is states opened fresh by frame asked h = tt
 not_gone_on_so (Err stop) first bytes digest F before middle now head words boot events reading rest config server old further is states opened fresh by frame asked h =
@@ -354,7 +353,7 @@ file_exits false input F before now bytes digest exit (inr h) = h.1
 
 -- ---- of the input, which is read on
 
-stops_other : (server server_then : Server) (old new : ProxyState) (longest : ℕ) (F G : Type 0) (rest : Option (List ℕ)) (lines : ℕ) (outs outs_then : Outputs) (e : RecordError) → (e ≡ resuming.Read → ⊥)
+stops_other : (server server_then : Server) (old new : Standing) (longest : ℕ) (F G : Type 0) (rest : Option (List ℕ)) (lines : ℕ) (outs outs_then : Outputs) (e : RecordError) → (e ≡ resuming.Read → ⊥)
     → RecordStops server server_then old new longest F rest lines outs outs_then e → RecordStops server server_then old new longest G rest lines outs outs_then e
 stops_other server server_then old new longest F G rest lines outs outs_then resuming.NoMemory other h = h
 stops_other server server_then old new longest F G rest lines outs outs_then (resuming.Damaged line) other h = h
@@ -369,7 +368,7 @@ stops_other server server_then old new longest F G rest lines outs outs_then res
 unreadable : (reason : Reason) → is_unreadable reason ≡ false → NotResumed reason ≡ NotResumed Unreadable → ⊥
 unreadable reason readable same = let e : reason ≡ Unreadable = cc in true≢false (sym (ap is_unreadable e) ∙ readable)
 
-events_stop_still : (first : List ℕ) (F G : Type 0) (server : Server) (old : ProxyState) (number : ℕ) (events : Option (List ℕ)) (reason : Reason) → is_unreadable reason ≡ false
+events_stop_still : (first : List ℕ) (F G : Type 0) (server : Server) (old : Standing) (number : ℕ) (events : Option (List ℕ)) (reason : Reason) → is_unreadable reason ≡ false
     → EventsStop first F server old number events (NotResumed reason) → EventsStop first G server old number events (NotResumed reason)
 events_stop_still first F G server old number events reason readable h =
     let readable_error : h.error ≡ resuming.Read → ⊥ = λ e. unreadable reason readable (h.same ∙ ap untaken e) in
@@ -408,7 +407,7 @@ stopped_still bytes digest F G head events reason readable s = record {
   begun_by = s.begun_by;
   server = s.server;
   is_server = s.is_server;
-  stops = events_stop_still s.first F G s.server (first_state head.first) s.reading.number (pending s.reading s.rest) reason readable s.stops;
+  stops = events_stop_still s.first F G s.server (first_standing head.first) s.reading.number (pending s.reading s.rest) reason readable s.stops;
 }
 
 read_stops_other : (F G : Type 0) (rest : Option (List ℕ)) (lines : ℕ) (stop : SegmentStop) → (stop ≡ segments.Read → ⊥) → ReadStops most_bytes F rest lines stop → ReadStops most_bytes G rest lines stop

@@ -4,8 +4,7 @@ use Rattle.rand_core.specs.Stream.{Stream}
 use Rattle.sip_event.specs.declared.event.Boot.{Boot}
 use Rattle.sip_event.specs.declared.event.StepOut.{StepOut}
 use Rattle.model_bounds.specs.state.declared.server.Server.{Server}
-use Rattle.model_bounds.specs.state.declared.proxy_state.ProxyState.{ProxyState}
-use Rattle.model_bounds.specs.state.State.{first_state}
+use Rattle.model_order.specs.Order.{Standing, first_standing}
 use Rattle.sip_record.specs.declared.record_head.RecordHead.{RecordHead}
 use Rattle.sip_record.specs.declared.record_mark.RecordMark.{RecordMark}
 use Rattle.sip_record.specs.declared.record_mark.RecordMark.TheVariants.{Whole, Broken, Left}
@@ -34,12 +33,12 @@ pub record IsServerOf (bytes : List ℕ) (word : ℕ) (server : Server) : Type 0
   pub word_is : server.word ≡ word
 
 -- it has just started: it is that server, knows nothing, and its first datagram has that number
-pub record IsOpened (bytes : List ℕ) (boot : Boot) (server : Server) (state : ProxyState) : Type 0 where
+pub record IsOpened (bytes : List ℕ) (boot : Boot) (server : Server) (state : Standing) : Type 0 where
   pub is_server : IsServerOf bytes boot.word server
-  pub is_first : state ≡ first_state boot.first
+  pub is_first : state ≡ first_standing boot.first
 
 -- It starts anew, with the next numbers of a source; no step was taken before.
-pub record StartsAnew (bytes : List ℕ) (words : Stream) (server : Server) (state : ProxyState) (last : Option StepOut) : Type 0 where
+pub record StartsAnew (bytes : List ℕ) (words : Stream) (server : Server) (state : Standing) (last : Option StepOut) : Type 0 where
   pub opened : IsOpened bytes (new_boot words) server state
   pub none : last ≡ None
 
@@ -52,7 +51,7 @@ Written = Option (Option (List ℕ))
 -- A server took what is left of a record, behind so many lines, and is under the configuration of these bytes then. A journal was told the
 -- bytes of the configuration with which the record begins first; then what the record says; and then those bytes. So many lines say that, and
 -- it is the last step.
-pub record TakesOld (first bytes : List ℕ) (server server_then : Server) (old new : ProxyState) (number : ℕ) (events : Option (List ℕ)) (lines : ℕ)
+pub record TakesOld (first bytes : List ℕ) (server server_then : Server) (old new : Standing) (number : ℕ) (events : Option (List ℕ)) (lines : ℕ)
     (last : Option StepOut) (written written_then : Written) : Type 0 where
   pub in_force : Server
   pub begun : Outputs
@@ -64,7 +63,7 @@ pub record TakesOld (first bytes : List ℕ) (server server_then : Server) (old 
 
 -- What is left leads from one state to another, whatever journal is told it, and under whatever configuration it says last, behind which
 -- the server is under that of these bytes; so many lines say it, and that is the last step.
-pub record LeadsTo (first bytes : List ℕ) (server server_then : Server) (old : ProxyState) (number : ℕ) (events : Option (List ℕ)) (new : ProxyState)
+pub record LeadsTo (first bytes : List ℕ) (server server_then : Server) (old : Standing) (number : ℕ) (events : Option (List ℕ)) (new : Standing)
     (lines : ℕ) (last : Option StepOut) : Type 0 where
   pub written : Written
   pub written_then : Written
@@ -74,7 +73,7 @@ pub record LeadsTo (first bytes : List ℕ) (server server_then : Server) (old :
 -- that head. The record begins with a configuration, its own or that of the bytes; a server with that and with the head's word took what stands
 -- behind it, from a state that knew nothing, whose first datagram had the head's number, and by that configuration up to where the record says
 -- another one; and behind it, it is under that of the bytes.
-pub record GoesOn (bytes digest : List ℕ) (head : RecordHead) (events : Option (List ℕ)) (server : Server) (state : ProxyState) (lines : ℕ)
+pub record GoesOn (bytes digest : List ℕ) (head : RecordHead) (events : Option (List ℕ)) (server : Server) (state : Standing) (lines : ℕ)
     (last : Option StepOut) : Type 0 where
   pub reading : Reading
   pub rest : Option (List ℕ)
@@ -83,10 +82,10 @@ pub record GoesOn (bytes digest : List ℕ) (head : RecordHead) (events : Option
   pub begun : Server
   pub is_begun : IsServerOf first head.word begun
   pub is_server : IsServerOf bytes head.word server
-  pub leads : LeadsTo first bytes begun server (first_state head.first) reading.number (pending reading rest) state lines last
+  pub leads : LeadsTo first bytes begun server (first_standing head.first) reading.number (pending reading rest) state lines last
 
 -- It goes on from a record that is whole.
-pub record GoesOnFrom (bytes digest : List ℕ) (whole : Option (List ℕ)) (server : Server) (state : ProxyState) (lines : ℕ)
+pub record GoesOnFrom (bytes digest : List ℕ) (whole : Option (List ℕ)) (server : Server) (state : Standing) (lines : ℕ)
     (last : Option StepOut) : Type 0 where
   pub head : RecordHead
   pub events : Option (List ℕ)
@@ -98,9 +97,9 @@ pub record GoesOnFrom (bytes digest : List ℕ) (whole : Option (List ℕ)) (ser
 
 -- What is left behind so many lines wasn't taken, by a server in that state, and why; a configuration has so many bytes at most as are read of
 -- one that changes. The record can't be read where its reader is spent.
-pub record EventsStop (first : List ℕ) (spent : Type 0) (server : Server) (old : ProxyState) (number : ℕ) (events : Option (List ℕ)) (stop : Stop) : Type 0 where
+pub record EventsStop (first : List ℕ) (spent : Type 0) (server : Server) (old : Standing) (number : ℕ) (events : Option (List ℕ)) (stop : Stop) : Type 0 where
   pub in_force : Server
-  pub reached : ProxyState
+  pub reached : Standing
   pub written : Written
   pub outs : Outputs
   pub outs_then : Outputs
@@ -111,7 +110,7 @@ pub record EventsStop (first : List ℕ) (spent : Type 0) (server : Server) (old
 
 -- That is why it starts anew. Nothing is begun, where these bytes state a configuration of the server's frame, for want of memory or of a record
 -- alone: whatever configuration was in force last, the server can come under theirs.
-abbrev pub StopsAt : List ℕ → List ℕ → Type 0 → Server → ProxyState → ℕ → Option (List ℕ) → Stop → Type 0
+abbrev pub StopsAt : List ℕ → List ℕ → Type 0 → Server → Standing → ℕ → Option (List ℕ) → Stop → Type 0
 StopsAt first bytes spent server old number events (Exits exit) = HaveFrameOf bytes server.config → IsUnmade exit
 StopsAt first bytes spent server old number events (NotResumed reason) = EventsStop first spent server old number events (NotResumed reason)
 
@@ -123,7 +122,7 @@ pub record IsStopped (bytes digest : List ℕ) (spent : Type 0) (head : RecordHe
   pub begun_by : IsBegunBy bytes digest head events reading rest first
   pub server : Server
   pub is_server : IsServerOf first head.word server
-  pub stops : EventsStop first spent server (first_state head.first) reading.number (pending reading rest) stop
+  pub stops : EventsStop first spent server (first_standing head.first) reading.number (pending reading rest) stop
 
 -- why it isn't gone on from a record whose first line says that head
 abbrev pub IsNotGoneOn : List ℕ → List ℕ → Type 0 → RecordHead → Option (List ℕ) → Stop → Type 0
@@ -195,7 +194,7 @@ IsAnew (Some old) input has_failed before now bytes digest =
 
 -- it starts anew, for that reason
 pub record StartsAnewFrom (old : Option (List ℕ)) (input : Option (List ℕ)) (has_failed : Type 0) (before now : Option ℕ) (bytes digest : List ℕ)
-    (words : Stream) (server : Server) (state : ProxyState) (last : Option StepOut) (left : Stream) : Type 0 where
+    (words : Stream) (server : Server) (state : Standing) (last : Option StepOut) (left : Stream) : Type 0 where
   pub why : IsAnew old input has_failed before now bytes digest
   pub next : Stream
   pub behind : IsLeftBehind words next
@@ -203,7 +202,7 @@ pub record StartsAnewFrom (old : Option (List ℕ)) (input : Option (List ℕ)) 
   pub rest : left ≡ behind_boot next
 
 -- it goes on from what some file held; where that is the input, from what the input had
-pub record GoesOnFromFile (is_input : Bool) (input : Option (List ℕ)) (bytes digest : List ℕ) (words : Stream) (server : Server) (state : ProxyState)
+pub record GoesOnFromFile (is_input : Bool) (input : Option (List ℕ)) (bytes digest : List ℕ) (words : Stream) (server : Server) (state : Standing)
     (last : Option StepOut) (left : Stream) : Type 0 where
   pub whole : Option (List ℕ)
   pub of_input : is_input ≡ true → whole ≡ input
@@ -214,7 +213,7 @@ pub record GoesOnFromFile (is_input : Bool) (input : Option (List ℕ)) (bytes d
 -- How it begins with the configuration that bytes of this digest state, where it is to go on from the record of that name, if one is named, which
 -- may be the input, by a source of numbers; and what is left of that. Of the input's reader it is known whether it failed, and how often it was
 -- asked before and by then.
-abbrev pub Begins : Option (List ℕ) → Option (List ℕ) → Type 0 → Option ℕ → Option ℕ → List ℕ → List ℕ → Stream → Server → ProxyState → Option StepOut → Stream → Type 0
+abbrev pub Begins : Option (List ℕ) → Option (List ℕ) → Type 0 → Option ℕ → Option ℕ → List ℕ → List ℕ → Stream → Server → Standing → Option StepOut → Stream → Type 0
 Begins old input has_failed before now bytes digest words server state last left =
     StartsAnewFrom old input has_failed before now bytes digest words server state last left
     ⊎ GoesOnFromFile (reads_input old) input bytes digest words server state last left

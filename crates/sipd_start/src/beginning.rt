@@ -1,5 +1,6 @@
 ghost use Rattle.std.specs.Prelude.{◌≡◌, false, ℕ, List, Option, option_map, string_bytes, Err, IfErr, IfNone, IfOk, IfSome, None, Ok, OnErr, OnOk};
-ghost use Rattle.model_bounds.specs.state.State.{first_state};
+ghost use Rattle.model_order.specs.Order.{first_standing};
+ghost use Rattle.sip_run.specs.Due.{standing_of};
 ghost use Rattle.sip_replay_script.specs.Lines.{pending};
 ghost use Rattle.sipd_boot.specs.Boots.{behind_boot, behind_secret};
 ghost use Rattle.sipd_exit.specs.declared.exit.Exit.TheVariants.{PipedRecord};
@@ -139,11 +140,12 @@ fn boot_again<W: Rng>(head: &RecordHead, words: &mut W) -> Boot
 }
 
 /// A server that has just started, with the configuration that is stated.
+#[tactic(auto, using(crate::proofs::Beginnings::opened_standing))]
 fn open<T: Timers, P: Rules, R: AllocGlobal>(
     beginning: &Beginning<'_, R>,
     boot: Boot,
 ) -> Result<Engine<T, P>, Exit>
-    ensures opened { IfOk result (λ engine. IsOpened beginning.now.stated.now.bytes boot engine.server engine.state) }
+    ensures opened { IfOk result (λ engine. IsOpened beginning.now.stated.now.bytes boot engine.server (standing_of engine)) }
     ensures refused { IfErr result (EndsStart beginning.now.stated.now.bytes) }
 {
     let alloc = beginning.rt.alloc();
@@ -230,7 +232,7 @@ fn begin_anew<'a, T: Timers, P: Rules, R: Files + AllocGlobal, W: Rng>(
     words: &mut W,
 ) -> Result<Begun<'a, T, P, R>, Exit>
     ensures anew { IfOk result (λ begun. StartsAnew beginning.now.stated.now.bytes (W.stream words.old) begun.engine.server
-        begun.engine.state begun.last) }
+        (standing_of begun.engine) begun.last) }
     ensures left { W.stream words.new ≡ behind_boot (W.stream words.old) }
     ensures whole { IfOk result (λ begun. IfSome begun.recorder (λ r. r.has_failed ≡ false)) }
     ensures unrecorded { IfOk result (λ begun. IfNone begun.recorder (beginning.now.fault ≡ GoOn)) }
@@ -255,10 +257,10 @@ fn go_on_alone<'a, T: Timers, P: Rules, R: Files + AllocGlobal, I: TellingReader
     reader: &mut I,
 ) -> Result<GoneOn<'a, T, P, R>, Stop>
     ensures resumed { IfOk result (λ gone_on. LeadsTo old.first beginning.now.stated.now.bytes engine.server gone_on.begun.engine.server
-        engine.state old.lines.number (pending old.lines (I.remaining reader.old)) gone_on.begun.engine.state gone_on.lines gone_on.begun.last) }
+        (standing_of engine) old.lines.number (pending old.lines (I.remaining reader.old)) (standing_of gone_on.begun.engine) gone_on.lines gone_on.begun.last) }
     ensures unrecorded { IfOk result (λ gone_on. gone_on.begun.recorder ≡ None) }
     ensures stops { IfErr result (StopsAt old.first beginning.now.stated.now.bytes
-        (HasStopped (I.has_failed reader.new) old.lines.asks (I.asked reader.old) (I.asked reader.new)) engine.server engine.state
+        (HasStopped (I.has_failed reader.new) old.lines.asks (I.asked reader.old) (I.asked reader.new)) engine.server (standing_of engine)
         old.lines.number (pending old.lines (I.remaining reader.old))) }
 {
     let alloc = beginning.rt.alloc();
@@ -290,11 +292,11 @@ fn go_on_recorded<'a, T: Timers, P: Rules, R: Files + AllocGlobal, I: TellingRea
     reader: &mut I,
 ) -> Result<GoneOn<'a, T, P, R>, Stop>
     ensures resumed { IfOk result (λ gone_on. LeadsTo old.first beginning.now.stated.now.bytes engine.server gone_on.begun.engine.server
-        engine.state old.lines.number (pending old.lines (I.remaining reader.old)) gone_on.begun.engine.state gone_on.lines gone_on.begun.last) }
+        (standing_of engine) old.lines.number (pending old.lines (I.remaining reader.old)) (standing_of gone_on.begun.engine) gone_on.lines gone_on.begun.last) }
     ensures whole { IfOk result (λ gone_on. IfSome gone_on.begun.recorder (λ r. r.has_failed ≡ false)) }
     ensures unrecorded { IfOk result (λ gone_on. IfNone gone_on.begun.recorder (beginning.now.fault ≡ GoOn)) }
     ensures stops { IfErr result (StopsAt old.first beginning.now.stated.now.bytes
-        (HasStopped (I.has_failed reader.new) old.lines.asks (I.asked reader.old) (I.asked reader.new)) engine.server engine.state
+        (HasStopped (I.has_failed reader.new) old.lines.asks (I.asked reader.old) (I.asked reader.new)) engine.server (standing_of engine)
         old.lines.number (pending old.lines (I.remaining reader.old))) }
 {
     let alloc = beginning.rt.alloc();
@@ -316,13 +318,14 @@ fn go_on_recorded<'a, T: Timers, P: Rules, R: Files + AllocGlobal, I: TellingRea
 }
 
 /// A server that has just started, with the configuration with which a record begins.
+#[tactic(auto, using(crate::proofs::Beginnings::opened_standing))]
 fn open_old<T: Timers, P: Rules, R: AllocGlobal>(
     rt: &R,
     boot: Boot,
     config: Config,
 ) -> Result<Engine<T, P>, Exit>
     ensures server { IfOk result (λ engine. engine.server ≡ record { config = config; word = boot.word }) }
-    ensures state { IfOk result (λ engine. engine.state ≡ first_state boot.first) }
+    ensures standing { IfOk result (λ engine. standing_of engine ≡ first_standing boot.first) }
     ensures refused { IfErr result IsUnmade }
 {
     Ok(Engine::open(rt.alloc(), config, boot)?)
@@ -338,7 +341,7 @@ fn go_on<'a, T: Timers, P: Rules, R: Files + AllocGlobal, I: TellingReader, W: R
     words: &mut W,
 ) -> Result<GoneOn<'a, T, P, R>, Stop>
     ensures goes_on { IfOk result (λ gone_on. GoesOn beginning.now.stated.now.bytes beginning.now.stated.now.digest head.now
-        (I.remaining reader.old) gone_on.begun.engine.server gone_on.begun.engine.state gone_on.lines gone_on.begun.last) }
+        (I.remaining reader.old) gone_on.begun.engine.server (standing_of gone_on.begun.engine) gone_on.lines gone_on.begun.last) }
     ensures left { W.stream words.new ≡ behind_secret (W.stream words.old) }
     ensures whole { IfOk result (λ gone_on. IfSome gone_on.begun.recorder (λ r. r.has_failed ≡ false)) }
     ensures unrecorded { IfOk result (λ gone_on. IfNone gone_on.begun.recorder (beginning.now.fault ≡ GoOn)) }
@@ -366,7 +369,7 @@ fn begin_from<'a, T: Timers, P: Rules, R: Files + AllocGlobal, I: TellingReader,
     words: &mut W,
 ) -> Result<GoneOn<'a, T, P, R>, Stop>
     ensures goes_on { IfOk result (λ gone_on. GoesOnFrom beginning.now.stated.now.bytes beginning.now.stated.now.digest
-        (I.remaining reader.old) gone_on.begun.engine.server gone_on.begun.engine.state gone_on.lines gone_on.begun.last) }
+        (I.remaining reader.old) gone_on.begun.engine.server (standing_of gone_on.begun.engine) gone_on.lines gone_on.begun.last) }
     ensures left { OnOk result (W.stream words.new ≡ behind_secret (W.stream words.old)) }
     ensures left_behind { OnErr result (IsLeftBehind (W.stream words.old) (W.stream words.new)) }
     ensures whole { IfOk result (λ gone_on. IfSome gone_on.begun.recorder (λ r. r.has_failed ≡ false)) }
@@ -395,7 +398,7 @@ fn begin_again<'a, T: Timers, P: Rules, R: Files + AllocGlobal, I: TellingReader
     words: &mut W,
 ) -> Result<GoneOn<'a, T, P, R>, Stop>
     ensures goes_on { IfOk result (λ gone_on. GoesOnFromFile (Places.is_input old.now) (I.remaining input.old) beginning.now.stated.now.bytes
-        beginning.now.stated.now.digest (W.stream words.old) gone_on.begun.engine.server gone_on.begun.engine.state gone_on.begun.last
+        beginning.now.stated.now.digest (W.stream words.old) gone_on.begun.engine.server (standing_of gone_on.begun.engine) gone_on.begun.last
         (W.stream words.new)) }
     ensures left_behind { OnErr result (IsLeftBehind (W.stream words.old) (W.stream words.new)) }
     ensures whole { IfOk result (λ gone_on. IfSome gone_on.begun.recorder (λ r. r.has_failed ≡ false)) }
@@ -481,9 +484,9 @@ pub fn begin<'a, T: Timers, P: Rules, R: Files + AllocGlobal, I: TellingReader, 
 ) -> Result<Begun<'a, T, P, R>, Exit>
     ensures begins { IfOk result (λ begun. Begins (option_map (λ old. string_bytes old) beginning.now.place.old) (I.remaining input.old)
         (I.has_failed input.new) (I.asked input.old) (I.asked input.new) beginning.now.stated.now.bytes beginning.now.stated.now.digest
-        (W.stream words.old) begun.engine.server begun.engine.state begun.last (W.stream words.new)) }
+        (W.stream words.old) begun.engine.server (standing_of begun.engine) begun.last (W.stream words.new)) }
     ensures alone { beginning.now.place.old ≡ None → IfOk result (λ begun. StartsAnew beginning.now.stated.now.bytes
-        (W.stream words.old) begun.engine.server begun.engine.state begun.last) }
+        (W.stream words.old) begun.engine.server (standing_of begun.engine) begun.last) }
     ensures whole { IfOk result (λ begun. IfSome begun.recorder (λ r. r.has_failed ≡ false)) }
     ensures unrecorded { IfOk result (λ begun. IfNone begun.recorder (beginning.now.fault ≡ GoOn)) }
     ensures refused { IfErr result (EndsStart beginning.now.stated.now.bytes) }

@@ -1,4 +1,5 @@
 ghost use Rattle.std.specs.Prelude.{◌≡◌, IfErr, IfNone, IfOk, IfSome, None, Some, OnErr, OnOk};
+ghost use Rattle.sip_run.specs.Due.{standing_of};
 ghost use Rattle.sip_config.specs.Stated.{States};
 ghost use Rattle.sip_config_change.specs.Frame.{frame_key_of};
 ghost use Rattle.sip_config_change.specs.declared.key.FrameKey.{FrameKey};
@@ -137,13 +138,14 @@ pub fn tell<J: Journal>(bytes: &[u8], journal: &mut J) -> Result<(), Exit>
 /// Has a server be under the configuration of a file. Refusals: `Memory`; what is wrong with the file's configuration; `OtherFrame`, where that
 /// has another frame than what is in force, as no configuration has that a server took which was opened with one of the file's frame
 /// (`take_old`).
+#[tactic(auto, using(crate::proofs::Beginnings::same_standing))]
 fn come_under<T: Timers, P: Rules>(
     alloc: Global,
     engine: &mut Engine<T, P>,
     stated: &Stated,
 ) -> Result<(), Exit>
     ensures under { OnOk result (IsServerOf stated.now.bytes engine.old.server.word engine.new.server) }
-    ensures state { engine.new.state ≡ engine.old.state }
+    ensures standing { standing_of engine.new ≡ standing_of engine.old }
     ensures refused { IfErr result (IsNotUnder stated.now.bytes engine.old.server.config) }
 {
     let config = config_of_bytes(alloc, stated.bytes.as_slice())?;
@@ -165,11 +167,11 @@ pub fn take_old<T: Timers, P: Rules, I: TellingReader, J: Journal>(
     reader: &mut I,
     journal: &mut J,
 ) -> Result<Resumed, Stop>
-    ensures taken { IfOk result (λ resumed. TakesOld old.first stated.now.bytes engine.old.server engine.new.server engine.old.state
-        engine.new.state old.lines.number (pending old.lines (I.remaining reader.old)) resumed.lines resumed.last (J.written journal.old)
+    ensures taken { IfOk result (λ resumed. TakesOld old.first stated.now.bytes engine.old.server engine.new.server (standing_of engine.old)
+        (standing_of engine.new) old.lines.number (pending old.lines (I.remaining reader.old)) resumed.lines resumed.last (J.written journal.old)
         (J.written journal.new)) }
     ensures stopped { IfErr result (StopsAt old.first stated.now.bytes
-        (HasStopped (I.has_failed reader.new) old.lines.asks (I.asked reader.old) (I.asked reader.new)) engine.old.server engine.old.state
+        (HasStopped (I.has_failed reader.new) old.lines.asks (I.asked reader.old) (I.asked reader.new)) engine.old.server (standing_of engine.old)
         old.lines.number (pending old.lines (I.remaining reader.old))) }
 {
     asks_add_up();

@@ -1,4 +1,4 @@
-use Rattle.model_branches.proofs.Events.{begin_branched, dialog_branched, opens}
+use Rattle.model_branches.proofs.Events.{begin_branched, begins, dialog_branched, opens}
 use Rattle.model_branches.proofs.laws.branches_begin.Goals as goal
 
 pub returns-clause-targets : goal.returns-clause-targets
@@ -9,3 +9,6 @@ returns-clause-dialog c = dialog_branched
 
 pub returns-clause-opening : goal.returns-clause-opening
 returns-clause-opening c = opens
+
+pub returns-clause-joined : goal.returns-clause-joined
+returns-clause-joined c = begins

@@ -29,16 +29,16 @@ end-requires-clause-kept g c = c.in-Some.ensures.kept c.args.server.now
 pub returns-in-Some-clause-step : goal.returns-in-Some-clause-step
 returns-in-Some-clause-step g c =
     quiet_done c.args.server.now c.args.proxy.now.state c.end.new.proxy.state c.args.proxy.now.timers c.args.first c.in-Some.transaction c.end.result c.args.hops.now.addresses c.requires.rows c.requires.first
-    c.requires.in_order c.in-Some.ensures.quiet c.in-Some.ensures.kept c.end.ensures
+    c.requires.in_order c.in-Some.ensures.quiet c.in-Some.ensures.kept c.end.ensures.leaves
 
 pub returns-in-Some-clause-at_first : goal.returns-in-Some-clause-at_first
 returns-in-Some-clause-at_first g c =
-    quiet_at c.args.server.now c.args.proxy.now.state c.end.new.proxy.state c.args.proxy.now.timers c.args.first c.in-Some.transaction c.end.result c.requires.first c.end.ensures
+    quiet_at c.args.server.now c.args.proxy.now.state c.end.new.proxy.state c.args.proxy.now.timers c.args.first c.in-Some.transaction c.end.result c.requires.first c.end.ensures.leaves
 
 pub returns-in-Some-clause-at_moment : goal.returns-in-Some-clause-at_moment
 returns-in-Some-clause-at_moment g c =
-    quiet_at_moment c.args.server.now c.args.proxy.now.state c.end.new.proxy.state c.args.proxy.now.timers c.args.first c.in-Some.transaction c.end.result c.requires.first c.end.ensures
+    quiet_at_moment c.args.server.now c.args.proxy.now.state c.end.new.proxy.state c.args.proxy.now.timers c.args.first c.in-Some.transaction c.end.result c.requires.first c.end.ensures.leaves
 
 pub returns-in-Some-clause-next_stays : goal.returns-in-Some-clause-next_stays
 returns-in-Some-clause-next_stays g c =
-    quiet_next c.args.server.now c.args.proxy.now.state c.end.new.proxy.state c.args.proxy.now.timers c.args.first c.in-Some.transaction c.end.result c.requires.first c.end.ensures
+    quiet_next c.args.server.now c.args.proxy.now.state c.end.new.proxy.state c.args.proxy.now.timers c.args.first c.in-Some.transaction c.end.result c.requires.first c.end.ensures.leaves

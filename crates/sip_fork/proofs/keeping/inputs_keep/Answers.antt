@@ -7,6 +7,8 @@ use Rattle.sip_context.specs.declared.input.Input.{Input}
 use Rattle.sip_context.specs.declared.input.Input.TheVariants.{Response, BranchDeadline, SideDeadline, SendFault, Cancel, Ack, BranchAgain, AnswerAgain}
 use Rattle.sip_context.specs.Inputs.{Outcome, outcome_of}
 use Rattle.sip_request.specs.transactions_model.Fits.{Fits}
+use Rattle.sip_request.specs.transactions_model.Matching.{AreBranched}
+use Rattle.model_branches.specs.Kept.{AreKept}
 use Rattle.sip_request.specs.transactions_model.Near.{IsBranchWithin, IsWithin}
 use Rattle.sip_fork.specs.Keeping.{IsKeptAs, IsOf}
 use Rattle.sip_fork.proofs.Same.{outcome_same}
@@ -15,7 +17,7 @@ use Rattle.sip_fork.proofs.keeping.inputs_keep.Goals as goal
 pub returns-clause-change : goal.returns-clause-change
 returns-clause-change c = λ server bound now r input fits within later of.
     let same = outcome_same server now r input in
-    record { fits = fitting server now r input fits of; within = near server bound now r input within later of; number = same.0; key = same.1 } where
+    record { fits = fitting server now r input fits of; within = near server bound now r input within later of; number = same.0; key = same.1; branches = λ branched. kept server now r input of branched } where
       fitting : (server : Server) (now : ℕ) (r : OpenRequest) (input : Input) → Fits r → IsOf r now input → Fits (outcome_of server now r input).request
       fitting server now r (Response branch status response) fits of = c.stays_fitting.ensures.responded server now status r branch.now response.now fits of
       fitting server now r (BranchDeadline branch) fits of = c.stays_fitting.ensures.overdue server now r branch.now fits
@@ -25,6 +27,16 @@ returns-clause-change c = λ server bound now r input fits within later of.
       fitting server now r Ack fits of = c.stays_fitting.ensures.acknowledged now r fits
       fitting server now r (BranchAgain branch) fits of = c.goes_again_fitting.ensures.branch r branch.now fits
       fitting server now r AnswerAgain fits of = c.goes_again_fitting.ensures.answer r fits
+
+      kept : (server : Server) (now : ℕ) (r : OpenRequest) (input : Input) → IsOf r now input → AreBranched r.branches → AreKept r.branches (outcome_of server now r input).request.branches
+      kept server now r (Response branch status response) of branched = c.branches_are_kept.ensures.responded server now status r branch.now response.now branched of
+      kept server now r (BranchDeadline branch) of branched = c.branches_are_kept.ensures.overdue server now r branch.now branched
+      kept server now r SideDeadline of branched = c.branches_are_kept.ensures.side_overdue server now r branched
+      kept server now r (SendFault branch) of branched = c.branches_are_kept.ensures.send_failed server now r branch.now branched
+      kept server now r Cancel of branched = c.branches_are_kept.ensures.cancelled server now r branched
+      kept server now r Ack of branched = c.branches_stay.ensures.acknowledged now r branched
+      kept server now r (BranchAgain branch) of branched = c.branches_stay.ensures.branch_again r branch.now branched
+      kept server now r AnswerAgain of branched = c.branches_stay.ensures.unchanged r.branches branched
 
       one : (bound : ℕ) (r : OpenRequest) (b : Branch) → IsWithin bound r → Contains r.branches b → IsBranchWithin bound b
       one = c.branches_are_within.ensures.each

@@ -2,10 +2,10 @@ use Rattle.std.proofs.Common.{◌≡◌, List, Some, slice_get, sym, ◌∙◌, 
 use Rattle.sip_dialog_lessons.specs.state.declared.open_request.OpenRequest.{OpenRequest}
 use Rattle.sip_dialog_lessons.specs.state.declared.branch.Branch.{Branch}
 use Rattle.sip_request.specs.declared.request.Request.{Request}
-use Rattle.sip_fork.specs.Contexts.{AreTied, IsFitting}
+use Rattle.sip_fork.specs.Contexts.{AreTied, IsFitting, IsKept}
 use Rattle.sip_fork.proofs.Tying.{changed, contexts, held_at, kept_at, kept_new, ready, seen_changed, timed_at}
-use Rattle.std.specs.Option.{unwrap_or}
-use Rattle.sip_request.specs.transactions_model.Matching.{AreMatched}
+use Rattle.sip_request.specs.transactions_model.Matching.{AreBranched, AreMatched}
+use Rattle.model_branches.specs.Kept.{AreKept}
 use Rattle.sip_request.specs.Order.{keyed}
 use Rattle.sip_fork.specs.Firing.{KeepsOrder}
 use Rattle.sip_fork.proofs.Queueing.{changed_queue, keyed_all}
@@ -38,28 +38,31 @@ returns-clause-rows g c =
 
 pub returns-clause-tied : goal.returns-clause-tied
 returns-clause-tied g c =
-    let at : slice_get c.args.table.now.rows c.args.place ≡ Some c.stood.inside.request = rw c.stood.view_is c.get-stood.ensures.row in
+    let row : Request = c.stood.inside.request in
+    let at : slice_get c.args.table.now.rows c.args.place ≡ Some row = rw c.stood.view_is c.get-stood.ensures.row in
     let fitting : IsFitting c.args.timers.now.reached c.args.timers.now.room c.change.inside.row.open_request = rw c.change.view_is c.requires.fitting in
+    let was : IsKept c.args.timers.now.reached row = kept_at c.args.timers.now.pending c.args.timers.now.reached c.args.table.now.rows c.args.place row c.requires.tied at in
+    let branched : AreBranched c.change.inside.row.open_request.branches = rw c.change.view_is (c.requires.branches row at was.branched).branched in
+    let same : c.follow.new.row.open_request.number ≡ row.open_request.number = ap (λ (x : OpenRequest). x.number) (c.follow.ensures.request ∙ c.change.view_is) ∙ (c.requires.same row at).number in
     subst (λ (xs : List Request). AreTied c.follow.new.timers.pending c.follow.new.timers.reached xs) (sym c.replace.ensures.rows)
-    (changed c.args.timers.now.pending c.follow.new.timers.pending c.args.timers.now.reached c.follow.new.timers.reached c.args.table.now.rows c.args.place c.stood.inside.request c.follow.new.row c.requires.tied at
+    (changed c.args.timers.now.pending c.follow.new.timers.pending c.args.timers.now.reached c.follow.new.timers.reached c.args.table.now.rows c.args.place row c.follow.new.row c.requires.tied at same
     c.follow.ensures.still
-    (kept_new c.args.timers.now.reached c.args.timers.now.room c.follow.new.row c.change.inside.row.open_request c.follow.ensures.request c.follow.ensures.keys c.change.invariant.numbers fitting) c.follow.ensures.moves)
+    (kept_new c.args.timers.now.reached c.args.timers.now.room c.follow.new.row c.change.inside.row.open_request c.follow.ensures.request c.follow.ensures.keys c.change.invariant.numbers branched fitting) c.follow.ensures.moves)
 
 pub returns-clause-queue : goal.returns-clause-queue
-returns-clause-queue g c = λ r there matched.
+returns-clause-queue g c =
     let row : Request = c.stood.inside.request in
     let next : Request = c.follow.new.row in
     let at : slice_get c.args.table.now.rows c.args.place ≡ Some row = rw c.stood.view_is c.get-stood.ensures.row in
     let fitting : IsFitting c.args.timers.now.reached c.args.timers.now.room c.change.inside.row.open_request = rw c.change.view_is c.requires.fitting in
-    let is_row : r ≡ row = ap (λ o. unwrap_or o row) (sym there ∙ at) in
-    let of_row : AreMatched row.open_request.branches c.args.change.branches = subst (λ (x : Request). AreMatched x.open_request.branches c.args.change.branches) is_row matched in
-    let of_change : AreMatched row.open_request.branches c.change.inside.row.open_request.branches =
-    subst (λ (x : OpenRequest). AreMatched row.open_request.branches x.branches) (sym c.change.view_is) of_row in
+    let was : IsKept c.args.timers.now.reached row = kept_at c.args.timers.now.pending c.args.timers.now.reached c.args.table.now.rows c.args.place row c.requires.tied at in
+    let becomes : AreKept row.open_request.branches c.change.inside.row.open_request.branches = rw c.change.view_is (c.requires.branches row at was.branched) in
+    let same : next.open_request.number ≡ row.open_request.number = ap (λ (x : OpenRequest). x.number) (c.follow.ensures.request ∙ c.change.view_is) ∙ (c.requires.same row at).number in
     let with_keys : AreMatched (keyed row.open_request.branches row.branches) c.change.inside.row.open_request.branches =
-    subst (λ (bs : List Branch). AreMatched bs c.change.inside.row.open_request.branches) (sym (keyed_all row.open_request.branches row.branches (kept_at c.args.timers.now.pending c.args.timers.now.reached c.args.table.now.rows c.args.place row c.requires.tied at).keys)) of_change in
-    subst (λ (xs : List Request). KeepsOrder c.args.timers.now.pending (contexts c.args.table.now.rows) c.follow.new.timers.pending (contexts xs)) (sym c.replace.ensures.rows)
-    (changed_queue c.args.timers.now.pending c.follow.new.timers.pending c.args.timers.now.reached c.follow.new.timers.reached c.args.table.now.rows c.requires.tied c.stand_in_order.ensures c.args.place row next at
-    (changed c.args.timers.now.pending c.follow.new.timers.pending c.args.timers.now.reached c.follow.new.timers.reached c.args.table.now.rows c.args.place row next c.requires.tied at c.follow.ensures.still
-    (kept_new c.args.timers.now.reached c.args.timers.now.room next c.change.inside.row.open_request c.follow.ensures.request c.follow.ensures.keys c.change.invariant.numbers fitting) c.follow.ensures.moves)
+    subst (λ (bs : List Branch). AreMatched bs c.change.inside.row.open_request.branches) (sym (keyed_all row.open_request.branches row.branches was.keys)) becomes.matched in
+    subst (λ (xs : List Request). KeepsOrder c.args.timers.now.pending c.follow.new.timers.pending (contexts xs)) (sym c.replace.ensures.rows)
+    (changed_queue c.timers_are_apart.ensures c.args.timers.now.pending c.follow.new.timers.pending c.args.timers.now.reached c.follow.new.timers.reached c.args.table.now.rows c.requires.tied c.stand_in_order.ensures c.args.place row next at
+    (changed c.args.timers.now.pending c.follow.new.timers.pending c.args.timers.now.reached c.follow.new.timers.reached c.args.table.now.rows c.args.place row next c.requires.tied at same c.follow.ensures.still
+    (kept_new c.args.timers.now.reached c.args.timers.now.room next c.change.inside.row.open_request c.follow.ensures.request c.follow.ensures.keys c.change.invariant.numbers becomes.branched fitting) c.follow.ensures.moves)
     c.follow.ensures.keys
     (c.follow.ensures.sets with_keys))

@@ -1,8 +1,10 @@
-use Rattle.std.proofs.Common.{◌≡◌, List, None, position, sym, ◌∙◌, ap, subst}
+use Rattle.std.proofs.Common.{◌≡◌, ◌<◌, List, None, position, sym, ◌∙◌, ap, subst}
+use Rattle.std.specs.List.{All}
 use Rattle.sip_transaction_table.specs.Key.{same_key}
 use Rattle.sip_transaction_table.specs.declared.key.Key.{Key}
 use Rattle.sip_dialog_lessons.specs.state.declared.open_request.OpenRequest.{OpenRequest}
 use Rattle.sip_request.specs.declared.request.Request.{Request}
+use Rattle.sip_request.specs.transactions_model.Matching.{AreBranched}
 use Rattle.sip_fork.specs.Contexts.{AreTied, IsFitting}
 use Rattle.sip_fork.proofs.Tying.{contexts, kept_new, opened, ready}
 use Rattle.sip_fork.specs.Firing.{KeepsOrder}
@@ -23,15 +25,21 @@ push-requires-clause-alone g c =
 pub returns-clause-tied : goal.returns-clause-tied
 returns-clause-tied g c =
     let fitting : IsFitting c.args.timers.now.reached c.args.timers.now.room c.opening.inside.place.open_request = rw c.opening.view_is c.requires.fitting in
+    let branched : AreBranched c.opening.inside.place.open_request.branches = rw c.opening.view_is c.requires.branched in
+    let last : All (λ (r : Request). r.open_request.number < c.begin.new.place.open_request.number) c.args.table.now.rows =
+    subst (λ (x : OpenRequest). All (λ (r : Request). r.open_request.number < x.number) c.args.table.now.rows) (sym (c.begin.ensures.request ∙ c.opening.view_is)) c.requires.last in
     subst (λ (xs : List Request). AreTied c.begin.new.timers.pending c.begin.new.timers.reached xs) (sym c.push.ensures.rows)
-    (opened c.args.timers.now.pending c.begin.new.timers.pending c.args.timers.now.reached c.begin.new.timers.reached c.args.table.now.rows c.begin.new.place c.requires.tied c.begin.ensures.still
-    (kept_new c.args.timers.now.reached c.args.timers.now.room c.begin.new.place c.opening.inside.place.open_request c.begin.ensures.request c.begin.ensures.keys c.opening.invariant.numbers fitting) c.begin.ensures.moves)
+    (opened c.args.timers.now.pending c.begin.new.timers.pending c.args.timers.now.reached c.begin.new.timers.reached c.args.table.now.rows c.begin.new.place c.requires.tied last c.begin.ensures.still
+    (kept_new c.args.timers.now.reached c.args.timers.now.room c.begin.new.place c.opening.inside.place.open_request c.begin.ensures.request c.begin.ensures.keys c.opening.invariant.numbers branched fitting) c.begin.ensures.moves)
 
 pub returns-clause-queue : goal.returns-clause-queue
 returns-clause-queue g c =
     let fitting : IsFitting c.args.timers.now.reached c.args.timers.now.room c.opening.inside.place.open_request = rw c.opening.view_is c.requires.fitting in
-    subst (λ (xs : List Request). KeepsOrder c.args.timers.now.pending (contexts c.args.table.now.rows) c.begin.new.timers.pending (contexts xs)) (sym c.push.ensures.rows)
-    (opened_queue c.args.timers.now.pending c.begin.new.timers.pending c.args.timers.now.reached c.begin.new.timers.reached c.args.table.now.rows c.requires.tied c.stand_in_order.ensures c.begin.new.place
-    (opened c.args.timers.now.pending c.begin.new.timers.pending c.args.timers.now.reached c.begin.new.timers.reached c.args.table.now.rows c.begin.new.place c.requires.tied c.begin.ensures.still
-    (kept_new c.args.timers.now.reached c.args.timers.now.room c.begin.new.place c.opening.inside.place.open_request c.begin.ensures.request c.begin.ensures.keys c.opening.invariant.numbers fitting) c.begin.ensures.moves)
+    let branched : AreBranched c.opening.inside.place.open_request.branches = rw c.opening.view_is c.requires.branched in
+    let last : All (λ (r : Request). r.open_request.number < c.begin.new.place.open_request.number) c.args.table.now.rows =
+    subst (λ (x : OpenRequest). All (λ (r : Request). r.open_request.number < x.number) c.args.table.now.rows) (sym (c.begin.ensures.request ∙ c.opening.view_is)) c.requires.last in
+    subst (λ (xs : List Request). KeepsOrder c.args.timers.now.pending c.begin.new.timers.pending (contexts xs)) (sym c.push.ensures.rows)
+    (opened_queue c.timers_are_apart.ensures c.args.timers.now.pending c.begin.new.timers.pending c.args.timers.now.reached c.begin.new.timers.reached c.args.table.now.rows c.requires.tied c.stand_in_order.ensures c.begin.new.place
+    (opened c.args.timers.now.pending c.begin.new.timers.pending c.args.timers.now.reached c.begin.new.timers.reached c.args.table.now.rows c.begin.new.place c.requires.tied last c.begin.ensures.still
+    (kept_new c.args.timers.now.reached c.args.timers.now.room c.begin.new.place c.opening.inside.place.open_request c.begin.ensures.request c.begin.ensures.keys c.opening.invariant.numbers branched fitting) c.begin.ensures.moves)
     c.begin.ensures.keys c.begin.ensures.sets)

@@ -1,13 +1,14 @@
 use Rattle.std.proofs.Common.{refl}
 use Rattle.std.proofs.lemmas.Result.{err_from_is_err_and}
 use Rattle.sip_run.specs.engine.StepError.{refusal_at}
+use Rattle.sip_run.specs.Due.{standing_of}
 use Rattle.sip_loop.proofs.WhatIsDue.{fires_some, why_refuses}
 use Rattle.sip_loop.proofs.due.fire_one.Goals as goal
 
 pub returns-clause-fired : goal.returns-clause-fired
 returns-clause-fired g c =
     fires_some c.args.engine.now.server (c.what_is_due_ends.ensures c.args.engine.now.server) (c.moment_rises.ensures c.args.engine.now.server) (c.steps_stand_at_their_moments.ensures c.args.engine.now.server)
-    c.args.engine.now.state c.fire_next.new.engine.state c.args.at c.is_reached.ensures.first c.is_reached.ensures.history c.in_ok-fired.fired c.is_reached.ensures.chain c.in_ok-fired.ensures.fired
+    (standing_of c.args.engine.now) (standing_of c.fire_next.new.engine) c.args.at c.is_reached.ensures.first c.is_reached.ensures.history c.in_ok-fired.fired c.is_reached.ensures.chain c.in_ok-fired.ensures.fired
 
 pub returns-in_err-fired-clause-refused : goal.returns-in_err-fired-clause-refused
 returns-in_err-fired-clause-refused g c =

@@ -2,6 +2,7 @@ use Rattle.std.proofs.Common.{◌≡◌, ◌≤◌, ℕ, [], None, Some, max, su
 use Rattle.std.proofs.lemmas.Result.{err_from_is_err_and, on_ok_weaker, IfErr-weaker}
 use Rattle.sip_event.specs.declared.packet.Packet.{Packet}
 use Rattle.model_bounds.specs.state.declared.server.Server.{Server}
+use Rattle.sip_run.specs.Due.{standing_of}
 use Rattle.sip_loop.specs.Courses.{Breaks, Course, Others, TakesDue, told_with, waiting_at}
 use Rattle.sip_loop.specs.Serving.{kept}
 use Rattle.sip_loop.specs.ServeErrors.{IsOfHanding}
@@ -16,56 +17,56 @@ pub returns-in_err-take_due-clause-broken : goal.returns-in_err-take_due-clause-
 returns-in_err-take_due-clause-broken g c =
     let p = err_from_is_err_and c.from_residual.result c.from_residual.ensures.1 in
     rw (p.1, p.2)
-    (λ others reading le. due_broken c.args.engine.now.server c.args.engine.now.state c.take_due.new.engine.state reading c.args.due
+    (λ others reading le. due_broken c.args.engine.now.server (standing_of c.args.engine.now) (standing_of c.take_due.new.engine) reading c.args.due
     (told_with others (g.L.Link.given c.args.link.now) (kept (g.J.Journal.written c.args.journal.now) (g.J.Journal.faulted c.args.journal.now))) c.in_err-take_due.field-0.0 le c.requires c.in_err-take_due.ensures.refused)
 
 pub returns-in_err-take_due-clause-not_link : goal.returns-in_err-take_due-clause-not_link
 returns-in_err-take_due-clause-not_link g c =
     let p = err_from_is_err_and c.from_residual.result c.from_residual.ensures.1 in
-    rw (p.1, p.2) (some_not_link c.args.engine.now.server c.args.engine.now.state c.take_due.new.engine.state c.args.due c.in_err-take_due.field-0.0 c.in_err-take_due.ensures.refused)
+    rw (p.1, p.2) (some_not_link c.args.engine.now.server (standing_of c.args.engine.now) (standing_of c.take_due.new.engine) c.args.due c.in_err-take_due.field-0.0 c.in_err-take_due.ensures.refused)
 
 pub returns-in_err-take_due-clause-journal_failed : goal.returns-in_err-take_due-clause-journal_failed
 returns-in_err-take_due-clause-journal_failed g c =
     let p = err_from_is_err_and c.from_residual.result c.from_residual.ensures.1 in
-    rw (p.1, p.2) (λ is. absurd (some_not_journal c.args.engine.now.server c.args.engine.now.state c.take_due.new.engine.state c.args.due c.in_err-take_due.field-0.0 c.in_err-take_due.ensures.refused is))
+    rw (p.1, p.2) (λ is. absurd (some_not_journal c.args.engine.now.server (standing_of c.args.engine.now) (standing_of c.take_due.new.engine) c.args.due c.in_err-take_due.field-0.0 c.in_err-take_due.ensures.refused is))
 
 pub returns-in_err-passed-clause-broken : goal.returns-in_err-passed-clause-broken
 returns-in_err-passed-clause-broken g c =
     let p = err_from_is_err_and c.from_residual-in_err-passed.result c.from_residual-in_err-passed.ensures.1 in
     rw (p.1, p.2)
-    (λ others reading le. due_untold c.args.engine.now.server c.args.engine.now.state c.take_due.new.engine.state reading c.args.due c.take_due.new.waiting others
+    (λ others reading le. due_untold c.args.engine.now.server (standing_of c.args.engine.now) (standing_of c.take_due.new.engine) reading c.args.due c.take_due.new.waiting others
     (g.L.Link.given c.args.link.now) (kept (g.J.Journal.written c.args.journal.now) (g.J.Journal.faulted c.args.journal.now)) (kept (g.J.Journal.written c.passed.new.self) (g.J.Journal.faulted c.passed.new.self)) le
-    (subst (λ (l : List Packet). TakesDue c.args.engine.now.server c.args.engine.now.state c.take_due.new.engine.state c.args.due l c.take_due.new.waiting) c.new-waiting.ensures c.in_ok-take_due.ensures.taken) (c.in_err-passed.ensures.failed, c.in_err-passed.ensures.said))
+    (subst (λ (l : List Packet). TakesDue c.args.engine.now.server (standing_of c.args.engine.now) (standing_of c.take_due.new.engine) c.args.due l c.take_due.new.waiting) c.new-waiting.ensures c.in_ok-take_due.ensures.taken) (c.in_err-passed.ensures.failed, c.in_err-passed.ensures.said))
 
 pub returns-clause-goes : goal.returns-clause-goes
 returns-clause-goes g c =
     on_ok_weaker c.hand_out.result
-    (λ handed others reading le. course_on c.args.engine.now.server c.args.engine.now.state c.take_due.new.engine.state c.hand_out.new.engine.state
+    (λ handed others reading le. course_on c.args.engine.now.server (standing_of c.args.engine.now) (standing_of c.take_due.new.engine) (standing_of c.hand_out.new.engine)
     (waiting_at (Some reading) [] c.args.engine.now.state.moment) (waiting_at (Some reading) c.take_due.new.waiting c.take_due.new.engine.state.moment) (waiting_at (Some reading) [] c.hand_out.new.engine.state.moment)
     (told_with others (g.L.Link.given c.args.link.now) (kept (g.J.Journal.written c.args.journal.now) (g.J.Journal.faulted c.args.journal.now))) (told_with others (g.L.Link.given c.args.link.now) (kept (g.J.Journal.written c.passed.new.self) (g.J.Journal.faulted c.passed.new.self)))
     (told_with others (g.L.Link.given c.hand_out.new.link) (kept (g.J.Journal.written c.hand_out.new.journal) (g.J.Journal.faulted c.hand_out.new.journal))) [] [] 0 0 0 0 tt
-    (due_told c.args.engine.now.server c.args.engine.now.state c.take_due.new.engine.state reading c.args.due c.take_due.new.waiting others
+    (due_told c.args.engine.now.server (standing_of c.args.engine.now) (standing_of c.take_due.new.engine) reading c.args.due c.take_due.new.waiting others
     (g.L.Link.given c.args.link.now) (kept (g.J.Journal.written c.args.journal.now) (g.J.Journal.faulted c.args.journal.now)) (kept (g.J.Journal.written c.passed.new.self) (g.J.Journal.faulted c.passed.new.self)) le
-    (subst (λ (l : List Packet). TakesDue c.args.engine.now.server c.args.engine.now.state c.take_due.new.engine.state c.args.due l c.take_due.new.waiting) c.new-waiting.ensures c.in_ok-take_due.ensures.taken) c.in_ok-passed.ensures.noted c.in_ok-passed.ensures.whole)
-    (subst (λ (s : Server). Course s c.take_due.new.engine.state c.hand_out.new.engine.state (waiting_at (Some reading) c.take_due.new.waiting c.take_due.new.engine.state.moment) (waiting_at (Some reading) [] c.hand_out.new.engine.state.moment)
+    (subst (λ (l : List Packet). TakesDue c.args.engine.now.server (standing_of c.args.engine.now) (standing_of c.take_due.new.engine) c.args.due l c.take_due.new.waiting) c.new-waiting.ensures c.in_ok-take_due.ensures.taken) c.in_ok-passed.ensures.noted c.in_ok-passed.ensures.whole)
+    (subst (λ (s : Server). Course s (standing_of c.take_due.new.engine) (standing_of c.hand_out.new.engine) (waiting_at (Some reading) c.take_due.new.waiting c.take_due.new.engine.state.moment) (waiting_at (Some reading) [] c.hand_out.new.engine.state.moment)
     (told_with others (g.L.Link.given c.args.link.now) (kept (g.J.Journal.written c.passed.new.self) (g.J.Journal.faulted c.passed.new.self))) (told_with others (g.L.Link.given c.hand_out.new.link) (kept (g.J.Journal.written c.hand_out.new.journal) (g.J.Journal.faulted c.hand_out.new.journal))) [] 0 0)
     c.take_due.ensures.server (handed others (Some reading)))) c.hand_out.ensures.handed
 
 pub returns-clause-broken : goal.returns-clause-broken
 returns-clause-broken g c =
     IfErr-weaker c.hand_out.result
-    (λ e. (others : Others) (turn : Option ℕ) → Breaks c.take_due.new.engine.server c.take_due.new.engine.state c.hand_out.new.engine.state (waiting_at turn c.take_due.new.waiting c.take_due.new.engine.state.moment)
+    (λ e. (others : Others) (turn : Option ℕ) → Breaks c.take_due.new.engine.server (standing_of c.take_due.new.engine) (standing_of c.hand_out.new.engine) (waiting_at turn c.take_due.new.waiting c.take_due.new.engine.state.moment)
     (told_with others (g.L.Link.given c.args.link.now) (kept (g.J.Journal.written c.passed.new.self) (g.J.Journal.faulted c.passed.new.self))) (told_with others (g.L.Link.given c.hand_out.new.link) (kept (g.J.Journal.written c.hand_out.new.journal) (g.J.Journal.faulted c.hand_out.new.journal))) 0 e)
-    (λ e. (others : Others) (reading : ℕ) → c.args.due ≤ max reading c.args.engine.now.state.moment → Breaks c.args.engine.now.server c.args.engine.now.state c.hand_out.new.engine.state (waiting_at (Some reading) [] c.args.engine.now.state.moment)
+    (λ e. (others : Others) (reading : ℕ) → c.args.due ≤ max reading c.args.engine.now.state.moment → Breaks c.args.engine.now.server (standing_of c.args.engine.now) (standing_of c.hand_out.new.engine) (waiting_at (Some reading) [] c.args.engine.now.state.moment)
     (told_with others (g.L.Link.given c.args.link.now) (kept (g.J.Journal.written c.args.journal.now) (g.J.Journal.faulted c.args.journal.now))) (told_with others (g.L.Link.given c.hand_out.new.link) (kept (g.J.Journal.written c.hand_out.new.journal) (g.J.Journal.faulted c.hand_out.new.journal))) 0 e)
-    (λ e h others reading le. breaks_on c.args.engine.now.server c.args.engine.now.state c.take_due.new.engine.state c.hand_out.new.engine.state
+    (λ e h others reading le. breaks_on c.args.engine.now.server (standing_of c.args.engine.now) (standing_of c.take_due.new.engine) (standing_of c.hand_out.new.engine)
     (waiting_at (Some reading) [] c.args.engine.now.state.moment) (waiting_at (Some reading) c.take_due.new.waiting c.take_due.new.engine.state.moment)
     (told_with others (g.L.Link.given c.args.link.now) (kept (g.J.Journal.written c.args.journal.now) (g.J.Journal.faulted c.args.journal.now))) (told_with others (g.L.Link.given c.args.link.now) (kept (g.J.Journal.written c.passed.new.self) (g.J.Journal.faulted c.passed.new.self)))
     (told_with others (g.L.Link.given c.hand_out.new.link) (kept (g.J.Journal.written c.hand_out.new.journal) (g.J.Journal.faulted c.hand_out.new.journal))) [] 0 0 0 e tt
-    (due_told c.args.engine.now.server c.args.engine.now.state c.take_due.new.engine.state reading c.args.due c.take_due.new.waiting others
+    (due_told c.args.engine.now.server (standing_of c.args.engine.now) (standing_of c.take_due.new.engine) reading c.args.due c.take_due.new.waiting others
     (g.L.Link.given c.args.link.now) (kept (g.J.Journal.written c.args.journal.now) (g.J.Journal.faulted c.args.journal.now)) (kept (g.J.Journal.written c.passed.new.self) (g.J.Journal.faulted c.passed.new.self)) le
-    (subst (λ (l : List Packet). TakesDue c.args.engine.now.server c.args.engine.now.state c.take_due.new.engine.state c.args.due l c.take_due.new.waiting) c.new-waiting.ensures c.in_ok-take_due.ensures.taken) c.in_ok-passed.ensures.noted c.in_ok-passed.ensures.whole)
-    (subst (λ (s : Server). Breaks s c.take_due.new.engine.state c.hand_out.new.engine.state (waiting_at (Some reading) c.take_due.new.waiting c.take_due.new.engine.state.moment)
+    (subst (λ (l : List Packet). TakesDue c.args.engine.now.server (standing_of c.args.engine.now) (standing_of c.take_due.new.engine) c.args.due l c.take_due.new.waiting) c.new-waiting.ensures c.in_ok-take_due.ensures.taken) c.in_ok-passed.ensures.noted c.in_ok-passed.ensures.whole)
+    (subst (λ (s : Server). Breaks s (standing_of c.take_due.new.engine) (standing_of c.hand_out.new.engine) (waiting_at (Some reading) c.take_due.new.waiting c.take_due.new.engine.state.moment)
     (told_with others (g.L.Link.given c.args.link.now) (kept (g.J.Journal.written c.passed.new.self) (g.J.Journal.faulted c.passed.new.self))) (told_with others (g.L.Link.given c.hand_out.new.link) (kept (g.J.Journal.written c.hand_out.new.journal) (g.J.Journal.faulted c.hand_out.new.journal))) 0 e)
     c.take_due.ensures.server (h others (Some reading)))) c.hand_out.ensures.broken
 

@@ -1,6 +1,6 @@
 use Rattle.std.proofs.Common.{◌≡◌, ◌+◌, ◌-◌, ◌≤◌, ℕ, [], Option, drop, length}
 use Rattle.model_bounds.specs.model.Ends.{sends_left}
-use Rattle.sip_run.specs.Due.{NothingDueBy}
+use Rattle.sip_run.specs.Due.{NothingDueBy, standing_of}
 use Rattle.sip_loop.specs.Courses.{Course, IsNoFurther, Others, told_with, waiting_at}
 use Rattle.sip_loop.specs.Serving.{kept}
 use Rattle.sip_loop.proofs.handing.hand_out.Given as goal
@@ -17,7 +17,7 @@ invariant-loop-place g l =
     × (l.place ≤ length l.packets)
     × IsNoFurther l.initial.engine.state l.engine.state
     × NothingDueBy l.engine.state.moment l.engine.state
-    × ((others : Others) (turn : Option ℕ) → Course l.initial.engine.server l.initial.engine.state l.engine.state
+    × ((others : Others) (turn : Option ℕ) → Course l.initial.engine.server (standing_of l.initial.engine) (standing_of l.engine)
     (waiting_at turn l.initial.packets l.initial.engine.state.moment) (waiting_at turn (drop l.place l.packets) l.engine.state.moment)
     (told_with others (g.L.Link.given l.initial.link) (kept (g.J.Journal.written l.initial.journal) (g.J.Journal.faulted l.initial.journal))) (told_with others (g.L.Link.given l.link) (kept (g.J.Journal.written l.journal) (g.J.Journal.faulted l.journal))) [] 0 0)
     × (g.L.Link.waits l.link ≡ g.L.Link.waits l.initial.link)

@@ -1,6 +1,7 @@
 use Rattle.std.proofs.Common.{inl, inr, refl}
 use Rattle.std.proofs.lemmas.Result.{err_from_is_err_and}
 use Rattle.sip_run.specs.engine.StepError.{refusal_at, refusal_of}
+use Rattle.sip_run.specs.Due.{standing_of}
 use Rattle.sip_loop.proofs.FaultsLeaveNone.{arrival_leaves_none, silence_leaves_none}
 use Rattle.sip_loop.proofs.WhatIsDue.{ok_not_refused}
 use Rattle.sip_loop.proofs.Turning.{fails_arrival, fails_silence, takes_arrival, takes_silence}
@@ -30,14 +31,14 @@ returns-in_err-out-in-None-clause-broken g c =
 
 pub returns-in_ok-out-in-Some-clause-taken : goal.returns-in_ok-out-in-Some-clause-taken
 returns-in_ok-out-in-Some-clause-taken g c =
-    takes_arrival c.args.engine.now.server c.args.engine.now.state c.deliver.new.self.state c.args.at c.next_word-word.result c.in-Some.from c.bytes.result.now (g.L.Link.held c.receive.new.self) (g.L.Link.heard c.args.link.now)
+    takes_arrival c.args.engine.now.server (standing_of c.args.engine.now) (standing_of c.deliver.new.self) c.args.at c.next_word-word.result c.in-Some.from c.bytes.result.now (g.L.Link.held c.receive.new.self) (g.L.Link.heard c.args.link.now)
     (g.L.Link.heard c.receive.new.self) (g.W.Rng.stream c.args.words.now) (g.W.Rng.stream c.next_word-word.new.words) c.in_ok-out-in-Some.out c.bytes.ensures (rw c.in-Some.is at c.in_ok-from.ensures.tells)
-    c.next_word-word.ensures.word c.next_word-word.ensures.left (ok_not_refused (refusal_of c.args.engine.now.state c.args.at) c.in_ok-out-in-Some.out c.in_ok-out-in-Some.ensures.refused) (rw c.in-Some.is at c.in_ok-from.ensures.writable) c.in_ok-out-in-Some.ensures.step
+    c.next_word-word.ensures.word c.next_word-word.ensures.left (ok_not_refused (refusal_of c.args.engine.now.state c.args.at) c.in_ok-out-in-Some.out c.in_ok-out-in-Some.ensures.refused) (rw c.in-Some.is at c.in_ok-from.ensures.writable) c.in_ok-out-in-Some.ensures.step c.in_ok-out-in-Some.ensures.queue
 
 pub returns-in_ok-out-in-None-clause-taken : goal.returns-in_ok-out-in-None-clause-taken
 returns-in_ok-out-in-None-clause-taken g c =
-    takes_silence c.args.engine.now.server c.args.engine.now.state c.fire.new.self.state c.args.at (g.L.Link.heard c.args.link.now) (g.L.Link.heard c.receive.new.self) (g.W.Rng.stream c.args.words.now) c.in_ok-out-in-None.out
-    (rw c.in-None.is at c.in_ok-from.ensures.tells) (ok_not_refused (refusal_at c.args.at) c.in_ok-out-in-None.out c.in_ok-out-in-None.ensures.refused) (c.in_ok-out-in-None.ensures.waited c.requires.none c.requires.none_again)
+    takes_silence c.args.engine.now.server (standing_of c.args.engine.now) (standing_of c.fire.new.self) c.args.at (g.L.Link.heard c.args.link.now) (g.L.Link.heard c.receive.new.self) (g.W.Rng.stream c.args.words.now) c.in_ok-out-in-None.out
+    (rw c.in-None.is at c.in_ok-from.ensures.tells) (ok_not_refused (refusal_at c.args.at) c.in_ok-out-in-None.out c.in_ok-out-in-None.ensures.refused) (c.in_ok-out-in-None.ensures.waited c.requires.none c.requires.none_again) c.in_ok-out-in-None.ensures.queue
 
 pub returns-in_ok-out-in-Some-clause-none_left : goal.returns-in_ok-out-in-Some-clause-none_left
 returns-in_ok-out-in-Some-clause-none_left g c =

@@ -5,7 +5,7 @@ use Rattle.sip_recorded.proofs.laws.replay_prints_what_was_served.Goals as goal
 
 pub returns : goal.returns
 returns c = λ config word first now text steps last lines old new h replay.
-    prints_served (server_with config word) first steps replay.taken.takes.runs.steps last replay.state old new replay.taken.shown
+    prints_served steps replay.taken.takes.runs.steps last.state replay.state.state old new replay.taken.shown
     (c.records_are_one.ensures.steps (server_with config word) now replay.server_then first text steps replay.taken.takes.runs.steps last replay.state h
     (replayed_whole
     (record {

@@ -5,5 +5,5 @@ use Rattle.sip_recorded.proofs.scripts.replay_prints_what_was_taken.Goals as goa
 
 pub returns : goal.returns
 returns c = λ config word first text steps last old new h replay.
-    prints_served (server_with config word) first steps replay.steps last replay.last old new replay.written
+    prints_served steps replay.steps last replay.last old new replay.written
     (c.scripts_are_one.ensures (server_with config word) first text steps replay.steps last replay.last h (replayed config word first text old new replay))

@@ -1,5 +1,6 @@
 use Rattle.std.proofs.Common.{◌≡◌, ◌≤◌}
-use Rattle.model_bounds.specs.state.State.{first_state}
+use Rattle.model_order.specs.Order.{first_standing}
+use Rattle.sip_run.specs.Due.{standing_of}
 use Rattle.sip_replay_script.specs.Devices.{later}
 use Rattle.sip_replay_script.specs.Lines.{left}
 use Rattle.sip_replay.specs.Replays.{server_with}
@@ -9,7 +10,7 @@ use Rattle.sip_replay.proofs.playback.play.Given as goal
 abbrev pub invariant-loop-bytes : goal.invariant-loop-bytes
 invariant-loop-bytes g l =
     (l.engine.server ≡ server_with l.fn.config l.fn.boot.word)
-    × Replays (server_with l.fn.config l.fn.boot.word) (first_state l.fn.boot.first) l.engine.state l.initial.lines l.lines (g.I.TellingReader.remaining l.initial.reader) (g.I.TellingReader.remaining l.reader)
+    × Replays (server_with l.fn.config l.fn.boot.word) (first_standing l.fn.boot.first) (standing_of l.engine) l.initial.lines l.lines (g.I.TellingReader.remaining l.initial.reader) (g.I.TellingReader.remaining l.reader)
     (g.W.TellingWriter.contents l.initial.writer) (g.W.TellingWriter.contents l.writer)
     × (l.lines.asks ≤ l.initial.lines.asks)
     × (later l.lines.asks (g.I.TellingReader.asked l.reader) ≡ later l.initial.lines.asks (g.I.TellingReader.asked l.initial.reader))

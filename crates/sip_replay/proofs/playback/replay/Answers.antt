@@ -2,7 +2,7 @@ use Rattle.std.proofs.Common.{◌≡◌, ◌⊎◌}
 use Rattle.std.proofs.lemmas.Result.{on_ok_weaker, IfErr-weaker}
 use Rattle.sip_replay_script.specs.Devices.{later, GaveUp}
 use Rattle.sip_replay.specs.Errors.{IsFaulted}
-use Rattle.model_bounds.specs.state.State.{first_state}
+use Rattle.model_order.specs.Order.{first_standing}
 use Rattle.sip_replay.specs.Refusals.{IsRefused, Refuses}
 use Rattle.sip_replay.specs.Replays.{server_with}
 use Rattle.sip_replay.proofs.Refusing.{faulted_still, refused_flushed, refused_unflushed}
@@ -14,7 +14,7 @@ returns-in-Ok-clause-replayed g c = on_ok_weaker c.play-outcome.result (λ h. re
 
 pub returns-in-Ok-clause-refused : goal.returns-in-Ok-clause-refused
 returns-in-Ok-clause-refused g c =
-    IfErr-weaker c.play-outcome.result (λ e. Refuses (server_with c.args.config c.args.boot.word) (first_state c.args.boot.first) 0 (g.I.TellingReader.remaining c.args.reader.now) (g.W.TellingWriter.contents c.args.writer.now) (g.W.TellingWriter.contents c.play-outcome.new.writer) e) (λ e. IsRefused c.args.config c.args.boot.word c.args.boot.first (g.I.TellingReader.remaining c.args.reader.now) (g.W.TellingWriter.contents c.args.writer.now) (g.W.TellingWriter.contents c.hand_on.new.writer) e)
+    IfErr-weaker c.play-outcome.result (λ e. Refuses (server_with c.args.config c.args.boot.word) (first_standing c.args.boot.first) 0 (g.I.TellingReader.remaining c.args.reader.now) (g.W.TellingWriter.contents c.args.writer.now) (g.W.TellingWriter.contents c.play-outcome.new.writer) e) (λ e. IsRefused c.args.config c.args.boot.word c.args.boot.first (g.I.TellingReader.remaining c.args.reader.now) (g.W.TellingWriter.contents c.args.writer.now) (g.W.TellingWriter.contents c.hand_on.new.writer) e)
     (λ e h. refused_flushed (by_laws c.every_run_has_access.ensures c.every_history_is_bounded.ensures) c.args.config c.args.boot.word c.args.boot.first (g.I.TellingReader.remaining c.args.reader.now) (g.W.TellingWriter.contents c.args.writer.now) (g.W.TellingWriter.contents c.play-outcome.new.writer) (g.W.TellingWriter.contents c.hand_on.new.writer) e h c.hand_on.ensures.kept) c.play-outcome.ensures.refused
 
 pub returns-in-Ok-clause-faulted : goal.returns-in-Ok-clause-faulted

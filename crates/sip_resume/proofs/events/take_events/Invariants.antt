@@ -1,4 +1,5 @@
 use Rattle.std.proofs.Common.{◌≡◌, ◌≤◌}
+use Rattle.sip_run.specs.Due.{standing_of}
 use Rattle.sip_replay_script.specs.Devices.{later}
 use Rattle.sip_replay_script.specs.Lines.{left, pending}
 use Rattle.sip_resume.specs.Parts.{TakesEvents}
@@ -8,7 +9,7 @@ use Rattle.sip_resume.proofs.events.take_events.Given as goal
 abbrev pub invariant-events : goal.invariant-events
 invariant-events g l =
     (l.engine.server ≡ l.initial.engine.server)
-    × TakesEvents l.initial.engine.server l.initial.engine.state l.engine.state (pending l.initial.lines (g.I.TellingReader.remaining l.initial.reader)) (pending l.lines (g.I.TellingReader.remaining l.reader)) l.initial.lines.number l.taken
+    × TakesEvents l.initial.engine.server (standing_of l.initial.engine) (standing_of l.engine) (pending l.initial.lines (g.I.TellingReader.remaining l.initial.reader)) (pending l.lines (g.I.TellingReader.remaining l.reader)) l.initial.lines.number l.taken
     (outputs_of (g.J.Journal.written l.initial.journal) (g.S.StepSink.shown l.initial.sink)) (outputs_of (g.J.Journal.written l.journal) (g.S.StepSink.shown l.sink)) l.last
     × (l.taken ≡ l.lines.number)
     × (later l.lines.asks (g.I.TellingReader.asked l.reader) ≡ later l.initial.lines.asks (g.I.TellingReader.asked l.initial.reader))

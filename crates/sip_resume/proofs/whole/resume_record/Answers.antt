@@ -1,5 +1,6 @@
 use Rattle.std.proofs.Common.{refl, ◌∙◌}
 use Rattle.std.proofs.lemmas.Result.{err_from_is_err_and}
+use Rattle.sip_run.specs.Due.{standing_of}
 use Rattle.sip_replay_script.specs.Lines.{IsSpent, pending}
 use Rattle.sip_resume.specs.RecordErrors.{record_error_of}
 use Rattle.sip_resume.specs.Outputs.{outputs_of}
@@ -11,7 +12,7 @@ use Rattle.sip_resume.proofs.whole.resume_record.Goals as goal
 pub returns-in_err-reached-clause-refused : goal.returns-in_err-reached-clause-refused
 returns-in_err-reached-clause-refused g c =
     let p = err_from_is_err_and c.from_residual.result c.from_residual.ensures.1 in
-    rw (p.1, p.2) (front_unresumed c.args.engine.now.server c.take_events.new.engine.server c.args.engine.now.state c.take_events.new.engine.state c.args.longest (IsSpent (g.I.TellingReader.has_failed c.take_events.new.reader) c.take_events.new.lines.asks)
+    rw (p.1, p.2) (front_unresumed c.args.engine.now.server c.take_events.new.engine.server (standing_of c.args.engine.now) (standing_of c.take_events.new.engine) c.args.longest (IsSpent (g.I.TellingReader.has_failed c.take_events.new.reader) c.take_events.new.lines.asks)
     (pending c.args.lines.now (g.I.TellingReader.remaining c.args.reader.now)) c.args.lines.now.number (outputs_of (g.J.Journal.written c.args.journal.now) (g.S.StepSink.shown c.args.sink.now)) (outputs_of (g.J.Journal.written c.take_events.new.journal) (g.S.StepSink.shown c.take_events.new.sink)) c.in_err-reached.field-0.0 (record_error_of c.in_err-reached.field-0.0) refl
     c.take_events.ensures.server c.in_err-reached.ensures.refused)
 

@@ -27,11 +27,7 @@ returns-clause-fired g c =
     record {
       not_refused = not_refused {X = StepOut} (refusal_at c.args.at) (Ok c.in_ok-out.out) c.in_ok-out.ensures.refused;
       is_due = record { due = c.in-Some.due; is_due = c.in-Some.ensures.first.is_due; in_time = in_time };
-      happens = happens;
+      happens = c.in_ok-out.ensures.in_order c.in-Some.due c.in-Some.ensures.first in_time;
+      queue = c.in_ok-out.ensures.queue;
       fewer_left = c.what_is_due_ends.ensures c.args.engine.now.server c.is_reached.ensures.first c.is_reached.ensures.history old c.fire.new.self.state c.args.at c.in_ok-out.out c.is_reached.ensures.chain happens;
     }
-
-pub returns-clause-in_order : goal.returns-clause-in_order
-returns-clause-in_order g c =
-    let in_time : c.in-Some.due ≤ moment_of c.args.engine.now.state c.args.at = omega (arith, c.max.ensures, c.moment.ensures.value, c.if-max-due.false) in
-    c.in_ok-out.ensures.in_order c.in-Some.due c.in-Some.ensures.first in_time

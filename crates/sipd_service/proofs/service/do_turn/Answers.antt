@@ -27,6 +27,7 @@ returns-then-is_err-clause-ended g c =
       others = with_three ended.devices c.args.service.now.link.link.heard c.args.service.now.link.link.given (and_counted (g.C.Clock.readings c.args.service.now.clock) c.now-now.result)
           (ap (λ l. l.heard) link) (ap (λ l. l.given) link) c.now-now.ensures;
       still = c.change-changed.ensures.state;
+      same_timers = c.change-changed.ensures.timers;
       same_waits = ap (λ l. l.waits) link;
       exit_is = refl;
     })
@@ -47,6 +48,7 @@ returns-in-Ok-clause-turn g c =
       hears = hears_still c.args.service.now.engine.server c.change-changed.new.engine.server c.args.service.now.link c.change-changed.new.link c.wait_until_due.new.self c.change-changed.ensures.hears c.wait_until_due.ensures.allowances;
       others = with_link first.devices c.args.service.now.link.link.heard c.args.service.now.link.link.given (c.wait_until_due.ensures.heard ∙ ap (λ l. l.heard) link) (c.wait_until_due.ensures.given ∙ ap (λ l. l.given) link);
       still = c.change-changed.ensures.state;
+      same_timers = c.change-changed.ensures.timers;
       same_port = refl;
       next = subst (λ (s : ProxyState). MatchOption c.next_due.result (IsNothingDue s.requests) (IsNext s.requests)) c.change-changed.ensures.state c.next_due.ensures.first;
       waited = subst (λ (w : Option (List ℕ)). GrewBy (wait_before c.next_due.result c.now-now.result) w c.wait_until_due.new.self.link.waits) (ap (λ l. l.waits) link) c.wait_until_due.ensures.waited;
@@ -79,6 +81,7 @@ returns-in-Err-clause-ended g c =
       hears = hears_still c.args.service.now.engine.server c.change-changed.new.engine.server c.args.service.now.link c.change-changed.new.link c.wait_until_due.new.self c.change-changed.ensures.hears c.wait_until_due.ensures.allowances;
       others = with_link first.devices c.args.service.now.link.link.heard c.args.service.now.link.link.given (c.wait_until_due.ensures.heard ∙ ap (λ l. l.heard) link) (c.wait_until_due.ensures.given ∙ ap (λ l. l.given) link);
       still = c.change-changed.ensures.state;
+      same_timers = c.change-changed.ensures.timers;
       same_port = refl;
       next = subst (λ (s : ProxyState). MatchOption c.next_due.result (IsNothingDue s.requests) (IsNext s.requests)) c.change-changed.ensures.state c.next_due.ensures.first;
       waited = subst (λ (w : Option (List ℕ)). GrewBy (wait_before c.next_due.result c.now-now.result) w c.wait_until_due.new.self.link.waits) (ap (λ l. l.waits) link) c.wait_until_due.ensures.waited;

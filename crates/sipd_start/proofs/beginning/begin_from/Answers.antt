@@ -1,3 +1,4 @@
+use Rattle.sip_run.specs.Due.{standing_of}
 use Rattle.sipd_start.proofs.Refusals.{stopped_behind_so, unread_so}
 use Rattle.sipd_start.proofs.WholeRecords.{went_on_whole}
 use Rattle.sipd_start.proofs.beginning.begin_from.Goals as goal
@@ -16,5 +17,5 @@ returns-in-Whole-clause-refused g c =
 
 pub returns-in-Whole-clause-goes_on : goal.returns-in-Whole-clause-goes_on
 returns-in-Whole-clause-goes_on g c =
-    went_on_whole c.go_on.result (λ a. a.begun.engine.server) (λ a. a.begun.engine.state) (λ a. a.lines) (λ a. a.begun.last) c.args.beginning.now.stated.now.bytes c.args.beginning.now.stated.now.digest c.in-Ok.head
+    went_on_whole c.go_on.result (λ a. a.begun.engine.server) (λ a. standing_of a.begun.engine) (λ a. a.lines) (λ a. a.begun.last) c.args.beginning.now.stated.now.bytes c.args.beginning.now.stated.now.digest c.in-Ok.head
     (g.I.TellingReader.remaining c.args.reader.now) (g.I.TellingReader.remaining c.head_in.new.reader) c.in-Ok.ensures.head c.in-Whole.is c.go_on.ensures.goes_on

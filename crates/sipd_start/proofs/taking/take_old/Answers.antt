@@ -1,11 +1,12 @@
 use Rattle.std.proofs.lemmas.Result.{err_from_is_err_and}
 use Rattle.sip_replay_script.specs.Lines.{pending}
+use Rattle.sip_run.specs.Due.{standing_of}
 use Rattle.sipd_start.proofs.Refusals.{stops_at, under_exits}
 use Rattle.sipd_start.proofs.taking.take_old.Goals as goal
 
 pub returns-in-Err-clause-stopped : goal.returns-in-Err-clause-stopped
 returns-in-Err-clause-stopped g c =
-    stops_at c.resume_record.result c.args.old.first c.args.stated.now.bytes c.args.engine.now.server _ c.args.engine.now.state _ (g.I.TellingReader.has_failed c.resume_record.new.reader) c.resume_record.new.lines.asks
+    stops_at c.resume_record.result c.args.old.first c.args.stated.now.bytes c.args.engine.now.server _ (standing_of c.args.engine.now) _ (g.I.TellingReader.has_failed c.resume_record.new.reader) c.resume_record.new.lines.asks
     c.args.old.lines.asks (g.I.TellingReader.asked c.args.reader.now) (g.I.TellingReader.asked c.resume_record.new.reader) (pending c.args.old.lines (g.I.TellingReader.remaining c.args.reader.now)) c.args.old.lines.number
     (g.J.Journal.written c.args.journal.now) _ _ c.in-Err.e c.untaken.result c.asks_add_up.ensures.spent c.in-Err.is c.resume_record.ensures.gave_up c.untaken.ensures (rw c.as_slice.ensures at c.in_ok-tell.ensures.noted) c.resume_record.ensures.asked c.in-Err.ensures.refused
 

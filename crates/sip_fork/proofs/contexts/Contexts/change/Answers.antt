@@ -6,14 +6,16 @@ use Rattle.sip_request.specs.transactions_model.Near.{IsWithin}
 use Rattle.sip_fork.specs.Contexts.{Contexts, IsSame}
 use Rattle.sip_fork.proofs.OnTime.{whole}
 use Rattle.sip_fork.proofs.Tying.{contexts, place_of, replaced_in, replaced_out, seen_at}
-use Rattle.std.specs.Option.{unwrap_or}
-use Rattle.sip_request.specs.transactions_model.Matching.{AreMatched}
 use Rattle.sip_fork.specs.Firing.{KeepsOrder}
 use Rattle.sip_fork.proofs.contexts.Contexts.change.Goals as goal
 
 pub change_row-requires-clause-same : goal.change_row-requires-clause-same
 change_row-requires-clause-same g c = λ r at.
     c.requires.same r.open_request (subst (λ (v : Contexts). slice_get v.requests c.args.place ≡ Some r.open_request) c.self.view_is (seen_at c.self.inside.table.rows c.args.place r at))
+
+pub change_row-requires-clause-branches : goal.change_row-requires-clause-branches
+change_row-requires-clause-branches g c = λ r at.
+    c.requires.branches r.open_request (subst (λ (v : Contexts). slice_get v.requests c.args.place ≡ Some r.open_request) c.self.view_is (seen_at c.self.inside.table.rows c.args.place r at))
 
 pub returns-then-closes-clause-requests : goal.returns-then-closes-clause-requests
 returns-then-closes-clause-requests g c =
@@ -46,13 +48,9 @@ invariant_of-self g c =
     c.close_row.ensures.tied
 
 pub returns-then-closes-clause-queue : goal.returns-then-closes-clause-queue
-returns-then-closes-clause-queue g c = λ r at matched.
-    subst (λ (v : Contexts). KeepsOrder v.pending v.requests c.close_row.new.timers.pending (contexts c.close_row.new.table.rows)) c.self.view_is c.close_row.ensures.queue
+returns-then-closes-clause-queue g c =
+    subst (λ (v : Contexts). KeepsOrder v.pending c.close_row.new.timers.pending (contexts c.close_row.new.table.rows)) c.self.view_is c.close_row.ensures.queue
 
 pub returns-else-closes-clause-queue : goal.returns-else-closes-clause-queue
-returns-else-closes-clause-queue g c = λ r at matched.
-    let row : Request = c.get-stood.result.now in
-    let shown : slice_get c.args.self.now.requests c.args.place ≡ Some row.open_request = subst (λ (v : Contexts). slice_get v.requests c.args.place ≡ Some row.open_request) c.self.view_is (seen_at c.self.inside.table.rows c.args.place row c.get-stood.ensures.row) in
-    let is_row : r ≡ row.open_request = ap (λ o. unwrap_or o row.open_request) (sym at ∙ shown) in
-    subst (λ (v : Contexts). KeepsOrder v.pending v.requests c.change_row.new.timers.pending (contexts c.change_row.new.table.rows)) c.self.view_is
-    (c.change_row.ensures.queue row c.get-stood.ensures.row (subst (λ (x : OpenRequest). AreMatched x.branches c.args.change.branches) is_row matched))
+returns-else-closes-clause-queue g c =
+    subst (λ (v : Contexts). KeepsOrder v.pending c.change_row.new.timers.pending (contexts c.change_row.new.table.rows)) c.self.view_is c.change_row.ensures.queue

@@ -1,4 +1,4 @@
-use Rattle.std.proofs.Common.{◌≡◌, ◌≤◌, ◌+◌, ◌==◌, Some, None, position, slice_get, sym, ◌∙◌, ap, subst, List}
+use Rattle.std.proofs.Common.{◌≡◌, ◌+◌, ◌==◌, Some, None, position, slice_get, sym, ◌∙◌, ap, subst, List}
 use Rattle.std.specs.Option.{unwrap_or}
 use Rattle.model_steps.specs.Effect.{replaced}
 use Rattle.sip_dialog_lessons.specs.state.declared.open_request.OpenRequest.{OpenRequest}
@@ -6,7 +6,6 @@ use Rattle.sip_request.specs.declared.request.Request.{Request}
 use Rattle.sip_request.specs.transactions_model.Near.{IsWithin}
 use Rattle.sip_fork.specs.Contexts.{Contexts}
 use Rattle.sip_fork.specs.Ending.{ended, left_invite}
-use Rattle.sip_fork.specs.Keeping.{IsKeptAs}
 use Rattle.sip_fork.proofs.Ends.{left_of, none_left, still_number}
 use Rattle.sip_fork.proofs.OnTime.{whole}
 use Rattle.sip_fork.proofs.Tying.{contexts, place_of, replaced_in, replaced_out, seen_at}
@@ -22,6 +21,10 @@ end_row-requires-clause-within g c = λ r at.
     let kept = c.requires.kept r.open_request (subst (λ (v : Contexts). slice_get v.requests c.args.place ≡ Some r.open_request) c.self.view_is (seen_at c.self.inside.table.rows c.args.place r at)) in
     c.time_passes.ensures.request c.self.inside.moment (c.self.inside.timers.reached + 1) (ended c.args.transaction r.open_request) c.self.invariant.on_time.soon
     (subst (λ (v : Contexts). IsWithin v.moment (ended c.args.transaction r.open_request)) (sym c.self.view_is) kept.within)
+
+pub end_row-requires-clause-branches : goal.end_row-requires-clause-branches
+end_row-requires-clause-branches g c = λ r at.
+    (c.requires.kept r.open_request (subst (λ (v : Contexts). slice_get v.requests c.args.place ≡ Some r.open_request) c.self.view_is (seen_at c.self.inside.table.rows c.args.place r at))).branches
 
 pub returns-then-leaves_with-clause-requests : goal.returns-then-leaves_with-clause-requests
 returns-then-leaves_with-clause-requests g c = λ r at.
@@ -96,8 +99,8 @@ returns-else-leaves_with-clause-left g c = λ r at.
 
 pub returns-then-leaves_with-clause-queue : goal.returns-then-leaves_with-clause-queue
 returns-then-leaves_with-clause-queue g c =
-    subst (λ (v : Contexts). KeepsOrder v.pending v.requests c.close_row.new.timers.pending (contexts c.close_row.new.table.rows)) c.self.view_is c.close_row.ensures.queue
+    subst (λ (v : Contexts). KeepsOrder v.pending c.close_row.new.timers.pending (contexts c.close_row.new.table.rows)) c.self.view_is c.close_row.ensures.queue
 
 pub returns-else-leaves_with-clause-queue : goal.returns-else-leaves_with-clause-queue
 returns-else-leaves_with-clause-queue g c =
-    subst (λ (v : Contexts). KeepsOrder v.pending v.requests c.end_row.new.timers.pending (contexts c.end_row.new.table.rows)) c.self.view_is c.end_row.ensures.queue
+    subst (λ (v : Contexts). KeepsOrder v.pending c.end_row.new.timers.pending (contexts c.end_row.new.table.rows)) c.self.view_is c.end_row.ensures.queue

@@ -1,5 +1,5 @@
 use Rattle.std.proofs.Common.{◌≡◌, Option, Some, slice_get, IfSome, sym, ◌∙◌, subst}
-use Rattle.sip_fork.specs.Due.{IsDue, IsOfOwner}
+use Rattle.sip_fork.specs.Due.{GoesAgainBefore, IsDue, IsOfOwner}
 use Rattle.sip_fork.specs.declared.due.Due.{Due}
 use Rattle.sip_fork.proofs.Earliest.{nothing_due, first_found, first_due, is_first, of_first, some_of, number_there}
 use Rattle.sip_fork.proofs.contexts.Contexts.first.Goals as goal
@@ -34,6 +34,8 @@ returns-clause-in_order g c =
     let found = sym c.find_number.ensures.place ∙ c.unwrap-place.ensures in
     let is : IsOfOwner c.row.inside.request.open_request c.in_ok-due.name.owner c.unwrap-what.result =
     subst (λ (o : Option Due). IfSome o (IsOfOwner c.row.inside.request.open_request c.in_ok-due.name.owner)) c.unwrap-what.ensures c.what_at.ensures.part in
+    let again : GoesAgainBefore c.row.inside.request.open_request c.in_ok-due.due c.unwrap-what.result =
+    subst (λ (o : Option Due). IfSome o (GoesAgainBefore c.row.inside.request.open_request c.in_ok-due.due)) c.unwrap-what.ensures c.what_at.ensures.again in
     rw (← c.self.view_is)
     (of_first c.self.inside.timers.pending c.self.inside.table.rows c.in_ok-due.due c.in_ok-due.name (sym c.in_ok-due.ensures.first) c.unwrap-place.result c.row.inside.request c.unwrap-what.result at
-    (number_there c.in_ok-due.name.request c.self.inside.table.rows c.unwrap-place.result c.row.inside.request found at) is)
+    (number_there c.in_ok-due.name.request c.self.inside.table.rows c.unwrap-place.result c.row.inside.request found at) is again)

@@ -21,4 +21,4 @@ open_row-requires-clause-alone g c =
 
 pub returns-clause-queue : goal.returns-clause-queue
 returns-clause-queue g c =
-    subst (λ (v : Contexts). KeepsOrder v.pending v.requests c.open_row.new.timers.pending (contexts c.open_row.new.table.rows)) c.self.view_is c.open_row.ensures.queue
+    subst (λ (v : Contexts). KeepsOrder v.pending c.open_row.new.timers.pending (contexts c.open_row.new.table.rows)) c.self.view_is c.open_row.ensures.queue
