@@ -1,3 +1,4 @@
+//! What another configuration changes and what it leaves, said of the definitions of a step: open requests go on as they began.
 ghost use Rattle.std.specs.Prelude.{◌≡◌, ◌∷◌, [], codes, ℕ, Bool, false, List, Option, None};
 ghost use Rattle.std.specs.Option.{option_and_then};
 ghost use Rattle.sip_uri.specs.declared.addr.Addr.{Addr};

@@ -1,3 +1,4 @@
+//! Worked examples of steps, as contracts that compute to the byte: registrations, calls and their forks, CANCELs, dialogs.
 ghost use Rattle.std.specs.Prelude.{◌≡◌, ◌∷◌, [], codes, length, map, None, Some};
 ghost use Rattle.sip_audit.specs.declared.record.Outcome.TheVariants.{Challenge, Deny, Sent, Answer};
 ghost use Rattle.sip_audit.specs.Lines.{line_of};

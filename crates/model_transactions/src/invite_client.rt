@@ -1,3 +1,4 @@
+//! That a branch of an INVITE fits the client transaction of RFC 3261 17.1.1 and RFC 6026 7.2 at every event.
 ghost use Rattle.std.specs.Prelude.{◌≡◌, ◌≤◌, ◌<◌, ◌+◌, ◌==◌, ◌&&◌, ℕ, not, map, true, false, if◌then◌else◌, [], ◌∷◌, Some, None};
 ghost use Rattle.std.specs.List.{list_any, list_all};
 ghost use Rattle.sip_message_fields.specs.declared.field_name.FieldName.TheVariants as Name;

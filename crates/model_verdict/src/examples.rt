@@ -1,3 +1,4 @@
+//! Worked examples of verdicts, as contracts that compute: which open request or branch a datagram belongs to, and what a new one gets.
 ghost use Rattle.std.specs.Prelude.{◌≡◌, ◌∷◌, [], codes, Some, None, true, false};
 ghost use Rattle.sip_hops.specs.Examples.{local};
 ghost use Rattle.sip_edit_response.specs.Examples.{register};

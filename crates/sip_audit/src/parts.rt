@@ -1,3 +1,4 @@
+//! An audit line taken apart in its order, word by word; its end is read in `decision`. `reading` makes a record of it.
 ghost use Rattle.std.specs.Prelude.{◌≡◌, option_map};
 ghost use Rattle.sip_text.specs.Numbers.{plain_decimal_of};
 ghost use Rattle.sip_audit.specs.Reading as Readings;

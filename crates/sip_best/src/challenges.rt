@@ -1,3 +1,4 @@
+//! The challenges of all other 401 and 407, put behind the fields of the best answer (RFC 3261 16.7 step 7), while a datagram has room.
 ghost use Rattle.std.specs.Prelude.{◌≡◌, length, filter, min, ◌-◌, ◌^◌, IfOk};
 ghost use Rattle.std.specs.List.{flat_map};
 ghost use Rattle.sip_message_form.specs.Text.{field_text, text_of};

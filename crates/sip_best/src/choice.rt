@@ -1,3 +1,4 @@
+//! The best answer of a request all of whose branches have one (RFC 3261 16.7 steps 6 and 7). Which of two is the better is in `rank`.
 ghost use Rattle.std.specs.Prelude.{◌≡◌, ◌++◌, Some, None, map, if◌then◌else◌, IfOk, MatchOption};
 ghost use Rattle.std.specs.List.{list_any, flat_map};
 ghost use Rattle.sip_best.specs.Ranks.{outranks};

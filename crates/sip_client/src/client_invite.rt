@@ -1,3 +1,4 @@
+//! Not in the program: the client transaction of an INVITE as a machine, which the branches of an INVITE are proved to fit.
 ghost use Rattle.std.specs.Prelude.{◌≡◌};
 ghost use Rattle.sip_client.specs.ClientInvite.{client_invite, start, runs};
 

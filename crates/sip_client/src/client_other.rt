@@ -1,3 +1,4 @@
+//! Not in the program: the client transaction of any other request as a machine, which branches and CANCELs are proved to fit.
 ghost use Rattle.std.specs.Prelude.{◌≡◌};
 ghost use Rattle.sip_client.specs.ClientOther.{client_other, start, runs};
 

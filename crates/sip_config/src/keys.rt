@@ -1,3 +1,4 @@
+//! Which keys the tables of a file may have in each version; any other key is refused. Their values are read elsewhere.
 ghost use Rattle.std.specs.Prelude.{◌≡◌, option_map};
 ghost use Rattle.std.specs.List.{list_any};
 ghost use Rattle.std.specs.Str.{bytes_eq};

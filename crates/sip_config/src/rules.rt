@@ -1,3 +1,5 @@
+//! The tables `[[rule]]`: line by line through all rules, then numbers, hops and groups, refused at the first fault in this order.
+//! The texts of a rule's keys are read in `sip_config_values`.
 ghost use Rattle.std.specs.Prelude.{◌≡◌, ℕ, ◌==◌, ◌||◌, not, position, List, [], IfOk, IfErr, OnOk};
 ghost use Rattle.std.specs.List.{list_any};
 ghost use Rattle.std.specs.Str.{bytes_eq};

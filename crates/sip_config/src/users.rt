@@ -1,3 +1,4 @@
+//! The tables `[[user]]`: their names first, then their digests and groups, refused at the first fault in this order.
 ghost use Rattle.std.specs.Prelude.{◌≡◌, []};
 ghost use Rattle.toml.specs.View.{table_view, items_view};
 ghost use Rattle.sip_config_values.specs.declared.key.Key.TheVariants as keys;

@@ -1,3 +1,5 @@
+//! The sample configuration, made without a file; `examples/sample.toml` states the same.
+//! The program has it where no file is named, and so have worked examples and trials.
 ghost use Rattle.std.specs.Prelude.{◌≡◌, ◌++◌, [], ◌∷◌, codes, IfOk, OnOk};
 ghost use Rattle.sip_route.specs.Examples as RoutingExamples;
 ghost use Rattle.sip_hops.specs.Examples as Places;

@@ -1,3 +1,4 @@
+//! Which texts a configuration takes for a realm, a host, a name, a digest and a method. Which key wants which is said in `sip_config`.
 ghost use Rattle.std.specs.Prelude.{◌≡◌};
 ghost use Rattle.std.specs.List.{list_all};
 ghost use Rattle.sip_config_values.specs.Grammar as Definitions;

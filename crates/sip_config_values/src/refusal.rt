@@ -1,3 +1,4 @@
+//! Why and where a configuration is refused: an error, with the table and the key at which the reading stops.
 ghost use Rattle.std.specs.Prelude.{◌≡◌};
 ghost use Rattle.sip_config_values.specs.declared.refusal.Refusal.TheVariants.{NoMemory};
 ghost use Rattle.sip_config_values.specs.Refusals as Definitions;

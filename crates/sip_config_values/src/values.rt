@@ -1,3 +1,4 @@
+//! The value of a key, read by its kind: text, number, list, digest, address, port. What a table is to have is said in `sip_config`.
 ghost use Rattle.std.specs.Prelude.{◌≡◌, ◌≤◌, option_map, IfOk};
 ghost use Rattle.toml.specs.Data.{get_member};
 ghost use Rattle.toml.specs.View.{view, table_view, items_view};

@@ -1,3 +1,4 @@
+//! The texts of a rule read: who it is for, what it is about, for which targets, and its verdict.
 ghost use Rattle.std.specs.Prelude.{◌≡◌, option_map, position, Ok};
 ghost use Rattle.sip_policy.specs.declared.target_pattern.TargetPattern.TheVariants as Target;
 ghost use Rattle.sip_config_values.specs.Refusals.{Reads};

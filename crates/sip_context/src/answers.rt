@@ -1,3 +1,5 @@
+//! When the best answer goes to the caller, and what is kept of an answer that went (RFC 3261 16.7 steps 5 and 6, 17.2).
+//! Which answer is the best is said in `sip_best`.
 ghost use Rattle.std.specs.Prelude.{◌≡◌, ◌<◌, ◌+◌, ◌^◌, ◌++◌, ◌∷◌, [], ◌&&◌, option_map, IfOk, OnOk};
 ghost use Rattle.sip_best.specs.Best.{best_of};
 ghost use Rattle.sip_message_form.specs.Text.{text_of};

@@ -1,3 +1,4 @@
+//! Each input of an open request, handed to the module that takes it; what goes again is taken here.
 ghost use Rattle.std.specs.Prelude.{◌≡◌, ◌<◌, ◌+◌, ◌^◌, [], IfOk, option_map, true};
 ghost use Rattle.sip_context_branches.specs.Early.{IsEarly};
 ghost use Rattle.sip_context_branches.specs.context_model.Branches as Contexts;

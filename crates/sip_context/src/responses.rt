@@ -1,3 +1,5 @@
+//! Responses that came to a branch (RFC 3261 16.7, 17.1; RFC 6026 7): what becomes of the branch, and whether the search ends.
+//! Which of them go to the caller is said in `relayed`.
 ghost use Rattle.std.specs.Prelude.{◌≡◌, ◌<◌, ◌+◌, ◌^◌, ◌&&◌, ◌||◌, [], IfOk, OnOk};
 ghost use Rattle.sip_message_form.specs.declared.message.Message.{Message};
 ghost use Rattle.sip_context_branches.specs.state.State as States;

@@ -1,3 +1,4 @@
+//! What follows every event of an open request (RFC 3261 16.7 steps 5 to 10): the best answer, if it is time for it, then CANCELs.
 ghost use Rattle.std.specs.Prelude.{◌≡◌, ◌<◌, ◌+◌, ◌^◌, false, [], None, IfOk, OnOk};
 ghost use Rattle.std.specs.List.{flat_map};
 ghost use Rattle.sip_context_branches.specs.context_model.Sending as Sendings;

@@ -1,3 +1,4 @@
+//! The CANCELs that branches are sent now (RFC 3261 9.1), each right behind its branch. Which are to be cancelled is said in `branches`.
 ghost use Rattle.std.specs.Prelude.{◌≡◌, ◌+◌, ◌<◌, ◌^◌, ◌++◌, map, filter, count_by, IfOk, OnOk};
 ghost use Rattle.std.specs.List.{flat_map};
 ghost use Rattle.model_context.specs.Branches as Contexts;

@@ -1,3 +1,4 @@
+//! Whether and when what a branch sends goes again: Timers A and E (RFC 3261 17.1.1.2, 17.1.2.2); and when an ACK goes again.
 ghost use Rattle.std.specs.Prelude.{◌≡◌, ◌+◌, ◌<◌, ◌^◌, [], true, if◌then◌else◌};
 ghost use Rattle.model_context.specs.state.declared.server.Server.{Server};
 ghost use Rattle.model_context.specs.Branches;

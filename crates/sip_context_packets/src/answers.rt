@@ -1,3 +1,4 @@
+//! The answers to a request, as packets to where its top Via says (RFC 3261 18.2.2); those made here are written, too (8.2.6).
 ghost use Rattle.std.specs.Prelude.{◌≡◌, [], IfOk};
 ghost use Rattle.sip_message_form.specs.Text.{text_of};
 ghost use Rattle.sip_edit_response.specs.Reply.{reply_of};

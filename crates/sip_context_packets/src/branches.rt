@@ -1,3 +1,4 @@
+//! What the branches of an open request send: its requests to targets (RFC 3261 16.6), their CANCELs (9.1) and ACKs (17.1.1.3).
 ghost use Rattle.std.specs.Prelude.{◌≡◌, ◌++◌, ◌∷◌, [], IfOk, OnOk, true, false, option_map};
 ghost use Rattle.std.specs.List.{flat_map};
 ghost use Rattle.sip_message_form.specs.Text.{text_of};

@@ -1,3 +1,5 @@
+//! What decides which Routes of a request are left for a server (RFC 3261 16.4), read of the request alone, before a server asks.
+//! `sip_route` decides the same of a request with the server at hand.
 ghost use Rattle.std.specs.Prelude.{◌≡◌, ◌∷◌, [], IfOk, map, is_some, if◌then◌else◌, false, Some, None, decimal};
 ghost use Rattle.std.specs.Option.{option_map_or};
 ghost use Rattle.sip_uri_equality.specs.Equality.{both_or_none, says_same_no_case as SaysSame};

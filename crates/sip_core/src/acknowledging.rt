@@ -1,3 +1,4 @@
+//! An ACK that no server transaction takes (RFC 3261 16.11, 17.2.1): it goes on in its dialog or is dropped, as nothing answers it.
 ghost use Rattle.std.specs.Prelude.{◌≡◌, ◌≢◌, ℕ, false, List, Option, Some, IfOk, OnOk};
 ghost use Rattle.std.specs.Result.{result_ok};
 ghost use Rattle.sip_edit.specs.ReceivedRequest.{top_via};

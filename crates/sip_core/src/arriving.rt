@@ -1,3 +1,5 @@
+//! The verdict on a request that no open one is found for: the cases in their order, of which the first that applies counts.
+//! It changes nothing: `sip_engine` carries it out.
 ghost use Rattle.std.specs.Prelude.{◌≡◌, ◌≢◌, ◌<◌, ◌^◌, IfOk, OnOk, Bool, false, ℕ, List, Option, Some, None, is_some, [], codes};
 ghost use Rattle.std.specs.Str.{bytes_eq};
 ghost use Rattle.std.specs.Result.{result_ok};

@@ -1,3 +1,5 @@
+//! What a configured server is asked: what a message is that came in, and what its rules decide.
+//! What else it judges of a request is in `question`, `registration` and `targeting`.
 ghost use Rattle.std.specs.Prelude.{◌≡◌, IfOk};
 ghost use Rattle.model_verdict.specs.Verdict.{answer_of, minute_on};
 ghost use Rattle.sip_core.specs.Incoming.{Is};

@@ -1,3 +1,5 @@
+//! From the decision of policy about a request to what comes of it: a challenge, a denial, what a REGISTER comes to, or targets
+//! (RFC 3261 10.3, 16.3 step 6, 16.5).
 ghost use Rattle.std.specs.Prelude.{◌≡◌, ◌<◌, ◌^◌, IfOk};
 ghost use Rattle.model_verdict.specs.state.declared.proxy_state.ProxyState.{ProxyState};
 ghost use Rattle.sip_route.specs.Way.{request_uri_of};

@@ -1,3 +1,5 @@
+//! What policy is asked about a request outside a dialog: who is proven, what is asked for, of which address of record, at which minute.
+//! The answer is given by `Judge::ruling`.
 ghost use Rattle.std.specs.Prelude.{◌≡◌, false, IfOk, if◌then◌else◌};
 ghost use Rattle.std.specs.Option.{unwrap_or};
 ghost use Rattle.sip_policy.specs.Operation as Operations;

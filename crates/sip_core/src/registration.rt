@@ -1,3 +1,5 @@
+//! From a REGISTER that a rule let through to the registrar's plan, or to the status that refuses it (RFC 3261 10.3).
+//! The bindings change later, when the plan is taken (`sip_proxy`).
 ghost use Rattle.std.specs.Prelude.{◌≡◌, ◌≢◌, ◌≤◌, ◌<◌, ◌^◌, ◌&&◌, [], ◌∷◌, IfOk, IfSome, OnOk, List, ℕ};
 ghost use Rattle.sip_message_fields.specs.Values.{values_of};
 ghost use Rattle.sip_message_fields.specs.declared.field_name.FieldName.TheVariants as Name;

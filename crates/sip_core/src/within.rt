@@ -1,3 +1,4 @@
+//! Requests that name a dialog (RFC 3261 12.2.2, 16.12.1): one goes on only to an address that this dialog is known to hold.
 ghost use Rattle.std.specs.Prelude.{◌≡◌, IfOk, Some, []};
 ghost use Rattle.std.specs.Option.{option_and_then, unwrap_or};
 ghost use Rattle.std.specs.Result.{result_ok};

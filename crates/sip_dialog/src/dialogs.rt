@@ -1,3 +1,4 @@
+//! The calls on the dialogs that are known (RFC 3261 12): what is asked of them, and what begins, renews and ends one.
 ghost use Rattle.std.specs.Prelude.{◌≡◌, ◌≢◌, ◌↔◌, ◌≤◌, ◌+◌, ℕ, true, [], Err, IfErr, OnOk, OnErr};
 ghost use Rattle.sip_dialog.specs.declared.error.DialogError.TheVariants.{NoMemory, Full};
 ghost use Rattle.sip_dialog.specs.Dialogs.{is_in_dialog, is_full_for, learnt, taught, renewed, without_dialog, after_invite};

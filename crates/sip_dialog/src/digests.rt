@@ -1,3 +1,4 @@
+//! The digests of the dialogs' names, put in, moved and taken out with the rows. What is hashed, and under which secret, is in `rows`.
 ghost use Rattle.std.specs.Prelude.{◌≡◌, ◌≤◌, ◌<◌, ◌+◌, ◌&&◌, ◌++◌, ◌∷◌, [], ℕ, Some, false, length, is_some, nat_eq, swap, swap_remove};
 ghost use Rattle.std.specs.Prelude.{if◌then◌else◌, IsOk, OnOk, OnErr};
 ghost use Rattle.std.specs.HashMap.{get, spare};

@@ -1,3 +1,4 @@
+//! The table of known dialogs: found by a digest of their names, at most 4,096, and forgotten once they aren't known any more.
 ghost use Rattle.std.specs.Prelude.{◌≡◌, ◌≤◌, ◌<◌, ◌+◌, ◌++◌, ◌∷◌, [], Bool, true, not, length, count_by, position, MatchOption, ℕ};
 ghost use Rattle.std.specs.Prelude.{◌==◌, is_some, IfSome, IfNone, IfErr, Err, nat_le, ◌↔◌, ◌≢◌, OnOk, OnErr, IsOk};
 ghost use Rattle.sip_dialog.specs.declared.error.DialogError.TheVariants.{NoMemory, Full};

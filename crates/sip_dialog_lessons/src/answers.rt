@@ -1,3 +1,4 @@
+//! What an answer that goes to the caller tells of dialogs (RFC 3261 12.1, 15): one begins, learns addresses, or ends.
 ghost use Rattle.std.specs.Prelude.{◌≡◌, ◌≤◌, ◌<◌, ◌+◌, ◌&&◌, ◌++◌, ◌∷◌, nat_le, codes, if◌then◌else◌, IfOk, OnOk};
 ghost use Rattle.std.specs.Option.{option_to_list};
 ghost use Rattle.std.specs.Str.{bytes_eq};

@@ -1,3 +1,5 @@
+//! The addresses that Contact and Record-Route of a message give (RFC 3261 12.1.1, 12.2), of a view and of a message that is kept.
+//! Of a request that is kept, `sip_state` gives them.
 ghost use Rattle.std.specs.Prelude.{◌≡◌, ◌++◌, ◌||◌, ℕ, List, false, IfOk, OnOk};
 ghost use Rattle.sip_message_fields.specs.FieldName.{is_same_name};
 ghost use Rattle.sip_message_fields.specs.KnownName.{name_seen};

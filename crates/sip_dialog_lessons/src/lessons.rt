@@ -1,3 +1,4 @@
+//! All that a step tells the dialogs: collected before it is taken, and given to them with it. The dialogs are kept in `sip_dialog`.
 ghost use Rattle.std.specs.Prelude.{◌≡◌, ◌≤◌, ◌+◌, ◌++◌, ◌∷◌, [], ℕ, List, count_by, if◌then◌else◌, IfErr, OnOk};
 ghost use Rattle.std.specs.List.{list_any};
 ghost use Rattle.sip_dialog.specs.declared.dialog.Dialog.{Dialog};

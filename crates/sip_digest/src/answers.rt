@@ -1,3 +1,5 @@
+//! What a client that knows a password answers to a challenge, by MD5 (RFC 2617 3.2.2.1 to 3.2.2.3) and by SHA-256 (RFC 7616 3.4).
+//! What such an answer is worth is said in `nonces`.
 ghost use Rattle.std.specs.Prelude.{◌≡◌, ℕ, List, [], ◌∷◌, ◌++◌, codes};
 ghost use Rattle.std.specs.Str.{byte};
 ghost use Rattle.hex.specs.Hex.{encode_lower};

@@ -1,3 +1,4 @@
+//! The text of a nonce: the 32 hexadecimal digits of its word, written and read many at a time. Which nonces count is kept in `nonces`.
 ghost use Rattle.std.specs.Prelude.{◌≡◌, true, false, None, length, map};
 ghost use Rattle.sip_digest.specs.NonceText.{AreLower, HasDigits, join, lane_digit, lane_value, nonce_text, read_lower, word_of};
 

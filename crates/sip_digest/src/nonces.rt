@@ -1,3 +1,5 @@
+//! The nonces of the challenges that went out, and what a credential is worth against them (RFC 2617 3.2.2, 3.3).
+//! Which user a credential names, and of which realm it is, is asked before (`sip_auth`).
 ghost use Rattle.std.specs.Prelude.{◌≡◌, ◌≤◌, [], ◌∷◌, ◌++◌, length, IfOk, find, position};
 ghost use Rattle.std.specs.VecDeque.{deque_capacity};
 ghost use Rattle.sip_digest.specs.Credential.{shown};

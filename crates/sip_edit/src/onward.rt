@@ -1,3 +1,5 @@
+//! A request as it goes on (RFC 3261 16.4, 16.6), as an edited view: what is the same for all targets, then the one to a target.
+//! `tail` and `tail_text` write the same as text.
 ghost use Rattle.std.specs.Prelude.{◌≡◌, ◌∷◌, ◌++◌, IfOk, OnOk, [], codes, decimal, false, option_map};
 ghost use Rattle.std.specs.Option.{option_map_or};
 ghost use Rattle.std.specs.Str.{bytes_eq};

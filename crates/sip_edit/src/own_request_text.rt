@@ -1,3 +1,5 @@
+//! ACK and CANCEL of a request that went to a target (RFC 3261 9.1, 17.1.1.3), as texts written straight from the kept request.
+//! `own_requests` has the same as views.
 ghost use Rattle.std.specs.Prelude.{◌≡◌, ◌++◌, codes, IfOk, OnOk, option_map};
 ghost use Rattle.std.specs.Option.{option_and_then, option_to_list};
 ghost use Rattle.std.specs.List.{flat_map};

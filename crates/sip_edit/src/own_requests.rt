@@ -1,3 +1,4 @@
+//! ACK and CANCEL of a request that was sent (RFC 3261 9.1, 17.1.1.3), as views of it. The server sends the texts of `own_request_text`.
 ghost use Rattle.std.specs.Prelude.{◌≡◌, ◌++◌, ◌∷◌, [], decimal, codes, option_map, IfOk, OnOk};
 ghost use Rattle.std.specs.Option.{option_and_then, option_to_list};
 ghost use Rattle.sip_message_fields.specs.declared.field_name.FieldName.TheVariants as Name;

@@ -1,3 +1,5 @@
+//! This server's Via and its branch (RFC 3261 8.1.1.7, 16.6 step 8, 18.1.1), and a response without its top Via (16.7 step 3).
+//! How a response is known by such a Via is in `sip_own_via`.
 ghost use Rattle.std.specs.Prelude.{◌≡◌, ◌++◌, codes, decimal, drop, IfOk, IsTrue, OnOk};
 ghost use Rattle.sip_message_fields.specs.declared.field_name.FieldName.TheVariants as Name;
 ghost use Rattle.sip_message_fields.specs.Values;

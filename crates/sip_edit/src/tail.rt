@@ -1,3 +1,5 @@
+//! The text of a request to one target (RFC 3261 16.4, 16.6): its own head, and the tail that all targets have in common.
+//! The tail is written in `tail_text`.
 ghost use Rattle.std.specs.Prelude.{◌≡◌, ◌++◌, ℕ, List, codes, false, IfOk, OnOk};
 ghost use Rattle.sip_message_form.specs.declared.message.Message.{Message};
 ghost use Rattle.sip_message_fields.specs.declared.field_name.FieldName.TheVariants as Name;

@@ -1,3 +1,5 @@
+//! The tail of a request that goes on (RFC 3261 16.4, 16.6): all behind this server's own fields, written once for all its targets.
+//! What stands in front of it is written in `tail`.
 ghost use Rattle.std.specs.Prelude.{◌≡◌, ◌++◌, decimal, IfOk, OnOk};
 ghost use Rattle.std.specs.List.{flat_map};
 ghost use Rattle.sip_message_fields.specs.declared.field_name.FieldName.TheVariants as Name;

@@ -1,3 +1,5 @@
+//! The top Via of a request with its source (RFC 3261 18.2.1; RFC 3581 4): what becomes of `received` and `rport`.
+//! Where the responses go by it is in `received_request`.
 ghost use Rattle.std.specs.Prelude.{◌≡◌, ◌++◌, ◌||◌, not, false, length, decimal, codes, is_some, option_map, IfOk, IfSome, OnOk, Some};
 ghost use Rattle.std.specs.Str.{bytes_eq};
 ghost use Rattle.sip_text.specs.Cuts.{parts_at};

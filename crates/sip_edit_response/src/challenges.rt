@@ -1,3 +1,5 @@
+//! The fields of a challenge (RFC 2617 3.2.1; RFC 8760 2.3), by MD5, or by SHA-256 and then by MD5.
+//! Who is challenged, and with which nonce, is decided by who calls (`sip_uas`).
 ghost use Rattle.std.specs.Prelude.{◌≡◌, [], ◌∷◌, ◌++◌, IfOk, OnOk};
 ghost use Rattle.sip_edit_response.specs.Challenges;
 

@@ -1,3 +1,4 @@
+//! The first line and the fields of a response as text (RFC 3261 8.2.6), written from a kept request for `respond`.
 ghost use Rattle.std.specs.Prelude.{◌≡◌, ◌++◌, codes, map, IfSome, OnOk};
 ghost use Rattle.std.specs.List.{flat_map};
 ghost use Rattle.sip_message_fields.specs.Named.{first_of};

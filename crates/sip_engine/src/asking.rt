@@ -1,3 +1,5 @@
+//! New requests about which policy was asked, carried out: answered here, or sent to their targets (RFC 3261 10.3, 16.5, 22).
+//! What policy wasn't asked about is carried out in `served`.
 ghost use Rattle.std.specs.Prelude.{◌≡◌, position, true, false, None, Some, IfOk, OnOk, OnErr};
 ghost use Rattle.sip_engine_open.specs.fork.Firing.{KeepsOrder};
 ghost use Rattle.sip_engine_request.specs.Admitting.{IsAnswered};

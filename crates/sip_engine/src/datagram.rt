@@ -1,3 +1,5 @@
+//! From the bytes of a datagram to the module that takes its step: a response, a request with the key of an open one, or a new one
+//! (RFC 3261 17.1.3, 17.2.3). Moment and number were looked at in `stepping`.
 ghost use Rattle.std.specs.Prelude.{◌≡◌, IfOk, OnOk, OnErr};
 ghost use Rattle.sip_engine_open.specs.fork.Firing.{KeepsOrder};
 ghost use Rattle.sip_core.specs.Incoming.{IsRequest};

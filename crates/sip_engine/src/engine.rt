@@ -1,3 +1,4 @@
+//! The public calls of the server, and what each of them promises. The steps behind them are taken in `stepping`.
 ghost use Rattle.std.specs.Prelude.{◌≡◌, ◌≤◌, ◌<◌, ◌^◌, ◌⊎◌, ℕ, [], max, None, Some, Err, MatchOption, IsOk, IfOk, IfErr, IfSome, OnErr, OnOk};
 ghost use Rattle.sip_event.specs.declared.event.Event.TheVariants.{Datagram, Fault};
 ghost use Rattle.sip_engine_open.specs.Faults.{failed_of};

@@ -1,3 +1,5 @@
+//! The two ways in which a new request goes on: to its targets (RFC 3261 16.5, 16.6), and in its dialog (12.2, 16.12).
+//! It is kept before it goes, with what names its dialogs.
 ghost use Rattle.std.specs.Prelude.{◌≡◌, position, true, false, None, Some, IfOk, OnOk, OnErr};
 ghost use Rattle.sip_engine_open.specs.fork.Firing.{KeepsOrder};
 ghost use Rattle.sip_engine_open.specs.proxy.Proxy.{IsComing};

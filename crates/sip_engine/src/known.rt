@@ -1,3 +1,5 @@
+//! Requests with the key of an open one (RFC 3261 17.2.3): copies, and ACKs of its final answer.
+//! The ACK of a 2xx is a transaction of its own (13.2.2.4), and goes on or is dropped.
 ghost use Rattle.std.specs.Prelude.{◌≡◌, ◌<◌, ◌&&◌, codes, length, slice_get, Some, IfOk, OnOk, OnErr};
 ghost use Rattle.std.specs.Str.{bytes_eq};
 ghost use Rattle.sip_engine_open.specs.fork.Firing.{KeepsOrder};

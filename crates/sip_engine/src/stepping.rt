@@ -1,3 +1,4 @@
+//! The steps behind the calls of `Engine`: moment and number are looked at, then one step is taken, whole or not at all.
 ghost use Rattle.std.specs.Prelude.{◌≡◌, ◌≤◌, ◌<◌, ◌^◌, ◌⊎◌, ℕ, false, None, Err, IsOk, IfOk, IfErr, IfSome, OnOk, OnErr};
 ghost use Rattle.sip_engine_open.specs.fork.Firing.{KeepsOrder};
 ghost use Rattle.sip_event.specs.declared.event.Event.TheVariants.{Datagram, Fault};

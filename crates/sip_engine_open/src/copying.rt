@@ -1,3 +1,5 @@
+//! What comes with the key of an open request: a copy gets the last answer again, an ACK ends its copies (RFC 3261 17.2).
+//! The ACK of a 2xx is none of these: `sip_engine` takes it.
 ghost use Rattle.std.specs.Prelude.{◌≡◌, ◌≤◌, ◌<◌, ◌^◌, ℕ, [], true, false, codes, length, slice_get, Some, IfOk, OnOk, OnErr};
 ghost use Rattle.std.specs.Str.{bytes_eq};
 ghost use Rattle.sip_proxy.specs.fork.Firing.{KeepsOrder};

@@ -1,3 +1,4 @@
+//! Packets that couldn't be sent (RFC 3261 16.9): the branch of a ticket has failed if nothing was heard of it, and else nothing changes.
 ghost use Rattle.std.specs.Prelude.{◌≡◌, ◌≤◌, ◌<◌, ◌^◌, ℕ, List, length, slice_get, position, None, Some, IsOk, IsSome, IfNone, IfOk, IfSome, OnOk, OnErr};
 ghost use Rattle.sip_proxy.specs.fork.Firing.{KeepsOrder};
 ghost use Rattle.sip_proxy.specs.Proxy.{MayCome};

@@ -1,3 +1,4 @@
+//! The step of a response whose branch was found (RFC 3261 16.7, 17.1). What it makes of the open request is said in `sip_context`.
 ghost use Rattle.std.specs.Prelude.{◌≡◌, ◌≤◌, ◌<◌, ◌^◌, ℕ, List, length, slice_get, Some, IsSome, IfOk, OnOk, OnErr};
 ghost use Rattle.sip_proxy.specs.fork.Firing.{KeepsOrder};
 ghost use Rattle.sip_proxy.specs.Proxy.{IsComing};

@@ -1,3 +1,4 @@
+//! The step of a CANCEL (RFC 3261 9.2, 16.10): its own answer, and what it makes of the open request that it names.
 ghost use Rattle.std.specs.Prelude.{◌≡◌, ◌+◌, ◌<◌, ◌^◌, ◌++◌, ◌∷◌, [], false, length, position, slice_get, None, Some, IfOk, IfSome, OnOk, OnErr};
 ghost use Rattle.std.specs.Option.{option_and_then};
 ghost use Rattle.sip_proxy.specs.fork.Firing.{KeepsOrder};

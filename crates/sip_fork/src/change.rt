@@ -1,3 +1,4 @@
+//! Requests that are planned or are to be opened, with all memory that this takes: what is done with them afterwards takes none.
 ghost use Rattle.std.specs.Prelude.{◌≡◌, ◌<◌, ◌^◌, IfOk};
 ghost use Rattle.std.specs.List.{AllByRecursion, list_all};
 ghost use Rattle.model_steps.specs.context_model.BranchById.{HasNumbers};

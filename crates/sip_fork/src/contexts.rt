@@ -1,3 +1,5 @@
+//! The table of open requests with their timers (RFC 3261 16, 17): what is found in it, planned, opened, changed and ended.
+//! What an input makes of a request is said in `sip_context`.
 ghost use Rattle.std.specs.Prelude.{◌≡◌, ◌<◌, ◌≤◌, ◌==◌, [], ℕ, true, false, ◌+◌, ◌-◌, ◌^◌, max, length, position, find, nat_le, slice_get};
 ghost use Rattle.std.specs.Prelude.{option_map, None, Some, IfOk, IfErr, IfSome, OnOk, MatchOption};
 ghost use Rattle.std.specs.List.{All, AllPairs};

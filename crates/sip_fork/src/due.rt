@@ -1,3 +1,5 @@
+//! What the timer that fires first is for: which part of which open request, and whether something goes again or a deadline passes
+//! (RFC 3261 17).
 ghost use Rattle.std.specs.Prelude.{◌≡◌, false, position, None, IfSome, IfNone};
 ghost use Rattle.sip_dialog_lessons.specs.state.State.{side_deadline, phase_deadline};
 ghost use Rattle.model_steps.specs.context_model.Retransmission.{answer_due, branch_due};

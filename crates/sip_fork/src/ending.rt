@@ -1,3 +1,4 @@
+//! Transactions that end where their request stands, since their deadline does no more: without a plan, and without memory.
 ghost use Rattle.std.specs.Prelude.{◌≡◌, ◌≤◌, ◌^◌, true, ℕ, [], if◌then◌else◌, Some, None};
 ghost use Rattle.std.specs.List.{list_all};
 ghost use Rattle.sip_dialog_lessons.specs.state.State as States;

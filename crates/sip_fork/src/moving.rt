@@ -1,3 +1,4 @@
+//! Rows of the table opened, changed and closed with their timers: those that a row names stand afterwards, and no others.
 ghost use Rattle.std.specs.Prelude.{◌≡◌, ◌<◌, ◌≤◌, ◌+◌, ◌^◌, ◌++◌, ◌∷◌, [], length, map, position, remove, slice_get, slice_set, Some, None};
 ghost use Rattle.std.specs.List.{All};
 ghost use Rattle.sip_transaction_table.specs.Key.{same_key};

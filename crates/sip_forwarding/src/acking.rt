@@ -1,3 +1,4 @@
+//! The packet of an ACK that goes on in its dialog without a transaction (RFC 3261 16.11). What it tells the dialog is in `renewing`.
 ghost use Rattle.std.specs.Prelude.{◌≡◌, IfOk, Some};
 ghost use Rattle.sip_message_form.specs.Text.{text_of};
 ghost use Rattle.sip_edit.specs.Onward.{onward_uri};

@@ -1,3 +1,4 @@
+//! The branches with which a request begins: one for each target (RFC 3261 16.6), or the one in its dialog (16.12).
 ghost use Rattle.std.specs.Prelude.{◌≡◌, ◌+◌, ◌<◌, ◌^◌, length, is_some, if◌then◌else◌, ◌∷◌, [], false, Some, None, IfOk};
 ghost use Rattle.model_steps.specs.state.declared.branch.Phase.TheVariants.{Unheard, Ended};
 ghost use Rattle.model_steps.specs.state.State as States;

@@ -1,3 +1,5 @@
+//! The drafts of requests that are sent on, to targets or in a dialog, for `sip_engine_request`.
+//! Where a request goes was decided before (`sip_core`).
 ghost use Rattle.std.specs.Prelude.{◌≡◌, ◌≤◌, ◌<◌, ◌+◌, ◌^◌, [], length, nat_lt, count_by, Some, IfOk};
 ghost use Rattle.sip_transaction_table.specs.Key.{key_of};
 ghost use Rattle.sip_targets.specs.Targets.{target_list};

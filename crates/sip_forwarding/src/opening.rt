@@ -1,3 +1,4 @@
+//! What is sent when a request is opened (RFC 3261 16.2, 16.6): its 100, the best answer where no branch can be sent to, its branches.
 ghost use Rattle.std.specs.Prelude.{◌≡◌, ◌+◌, ◌<◌, ◌^◌, ◌++◌, [], false, is_some, Some, IfOk, OnOk};
 ghost use Rattle.std.specs.List.{flat_map, list_any};
 ghost use Rattle.model_steps.specs.state.declared.branch.Branch.{Branch};

@@ -1,3 +1,5 @@
+//! A request that is answered at once, and is open from then on for its copies (RFC 3261 8.2.6, 17.2).
+//! Which status and which fields its answer has is decided by who calls.
 ghost use Rattle.std.specs.Prelude.{◌≡◌, ◌+◌, ◌<◌, ◌^◌, false, Some, IfOk};
 ghost use Rattle.sip_message_form.specs.Text.{text_of};
 ghost use Rattle.sip_transaction_table.specs.Key.{key_of};

@@ -1,3 +1,4 @@
+//! Whether a datagram is within the allowance of its source, and the count of those that aren't. `guard` asks it for each that comes.
 ghost use Rattle.std.specs.Prelude.{◌≡◌, true, false, IfOk};
 ghost use Rattle.sip_guard.specs.Guard.{allowances_of, hearing, is_among, reached, told_all, IsBounded, is_within, IsAdmitted};
 ghost use Rattle.sip_guard.specs.Unheard.{noted};

@@ -1,3 +1,5 @@
+//! The link that a server asks in place of its socket: what is beyond a source's allowance is dropped before the engine hears of it.
+//! What goes out isn't limited.
 ghost use Rattle.std.specs.Prelude.{◌≡◌, true, None, IfOk, IfSome, OnOk, OnErr, option_map};
 ghost use Rattle.sip_loop_link.specs.Told.{counted, heard_of, and_then, GrewBy, IsWritable, SetsAside};
 ghost use Rattle.sip_guard.specs.Guard as Guarding;

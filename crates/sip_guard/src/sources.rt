@@ -1,3 +1,5 @@
+//! What each source has used of its allowance, for at most 4,096 sources, in constant time for each datagram and without memory.
+//! How much a source may use is said in `limit`.
 ghost use Rattle.std.specs.Prelude.{◌≡◌, ◌≤◌, ◌+◌, ℕ, List, [], true, false, length, is_some, IfOk, if◌then◌else◌};
 ghost use Rattle.std.specs.HashMap.{spare};
 ghost use Rattle.std.specs.Map.{lookup};

@@ -1,3 +1,5 @@
+//! Values that hold an address (RFC 3261 20.10), as those of From, To and Contact: a URI, in brackets or without, and parameters.
+//! `written_address` reads the plainest of them without making a URI.
 ghost use Rattle.std.specs.Prelude.{◌≡◌, IfOk, option_map, if◌then◌else◌, Some, None};
 ghost use Rattle.std.specs.List.{list_all};
 ghost use Rattle.sip_text.specs.Cuts.{parts_at, split_outside};

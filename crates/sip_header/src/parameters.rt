@@ -1,3 +1,4 @@
+//! Header parameters, each behind a `;` (RFC 3261 25.1): a value's are read once, and looked up by name where they stand.
 ghost use Rattle.std.specs.Prelude.{◌≡◌, ◌++◌, ◌∷◌, true, false, option_map, is_some, Some, None, codes, [], IfSome, MatchOption};
 ghost use Rattle.std.specs.Str.{byte};
 ghost use Rattle.sip_text.specs.Words.{is_token_text};

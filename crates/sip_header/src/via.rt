@@ -1,3 +1,5 @@
+//! The value of a Via read (RFC 3261 20.42): its transport, its sent-by and its parameters.
+//! What a Via gets from the source of a request is written in `sip_edit`.
 ghost use Rattle.std.specs.Prelude.{◌≡◌, ◌++◌, codes, Some, option_map, IfOk, IfSome};
 ghost use Rattle.sip_header.specs.Via.{sender_behind, versioned, sender_of, via_of, IsSenderAt, IsBeforeBranch};
 

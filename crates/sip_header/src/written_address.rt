@@ -1,3 +1,4 @@
+//! Addresses of From and To, of which the plainest are read without a URI being made. `name_addr` reads every form.
 ghost use Rattle.std.specs.Prelude.{◌≡◌, ◌≤◌, ◌-◌, length, option_map, take, IfOk, IfSome, Some};
 ghost use Rattle.sip_header.specs.NameAddr.{any_uri_of, with_parameters, name_addr_of};
 ghost use Rattle.sip_uri.specs.Aor as Aors;

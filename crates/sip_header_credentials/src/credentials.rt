@@ -1,3 +1,5 @@
+//! Digest credentials read (RFC 2617 3.2.2): items in their usual form in one pass, every other form by the general grammar.
+//! Whether they prove anybody is asked in `sip_auth`.
 ghost use Rattle.std.specs.Prelude.{◌≡◌, ◌≤◌, [], ◌∷◌, ◌++◌, List, true, None, Some, IfOk, IfSome, OnOk, MatchOption, is_some, length, map, option_map};
 ghost use Rattle.sip_text.specs.Cuts.{parts_at, parts_behind};
 ghost use Rattle.sip_text.specs.Escapes.{plain_front};

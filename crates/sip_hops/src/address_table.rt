@@ -1,3 +1,5 @@
+//! The configured addresses of hosts, found by host and port: no name is resolved.
+//! An address in dotted form isn't looked up here.
 ghost use Rattle.std.specs.Prelude.{◌≡◌, length, find, option_map, nat_eq, IfOk, OnOk};
 ghost use Rattle.std.specs.HashMap.{get, IsEmpty};
 ghost use Rattle.sip_hops.specs.Code as Codes;

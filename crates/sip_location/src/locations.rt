@@ -1,3 +1,5 @@
+//! The calls of the registrar: bindings are looked up, a REGISTER is planned, and its plan is taken (RFC 3261 10.3 steps 6 to 8).
+//! Who may register or list is decided before (`sip_core`).
 ghost use Rattle.std.specs.Prelude.{◌≡◌, ◌≤◌, ◌<◌, ◌^◌, ℕ, List, [], false, nat_lt, length, filter, Ok, IsOk, IfOk, IfErr, IfSome, OnOk, OnErr};
 ghost use Rattle.sip_uri.specs.declared.aor.Aor.{Aor};
 ghost use Rattle.sip_uri.specs.Aor.{is_same_aor};

@@ -1,3 +1,5 @@
+//! Packets given to the link in their order. One that fails is a fault at once, whose own packets go behind those that wait.
+//! What waits here is of events that were told to the journal before.
 ghost use Rattle.std.specs.Prelude.{◌≡◌, ◌<◌, ◌≤◌, ◌+◌, ◌++◌, ℕ, Option, [], drop, length, IfOk, IfErr, OnOk, OnErr};
 ghost use Rattle.model_bounds.specs.model.Ends.{sends_left};
 ghost use Rattle.sip_loop.specs.Courses.{Breaks, Course, IsNoFurther, Others, TakesFault, told_with, waiting_at};

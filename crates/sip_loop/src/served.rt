@@ -1,3 +1,4 @@
+//! The refusals of `serve`, each made of what was refused or failed: memory, the link, a step, the journal, the log.
 ghost use Rattle.std.specs.Prelude.{◌≡◌};
 ghost use Rattle.sip_loop.specs.ServeErrors.{number_of_refusal, refusal_of_audit, refusal_of_step};
 ghost use Rattle.sip_loop.specs.declared.served.ServeError.TheVariants.{NoMemory, Journal, Link};

@@ -1,3 +1,5 @@
+//! The public call that serves turn by turn: one reading of the clock, what is due by it (`due`), and one question to the link.
+//! It never waits: who serves phones does that between two turns (`sipd_service`).
 ghost use Rattle.std.specs.Prelude.{◌≡◌, ◌≢◌, ◌⊎◌, ◌≤◌, ℕ, ◌∷◌, [], true, false, List, Option, None, Some, Err, IfOk, IfErr, OnOk, OnErr};
 ghost use Rattle.sip_loop_link.specs.Told.{counted};
 ghost use Rattle.sip_loop.specs.Counts.{counted_times, IsAskedWithin};

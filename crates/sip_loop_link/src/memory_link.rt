@@ -1,3 +1,4 @@
+//! A link without a socket, for trials: it tells all that it heard and was given, which contracts speak of.
 ghost use Rattle.std.specs.Prelude.{◌≡◌, ◌+◌, ◌<◌, ◌≤◌, ◌∷◌, ◌++◌, [], true, false, length, slice_set, slice_index_or, nat_eq, ◌↔◌, IsTrue, IfOk, IfSome, OnOk, OnErr, Some};
 ghost use Rattle.std.specs.List.{list_any};
 ghost use Rattle.sip_loop_link.specs.Told.{most, counted, heard_of, and_then, GrewBy, IsWritable, SetsAside};

@@ -1,3 +1,4 @@
+//! The clock that the program serves by. A clock over memory, which tells its readings, is in `memory_clock`.
 ghost use Rattle.std.specs.Prelude.{◌≡◌, ◌≤◌, None};
 ghost use Rattle.sip_loop_link.specs.SteadyClock.{start_moment, moment_after, reading_of, behind_by};
 

@@ -1,3 +1,4 @@
+//! The link that the program serves over. What a socket did no clause can say; a link over memory, which tells it, is in `memory_link`.
 ghost use Rattle.std.specs.Prelude.{◌≡◌, ◌≤◌, [], length, IfOk, IfSome, IsSome, OnOk, OnErr, None, true};
 ghost use Rattle.sip_loop_link.specs.Told.{counted, most_bytes, IsWritable};
 

@@ -1,3 +1,5 @@
+//! What the lines of a head say, taken one by one: its fields, and the one Content-Length (RFC 3261 7.3, 20.14), for `parts`.
+//! What a view has of a head is taken in `filling`.
 ghost use Rattle.std.specs.Prelude.{◌≡◌, ◌⊎◌, MatchResult, MatchOption, IfOk, Some, None};
 ghost use Rattle.sip_message.specs.HeadContent.{IsFault, next_length, part_field, IsFieldTaken, IsLineTaken, IsLineRefused, IsContentOf};
 ghost use Rattle.sip_message.specs.HeadContent.{content_seen, field_taken};

@@ -1,3 +1,5 @@
+//! The field that one line of a head writes: its name, and its value without the blanks round it (RFC 3261 7.3.1).
+//! No byte is copied but of a value with folds. What becomes of a field is said in `content` and `filling`.
 ghost use Rattle.std.specs.Prelude.{◌≡◌, ◌∷◌, true, length, take, option_map, IfOk, IfSome, MatchResult, Some};
 ghost use Rattle.std.specs.List.{list_all};
 ghost use Rattle.sip_text.specs.Lists.{trimmed, end_trimmed};

@@ -1,3 +1,5 @@
+//! A head taken line by line into the fields of a view (RFC 3261 7.3), a list as a field for each item (7.3.1).
+//! Lines in their usual form are taken in place, any other goes the general way. `content` does the same for `parts`.
 ghost use Rattle.std.specs.Prelude.{◌≡◌, ◌⊎◌, ◌++◌, [], ◌∷◌, true, false, map, All, MatchResult, IfOk, OnOk, Some, None};
 ghost use Rattle.std.specs.List.{list_all};
 ghost use Rattle.sip_text_runs.specs.TextRun.{is_text};

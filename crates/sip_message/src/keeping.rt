@@ -1,3 +1,5 @@
+//! How the field of a line is kept: a list as a field for each of its items (RFC 3261 7.3.1), any other as it is.
+//! Which names are lists is said in `sip_message_fields`.
 ghost use Rattle.std.specs.Prelude.{◌≡◌, [], ◌∷◌, true, false, map, IfOk, OnOk, All, Some, MatchResult};
 ghost use Rattle.sip_message_fields.specs.FieldName.{is_length, is_list};
 ghost use Rattle.sip_text.specs.Lists.{cut};

@@ -1,3 +1,5 @@
+//! The lines of a head: cut at their CRLF, empty ones at the front passed over (RFC 3261 7.5), and joined with their folds (7.3.1).
+//! What a line says is read in `entries`.
 ghost use Rattle.std.specs.Prelude.{◌≡◌, ◌+◌, ◌<◌, slice_index, ◌∷◌, ◌++◌, [], length, IfOk, IfSome, ℕ, MatchOption, option_map, true, false, Some};
 ghost use Rattle.memchr.specs.Find.{OccursAt, FindsNeedle};
 ghost use Rattle.sip_message_fields.specs.Slice.{IsCutFrom};

@@ -1,3 +1,5 @@
+//! The first line of a message read: a request line (RFC 3261 7.1) or a status line (7.2).
+//! Which versions are served is not asked here but in `sip_validate`.
 ghost use Rattle.std.specs.Prelude.{◌≡◌, Ok, IfSome, Some};
 ghost use Rattle.std.specs.List.{list_all};
 ghost use Rattle.std.specs.Option.{ok_or, option_and_then};

@@ -1,3 +1,4 @@
+//! Fields put into one store and viewed there again: the bytes of a message that is kept stand once (`sip_message_form`).
 ghost use Rattle.std.specs.Prelude.{◌≡◌, IfOk, All, map};
 ghost use Rattle.sip_message_fields.specs.Values;
 ghost use Rattle.sip_message_fields.specs.KeptField.{field_kept, IsStored, IsPut, IsFieldPut, AreFieldsPut};

@@ -1,3 +1,4 @@
+//! The fields of a view: looked up, counted, added and edited by name, without a byte copied. `Fields` has bytes of its own.
 ghost use Rattle.std.specs.Prelude.{◌≡◌, [], ◌∷◌, ◌++◌, IfOk, OnOk, OnErr, length, map, option_map};
 ghost use Rattle.sip_message_fields.specs.Lines.{line_of};
 

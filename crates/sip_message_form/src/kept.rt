@@ -1,3 +1,5 @@
+//! A message kept by its written form, which goes out as it stands: so are kept the answers that came or were made here.
+//! The request of an open request is kept in fewer bytes (`KeptParts`).
 ghost use Rattle.std.specs.Prelude.{◌≡◌, IfOk, All, drop, map};
 ghost use Rattle.sip_message_fields.specs.Values;
 ghost use Rattle.sip_message_fields.specs.KeptField.{field_kept, IsStored};

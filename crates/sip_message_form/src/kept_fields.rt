@@ -1,3 +1,4 @@
+//! Fields that stand in a store, for `KeptParts`: one is looked up by its name, viewed, or put into a text.
 ghost use Rattle.std.specs.Prelude.{◌≡◌, ◌++◌, All, IfSome, OnOk, map, option_map};
 ghost use Rattle.std.specs.List.{flat_map};
 ghost use Rattle.sip_message_fields.specs.FieldName.{is_same_name, spelling};

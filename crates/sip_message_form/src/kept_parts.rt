@@ -1,3 +1,5 @@
+//! The form in which an open request keeps its request (`Heard` of `sip_state`): its fields are looked up and put where they stand.
+//! An answer is kept by its written form (`Kept`).
 ghost use Rattle.std.specs.Prelude.{◌≡◌, ◌++◌, IfOk, OnOk, option_map};
 ghost use Rattle.std.specs.List.{flat_map};
 ghost use Rattle.sip_message_fields.specs.Named.{all_named, first_named, first_of};

@@ -1,3 +1,4 @@
+//! The form in which messages are read and edited: views, lent by a datagram, by a message that was made, or by another view.
 ghost use Rattle.std.specs.Prelude.{◌≡◌, ◌∷◌, IfOk, List, drop};
 ghost use Rattle.sip_message_fields.specs.declared.field.Field.{Field};
 ghost use Rattle.sip_message_form.specs.Text.{AreLinesOf};

@@ -1,3 +1,5 @@
+//! The first line of a message as it is lent (RFC 3261 7.1, 7.2): of a view, and of a message that is kept.
+//! A line is read as one in `sip_message`.
 ghost use Rattle.std.specs.Prelude.{◌≡◌, IfOk};
 ghost use Rattle.sip_message_form.specs.ViewStart.{start_seen};
 

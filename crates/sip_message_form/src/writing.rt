@@ -1,3 +1,4 @@
+//! The written form of a message that owns its bytes (RFC 3261 7), and its length. Views are written in `view_writing`.
 ghost use Rattle.std.specs.Prelude.{◌≡◌, ◌++◌, length, min, ◌-◌, ◌^◌, IfOk, OnOk};
 ghost use Rattle.std.specs.List.{flat_map};
 ghost use Rattle.sip_message_form.specs.Text.{start_text, field_line, field_text, text_of};

@@ -1,3 +1,4 @@
+//! Laws of every history: states that are the same take the same steps, and where nonces, records and dialogs come from.
 ghost use Rattle.std.specs.Prelude.{◌≡◌, ◌≤◌, ℕ, List, [], ◌∷◌, Some, false};
 ghost use Rattle.sip_digest.specs.Credential.{Credential};
 ghost use Rattle.sip_auth.specs.Proof.{Right};

@@ -1,3 +1,4 @@
+//! Laws of every run on open requests: their numbers and keys, what is due when, what goes again, and that each ends.
 ghost use Rattle.std.specs.Prelude.{◌≡◌, ◌≤◌, ◌+◌, ◌^◌, ℕ, true, false, List, [], ◌∷◌, length, Contains};
 ghost use Rattle.sip_event.specs.declared.packet.Packet.{Packet};
 ghost use Rattle.sip_model.specs.Lives.{first_sending, sent_first};

@@ -1,3 +1,5 @@
+//! What all Vias of one run of this server begin with, read once, so that a response's top Via is known by its bytes alone
+//! (RFC 3261 16.7 step 1, 18.1.2).
 ghost use Rattle.std.specs.Prelude.{◌≡◌, ◌++◌, true, drop, IfOk, IfSome};
 ghost use Rattle.sip_own_via.specs.OwnFront.{EndsIn, IsOwnFront, IsOwnPlace};
 

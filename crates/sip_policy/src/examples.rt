@@ -1,3 +1,4 @@
+//! Worked examples of decisions, of patterns, and of the minutes at which a rule holds, as contracts that compute.
 ghost use Rattle.std.specs.Prelude.{◌≡◌, ℕ, true, false, List, [], codes, pos, negsuc, Some, None};
 ghost use Rattle.sip_uri.specs.Examples.{sample_domains};
 ghost use Rattle.sip_policy.specs.declared.decision.Decision.{Decision};

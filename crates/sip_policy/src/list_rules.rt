@@ -1,3 +1,5 @@
+//! The rules as a plain list: the first one that applies decides, as in every other kind of `Rules`.
+//! The program has an index of them (`sip_policy_index`).
 ghost use Rattle.std.specs.Prelude.{◌≡◌, IfOk};
 ghost use Rattle.std.specs.Option.{option_copied};
 ghost use Rattle.sip_policy.specs.Decision as Definitions;

@@ -1,3 +1,4 @@
+//! One rule: for whom, for what and when it is, and what it decides. Which rule of several counts is said in `list_rules`.
 ghost use Rattle.std.specs.Prelude.{◌≡◌, Some};
 ghost use Rattle.std.specs.Option.{option_copied};
 ghost use Rattle.sip_policy.specs.Rule.{matches, applies, needs_no_proof};

@@ -1,3 +1,4 @@
+//! The rules that the program has: one more kind of `Rules`, which decides as the plain list of `sip_policy` does.
 ghost use Rattle.std.specs.Prelude.{◌≡◌};
 ghost use Rattle.std.specs.Option.{option_copied};
 ghost use Rattle.sip_policy.specs.Decision.{decision_of, recorded_minute};

@@ -1,3 +1,4 @@
+//! The first rule that applies, looked up by operation and by who asks: only classes of rules that may apply are gone through.
 ghost use Rattle.std.specs.Prelude.{◌≡◌, ◌≤◌, ℕ, Bool, ◌&&◌, List, Some, min, length};
 ghost use Rattle.std.specs.Option.{option_copied};
 ghost use Rattle.sip_policy.specs.declared.rule.Rule.{Rule};

@@ -1,3 +1,4 @@
+//! What a CANCEL does to the table (RFC 3261 9.2, 16.10), as one change: it is opened, and the request that it names is changed.
 ghost use Rattle.std.specs.Prelude.{◌≡◌, ◌<◌, ◌≤◌, ◌+◌, ◌^◌, ℕ, List, length, position, slice_get, None, Some, IfOk, IfSome, OnOk, OnErr};
 ghost use Rattle.std.specs.List.{All};
 ghost use Rattle.sip_fork.specs.Firing.{KeepsOrder};

@@ -1,3 +1,4 @@
+//! How a step changes what the proxy knows: an open request is changed or opened, and dialogs learn. All memory is taken before.
 ghost use Rattle.std.specs.Prelude.{◌≡◌, ◌<◌, ◌≤◌, ◌+◌, ◌-◌, ◌^◌, ℕ, max, length, position, slice_get, None, Some, IfOk, OnOk, OnErr};
 ghost use Rattle.std.specs.List.{All};
 ghost use Rattle.sip_fork.specs.Contexts.{IsFitting};

@@ -1,3 +1,5 @@
+//! What the proxy knows, as the steps look it up, and a moment or a number that passes alone.
+//! All other changes are in `changing`, `cancelling`, `ending` and `registering`.
 ghost use Rattle.std.specs.Prelude.{◌≡◌, ◌<◌, ◌≤◌, ◌==◌, ◌+◌, ◌^◌, ℕ, List, [], false, length, position, slice_get, nat_le, find, option_map};
 ghost use Rattle.std.specs.Prelude.{MatchOption, Some, IfOk, IfSome};
 ghost use Rattle.std.specs.List.{AllPairs};

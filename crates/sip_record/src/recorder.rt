@@ -1,3 +1,5 @@
+//! The journal of a server that records: each event goes out as a line of a script before its packets are sent.
+//! What reads such lines again is in `sip_resume` and `sip_replay`.
 ghost use Rattle.std.specs.Prelude.{◌≡◌, ◌⊎◌, ◌∷◌, [], true, false, IfOk, OnOk, OnErr, None};
 ghost use Rattle.sip_event.specs.declared.event.Event.TheVariants.{Datagram, Time, Fault};
 ghost use Rattle.sip_replay_script.specs.Devices.{GaveUp, WritesFront};

@@ -1,3 +1,4 @@
+//! What is served, gone on with and replayed of one record are the same steps: the laws of recorders, of resuming and of replays together.
 ghost use Rattle.std.specs.Prelude.{◌≡◌, ◌++◌, ℕ, List, [], None, Option, Some};
 ghost use Rattle.std.specs.Io.KnownBytes.{Appends};
 ghost use Rattle.sip_config_types.specs.declared.config.Config.{Config};

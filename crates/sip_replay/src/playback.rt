@@ -1,3 +1,5 @@
+//! The replay of a script: its events are taken one by one, each behind what is due by its moment, and all steps are printed.
+//! The replay of a record, in which the configuration may change, is in `record`.
 ghost use Rattle.std.specs.Prelude.{◌≡◌, ◌≤◌, ◌⊎◌, ℕ, List, [], ◌∷◌, true, false, None, Err, IfOk, IfErr, OnOk};
 ghost use Rattle.model_bounds.specs.model.Run.{event_moment};
 ghost use Rattle.model_bounds.specs.steps_model.Step.{Given, IsStep, moment_of};

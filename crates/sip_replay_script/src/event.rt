@@ -1,3 +1,4 @@
+//! The next event of a script read, most from the bytes as they were read, and else line by line. What one line says is in `script`.
 ghost use Rattle.std.specs.Prelude.{◌≡◌, ◌≤◌, ◌++◌, ◌∷◌, [], ℕ, List, Option, Some, true, false, length, take, OnOk, IfOk, IfErr, IfSome, IfNone, MatchOption};
 ghost use Rattle.sip_replay_script.specs.Devices.{later};
 ghost use Rattle.sip_replay_script.specs.Events;

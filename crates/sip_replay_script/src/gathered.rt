@@ -1,3 +1,4 @@
+//! The bytes of one datagram of a script, put together line by line, each with CRLF in place of its LF.
 ghost use Rattle.std.specs.Prelude.{◌≡◌, ◌≤◌, ◌<◌, ◌+◌, ◌++◌, ◌∷◌, [], ℕ, length, take, drop, vec_len, OnOk, IfSome, MatchOption};
 ghost use Rattle.httparse.specs.Pieces.{AllPassBetween, IsRunIn};
 ghost use Rattle.sip_replay_script.specs.Gathered.{is_inside, AddsLines, CopiesLine, CopiesLines};

@@ -1,3 +1,4 @@
+//! The lines of a script or a record, read in parts of at most 8,192 bytes. What a line says is in `script`.
 ghost use Rattle.std.specs.Prelude.{◌≡◌, ◌≢◌, ◌≤◌, ◌<◌, ◌+◌, ◌*◌, ◌++◌, ◌∷◌, [], ℕ, List, true, false, length, take, drop, vec_len, count_by, IfOk};
 ghost use Rattle.std.specs.Prelude.{IfErr, IfSome, IfNone, OnOk, MatchOption};
 ghost use Rattle.std.specs.Io.KnownBytes.{Consumes, Keeps, IsAtEnd};

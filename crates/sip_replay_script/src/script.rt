@@ -1,3 +1,5 @@
+//! What the first line of an event says: its words, and the moments, addresses and numbers that they hold.
+//! How events are written is in `event_text`.
 ghost use Rattle.std.specs.Prelude.{◌≡◌, ◌≤◌, ◌<◌, ◌+◌, length, IfOk, IfSome, Some, None, MatchOption, codes, true, false, take, drop, option_map};
 ghost use Rattle.std.specs.Str.{bytes_eq};
 ghost use Rattle.memchr.specs.Find.{IsFirstByte, is_byte};

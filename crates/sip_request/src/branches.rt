@@ -1,3 +1,4 @@
+//! The timers of all branches, set and stopped when their request changes: each branch is matched with the same one before.
 ghost use Rattle.std.specs.Prelude.{◌≡◌, ◌≤◌, ◌<◌, ◌+◌, ◌*◌, ◌^◌, ◌++◌, [], true, length, reverse, IfSome, if◌then◌else◌};
 ghost use Rattle.sip_timers.specs.Moves.{IsHeld, Moves};
 ghost use Rattle.sip_timers.specs.Setting.{SetsInOrder};

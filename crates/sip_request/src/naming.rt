@@ -1,3 +1,4 @@
+//! Which timers the parts of an open request have by their phases (RFC 3261 16.6, 16.8, 17; RFC 6026 7). `part` sets and stops them.
 ghost use Rattle.std.specs.Prelude.{◌≡◌, ◌++◌, ◌^◌, ℕ, Some, None, if◌then◌else◌};
 ghost use Rattle.sip_timers.specs.declared.letter.Letter.TheVariants.{D, M};
 ghost use Rattle.sip_timers.specs.declared.timer.Owner.{Owner};

@@ -1,3 +1,5 @@
+//! The timers of one part of an open request, set and stopped: one that stays the same keeps its key and its place.
+//! Which timers it has is said in `naming`.
 ghost use Rattle.std.specs.Prelude.{◌≡◌, ◌≤◌, ◌<◌, ◌+◌, ◌^◌, []};
 ghost use Rattle.sip_timers.specs.Moves.{IsHeld, Moves};
 ghost use Rattle.sip_timers.specs.Setting.{SetsInOrder};

@@ -1,3 +1,4 @@
+//! An open request with its timers' keys, as the table of `sip_fork` keeps it: its timers are set, moved or stopped with it.
 ghost use Rattle.std.specs.Prelude.{◌≡◌, ◌≤◌, ◌+◌, ◌^◌, [], length, IfOk, IfErr, OnOk};
 ghost use Rattle.sip_timers.specs.Timers.{KeysDiffer};
 ghost use Rattle.sip_timers.specs.declared.error.TimerError.TheVariants.{NoMemory};

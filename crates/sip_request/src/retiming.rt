@@ -1,3 +1,4 @@
+//! The timers of an open request moved when it changes: those of its answering side, then those of its branches (`branches`).
 ghost use Rattle.std.specs.Prelude.{◌≡◌, ◌≤◌, ◌+◌, ◌^◌, [], true, length, reverse};
 ghost use Rattle.sip_timers.specs.Timers.{KeysDiffer};
 ghost use Rattle.sip_timers.specs.Moves.{IsHeld, Moves};

@@ -1,3 +1,4 @@
+//! The events of a record taken one after the other, up to its end, a cut, or a configuration that begins (`segments`).
 ghost use Rattle.std.specs.Prelude.{◌≡◌, ◌≤◌, true, IfOk, IfErr};
 ghost use Rattle.sip_replay_script.specs.Devices.{later};
 ghost use Rattle.sip_replay_script.specs.Lines.{pending, IsSpent};

@@ -1,3 +1,5 @@
+//! One configuration of a record comes into force, and the events behind it are taken (`events`).
+//! How a configuration is taken is in `sip_segments`.
 ghost use Rattle.std.specs.Prelude.{◌≡◌, ◌≤◌, ℕ, List, Option, true, IfOk, IfErr, IfSome, IfNone, OnErr};
 ghost use Rattle.std.specs.Io.KnownBytes.{Keeps};
 ghost use Rattle.sip_replay_script.specs.Devices.{later};

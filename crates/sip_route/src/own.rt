@@ -1,3 +1,4 @@
+//! What of a message names this server: a host, a URI (RFC 3261 16.4, 16.12), a Via (16.3 step 4); and what it puts into Record-Route.
 ghost use Rattle.std.specs.Prelude.{◌≡◌, ◌&&◌, ◌==◌, IfOk, [], ◌∷◌, codes, decimal, None};
 ghost use Rattle.std.specs.List.{list_any};
 ghost use Rattle.std.specs.Option.{unwrap_or};

@@ -1,3 +1,5 @@
+//! Which Routes of a request are left once this server's own part of its way is taken off (RFC 3261 16.4), told by two numbers.
+//! The way itself is in `way`.
 ghost use Rattle.std.specs.Prelude.{◌≡◌, ◌≤◌, IfOk, is_some, length, map, if◌then◌else◌};
 ghost use Rattle.sip_message_form.specs.ViewStart.{start_seen};
 ghost use Rattle.sip_route.specs.Way as Ways;

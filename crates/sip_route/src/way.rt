@@ -1,3 +1,5 @@
+//! Where a request goes next once this server's own part of its way is taken off (RFC 3261 16.4, 16.6 step 6).
+//! The address behind that URI is looked up in `sip_hops`.
 ghost use Rattle.std.specs.Prelude.{◌≡◌, ◌&&◌, IfOk, MatchOption, [], Some, map, true, false, take, drop, length, codes};
 ghost use Rattle.sip_text.specs.Words.{is_same_text};
 ghost use Rattle.sip_message_form.specs.ViewStart.{start_seen};

@@ -1,3 +1,4 @@
+//! The public call over a list of events, with all that is promised of a whole run. A script is read in `sip_replay`, a link in `sip_loop`.
 ghost use Rattle.std.specs.Prelude.{◌≡◌, [], ◌∷◌, None, Some, IfErr, OnOk};
 ghost use Rattle.sip_engine.specs.steps_model.Step.{moment_of};
 ghost use Rattle.sip_run.specs.Due.{NothingDueBy, standing_of};

@@ -1,3 +1,4 @@
+//! The last configuration of a record, for who tells a change against it (`sipd_tools`). No event is taken here.
 ghost use Rattle.std.specs.Prelude.{◌≡◌, ◌≤◌, ℕ, length, IfOk, IfErr, IfSome, IfNone};
 ghost use Rattle.sip_replay_script.specs.Devices.{later};
 ghost use Rattle.sip_replay_script.specs.Lines.{pending, IsSpent};

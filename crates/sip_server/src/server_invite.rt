@@ -1,3 +1,4 @@
+//! Not in the program: the server transaction of an INVITE as a machine, which the answering side of one is proved to fit.
 ghost use Rattle.std.specs.Prelude.{◌≡◌, false};
 ghost use Rattle.sip_server.specs.ServerInvite.{server_invite, runs};
 ghost use Rattle.sip_server.specs.declared.server_invite.ServerInvite.TheVariants.{Proceeding};

@@ -1,3 +1,5 @@
+//! The request of an open request, as it is kept, and what is asked of it again and again, read once: its top Via, its Routes, its dialogs.
+//! From it the packets to targets are written (RFC 3261 16.6).
 ghost use Rattle.std.specs.Prelude.{◌≡◌, ◌++◌, ℕ, IfOk, IfSome, OnOk, List, Some, is_some};
 ghost use Rattle.std.specs.Option.{option_and_then};
 ghost use Rattle.std.specs.List.{filter_map};

@@ -1,3 +1,4 @@
+//! Call-ID and tags of a request, and the dialogs that it and its answers name by them (RFC 3261 12.1.1, 12.2.2).
 ghost use Rattle.std.specs.Prelude.{◌≡◌, IfOk, is_some, []};
 ghost use Rattle.std.specs.Option.{unwrap_or};
 ghost use Rattle.sip_header.specs.Parameters as Tags;

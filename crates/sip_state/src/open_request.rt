@@ -1,3 +1,5 @@
+//! What is known of an open request (RFC 3261 16: response context; 17.2): its answering side, its answers, its branches.
+//! What changes it is in `sip_context`, its timers are in `sip_request`.
 use crate::Heard;
 use crate::answer_text::AnswerText;
 use crate::branch::Branch;

@@ -1,3 +1,4 @@
+//! The top Via of a request and its source, read together: the value that the Via gets (RFC 3261 18.2.1), and where answers go (18.2.2).
 ghost use Rattle.std.specs.Prelude.{◌≡◌, IfOk, Some, true};
 ghost use Rattle.sip_message_fields.specs.declared.field_name.FieldName.TheVariants as Name;
 ghost use Rattle.sip_message_fields.specs.Values.{with_first};

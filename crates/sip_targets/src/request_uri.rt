@@ -1,3 +1,5 @@
+//! The Request-URI of a request as checks, policy and targets ask it: its host, its address, its address of record.
+//! Of the plainest, as of most, no URI is made.
 ghost use Rattle.std.specs.Prelude.{◌≡◌, is_some, option_map, IfOk};
 ghost use Rattle.std.specs.Option.{option_and_then};
 ghost use Rattle.std.specs.Result.{result_ok};

@@ -1,3 +1,5 @@
+//! One target of a request (RFC 3261 16.5): the Request-URI that a contact becomes, and the address at which it is.
+//! Which targets a request has is said in `target_set`.
 ghost use Rattle.std.specs.Prelude.{◌≡◌, not, filter, IfOk, OnOk};
 ghost use Rattle.sip_uri.specs.Uri.{IsValid};
 ghost use Rattle.sip_location.specs.KeptBinding.{uri_in, IsUriText};

@@ -1,3 +1,4 @@
+//! The targets of a request by what policy decided (RFC 3261 16.5): the live bindings, a hop, or nowhere, and why.
 ghost use Rattle.std.specs.Prelude.{◌≡◌, map, IfOk};
 ghost use Rattle.std.specs.Option.{option_map_or};
 ghost use Rattle.sip_targets.specs.declared.targets.Targets.TheVariants.{NotFound};

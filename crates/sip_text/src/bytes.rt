@@ -1,3 +1,4 @@
+//! The byte string of this project: bytes that a value owns. Bytes that are lent are a `Text`.
 ghost use Rattle.std.specs.Prelude.{◌≡◌, ◌++◌, [], ◌∷◌, IfOk, OnOk, OnErr, decimal};
 
 use crate::buffer::Buffer;

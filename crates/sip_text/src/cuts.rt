@@ -1,3 +1,4 @@
+//! Texts cut at a byte outside quoted text (RFC 3261 25.1: `quoted-string`), or behind their first word. Lists are cut in `lists`.
 ghost use Rattle.std.specs.Prelude.{◌≡◌, ◌<◌, ◌≤◌, ◌∷◌, length, take, drop, take_while, option_map, IfSome};
 ghost use Rattle.sip_text.specs.Cuts as Definitions;
 ghost use Rattle.sip_text.specs.Cuts.{quoting_after, is_mark, split_from, parts_at, parts_behind, is_full, word_at, behind_word};

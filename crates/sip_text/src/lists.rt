@@ -1,3 +1,4 @@
+//! Lists cut at their commas (RFC 3261 7.3.1), outside quoted text and angle brackets, and the blanks round a text.
 ghost use Rattle.std.specs.Prelude.{◌≡◌, ◌≤◌, length, reverse, map, take_while, IfOk, All};
 ghost use Rattle.sip_text.specs.Lists.{is_blank, trimmed, front_trimmed, end_trimmed, place_after, is_cut, cut};
 ghost use Rattle.sip_text.specs.Span.{part, IsWithin};

@@ -1,3 +1,5 @@
+//! Numbers without leading zeros, as addresses, scripts, audit lines and this server's branches have them, and hexadecimal digits.
+//! The numbers of SIP's grammar are read by `decimal`.
 ghost use Rattle.std.specs.Prelude.{◌≡◌, ◌<◌, ◌/◌, ◌%◌, IfOk, IfSome, slice_index};
 ghost use Rattle.hex.specs.Hex.{lower_digits};
 ghost use Rattle.sip_text.specs.Numbers;

@@ -1,3 +1,4 @@
+//! Where the bytes of a byte string stand: a few in the value itself, more in a block of memory. For `Bytes` and `Buffer` alone.
 ghost use Rattle.std.specs.Prelude.{◌≡◌, ◌+◌, ◌%◌, ◌++◌, [], ◌∷◌, IfOk, OnOk, OnErr, decimal};
 ghost use Rattle.sip_text.specs.Store.{stored};
 

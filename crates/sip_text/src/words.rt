@@ -1,3 +1,4 @@
+//! Tokens and decimal numbers (RFC 3261 25.1), and texts compared with and without case (7.3.1).
 ghost use Rattle.std.specs.Prelude.{◌≡◌, ◌↔◌, ◌==◌, length, take_while, IsTrue, IfOk};
 ghost use Rattle.std.specs.Char.{to_ascii_lowercase};
 ghost use Rattle.std.specs.Str.{bytes_eq};

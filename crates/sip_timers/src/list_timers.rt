@@ -1,3 +1,4 @@
+//! The timers as a plain list, against which a reader can check other kinds of `Timers`. The program has a wheel (`sip_timers_wheel`).
 ghost use Rattle.std.specs.Prelude.{◌≡◌, ◌≤◌, ◌<◌, ◌+◌, ◌-◌, ℕ, ◌∷◌, Some, None, OnOk, OnErr, IfSome, IfNone, MatchOption, vec_len, vec_capacity};
 ghost use Rattle.sip_timers.specs.Timers.{placed, without, first_due, first_named, place_at, popped};
 

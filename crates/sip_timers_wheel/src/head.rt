@@ -1,3 +1,5 @@
+//! One list of timers by its ends, threaded through rows of a slab: one is put behind the others or taken out of its middle,
+//! and the one that is due first is remembered. Which slot a list is of is known in `slots`.
 ghost use Rattle.std.specs.Prelude.{◌≡◌, ◌≢◌, ◌≤◌, ◌<◌, ◌+◌, ◌==◌, ℕ, ◌∷◌, [], ◌++◌, Some, None, IfSome, length, MatchOption, nat_lt};
 ghost use Rattle.std.specs.Prelude.{if◌then◌else◌, is_some, true};
 ghost use Rattle.slab.specs.Slab.{get, ContainsKey, slab_len};

@@ -1,3 +1,4 @@
+//! The lists of timers, one for each slot, over one slab of rows. Which moments a slot is for is said in `places`.
 ghost use Rattle.std.specs.Prelude.{◌≡◌, ◌≢◌, ◌≤◌, ◌<◌, ◌+◌, ◌==◌, ◌&&◌, not, ℕ, List, [], ◌∷◌, ◌++◌, length, replicate, count_by};
 ghost use Rattle.std.specs.Prelude.{slice_set, Some, IfOk, OnOk, OnErr};
 ghost use Rattle.sip_timers.specs.Timers.{without, keys_with, first_due};

@@ -1,3 +1,4 @@
+//! The timers that the program has: a wheel whose cost doesn't grow with the timers that stand, proved to fire as the plain list.
 ghost use Rattle.std.specs.Prelude.{◌≡◌, ◌≢◌, ◌≤◌, ◌<◌, ℕ, List, [], Some, true, false, IfSome, MatchOption, length, max, if◌then◌else◌};
 ghost use Rattle.sip_timers.specs.declared.timer.Timer.{Timer};
 ghost use Rattle.sip_timers.specs.Timers.{keys_with, without};

@@ -1,3 +1,5 @@
+//! By what a request's server transaction is told from others (RFC 3261 17.2.3): branch and sent-by of its top Via, and its method.
+//! Which open request has a key is found in `table`.
 ghost use Rattle.std.specs.Prelude.{◌≡◌, ◌↔◌, IsTrue, IfOk};
 ghost use Rattle.std.specs.Str.{bytes_eq};
 ghost use Rattle.sip_transaction_table.specs.Key.{key_method, key_from, same_key};

@@ -1,3 +1,5 @@
+//! The open keys by a hash under a secret, each with the number of its row: whichever keys peers choose, one is found in constant time.
+//! The rows themselves stand in `numbered`.
 ghost use Rattle.std.specs.Prelude.{◌≡◌, ◌≤◌, ◌<◌, ◌+◌, ◌==◌, ◌++◌, ◌∷◌, [], ℕ, Some, length, remove, slice_get, if◌then◌else◌};
 ghost use Rattle.std.specs.Prelude.{IfNone, IfOk, OnOk};
 ghost use Rattle.sip_transaction_table.specs.Digest.{digest_of};

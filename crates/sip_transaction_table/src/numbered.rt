@@ -1,3 +1,5 @@
+//! The rows of open requests in rising order of their numbers: found by number by bisection, or passed over one by one for a key.
+//! `table` finds them by key.
 ghost use Rattle.std.specs.Prelude.{◌≡◌, ◌<◌, ◌≤◌, ◌++◌, ◌∷◌, ◌==◌, [], ℕ, length, position, remove, slice_get, slice_set, Some, IfOk};
 ghost use Rattle.std.specs.List.{All, AllPairs};
 ghost use Rattle.sip_transaction_table.specs.Key.{same_key};

@@ -1,3 +1,5 @@
+//! The table of open requests: its rows (`numbered`) and their keys (`keys`), which always agree (RFC 3261 17.2.3).
+//! What a row is and which timers it has is said in `sip_fork`.
 ghost use Rattle.std.specs.Prelude.{◌≡◌, ◌<◌, ◌≤◌, ◌++◌, ◌∷◌, ◌+◌, ◌==◌, [], ℕ, false, length, position, find, remove, slice_get};
 ghost use Rattle.std.specs.Prelude.{slice_set, nat_le, Option, Some, None, IfOk, OnOk};
 ghost use Rattle.std.specs.List.{All, AllPairs};

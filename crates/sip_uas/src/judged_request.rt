@@ -1,3 +1,5 @@
+//! What is answered here to a request that policy decided about (RFC 3261 10.3, 16.5, 21.4.4, 22.1), each answer with its record.
+//! All of it is drafted; nothing changes here.
 ghost use Rattle.std.specs.Prelude.{◌≡◌, ◌+◌, ◌<◌, ◌^◌, true, [], ◌∷◌, Some, Ok, IfOk, IfSome, List};
 ghost use Rattle.sip_transaction_table.specs.Key.{key_of};
 

@@ -1,3 +1,4 @@
+//! IPv4 addresses and UDP ports, and their texts, read and written. What address a host has is said in `sip_hops`.
 ghost use Rattle.std.specs.Prelude.{◌≡◌, Some, IfOk, OnOk, codes, decimal, ◌++◌, option_map};
 ghost use Rattle.std.specs.Option.{option_and_then};
 ghost use Rattle.sip_uri.specs.Addresses;

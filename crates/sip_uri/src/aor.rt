@@ -1,3 +1,4 @@
+//! Addresses of record (RFC 3261 10.3): of a URI, of the text of a plain one without making the URI, and whether two are the same.
 ghost use Rattle.std.specs.Prelude.{◌≡◌, ◌↔◌, IfOk, IfSome, IsTrue, ◌++◌};
 ghost use Rattle.std.specs.Option.{unwrap_or};
 ghost use Rattle.sip_text.specs.Escapes.{unescaped};

@@ -1,3 +1,4 @@
+//! Which bytes need no escape `%HH` in which part of a URI (RFC 3261 25.1). Escapes are resolved in `sip_text`.
 ghost use Rattle.std.specs.Prelude.{◌≡◌, ◌<◌, length, MatchOption};
 ghost use Rattle.sip_text.specs.Lists.{is_nil};
 ghost use Rattle.sip_uri.specs.Parts;

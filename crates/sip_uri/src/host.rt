@@ -1,3 +1,5 @@
+//! Hosts, and the ports behind them (RFC 3261 25.1: `host`, `hostport`, `sent-by`), read where they stand.
+//! Nothing is looked up or resolved.
 ghost use Rattle.std.specs.Prelude.{◌≡◌, ◌≤◌, ◌++◌, true, false, length, take, drop, option_map, Some, IfSome, is_some};
 ghost use Rattle.std.specs.List.{list_all, prefix_len};
 ghost use Rattle.std.specs.Option.{option_and_then};

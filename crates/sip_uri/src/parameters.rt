@@ -1,3 +1,5 @@
+//! The parameters of a URI read (RFC 3261 19.1.1, 25.1), of which no name stands twice.
+//! Those of a header field's value are read in `sip_header`.
 ghost use Rattle.std.specs.Prelude.{◌≡◌, IfOk, map, option_map};
 ghost use Rattle.std.specs.Option.{ok_or};
 ghost use Rattle.std.specs.List.{list_any};

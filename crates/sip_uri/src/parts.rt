@@ -1,3 +1,4 @@
+//! A URI's text behind its user cut into host and port, parameters and headers (RFC 3261 25.1); what each says is read elsewhere.
 ghost use Rattle.std.specs.Prelude.{◌≡◌, ◌++◌, ◌≤◌, true, ℕ, List, length, IfOk, IfSome, option_map};
 ghost use Rattle.std.specs.List.{list_all, prefix_len};
 ghost use Rattle.sip_uri.specs.Host.{place_of};

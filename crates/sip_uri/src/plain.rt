@@ -1,3 +1,5 @@
+//! URIs of the plainest forms: their host and port, or their user and host, where they stand, so that no URI is made.
+//! `parse_uri` reads every form.
 ghost use Rattle.std.specs.Prelude.{◌≡◌, ◌⊎◌, true, codes, option_map, IfSome, Some, None};
 ghost use Rattle.sip_uri.specs.PlainPlace.{HasNames, HasUser, IsPlain, IsUriAt};
 

@@ -1,3 +1,4 @@
+//! The user and the password of a URI read (RFC 3261 19.1.1, 25.1), with their escapes as they stand.
 ghost use Rattle.std.specs.Prelude.{◌≡◌, ◌≤◌, length, Some, None, Ok, option_map, IfSome};
 ghost use Rattle.std.specs.List.{prefix_len};
 ghost use Rattle.std.specs.Option.{ok_or};

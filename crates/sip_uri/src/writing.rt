@@ -1,3 +1,4 @@
+//! The text of a URI written (RFC 3261 19.1.1), in one piece of memory of its length.
 ghost use Rattle.std.specs.Prelude.{◌≡◌, ◌++◌, ◌∷◌, IfOk, OnOk};
 ghost use Rattle.std.specs.List.{flat_map};
 ghost use Rattle.sip_uri.specs.Uri.{behind_mark, userinfo_text, parameter_text, header_text, headers_text, rest_text, text_of};

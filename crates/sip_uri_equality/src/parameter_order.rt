@@ -1,3 +1,5 @@
+//! Parameters of two URIs compared in order of their names, where each with each would cost too much.
+//! Where one list is short, or is longer than there are places for, `parameters` compares each with each.
 ghost use Rattle.std.specs.Prelude.{◌≡◌, ◌≤◌, ◌<◌, ◌+◌, length, not, ◌∷◌, true, false};
 ghost use Rattle.std.specs.List.{list_all};
 ghost use Rattle.std.specs.List.Sorted.{IsPermutation};

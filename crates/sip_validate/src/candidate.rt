@@ -1,3 +1,4 @@
+//! A request under check, with what was read of it before. The rows of the table are said of it in `faults` and `refusal`.
 ghost use Rattle.std.specs.Prelude.{◌≡◌, Some, is_ok};
 ghost use Rattle.std.specs.Option.{option_and_then};
 ghost use Rattle.sip_message_fields.specs.declared.field_name.FieldName.TheVariants as Name;

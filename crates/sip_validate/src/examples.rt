@@ -1,3 +1,4 @@
+//! Worked examples of the table of checks, as contracts that compute: each row, and that the first one that applies counts.
 ghost use Rattle.std.specs.Prelude.{◌≡◌, [], ◌∷◌, codes, true, false, Some, None};
 ghost use Rattle.sip_message_fields.specs.declared.field_name.FieldName.TheVariants as Name;
 ghost use Rattle.sip_route.specs.Examples.{own};

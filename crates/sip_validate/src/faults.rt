@@ -1,3 +1,5 @@
+//! What makes a request a bad one, answered 400 (RFC 3261 16.3 step 1, 21.4.1), and whether a Via of it is this server's (step 4).
+//! The other rows of the table are in `refusal`.
 ghost use Rattle.std.specs.Prelude.{◌≡◌, ◌&&◌, ◌||◌, not, drop, IfOk, IfSome, is_some, is_ok, true, false};
 ghost use Rattle.std.specs.List.{list_all, list_any};
 ghost use Rattle.std.specs.Option.{option_and_then, option_map_or};

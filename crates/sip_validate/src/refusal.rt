@@ -1,3 +1,5 @@
+//! The table of what refuses a request (RFC 3261 16.3, 8.2.2): its rows in their order, of which the first that applies counts.
+//! What makes a request a bad one is in `faults`.
 ghost use Rattle.std.specs.Prelude.{◌≡◌, ◌++◌, IfOk, OnOk, codes, true, is_some, map, option_map};
 ghost use Rattle.std.specs.List.{flat_map, join_by, list_all};
 ghost use Rattle.sip_message_fields.specs.declared.field_name.FieldName.TheVariants as Name;

@@ -1,3 +1,4 @@
+//! The checks of a request, as they are asked for: `sip_core` asks `refusal_of` of a new one, and `is_bad_request` of a CANCEL.
 ghost use Rattle.std.specs.Prelude.{◌≡◌, IfOk, Some, None, false, is_ok, is_some, option_map};
 ghost use Rattle.std.specs.Result.{result_ok};
 ghost use Rattle.std.specs.Option.{option_and_then, option_map_or};

@@ -1,3 +1,5 @@
+//! The command line of the program: its commands, their options and their help, and what a line is complained about.
+//! What a line asks for is read in `matches`.
 ghost use Rattle.std.specs.Prelude.{◌≡◌, false, map, codes, IfOk, string_bytes};
 ghost use Rattle.clap.specs.Words.{app_of, kind_of, rule_of};
 ghost use Rattle.sipd_arguments.specs.CommandLine as Definitions;

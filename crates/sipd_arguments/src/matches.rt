@@ -1,3 +1,4 @@
+//! What the words of a command ask for, read out of what was parsed; and which options don't stand together.
 ghost use Rattle.std.specs.Prelude.{◌≡◌, Some, None, codes, IfErr, IfOk, is_some, option_map, string_bytes};
 ghost use Rattle.clap.specs.Words.{found_of, rows_of, subcommand_rows_of};
 ghost use Rattle.sipd_arguments.specs.CommandLine as Definitions;

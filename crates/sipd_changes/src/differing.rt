@@ -1,3 +1,4 @@
+//! The list of what differs between two configurations, in the order of the file; the keys before all tables are compared here.
 ghost use Rattle.std.specs.Prelude.{◌≡◌, ◌==◌, ◌++◌, not, IfOk, OnOk};
 ghost use Rattle.std.specs.List.{list_any};
 ghost use Rattle.std.specs.Ordering.{int_eq};

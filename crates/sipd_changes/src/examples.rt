@@ -1,3 +1,4 @@
+//! Worked examples of changes told and summed up, as contracts that compute.
 ghost use Rattle.std.specs.Prelude.{◌≡◌, ◌++◌, [], ◌∷◌, codes, pos, negsuc, true, false};
 ghost use Rattle.sip_policy.specs.Examples.{rule_1, rule_2, rule_3, rule_4, rule_5, rule_6};
 ghost use Rattle.sip_policy.specs.declared.rule_verdict.RuleVerdict.{RuleVerdict};

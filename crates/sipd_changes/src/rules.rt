@@ -1,3 +1,4 @@
+//! What differs in the rules, for `differing`: texts, numbers that are used again, and the order of those that stay.
 ghost use Rattle.std.specs.Prelude.{◌≡◌, ◌++◌, [], ◌∷◌, nat_eq, if◌then◌else◌, find, None, IfOk, OnOk};
 ghost use Rattle.std.specs.List.{flat_map, list_any};
 ghost use Rattle.std.specs.Option.{option_copied};

@@ -1,3 +1,4 @@
+//! What a change was in a few words, for the line that a serving program prints when another configuration comes into force.
 ghost use Rattle.std.specs.Prelude.{◌≡◌, ◌++◌, codes, decimal, None, fold, length, IfOk, OnOk};
 ghost use Rattle.std.specs.List.{flat_map, list_any};
 ghost use Rattle.std.specs.Option.{option_copied};

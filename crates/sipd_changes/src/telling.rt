@@ -1,3 +1,4 @@
+//! The changes as lines for a reader, with what each means for a server that runs; for `check --against`.
 ghost use Rattle.std.specs.Prelude.{◌≡◌, ◌++◌, codes, decimal, IfOk, OnOk};
 ghost use Rattle.std.specs.List.{flat_map};
 ghost use Rattle.sip_uri.specs.Addresses;

@@ -1,3 +1,5 @@
+//! The command `serve` carried out: the configuration is read, the address bound, the record begun, and a guard put over the socket.
+//! The turns themselves are in `sipd_service`.
 ghost use Rattle.std.specs.Prelude.{◌≡◌, is_some, IfOk, IfSome, OnOk, string_bytes};
 ghost use Rattle.sip_guard.specs.Guard.{guard_over, link_told};
 ghost use Rattle.sipd_boot.specs.Boots.{behind_secret};

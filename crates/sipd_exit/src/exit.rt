@@ -1,3 +1,4 @@
+//! All reasons for which the program ends, with the exit status and the complaint of each.
 ghost use Rattle.std.specs.Prelude.{◌≡◌};
 ghost use Rattle.std.specs.IoError.{error_kind};
 ghost use Rattle.sipd_exit.specs.Exits.{exit_of_config, exit_of_file, exit_of_kind, status_of};

@@ -1,3 +1,4 @@
+//! On which line of a configuration's text a key stands, for who is told that it is refused.
 ghost use Rattle.std.specs.Prelude.{◌≡◌, count_by};
 ghost use Rattle.sipd_mistakes.specs.Encoding.{is_line_end, line_of};
 

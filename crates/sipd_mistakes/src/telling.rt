@@ -1,3 +1,4 @@
+//! The line that tells why a configuration is refused: where the reading stops, what is wrong there, and what would do.
 ghost use Rattle.std.specs.Prelude.{◌≡◌, IfOk};
 ghost use Rattle.toml.specs.View.{table_view};
 ghost use Rattle.sipd_mistakes.specs.Mistakes as Definitions;

@@ -1,3 +1,4 @@
+//! A record opened by its first line, and whether it begins with the configuration of a file. What stands behind is read elsewhere.
 ghost use Rattle.std.specs.Prelude.{◌≡◌, ◌≢◌, ◌⊎◌, true, false, IfErr, IfOk, OnErr};
 ghost use Rattle.std.specs.Io.KnownBytes.{Keeps};
 ghost use Rattle.std.specs.IoError.{error_kind};

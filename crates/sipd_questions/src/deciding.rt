@@ -1,3 +1,4 @@
+//! What a server with a configuration would answer to a request, as one line, for the command `decide`. No server runs for it.
 ghost use Rattle.std.specs.Prelude.{◌≡◌, IfOk, Ok};
 ghost use Rattle.std.specs.Option.{option_copied};
 ghost use Rattle.sipd_questions.specs.Refusals.{Reads};

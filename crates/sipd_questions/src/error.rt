@@ -1,3 +1,4 @@
+//! Why a question about a configuration has no answer, in numbers and in words.
 ghost use Rattle.std.specs.Prelude.{◌≡◌};
 ghost use Rattle.sipd_questions.specs.Refusals.{confirmed};
 ghost use Rattle.sipd_questions.specs.declared.error.QuestionError.TheVariants.{NoMemory};

@@ -1,3 +1,4 @@
+//! Worked examples of decisions, of users' tables, and of what is shown and warned of, as contracts that compute.
 ghost use Rattle.std.specs.Prelude.{◌≡◌, ◌++◌, [], ◌∷◌, codes, replicate, Some, None, Ok, Err, pos, negsuc};
 ghost use Rattle.sip_digest.specs.Answers.{a1_of};
 ghost use Rattle.sip_digest.specs.declared.algorithm.Algorithm.TheVariants as By;

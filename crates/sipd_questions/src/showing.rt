@@ -1,3 +1,4 @@
+//! A configuration as it was understood, line by line, for `check --show`; and the text of a rule, for whoever names one.
 ghost use Rattle.std.specs.Prelude.{◌≡◌, ◌++◌, codes, IfOk, OnOk};
 ghost use Rattle.std.specs.List.{flat_map};
 ghost use Rattle.std.specs.Option.{option_copied};

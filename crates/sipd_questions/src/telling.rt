@@ -1,3 +1,4 @@
+//! The line of a decision: the rule, its verdict, and where the request goes. What is decided is said in `deciding`.
 ghost use Rattle.std.specs.Prelude.{◌≡◌, ◌++◌, IfOk, OnOk};
 ghost use Rattle.std.specs.List.{slice_get};
 ghost use Rattle.std.specs.Option.{option_copied};

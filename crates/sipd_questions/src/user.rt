@@ -1,3 +1,4 @@
+//! The table `[[user]]` of a user who is to be added, for the command `user`: digests are made here, and no password is kept.
 ghost use Rattle.std.specs.Prelude.{◌≡◌, ◌++◌, ◌==◌, IfOk, OnOk};
 ghost use Rattle.std.specs.List.{list_any};
 ghost use Rattle.std.specs.Option.{option_copied};

@@ -1,3 +1,4 @@
+//! What a configuration may say and seldom means, a line for each thing. None of it refuses a file.
 ghost use Rattle.std.specs.Prelude.{◌≡◌, ◌++◌, is_some, IfOk, OnOk};
 ghost use Rattle.std.specs.List.{flat_map, list_all, list_any};
 ghost use Rattle.sip_text.specs.Words.{is_same_text};

@@ -1,3 +1,4 @@
+//! A file without a system, for trials of a watch: it shows given states, may be gone or unreadable, and tells what it answered.
 ghost use Rattle.std.specs.Prelude.{◌≡◌, ◌≤◌, ◌⊎◌, [], Some, Ok, Err, option_map, length, IfOk, IfSome};
 ghost use Rattle.sipd_reload.specs.File.{GrewBy, most_bytes, short_bytes};
 ghost use Rattle.sipd_reload.specs.MemoryFile as Definitions;

@@ -1,3 +1,4 @@
+//! The bytes of a configuration's file read whole, and no more of them than a configuration may have. What they state isn't asked.
 ghost use Rattle.std.specs.Prelude.{◌≡◌, ◌≤◌, ◌<◌, ◌+◌, [], true, false, length, take, Err, IfOk, IfErr, OnErr};
 ghost use Rattle.std.specs.Io.KnownBytes.{Consumes, Keeps, IsAtEnd};
 ghost use Rattle.sipd_reload.specs.File.{Grows, IsAll, IsLonger, most_bytes};

@@ -1,3 +1,5 @@
+//! When other bytes of a configuration's file are to be taken: once they stay, and not again once they were refused.
+//! What is done with them is decided by who asks (`sipd_service`).
 ghost use Rattle.std.specs.Prelude.{◌≡◌, None};
 ghost use Rattle.sipd_reload.specs.Watch as Definitions;
 ghost use Rattle.sipd_reload.specs.Watch.{Looks, look_of, noted, with_taken, with_refused};

@@ -1,3 +1,4 @@
+//! The command `replay --record` carried out: the configuration with which a record begins, and how the program ends where it is refused.
 ghost use Rattle.std.specs.Prelude.{◌≡◌, ◌⊎◌, IfErr, IfNone, IfOk, IfSome, OnOk};
 ghost use Rattle.sip_replay_script.specs.Devices.{later, GaveUp};
 ghost use Rattle.sip_replay_script.specs.Lines.{IsSpent};

@@ -1,3 +1,4 @@
+//! The lines of a log, read in parts, of each as much as an audit line may have. Which lines are audit lines is asked in `entry`.
 ghost use Rattle.std.specs.Prelude.{◌≡◌, ◌≤◌, ◌<◌, ◌+◌, ◌++◌, [], true, false, length, take, vec_len, count_by, IfOk, IfErr, OnOk, MatchOption};
 ghost use Rattle.std.specs.Io.KnownBytes.{Consumes, Keeps, IsAtEnd};
 ghost use Rattle.sip_replay_script.specs.Devices.{later};

@@ -1,3 +1,4 @@
+//! What the command `report` writes: a row for each record that is asked for and, in a table, what is counted of them.
 ghost use Rattle.std.specs.Prelude.{◌≡◌, ◌≤◌, ◌⊎◌, true, false, IfOk, IfErr, OnOk};
 ghost use Rattle.std.specs.Io.KnownBytes.{Appends, Keeps};
 ghost use Rattle.sip_replay_script.specs.Devices.{later, GaveUp};

@@ -1,3 +1,4 @@
+//! What a report counts, line by line: users, rules, outcomes, and the lines that are no audit lines. `ending` writes it.
 ghost use Rattle.std.specs.Prelude.{◌≡◌, ◌++◌, map, OnOk};
 ghost use Rattle.sipd_report.specs.Report.{numbered_text, shown_byte};
 ghost use Rattle.sipd_report.specs.Steps as Definitions;

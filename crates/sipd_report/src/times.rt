@@ -1,3 +1,4 @@
+//! How a report writes a moment: date and time of day on a clock that is so many minutes ahead of UTC.
 ghost use Rattle.std.specs.Prelude.{◌≡◌, ◌<◌, ◌^◌, ◌++◌, ◌∷◌, OnOk, IfOk};
 ghost use Rattle.sipd_report.specs.Times as Definitions;
 

@@ -1,3 +1,4 @@
+//! What a serving program prints: each audit line, whole, before its packets are sent, and the lines on the server itself.
 ghost use Rattle.std.specs.Prelude.{◌≡◌, true, false, Err, IfErr, OnOk, OnErr, None};
 ghost use Rattle.std.specs.Io.KnownBytes.{Appends};
 ghost use Rattle.sip_loop.specs.Printing.{Prints};

@@ -1,3 +1,5 @@
+//! Another configuration comes into force between two turns: its file is looked at, its bytes are taken or refused, and that is said.
+//! What may change is decided in `sip_config_change`.
 ghost use Rattle.std.specs.Prelude.{◌≡◌, ◌⊎◌, true, None, IfErr, IfOk, IfSome, OnErr, OnOk};
 ghost use Rattle.sipd_changes.specs.Changes as Differing;
 ghost use Rattle.sipd_changes.specs.Summary.{summed_up};

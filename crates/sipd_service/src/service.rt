@@ -1,3 +1,5 @@
+//! The turns of a serving program: it looks at record and configuration, waits until a datagram comes or something is due, and serves.
+//! One turn itself is `serve` of `sip_loop`.
 ghost use Rattle.std.specs.Prelude.{◌≡◌, ◌^◌, ◌-◌, [], false, None, IfErr, IfNone, IfSome, IsSome, OnErr, OnOk};
 ghost use Rattle.std.specs.Io.KnownBytes.{Appends};
 ghost use Rattle.sip_record.specs.Record.{Notes};

@@ -1,3 +1,5 @@
+//! How a server that records begins: anew, or from where an older record leads; and what becomes of that record and of the new one.
+//! The files are made in `making`, the older record is taken in `taking`.
 ghost use Rattle.std.specs.Prelude.{◌≡◌, false, ℕ, List, Option, option_map, string_bytes, Err, IfErr, IfNone, IfOk, IfSome, None, Ok, OnErr, OnOk};
 ghost use Rattle.model_order.specs.Order.{first_standing};
 ghost use Rattle.sip_run.specs.Due.{standing_of};

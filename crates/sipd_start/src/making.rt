@@ -1,3 +1,5 @@
+//! The files of a start: made under the names of parts, and given their own names once they are whole and on the disk.
+//! Which names a start in a folder has is said in `record_folder`.
 ghost use Rattle.std.specs.Prelude.{◌≡◌, false, Err, Ok, IfErr, IfOk, option_map, string_bytes};
 ghost use Rattle.std.specs.IoError.{error_kind};
 ghost use Rattle.sipd_exit.specs.declared.exit.Exit.TheVariants.{Memory};

@@ -1,3 +1,4 @@
+//! Why a server doesn't go on from a record, and the words for it. It starts anew then, or nothing is begun.
 ghost use Rattle.std.specs.Prelude.{◌≡◌};
 ghost use Rattle.sipd_start.specs.Stops;
 ghost use Rattle.sipd_start.specs.declared.not_resumed.Stop.TheVariants.{Exits};

@@ -1,3 +1,4 @@
+//! The names of a new record and of the copy of its configuration in a folder of records, and the newest record that stands there.
 ghost use Rattle.std.specs.Prelude.{◌≡◌, ◌<◌, ◌-◌, ◌^◌, IfOk, IfSome, string_bytes};
 ghost use Rattle.sipd_start.specs.Places.{AreFolderFiles};
 ghost use Rattle.sipd_start.specs.RecordNames;

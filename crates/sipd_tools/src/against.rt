@@ -1,3 +1,4 @@
+//! The configuration from which a change is told (`check --against`): that of a file, or the last one of a record.
 ghost use Rattle.std.specs.Prelude.{◌≡◌, IfErr, IfOk};
 ghost use Rattle.sip_replay_script.specs.Devices.{later};
 ghost use Rattle.sip_replay_script.specs.Lines.{pending, IsSpent};

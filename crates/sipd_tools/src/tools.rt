@@ -1,3 +1,4 @@
+//! The commands `check`, `decide`, `report` and `user` carried out: files read, answers printed, and the exit of each.
 ghost use Rattle.std.specs.Prelude.{OnOk};
 ghost use Rattle.sipd_tools.specs.Against.{TellsChange};
 

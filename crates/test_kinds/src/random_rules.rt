@@ -1,3 +1,4 @@
+//! Users, domains, rules and requests that a seed chooses, for two kinds of rules that have to decide alike.
 use crate::asking::Asking;
 use crate::chance::Chance;
 use sip_policy::{

@@ -1,3 +1,4 @@
+//! What the sample's rules decide, for each kind of rules alike.
 use crate::asking::Asking;
 use sip_config_types::sample;
 use sip_policy::{Decision, PolicyError, Rules};

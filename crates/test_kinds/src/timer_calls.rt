@@ -1,3 +1,4 @@
+//! Random calls on the wheel and on the plain list of timers, which have to answer alike.
 use crate::chance::Chance;
 use crate::keyed_timers::KeyedTimers;
 use crate::timer_call::TimerCall;

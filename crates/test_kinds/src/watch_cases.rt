@@ -1,3 +1,4 @@
+//! Cases of a watch of a configuration's file, over memory and over a path of the system.
 use sip_text::Bytes;
 use sipd_reload::{
     FileFault, FileState, Look, MemoryFile, PathFile, Stamp, Told, Watch, WatchedFile,

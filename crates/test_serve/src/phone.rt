@@ -1,3 +1,4 @@
+//! The phones of the trials on loopback, and the texts that they read and write.
 use std::alloc::{AllocError, Global};
 use std::io;
 use std::net::{IpAddr, Ipv4Addr, Net, SocketAddr, UdpSocket};

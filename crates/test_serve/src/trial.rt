@@ -1,3 +1,4 @@
+//! What every trial of `serve` is made of: an engine with the sample, a link, a recorder, and the readings of a clock.
 use crate::counting::Counting;
 use crate::datagrams::Datagram;
 use sip_config_types::sample;

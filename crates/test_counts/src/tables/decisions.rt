@@ -1,3 +1,4 @@
+//! Decisions by rules of which the last alone applies: the others are for other targets, or for other users, groups and methods.
 use crate::tables::names::name_of;
 use sip_policy::{
     Decision, Operation, OperationPattern, PolicyError, Rule, RuleVerdict, Rules, TargetPattern,

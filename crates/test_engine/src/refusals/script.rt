@@ -1,3 +1,4 @@
+//! A script played step by step: a step that is refused for want of memory is given again, and what is printed stays the same.
 use crate::fault::Fault;
 use crate::kinds::Server;
 use crate::refusals::take::take;

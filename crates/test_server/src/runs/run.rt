@@ -1,3 +1,4 @@
+//! One stored run, held against its files: what the program writes, complains and exits with, and what plain lists give.
 use crate::runs::damage::damaged;
 use hex::encode_to_slice;
 use md5::{Digest, Md5};
