@@ -41,7 +41,7 @@ returns-in-Ok-clause-turn g c =
     let after : ServiceSeen = service_seen c.serve-served.new.engine c.args.service.now.port c.change-changed.new.watch c.say_unheard.new.link (g.C.Clock.readings c.serve-served.new.clock) (g.J.Journal.written c.say_fault-2.new.journal) (g.J.Journal.faulted c.say_fault-2.new.journal) (g.N.Rng.stream c.serve-served.new.words) c.serve-served.new.audit.has_failed (g.O.Write.contents c.serve-served.new.audit.output) in
     let begins : Begins (service_seen c.args.service.now.engine c.args.service.now.port c.args.service.now.watch c.args.service.now.link (g.C.Clock.readings c.args.service.now.clock) (g.J.Journal.written c.args.service.now.journal) (g.J.Journal.faulted c.args.service.now.journal) (g.N.Rng.stream c.args.service.now.words) c.args.printer.now.has_failed (g.O.Write.contents c.args.printer.now.output)) first = record {
       now = c.now-now.result;
-      due = c.next_due.result;
+      due = c.next_due-due.result;
       seen = looked.devices;
       looked = record { others = with_readings looked.devices (and_counted (g.C.Clock.readings c.args.service.now.clock) c.now-now.result) c.now-now.ensures; noted = c.look.ensures.noted };
       changed = ok_says c.change-changed.result (sym c.is_err.ensures.value ∙ c.if-is_err.false) c.change-changed.ensures.changed;
@@ -50,8 +50,8 @@ returns-in-Ok-clause-turn g c =
       still = c.change-changed.ensures.state;
       same_timers = c.change-changed.ensures.timers;
       same_port = refl;
-      next = subst (λ (s : ProxyState). MatchOption c.next_due.result (IsNothingDue s.requests) (IsNext s.requests)) c.change-changed.ensures.state c.next_due.ensures.first;
-      waited = subst (λ (w : Option (List ℕ)). GrewBy (wait_before c.next_due.result c.now-now.result) w c.wait_until_due.new.self.link.waits) (ap (λ l. l.waits) link) c.wait_until_due.ensures.waited;
+      next = subst (λ (s : ProxyState). MatchOption c.next_due-due.result (IsNothingDue s.requests) (IsNext s.requests)) c.change-changed.ensures.state c.next_due-due.ensures.first;
+      waited = subst (λ (w : Option (List ℕ)). GrewBy (wait_before c.next_due-due.result c.now-now.result) w c.wait_until_due.new.self.link.waits) (ap (λ l. l.waits) link) c.wait_until_due.ensures.waited;
     } in
     let ends : IsLookedAt last.devices after.devices = record {
       others = with_link after.devices c.serve-served.new.link.link.heard c.serve-served.new.link.link.given (ap (λ l. l.heard) c.say_unheard.ensures.link) (ap (λ l. l.given) c.say_unheard.ensures.link);
@@ -74,7 +74,7 @@ returns-in-Err-clause-ended g c =
     let after : ServiceSeen = service_seen c.serve-served.new.engine c.args.service.now.port c.change-changed.new.watch c.say_unheard.new.link (g.C.Clock.readings c.serve-served.new.clock) (g.J.Journal.written c.say_fault-2.new.journal) (g.J.Journal.faulted c.say_fault-2.new.journal) (g.N.Rng.stream c.serve-served.new.words) c.serve-served.new.audit.has_failed (g.O.Write.contents c.serve-served.new.audit.output) in
     let begins : Begins (service_seen c.args.service.now.engine c.args.service.now.port c.args.service.now.watch c.args.service.now.link (g.C.Clock.readings c.args.service.now.clock) (g.J.Journal.written c.args.service.now.journal) (g.J.Journal.faulted c.args.service.now.journal) (g.N.Rng.stream c.args.service.now.words) c.args.printer.now.has_failed (g.O.Write.contents c.args.printer.now.output)) first = record {
       now = c.now-now.result;
-      due = c.next_due.result;
+      due = c.next_due-due.result;
       seen = looked.devices;
       looked = record { others = with_readings looked.devices (and_counted (g.C.Clock.readings c.args.service.now.clock) c.now-now.result) c.now-now.ensures; noted = c.look.ensures.noted };
       changed = ok_says c.change-changed.result (sym c.is_err.ensures.value ∙ c.if-is_err.false) c.change-changed.ensures.changed;
@@ -83,8 +83,8 @@ returns-in-Err-clause-ended g c =
       still = c.change-changed.ensures.state;
       same_timers = c.change-changed.ensures.timers;
       same_port = refl;
-      next = subst (λ (s : ProxyState). MatchOption c.next_due.result (IsNothingDue s.requests) (IsNext s.requests)) c.change-changed.ensures.state c.next_due.ensures.first;
-      waited = subst (λ (w : Option (List ℕ)). GrewBy (wait_before c.next_due.result c.now-now.result) w c.wait_until_due.new.self.link.waits) (ap (λ l. l.waits) link) c.wait_until_due.ensures.waited;
+      next = subst (λ (s : ProxyState). MatchOption c.next_due-due.result (IsNothingDue s.requests) (IsNext s.requests)) c.change-changed.ensures.state c.next_due-due.ensures.first;
+      waited = subst (λ (w : Option (List ℕ)). GrewBy (wait_before c.next_due-due.result c.now-now.result) w c.wait_until_due.new.self.link.waits) (ap (λ l. l.waits) link) c.wait_until_due.ensures.waited;
     } in
     let ends : IsLookedAt last.devices after.devices = record {
       others = with_link after.devices c.serve-served.new.link.link.heard c.serve-served.new.link.link.given (ap (λ l. l.heard) c.say_unheard.ensures.link) (ap (λ l. l.given) c.say_unheard.ensures.link);
