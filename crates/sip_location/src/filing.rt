@@ -1,5 +1,4 @@
 //! Where the rows of each address of record stand: found by a code in constant time, however many addresses there are.
-//! What a row says, and which of them are live, is not asked here.
 ghost use Rattle.std.specs.Prelude.{◌≡◌, ◌≤◌, ◌<◌, ◌-◌, ◌++◌, ◌==◌, ℕ, [], false, not, filter, nat_eq, vec_len, vec_capacity, OnOk};
 ghost use Rattle.std.specs.Prelude.{option_to_list, if◌then◌else◌};
 ghost use Rattle.std.specs.HashMap.{get, spare};

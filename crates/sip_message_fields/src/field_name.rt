@@ -1,5 +1,4 @@
 //! Names of fields that own their bytes, told from others without case and in their compact forms (RFC 3261 7.3.1, 7.3.3).
-//! The spellings of the known ones stand in `known`; a name that is lent is a `ViewName`.
 ghost use Rattle.std.specs.Prelude.{◌≡◌, IfOk, MatchOption};
 ghost use Rattle.sip_message_fields.specs.FieldName.{spelling, name_of, is_length, is_list, is_same_name};
 ghost use Rattle.sip_message_fields.specs.declared.field_name.FieldName.TheVariants.{Other};

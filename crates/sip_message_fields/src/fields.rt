@@ -1,4 +1,3 @@
-//! The fields of a message that owns its bytes: looked up, counted, copied and added by name. `ViewFields` does so without a copy.
 ghost use Rattle.std.specs.Prelude.{◌≡◌, [], ◌∷◌, ◌++◌, IfOk, OnOk, OnErr, length, map, option_map};
 
 use crate::field::Field;

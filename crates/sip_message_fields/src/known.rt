@@ -1,5 +1,4 @@
-//! Which names of fields this project knows: their spellings, their compact forms (RFC 3261 7.3.3), and which of them are lists.
-//! A name is compared with those of its length alone.
+//! Which names of fields this project knows: their spellings, and their compact forms (RFC 3261 7.3.3).
 ghost use Rattle.std.specs.Prelude.{◌≡◌, [], ◌∷◌, length, MatchOption};
 ghost use Rattle.sip_message_fields.specs.FieldName.{spelling, name_of, is_length, is_list, is_same_name};
 ghost use Rattle.sip_message_fields.specs.KnownName.{field_name_of, known_of, name_seen};

@@ -1,4 +1,3 @@
-//! Look-ups and copies by name in a list of fields that own their bytes, for `Fields`.
 ghost use Rattle.std.specs.Prelude.{◌≡◌, IfOk, map, option_map, count_by};
 ghost use Rattle.sip_message_fields.specs.FieldName.{is_same_name};
 ghost use Rattle.sip_message_fields.specs.Named.{first_named, all_named};

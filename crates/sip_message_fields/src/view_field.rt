@@ -1,4 +1,3 @@
-//! One field of a view: its name, its value, and its line where that can go out as it came.
 ghost use Rattle.std.specs.Prelude.{◌≡◌, IfOk, IfSome};
 ghost use Rattle.sip_message_fields.specs.Lines.{line_of};
 

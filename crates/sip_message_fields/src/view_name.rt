@@ -1,5 +1,4 @@
 //! Names of fields that are lent: read from what was written, and told from others without case (RFC 3261 7.3.1, 7.3.3).
-//! A spelling is looked at only of a name that this project doesn't know.
 ghost use Rattle.std.specs.Prelude.{◌≡◌, IfOk};
 ghost use Rattle.std.specs.Str.{bytes_eq};
 ghost use Rattle.sip_message_fields.specs.declared.field_name.FieldName.TheVariants.{Other};
