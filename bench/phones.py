@@ -90,14 +90,14 @@ class Form:
 FORMS = {
     "plain": Form(),
     "baresip": Form(
-        contact_expires=";expires=60",
+        contact_expires=";expires=3600",
         of_register=("User-Agent: baresip v1.0.0 (x86_64/linux)", "Allow: INVITE,ACK,BYE,CANCEL,OPTIONS,NOTIFY,SUBSCRIBE,INFO,MESSAGE,REFER"),
         of_request=("User-Agent: baresip v1.0.0 (x86_64/linux)", "Allow: INVITE,ACK,BYE,CANCEL,OPTIONS,NOTIFY,SUBSCRIBE,INFO,MESSAGE,REFER", "Supported:"),
         of_answer=("Server: baresip v1.0.0 (x86_64/linux)", "Allow: INVITE,ACK,BYE,CANCEL,OPTIONS,NOTIFY,SUBSCRIBE,INFO,MESSAGE,REFER"),
         offer=tuple(BARESIP_SDP),
     ),
     "linphone": Form(
-        bare_to=True, transport=";transport=udp", behind_contact=f";{INSTANCE}", expires_field="60",
+        bare_to=True, transport=";transport=udp", behind_contact=f";{INSTANCE}", expires_field="3600",
         of_register=("Supported: replaces, outbound, gruu", "Accept: application/sdp", "Accept: text/plain", "Accept: application/vnd.gsma.rcs-ft-http+xml", "User-Agent: Linphonec/5.1.65"),
         of_request=("Supported: replaces, outbound, gruu", "Allow: INVITE, ACK, CANCEL, OPTIONS, BYE, REFER, NOTIFY, MESSAGE, SUBSCRIBE, INFO, PRACK, UPDATE", "User-Agent: Linphonec/5.1.65"),
         of_answer=("User-Agent: Linphonec/5.1.65", "Supported: replaces, outbound, gruu"),
