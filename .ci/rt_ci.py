@@ -8,6 +8,7 @@ it isn't as this file expects.
 """
 import importlib.machinery
 import importlib.util
+import inspect
 import os
 import shutil
 import sys
@@ -40,6 +41,8 @@ def main():
         kit = command(path)
         sum_once(kit.rtlib.Crate)
         judge = kit.main
+        if len(inspect.signature(judge).parameters) != 1:
+            raise AttributeError("main")
     except (AttributeError, ImportError, OSError, SyntaxError):
         os.execv(path, [path, "ci"])
     return judge(["ci"])
