@@ -1,17 +1,17 @@
-//! What a server changes of a message that goes on: the source of a request in its top Via, and where its responses go;
-//! the own Via and its branch, and a response without it; the ACK and the CANCEL of a request that was sent, and their
-//! texts, written straight from the request as it came (RFC 3261 9.1, 16.6, 16.7, 17.1.1.3, 18.2.1 and 18.2.2; RFC 3581 4).
-//! And a request as it goes on to its targets (16.4, 16.6):
-//! what is the same for all of them, the request to one of them, this server's Record-Route, and the Request-URI with
-//! which a request goes on that is its own target.
+//! What a server changes of a message that goes on, written straight from the message as it came: the source of a request in
+//! its top Via, and where its responses go; the own Via and its branch, and a response without it; the ACK and the CANCEL of a
+//! request that was sent (RFC 3261 9.1, 16.6, 16.7, 17.1.1.3, 18.2.1 and 18.2.2; RFC 3581 4). And a request as it goes on to its
+//! targets (16.4, 16.6): the text that is the same for all of them, that of the request to one of them, with this server's
+//! Record-Route, and the Request-URI with which a request goes on that is its own target.
 //!
 //! - Used: `sip_state` for a request as it came, once for all its targets; `sip_context_packets` and `sip_context` for
 //!   what is sent.
-//! - Not here: answers made here (`sip_edit_response`).
+//! - Not here: answers made here (`sip_edit_response`); the same edits as views of a message's fields, which the program
+//!   doesn't make (`sip_edit_views`).
 //! - Tried: worked examples in `src/examples.rt` and `src/onward_examples.rt`, as contracts that compute; `test_parts`.
 //!
 //! ```text
-//! let base = onward_base_by(alloc, &own, realm, records_route, routes, &request)?;
+//! let tail = received_tail(alloc, realm, routes, &request, via)?;
 //! ```
 #![tactic(auto)]
 
@@ -21,21 +21,17 @@ pub mod laws;
 mod onward;
 pub mod onward_examples;
 mod own_request_text;
-mod own_requests;
 mod own_via;
 mod received_request;
-mod record_route;
 mod tail;
 mod tail_text;
 mod top_via;
 
 pub use branch_id::{BranchId, branch_of_text};
-pub use onward::{onward_base, onward_base_by, onward_uri, to_target};
-pub use own_request_text::{ack_text, cancel_text};
-pub use own_requests::{ack_of, ack_with, cancel_of};
+pub use onward::{hops_left, is_for_realm, onward_uri};
+pub use own_request_text::{ack_text, cancel_text, to_field};
 pub use own_via::{branch_text, kept_without_via, own_via_value, pop_via};
 pub use received_request::{response_address, with_top_via};
-pub use record_route::push_record_route;
 pub use tail::{text_onward, text_to_target};
 pub use tail_text::received_tail;
-pub use top_via::{received_top, received_via, received_via_of};
+pub use top_via::{received_top, received_via_of};

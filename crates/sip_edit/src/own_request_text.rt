@@ -17,10 +17,9 @@ ghost use Rattle.sip_edit.specs.OwnRequestText as Spec;
 ghost use Rattle.sip_edit.specs.OwnVia.{branch_text, own_via};
 
 use crate::branch_id::BranchId;
-use crate::own_requests::to_field;
 use crate::own_via::put_via;
 use sip_header::cseq_of;
-use sip_message_fields::{FieldName, ViewField};
+use sip_message_fields::{FieldName, KnownName, Value, ViewField, ViewName};
 use sip_message_form::{KeptParts, ViewStart, put_body, put_field};
 use sip_route::{Own, RoutesKept};
 use sip_text::{Buffer, Bytes};
@@ -169,6 +168,14 @@ fn text_beside(
     put_routes_left(alloc, &mut out, routes, came)?;
     put_body(&mut out, b"")?;
     Ok(out.into_bytes())
+}
+
+/// The field of a To with this value, if there is one. Takes no memory.
+pub fn to_field(to: Option<&[u8]>) -> Option<ViewField<'_>>
+    ensures { option_to_list result ≡ OwnRequests.to_field (option_map (λ value. value.now) to.entry) }
+{
+    let value = to?;
+    Some(ViewField::new(ViewName::of_name(KnownName::To), Value::of_part(value)))
 }
 
 /// The text of the ACK of a final answer with this To, if that had one, to an INVITE that went to a target with this

@@ -1,6 +1,6 @@
 //! The top Via of a request with its source (RFC 3261 18.2.1; RFC 3581 4): what becomes of `received` and `rport`.
 //! Where the responses go by it is in `received_request`.
-ghost use Rattle.std.specs.Prelude.{◌≡◌, ◌++◌, ◌||◌, not, false, length, decimal, codes, is_some, option_map, IfOk, IfSome, OnOk, Some};
+ghost use Rattle.std.specs.Prelude.{◌≡◌, ◌++◌, ◌||◌, not, false, length, decimal, codes, is_some, IfOk, IfSome, OnOk, Some};
 ghost use Rattle.std.specs.Str.{bytes_eq};
 ghost use Rattle.sip_text.specs.Cuts.{parts_at};
 ghost use Rattle.sip_text.specs.Lists.{trimmed};
@@ -229,7 +229,10 @@ fn edited_value(
     with_address(alloc, value, host, from)
 }
 
-/// The same as `received_via` gives of a value that says this Via. `AllocError` is the only refusal.
+/// The value of the top Via of a request as it came from an address, by what it says: a `received` that came is
+/// removed, an `rport` gets the source's port, and `received` with the source's address goes last where there was
+/// an `rport`, or where the sent-by is another host. All other text stays (RFC 3261 18.2.1; RFC 3581 4). `AllocError` is the
+/// only refusal.
 pub fn received_via_of(
     alloc: Global,
     via: &Via<'_>,
@@ -257,22 +260,4 @@ pub fn received_top(
     let asks = asks_for_port(via);
     let value = edited_value(alloc, via, value, from, asks)?;
     Ok((value, address_asked(via, from, asks)))
-}
-
-/// The value of the top Via of a request as it came from an address, by what it says: a `received` that came is
-/// removed, an `rport` gets the source's port, and `received` with the source's address goes last where there was
-/// an `rport`, or where the sent-by is another host. All other text stays, and so does a value that can't be
-/// read (RFC 3261 18.2.1; RFC 3581 4). `AllocError` is the only refusal.
-pub fn received_via(
-    alloc: Global,
-    via: Option<&Via<'_>>,
-    value: &[u8],
-    from: Addr,
-) -> Result<Bytes, AllocError>
-    ensures { IfOk result (λ edited. edited ≡ TopVia.received_as (option_map (λ v. v.now) via.entry) value.now from) }
-{
-    match via {
-        Some(via) => with_source(alloc, value, via.host.as_slice(), from),
-        None => Bytes::copy(alloc, value),
-    }
 }

@@ -38,7 +38,6 @@ pub use sip_message_fields::{
     Field, FieldName, Fields, Piece, Value, ViewField, ViewFields, ViewName,
 };
 pub use sip_message_form::{
-    Kept, Message, ReadError, Start, View, ViewError, ViewRefusal, ViewStart, write, write_view,
-    written_length,
+    Kept, Message, ReadError, Start, View, ViewError, ViewRefusal, ViewStart, write, written_length,
 };
 pub use viewing::view;

@@ -6,7 +6,7 @@
 //! - Tried: `test_parts`.
 //!
 //! ```text
-//! let bytes = write_view(alloc, &view)?;
+//! let kept = Kept::of(alloc, &view)?;
 //! ```
 #![tactic(auto)]
 
@@ -36,5 +36,5 @@ pub use putting::{put_body, put_line, put_request_line, put_status_line};
 pub use view_error::ViewError;
 pub use view_refusal::ViewRefusal;
 pub use view_start::ViewStart;
-pub use view_writing::{put_field, put_fields, write_view};
+pub use view_writing::{put_field, put_fields};
 pub use writing::{write, written_length};

@@ -63,7 +63,7 @@ left_by : (own : Own) (routes : RoutesKept) (uri : List ℕ) (from : Addr) (fiel
 left_by own routes uri from fields left None none = subst (are_left own routes uri) (none_edited [] fields none) (left [])
 left_by own routes uri from fields left (Some value) is = left (received_via value from)
 
-pub left_received : (own : Own) (routes : RoutesKept) (uri : List ℕ) (from : Addr) (fields : List Field) → ((via : List ℕ) → are_left own routes uri (with_first Name.Via via fields)) →
+left_received : (own : Own) (routes : RoutesKept) (uri : List ℕ) (from : Addr) (fields : List Field) → ((via : List ℕ) → are_left own routes uri (with_first Name.Via via fields)) →
     are_left own routes uri (received_fields from fields)
 left_received own routes uri from fields left = left_by own routes uri from fields left (first_value Name.Via fields) refl
 

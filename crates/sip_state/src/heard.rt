@@ -29,11 +29,11 @@ use sip_base::Shared;
 use sip_context_places::laws::kept_routes_are_left;
 use sip_context_places::{Place, RouteFacts, places_in};
 use sip_dialog::DialogId;
-use sip_edit::{BranchId, branch_text, onward_base_by, own_via_value, text_to_target, to_target};
+use sip_edit::{BranchId, received_tail, text_to_target};
 use sip_header::Via;
 use sip_hops::Hops;
 use sip_message_fields::{FieldName, Value};
-use sip_message_form::{KeptParts, View, ViewStart, write_view};
+use sip_message_form::{KeptParts, View, ViewStart};
 use sip_route::{Own, RoutesKept};
 use sip_text::{Bytes, Items};
 use sip_uri::Addr;
@@ -69,35 +69,12 @@ fn unread_routes(alloc: Global, message: &KeptParts, own: &Own) -> Result<Routes
     facts.kept(alloc, own)
 }
 
-/// Whether a message names a dialog.
-fn unread_names_dialog(alloc: Global, message: &KeptParts) -> Result<bool, AllocError>
-    ensures { IfOk result (λ names. names ≡ is_some (Spec.dialog_by (Spec.names_in message.now))) }
+/// What a message says of its dialogs, if its core fields are read.
+fn unread_names(alloc: Global, message: &KeptParts) -> Result<Option<Names>, AllocError>
+    ensures { IfOk result (λ names. names ≡ Spec.names_in message.now) }
 {
     let request = message.view(alloc)?;
-    let names = names_in(alloc, &request)?;
-    Ok(names_dialog(&names))
-}
-
-/// The dialog that a message names.
-fn unread_dialog(alloc: Global, message: &KeptParts) -> Result<Option<DialogId>, AllocError>
-    ensures { IfOk result (λ id. id ≡ Spec.dialog_by (Spec.names_in message.now)) }
-{
-    let request = message.view(alloc)?;
-    let names = names_in(alloc, &request)?;
-    dialog_by(alloc, &names)
-}
-
-/// The dialog that an answer with a tag of To to a message names.
-fn unread_dialog_to(
-    alloc: Global,
-    message: &KeptParts,
-    to_tag: &[u8],
-) -> Result<Option<DialogId>, AllocError>
-    ensures { IfOk result (λ id. id ≡ Spec.dialog_to to_tag.now (Spec.names_in message.now)) }
-{
-    let request = message.view(alloc)?;
-    let names = names_in(alloc, &request)?;
-    dialog_to(alloc, &names, to_tag)
+    names_in(alloc, &request)
 }
 
 /// The value that the top Via of a message gets, which came from an address.
@@ -262,10 +239,10 @@ impl Heard {
         }
     }
 
-    /// What its packets have in common, if that was written for a server of this realm, with these Routes left of the
-    /// request as it came from an address.
+    /// What its packets have in common, if that was kept for a server of this realm, with these Routes left of the request as
+    /// it came from an address.
     #[tactic(auto, using(crate::proofs::Tails::is_tail))]
-    fn tail_for(&self, realm: &[u8], routes: RoutesKept, from: Addr) -> Option<&[u8]>
+    fn kept_tail(&self, realm: &[u8], routes: RoutesKept, from: Addr) -> Option<&[u8]>
         ensures { IfSome result (λ tail. tail.now ≡ tail_of routes realm.now (received self.now from)) }
     {
         let onward = self.onward.as_ref()?;
@@ -279,30 +256,25 @@ impl Heard {
         Some(tail.text.as_slice())
     }
 
-    /// The text of the request as it goes to a target, written anew from its fields.
-    fn unread_text(
+    /// What its packets have in common for a server of this realm, with these Routes left of the request as it came from an
+    /// address: as it was kept, or written anew.
+    #[tactic(auto, using(crate::proofs::Tails::of_received))]
+    fn tail(
         &self,
         alloc: Global,
-        server: &Server,
-        branch: BranchId,
-        records_route: bool,
+        realm: &[u8],
         routes: RoutesKept,
         from: Addr,
-        uri: &[u8],
-    ) -> Result<Bytes, AllocError>
-        requires { fields_kept routes (received_fields from self.now.fields)
-            ≡ fields_left server.now.config.own (request_uri self.now.start) (received_fields from self.now.fields) }
-        ensures { IfOk result (λ text. text ≡ text_of (goes_to server.now branch records_route uri.now (received self.now from))) }
+    ) -> Result<Value<'_>, AllocError>
+        ensures { IfOk result (λ tail. tail ≡ tail_of routes realm.now (received self.now from)) }
     {
-        let own = &server.config.own;
-        let realm = server.config.realm.as_slice();
-        let value = self.received_via(alloc, from)?;
-        let received = self.with_top_via(alloc, value.as_slice())?;
-        let base = onward_base_by(alloc, own, realm, records_route, routes, &received)?;
-        let branch = branch_text(alloc, server.word, branch.number, branch.target)?;
-        let via = own_via_value(alloc, own, branch.as_slice())?;
-        let request = to_target(alloc, &base, uri, via)?;
-        write_view(alloc, &request)
+        if let Some(tail) = self.kept_tail(realm, routes, from) {
+            return Ok(Value::of_part(tail));
+        }
+        let via = self.received_via(alloc, from)?;
+        let request = self.view(alloc)?;
+        let tail = received_tail(alloc, realm, routes, &request, via.as_slice())?;
+        Value::of_bytes(alloc, tail)
     }
 
     /// The text of the request as it goes from a server to a target with this Request-URI, if it came from an address: without
@@ -322,20 +294,18 @@ impl Heard {
     {
         let own = &server.config.own;
         let routes = self.routes_kept(alloc, own)?;
-        if let Some(tail) = self.tail_for(server.config.realm.as_slice(), routes, from) {
-            let start = self.start();
-            return text_to_target(
-                alloc,
-                own,
-                server.word,
-                branch,
-                records_route,
-                &start,
-                uri,
-                tail,
-            );
-        }
-        self.unread_text(alloc, server, branch, records_route, routes, from, uri)
+        let tail = self.tail(alloc, server.config.realm.as_slice(), routes, from)?;
+        let start = self.start();
+        text_to_target(
+            alloc,
+            own,
+            server.word,
+            branch,
+            records_route,
+            &start,
+            uri,
+            tail.as_slice(),
+        )
     }
 
     /// Whether the request names a dialog (RFC 3261 12.2.2). `AllocError` is the only refusal.
@@ -345,7 +315,10 @@ impl Heard {
     {
         match &self.onward {
             Some(onward) => Ok(names_dialog(&onward.get().names)),
-            None => unread_names_dialog(alloc, &self.message),
+            None => {
+                let names = unread_names(alloc, &self.message)?;
+                Ok(names_dialog(&names))
+            }
         }
     }
 
@@ -357,7 +330,10 @@ impl Heard {
     {
         match &self.onward {
             Some(onward) => dialog_by(alloc, &onward.get().names),
-            None => unread_dialog(alloc, &self.message),
+            None => {
+                let names = unread_names(alloc, &self.message)?;
+                dialog_by(alloc, &names)
+            }
         }
     }
 
@@ -368,7 +344,10 @@ impl Heard {
     {
         match &self.onward {
             Some(onward) => dialog_to(alloc, &onward.get().names, to_tag),
-            None => unread_dialog_to(alloc, &self.message, to_tag),
+            None => {
+                let names = unread_names(alloc, &self.message)?;
+                dialog_to(alloc, &names, to_tag)
+            }
         }
     }
 

@@ -1,7 +1,7 @@
 use crate::bytes::gives_bytes;
-use sip_edit::ack_of;
+use sip_edit_views::ack_of;
 use sip_message::view;
-use sip_message_form::{View, write_view};
+use sip_message_form::{Kept, View};
 use sip_text::Bytes;
 use std::alloc::{AllocError, Global};
 use test_forms::gives;
@@ -19,7 +19,8 @@ const ACK: &[u8] =
 
 /// The text of the ACK of a response to a request.
 fn ack(alloc: Global, sent: &View<'_>, response: &View<'_>) -> Result<Bytes, AllocError> {
-    write_view(alloc, &ack_of(alloc, sent, response)?)
+    let kept = Kept::of(alloc, &ack_of(alloc, sent, response)?)?;
+    Bytes::copy(alloc, kept.text())
 }
 
 /// The server writes it straight, by `ack_text`, with a To that it kept.

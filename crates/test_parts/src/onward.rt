@@ -1,7 +1,7 @@
 use crate::bytes::gives_bytes;
-use sip_edit::push_record_route;
+use sip_edit_views::push_record_route;
 use sip_message::view;
-use sip_message_form::{View, write_view};
+use sip_message_form::{Kept, View};
 use sip_route::Own;
 use sip_text::{Bytes, Items};
 use std::alloc::{AllocError, Global};
@@ -25,10 +25,11 @@ fn own_place(alloc: Global) -> Result<Own, AllocError> {
 
 /// The text of a request with this server's Record-Route.
 fn recorded(alloc: Global, own: &Own, request: &View<'_>) -> Result<Bytes, AllocError> {
-    write_view(alloc, &push_record_route(alloc, own, request)?)
+    let kept = Kept::of(alloc, &push_record_route(alloc, own, request)?)?;
+    Bytes::copy(alloc, kept.text())
 }
 
-/// The server puts its Record-Route into what goes to all targets (`onward_base`).
+/// The server writes its Record-Route straight, by `text_to_target`.
 #[test]
 fn record_route(rt: HostRuntime) {
     let alloc = rt.alloc();

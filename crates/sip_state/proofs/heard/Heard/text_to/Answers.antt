@@ -5,22 +5,18 @@ use Rattle.sip_message_form.specs.ViewStart.{start_seen}
 use Rattle.sip_edit.specs.OwnVia.{branch_text, own_via}
 use Rattle.sip_edit.specs.ReceivedRequest.{received}
 use Rattle.sip_edit.specs.Tail.{tail_of}
-use Rattle.sip_route.specs.Way.{request_uri}
 use Rattle.sip_state.specs.Heard.{goes_to}
-use Rattle.sip_state.proofs.Tails.{Joins, joined, left_received}
+use Rattle.sip_state.proofs.Tails.{Joins, joined}
 use Rattle.sip_state.proofs.heard.Heard.text_to.Goals as goal
 
-pub returns-in-Some : goal.returns-in-Some
-returns-in-Some c =
+pub returns : goal.returns
+returns c =
     let server = c.args.server.now in
     let own = server.config.own in
     let via : List ℕ = own_via own (branch_text server.word c.args.branch.number c.args.branch.target) in
     IfOk-weaker c.text_to_target.result
-    (Joins own c.args.records_route c.args.uri.now via c.in-Some.tail.now (start_seen c.start-start.result))
+    (Joins own c.args.records_route c.args.uri.now via c.as_slice-2.result.now (start_seen c.start-start.result))
     (λ (text : List ℕ). text ≡ text_of (goes_to server c.args.branch c.args.records_route c.args.uri.now (received c.args.self.now c.args.from)))
-    (λ text joins. joined own c.args.records_route c.args.uri.now via c.in-Some.tail.now server.config.realm text (start_seen c.start-start.result) c.in_ok-routes.routes c.args.self.now c.args.from
-    c.start-start.ensures (c.in-Some.ensures ∙ ap (λ (w : List ℕ). tail_of c.in_ok-routes.routes w (received c.args.self.now c.args.from)) c.as_slice.ensures) c.in_ok-routes.ensures joins)
+    (λ text joins. joined own c.args.records_route c.args.uri.now via c.as_slice-2.result.now server.config.realm text (start_seen c.start-start.result) c.in_ok-routes.routes c.args.self.now c.args.from
+    c.start-start.ensures (c.as_slice-2.ensures ∙ c.in_ok-tail.ensures ∙ ap (λ (w : List ℕ). tail_of c.in_ok-routes.routes w (received c.args.self.now c.args.from)) c.as_slice.ensures) c.in_ok-routes.ensures joins)
     c.text_to_target.ensures
-
-pub unread_text-requires : goal.unread_text-requires
-unread_text-requires c = left_received c.args.server.now.config.own c.in_ok-routes.routes (request_uri c.args.self.now.start) c.args.from c.args.self.now.fields c.in_ok-routes.ensures

@@ -1,6 +1,6 @@
 use Rattle.std.proofs.Common.{◌≡◌, ◌++◌, drop}
 use Rattle.sip_edit.specs.Lowering.{fields_on}
-use Rattle.sip_edit.proofs.onward.put_onward.Given as goal
+use Rattle.sip_edit_views.proofs.onward.put_onward.Given as goal
 
 -- the fields so far, and what becomes of the rest
 abbrev pub invariant-loop-field : goal.invariant-loop-field

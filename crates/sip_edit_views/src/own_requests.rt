@@ -7,6 +7,7 @@ ghost use Rattle.sip_message_fields.specs.Values.{first_value};
 ghost use Rattle.sip_header.specs.CSeq as CSeqs;
 ghost use Rattle.sip_edit.specs.OwnRequests;
 
+use sip_edit::to_field;
 use sip_header::cseq_of;
 use sip_message_fields::{FieldName, KnownName, Value, ViewField, ViewFields, ViewName};
 use sip_message_form::{View, ViewStart};
@@ -106,14 +107,6 @@ fn request_like<'v>(
         version: Value::of_part(b"SIP/2.0"),
     };
     Ok(View::new(start, fields, b""))
-}
-
-/// The field of a To with this value, if there is one.
-pub(crate) fn to_field(to: Option<&[u8]>) -> Option<ViewField<'_>>
-    ensures { option_to_list result ≡ OwnRequests.to_field (option_map (λ value. value.now) to.entry) }
-{
-    let value = to?;
-    Some(ViewField::new(ViewName::of_name(KnownName::To), Value::of_part(value)))
 }
 
 /// The ACK of a final answer with this To, if that had one, to an INVITE that was sent (RFC 3261 17.1.1.3). No byte is
