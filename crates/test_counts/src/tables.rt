@@ -1,28 +1,18 @@
 //! Calls on the tables that decide about a request, again and again, so that what one more costs can be counted.
 
+mod case;
 mod choices;
 mod comparisons;
-mod decisions;
 mod lookups;
-mod names;
 mod proofs;
-mod timer_cases;
-mod timers;
 mod updates;
 
-use choices::choices;
-use comparisons::{Part, comparisons};
-use decisions::{Others, decisions};
-use lookups::lookups;
-use proofs::proofs;
-use sip_policy::ListRules;
-use sip_policy_index::IndexedRules;
+use case::case_of;
 use std::alloc::Global;
 use std::io;
-use timer_cases::timer_case;
-use updates::updates;
 
-const CASES: [&str; 18] = [
+/// Cases that are tried with a small table, by their words. Those of rules and of timers are `test_kind_counts`'s, which has more.
+const CASES: &[&str] = &[
     "update",
     "proof",
     "same_parameters",
@@ -45,18 +35,9 @@ const CASES: [&str; 18] = [
 
 /// How many calls of a case came to what they are to come to. None where the case is unknown, or memory runs out.
 fn counted(alloc: Global, case: &str, size: u32, times: u32) -> Option<u32> {
-    match case {
-        "update" => updates(alloc, size, times),
-        "proof" => proofs(alloc, size, times),
-        "same_parameters" => comparisons(alloc, Part::Parameter, size, times),
-        "same_headers" => comparisons(alloc, Part::Header, size, times),
-        "list_by_targets" => decisions::<ListRules>(alloc, Others::Targets, size, times),
-        "index_by_targets" => decisions::<IndexedRules>(alloc, Others::Targets, size, times),
-        "list_by_askers" => decisions::<ListRules>(alloc, Others::Askers, size, times),
-        "index_by_askers" => decisions::<IndexedRules>(alloc, Others::Askers, size, times),
-        "allows" => lookups(alloc, size, times),
-        "best" => choices(alloc, size, times),
-        _ => timer_case(alloc, case, size, times),
+    match case_of(case) {
+        Some(case) => case.counted(alloc, size, times),
+        None => test_kind_counts::counted(alloc, case, size, times),
     }
 }
 
@@ -70,8 +51,8 @@ pub fn tell<R: Print + AllocGlobal>(rt: &R, case: &str, size: u32, times: u32) -
 
 /// Each case with a small table.
 pub fn tell_all<R: Print + AllocGlobal>(rt: &R) -> io::Result<()> {
-    for case in CASES {
-        tell(rt, case, 4, 2)?;
+    for name in CASES {
+        tell(rt, name, 4, 2)?;
     }
     Ok(())
 }

@@ -1,5 +1,5 @@
 -- Requests that go on, and those that this server makes for them.
-use Rattle.std.specs.Prelude.{ℕ, Bool, List, [], ◌∷◌, map, take, codes}
+use Rattle.std.specs.Prelude.{ℕ, Bool, List, [], ◌∷◌, map, take}
 use Rattle.sip_uri.specs.declared.addr.Addr.{Addr}
 use Rattle.sip_message_fields.specs.declared.field.Field.{Field}
 use Rattle.sip_message_fields.specs.declared.field_name.FieldName.TheVariants as Name

@@ -9,4 +9,4 @@ pub type ServerTimers = WheelTimers;
 pub type ServerRules = IndexedRules;
 
 /// The engine of the program.
-pub type Server = Engine<ServerTimers, ServerRules>;
+pub type TestServer = Engine<ServerTimers, ServerRules>;

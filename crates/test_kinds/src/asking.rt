@@ -6,27 +6,38 @@ use std::fmt;
 
 /// A request at a minute of the day, as rules are asked about it.
 #[derive(Clone, Copy)]
-pub(crate) struct Asking {
+pub struct Asking {
     /// The name that was proven, or nobody's.
-    pub(crate) proven: Option<&'static str>,
-    pub(crate) method: &'static str,
+    pub proven: Option<&'static str>,
+    pub method: &'static str,
     /// Whether a REGISTER has a Contact.
-    pub(crate) has_contact: bool,
-    pub(crate) user: &'static str,
-    pub(crate) host: &'static str,
-    pub(crate) minute: u16,
+    pub has_contact: bool,
+    pub user: &'static str,
+    pub host: &'static str,
+    pub minute: u16,
 }
 
 impl fmt::Display for Asking {
     fn fmt<W: fmt::Write>(&self, f: &mut fmt::Formatter<W>) -> fmt::Result {
-        let proven = self.proven.unwrap_or("nobody");
-        let method = self.method;
-        let contact = if self.has_contact { "with" } else { "without" };
-        let (user, host, minute) = (self.user, self.host, self.minute);
-        write!(
-            f,
-            "{method} {contact} Contact to {user}@{host}, {proven} proven, at minute {minute}"
-        )
+        let words: &[&str] = &[
+            self.method,
+            if self.has_contact {
+                " with"
+            } else {
+                " without"
+            },
+            " Contact to ",
+            self.user,
+            "@",
+            self.host,
+            ", ",
+            self.proven.unwrap_or("nobody"),
+            " proven, at minute ",
+        ];
+        for word in words {
+            f.write_str(word)?;
+        }
+        write!(f, "{}", self.minute)
     }
 }
 
@@ -36,14 +47,19 @@ fn aor(alloc: Global, user: &str, host: &str) -> Result<Aor, AllocError> {
     Ok(Aor { user, host })
 }
 
+/// What rules decide about an operation at an address of record, asked by who is proven.
+fn decided<P: Rules>(rules: &P, asking: &Asking, operation: &Operation, aor: &Aor) -> Ruling {
+    match asking.proven {
+        Some(name) => rules.decide(name.as_bytes(), operation, aor, asking.minute),
+        None => rules.decide_unproven(operation, aor, asking.minute),
+    }
+}
+
 impl Asking {
     /// What rules decide about it.
-    pub(crate) fn ruling<P: Rules>(&self, alloc: Global, rules: &P) -> Result<Ruling, AllocError> {
-        let operation = Operation::of_request(alloc, self.method.as_bytes(), self.has_contact)?;
+    pub fn ruling<P: Rules>(&self, alloc: Global, rules: &P) -> Result<Ruling, AllocError> {
         let aor = aor(alloc, self.user, self.host)?;
-        Ok(match self.proven {
-            Some(name) => rules.decide(name.as_bytes(), &operation, &aor, self.minute),
-            None => rules.decide_unproven(&operation, &aor, self.minute),
-        })
+        let operation = Operation::of_request(alloc, self.method.as_bytes(), self.has_contact)?;
+        Ok(decided(rules, self, &operation, &aor))
     }
 }

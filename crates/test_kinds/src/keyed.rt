@@ -3,13 +3,13 @@ ghost use Rattle.test_kinds.specs.Keys.{times_kept, without_key};
 
 /// The request that a timer is for, and the key by which it is cancelled.
 #[derive(Clone, Copy)]
-pub(crate) struct Keyed {
-    pub(crate) request: u64,
-    pub(crate) key: usize,
+pub struct KeyedRow {
+    pub request: u64,
+    pub key: usize,
 }
 
 /// The key at a place.
-pub(crate) fn key_at(kept: &[Keyed], place: usize) -> Option<usize>
+pub(crate) fn key_at(kept: &[KeyedRow], place: usize) -> Option<usize>
     ensures { IfSome result (λ key. 1 ≤ times_kept key kept.now) }
 {
     match kept.get(place) {
@@ -19,12 +19,12 @@ pub(crate) fn key_at(kept: &[Keyed], place: usize) -> Option<usize>
 }
 
 /// The place of a request's key.
-pub(crate) fn place_of(kept: &[Keyed], request: u64) -> Option<usize> {
+pub(crate) fn place_of(kept: &[KeyedRow], request: u64) -> Option<usize> {
     kept.iter().position(|kept| kept.request == request)
 }
 
 /// Keeps a key no longer.
-pub(crate) fn drop_key(kept: &mut Vec<Keyed>, key: usize)
+pub(crate) fn drop_key(kept: &mut Vec<KeyedRow>, key: usize)
     ensures { kept.new.items ≡ without_key key kept.old.items }
 {
     kept.retain(|kept| kept.key != key);

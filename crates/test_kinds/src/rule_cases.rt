@@ -1,8 +1,88 @@
-//! What the sample's rules decide, for each kind of rules alike.
+//! What the sample's rules decide, for each kind of rules alike. None of them has a window.
 use crate::asking::Asking;
+use crate::case::{Case, Trial};
 use sip_config_types::sample;
 use sip_policy::{Decision, PolicyError, Rules};
 use std::alloc::Global;
+
+/// A request: the name that was proven, or nobody's, its method, its target's user and host, and what is decided about it.
+pub(crate) type Asked = (
+    Option<&'static str>,
+    &'static str,
+    &'static str,
+    &'static str,
+    Decision,
+);
+
+/// The sample's domain.
+const OWN: &str = "host.com";
+
+/// What is tried.
+pub(crate) const CASES: &[Case] = &[
+    // A call of nobody's is challenged.
+    Case {
+        name: "call_challenge",
+        trial: Trial::Rules(&[(None, "INVITE", "alice", OWN, Decision::Challenge)]),
+    },
+    // Nobody reaches the vault, proven or not.
+    Case {
+        name: "vault_denied",
+        trial: Trial::Rules(&[
+            (None, "INVITE", "vault", OWN, Decision::Deny(3)),
+            (Some("Mufasa"), "INVITE", "vault", OWN, Decision::Deny(3)),
+            (Some("alice"), "INVITE", "vault", OWN, Decision::Deny(3)),
+        ]),
+    },
+    // No rule is about another domain, whoever asks.
+    Case {
+        name: "foreign_domain_denied",
+        trial: Trial::Rules(&[
+            (None, "MESSAGE", "x", "other.net", Decision::Deny(0)),
+            (None, "MESSAGE", "alice", OWN, Decision::Challenge),
+            (
+                Some("Mufasa"),
+                "MESSAGE",
+                "x",
+                "other.net",
+                Decision::Deny(0),
+            ),
+        ]),
+    },
+    // Staff call by the gateway, and nobody else does.
+    Case {
+        name: "gateway",
+        trial: Trial::Rules(&[
+            (None, "INVITE", "911", OWN, Decision::Challenge),
+            (Some("Mufasa"), "INVITE", "911", OWN, Decision::Via(5, 0)),
+            (Some("Mufasa"), "MESSAGE", "911", OWN, Decision::Allow(6)),
+            (Some("alice"), "INVITE", "911", OWN, Decision::Allow(6)),
+        ]),
+    },
+    // A proven user may call every address of the domain, whether or not it is a user's.
+    Case {
+        name: "no_binding_no_user",
+        trial: Trial::Rules(&[
+            (None, "INVITE", "911", OWN, Decision::Challenge),
+            (Some("alice"), "INVITE", "Mufasa", OWN, Decision::Allow(6)),
+            (Some("alice"), "INVITE", "none", OWN, Decision::Allow(6)),
+        ]),
+    },
+    // A user registers contacts of no address but the own one.
+    Case {
+        name: "third_party_register",
+        trial: Trial::Rules(&[
+            (None, "REGISTER", "Mufasa", OWN, Decision::Challenge),
+            (Some("alice"), "REGISTER", "Mufasa", OWN, Decision::Deny(0)),
+            (
+                Some("Mufasa"),
+                "REGISTER",
+                "Mufasa",
+                OWN,
+                Decision::Allow(1),
+            ),
+        ]),
+    },
+];
 
 /// The sample's rules.
 fn sample_rules<P: Rules>(alloc: Global) -> Result<P, PolicyError> {
@@ -10,112 +90,36 @@ fn sample_rules<P: Rules>(alloc: Global) -> Result<P, PolicyError> {
     P::new(alloc, &config.rules, &config.users, &config.own.domains)
 }
 
-/// A request, and what the sample's rules decide about it. None of them has a window.
-#[derive(Clone, Copy)]
-struct Decided {
-    asking: Asking,
-    decision: Decision,
-}
-
-/// A request for a user of the sample's domain, of this name proven or of nobody.
-fn row(
-    proven: Option<&'static str>,
-    method: &'static str,
-    user: &'static str,
-    decision: Decision,
-) -> Decided {
-    Decided {
-        asking: Asking {
-            proven,
-            method,
-            has_contact: true,
-            user,
-            host: "host.com",
-            minute: 0,
-        },
-        decision,
-    }
-}
-
-/// The same for a user elsewhere, which no rule is about.
-fn foreign_row(proven: Option<&'static str>) -> Decided {
-    let row = row(proven, "MESSAGE", "x", Decision::Deny(0));
-    Decided {
-        asking: Asking {
-            host: "other.net",
-            ..row.asking
-        },
-        ..row
-    }
-}
-
-fn is_decided<P: Rules>(alloc: Global, rules: &P, row: &Decided) -> bool {
-    match row.asking.ruling(alloc, rules) {
-        Ok(ruling) => ruling.decision == row.decision && ruling.minute.is_none(),
+/// Whether rules decide so about a request, which has a Contact, at midnight.
+fn is_decided<P: Rules>(alloc: Global, rules: &P, row: &Asked) -> bool {
+    let (proven, method, user, host, decision) = *row;
+    let asking = Asking {
+        proven,
+        method,
+        has_contact: true,
+        user,
+        host,
+        minute: 0,
+    };
+    match asking.ruling(alloc, rules) {
+        Ok(ruling) => ruling.decision == decision && ruling.minute.is_none(),
         Err(_) => false,
     }
 }
 
-/// Whether the sample's rules decide so about each of some requests.
-fn are_decided<P: Rules>(alloc: Global, rows: &[Decided]) -> bool {
+fn are_decided<P: Rules>(alloc: Global, rules: &P, rows: &[Asked]) -> bool {
+    for row in rows {
+        if !is_decided(alloc, rules, row) {
+            return false;
+        }
+    }
+    true
+}
+
+/// Whether the sample's rules, in a kind of rules, decide so about each of some requests.
+pub(crate) fn hold<P: Rules>(alloc: Global, rows: &[Asked]) -> bool {
     match sample_rules::<P>(alloc) {
-        Ok(rules) => rows.iter().all(|row| is_decided(alloc, &rules, row)),
+        Ok(rules) => are_decided(alloc, &rules, rows),
         Err(_) => false,
     }
-}
-
-/// A call of nobody's is challenged.
-pub(crate) fn call_challenge<P: Rules>(alloc: Global) -> bool {
-    are_decided::<P>(alloc, &[row(None, "INVITE", "alice", Decision::Challenge)])
-}
-
-/// Nobody reaches the vault, proven or not.
-pub(crate) fn vault_denied<P: Rules>(alloc: Global) -> bool {
-    let rows = [
-        row(None, "INVITE", "vault", Decision::Deny(3)),
-        row(Some("Mufasa"), "INVITE", "vault", Decision::Deny(3)),
-        row(Some("alice"), "INVITE", "vault", Decision::Deny(3)),
-    ];
-    are_decided::<P>(alloc, &rows)
-}
-
-/// No rule is about another domain, whoever asks.
-pub(crate) fn foreign_domain_denied<P: Rules>(alloc: Global) -> bool {
-    let rows = [
-        foreign_row(None),
-        row(None, "MESSAGE", "alice", Decision::Challenge),
-        foreign_row(Some("Mufasa")),
-    ];
-    are_decided::<P>(alloc, &rows)
-}
-
-/// Staff call by the gateway, and nobody else does.
-pub(crate) fn gateway<P: Rules>(alloc: Global) -> bool {
-    let rows = [
-        row(None, "INVITE", "911", Decision::Challenge),
-        row(Some("Mufasa"), "INVITE", "911", Decision::Via(5, 0)),
-        row(Some("Mufasa"), "MESSAGE", "911", Decision::Allow(6)),
-        row(Some("alice"), "INVITE", "911", Decision::Allow(6)),
-    ];
-    are_decided::<P>(alloc, &rows)
-}
-
-/// A proven user may call every address of the domain, whether or not it is a user's.
-pub(crate) fn no_binding_no_user<P: Rules>(alloc: Global) -> bool {
-    let rows = [
-        row(None, "INVITE", "911", Decision::Challenge),
-        row(Some("alice"), "INVITE", "Mufasa", Decision::Allow(6)),
-        row(Some("alice"), "INVITE", "none", Decision::Allow(6)),
-    ];
-    are_decided::<P>(alloc, &rows)
-}
-
-/// A user registers contacts of no address but the own one.
-pub(crate) fn third_party_register<P: Rules>(alloc: Global) -> bool {
-    let rows = [
-        row(None, "REGISTER", "Mufasa", Decision::Challenge),
-        row(Some("alice"), "REGISTER", "Mufasa", Decision::Deny(0)),
-        row(Some("Mufasa"), "REGISTER", "Mufasa", Decision::Allow(1)),
-    ];
-    are_decided::<P>(alloc, &rows)
 }

@@ -1,3 +1,5 @@
+//! In which order timers fire, for each kind of timers alike.
+use crate::case::{Case, Trial};
 use crate::keyed_timers::KeyedTimers;
 use sip_timers::{Letter, Name, Owner, TimerError, Timers};
 use std::alloc::Global;
@@ -12,7 +14,61 @@ fn name(letter: Letter) -> Name {
 }
 
 /// When a timer fires, and its letter.
-type First = Option<(u64, Letter)>;
+pub(crate) type First = Option<(u64, Letter)>;
+
+/// A call of timers, and what is wanted of it.
+#[derive(Clone, Copy)]
+pub(crate) enum Step {
+    /// A timer is set for this moment.
+    Set(u64, Letter),
+    /// None is set for this moment.
+    TooFar(u64),
+    /// This one is the first.
+    Next(First),
+    /// At this moment this one fires.
+    Fires(u64, First),
+    /// The one that was set first is cancelled.
+    Cancels,
+}
+
+/// What is tried.
+pub(crate) const CASES: &[Case] = &[
+    // Of timers that are set for 100, then for 100 and 40 once 99 ms are over, the last fires first, and the others in the order in
+    // which they were set; and from 100 on none is set for 2^30 ms later.
+    Case {
+        name: "wheel_order",
+        trial: Trial::Timers(&[
+            Step::Set(100, Letter::A),
+            Step::Fires(99, None),
+            Step::Set(100, Letter::B),
+            Step::Set(40, Letter::C),
+            Step::Next(Some((40, Letter::C))),
+            Step::Fires(100, Some((40, Letter::C))),
+            Step::Fires(100, Some((100, Letter::A))),
+            Step::Fires(100, Some((100, Letter::B))),
+            Step::Fires(100, None),
+            Step::TooFar(1_073_741_924),
+            Step::Set(1_073_741_923, Letter::D),
+        ]),
+    },
+    // Of timers that are set for 10, 5 and 5 the second and the third fire at 5, in this order, and then none. Then the first is
+    // cancelled, and none stands; and from 5 on none is set for 2^30 ms later.
+    Case {
+        name: "timer_order",
+        trial: Trial::Timers(&[
+            Step::Set(10, Letter::A),
+            Step::Set(5, Letter::B),
+            Step::Set(5, Letter::C),
+            Step::Next(Some((5, Letter::B))),
+            Step::Fires(5, Some((5, Letter::B))),
+            Step::Fires(5, Some((5, Letter::C))),
+            Step::Fires(5, None),
+            Step::Cancels,
+            Step::Next(None),
+            Step::TooFar(1_073_741_829),
+        ]),
+    },
+];
 
 /// Whether this is said of the first timer.
 fn is(said: Option<(u64, Name)>, wanted: First) -> bool {
@@ -23,16 +79,8 @@ fn is(said: Option<(u64, Name)>, wanted: First) -> bool {
     }
 }
 
-fn is_set<T: Timers>(timers: &mut KeyedTimers<T>, due: u64, letter: Letter) -> bool {
-    timers.add(due, name(letter)).is_ok()
-}
-
 fn is_too_far<T: Timers>(timers: &mut KeyedTimers<T>, due: u64) -> bool {
     matches!(timers.add(due, name(Letter::D)), Err(TimerError::TooFar))
-}
-
-fn is_next<T: Timers>(timers: &KeyedTimers<T>, wanted: First) -> bool {
-    is(timers.next(), wanted)
 }
 
 fn fires<T: Timers>(timers: &mut KeyedTimers<T>, now: u64, wanted: First) -> bool {
@@ -42,52 +90,31 @@ fn fires<T: Timers>(timers: &mut KeyedTimers<T>, now: u64, wanted: First) -> boo
     }
 }
 
-/// Whether of timers that are set for 100, then for 100 and 40 once 99 ms are over, the last fires first, and the others in the
-/// order in which they were set.
-fn fire_in_order<T: Timers>(timers: &mut KeyedTimers<T>) -> bool {
-    is_set(timers, 100, Letter::A)
-        && fires(timers, 99, None)
-        && is_set(timers, 100, Letter::B)
-        && is_set(timers, 40, Letter::C)
-        && is_next(timers, Some((40, Letter::C)))
-        && fires(timers, 100, Some((40, Letter::C)))
-        && fires(timers, 100, Some((100, Letter::A)))
-        && fires(timers, 100, Some((100, Letter::B)))
-        && fires(timers, 100, None)
-}
-
-/// Timers fire in the order (moment, set), and from 100 on none is set for 2^30 ms later.
-pub(crate) fn wheel_order<T: Timers>(alloc: Global) -> bool {
-    match KeyedTimers::<T>::new(alloc) {
-        Ok(mut timers) => {
-            fire_in_order(&mut timers)
-                && is_too_far(&mut timers, 1_073_741_924)
-                && is_set(&mut timers, 1_073_741_923, Letter::D)
+impl Step {
+    fn holds<T: Timers>(&self, timers: &mut KeyedTimers<T>) -> bool {
+        match *self {
+            Step::Set(due, letter) => timers.add(due, name(letter)).is_ok(),
+            Step::TooFar(due) => is_too_far(timers, due),
+            Step::Next(wanted) => is(timers.next(), wanted),
+            Step::Fires(now, wanted) => fires(timers, now, wanted),
+            Step::Cancels => timers.cancel(0),
         }
-        Err(_) => false,
     }
 }
 
-/// Whether of timers that are set for 10, 5 and 5 the second and the third fire at 5, in this order, and then none.
-fn fire_at_five<T: Timers>(timers: &mut KeyedTimers<T>) -> bool {
-    is_set(timers, 10, Letter::A)
-        && is_set(timers, 5, Letter::B)
-        && is_set(timers, 5, Letter::C)
-        && is_next(timers, Some((5, Letter::B)))
-        && fires(timers, 5, Some((5, Letter::B)))
-        && fires(timers, 5, Some((5, Letter::C)))
-        && fires(timers, 5, None)
+fn all_hold<T: Timers>(timers: &mut KeyedTimers<T>, steps: &[Step]) -> bool {
+    for step in steps {
+        if !step.holds(timers) {
+            return false;
+        }
+    }
+    true
 }
 
-/// Then the first is cancelled, and none stands; and from 5 on none is set for 2^30 ms later.
-pub(crate) fn timer_order<T: Timers>(alloc: Global) -> bool {
+/// Whether steps come to what is wanted on new timers of a kind.
+pub(crate) fn hold<T: Timers>(alloc: Global, steps: &[Step]) -> bool {
     match KeyedTimers::<T>::new(alloc) {
-        Ok(mut timers) => {
-            fire_at_five(&mut timers)
-                && timers.cancel(0)
-                && is_next(&timers, None)
-                && is_too_far(&mut timers, 1_073_741_829)
-        }
+        Ok(mut timers) => all_hold(&mut timers, steps),
         Err(_) => false,
     }
 }

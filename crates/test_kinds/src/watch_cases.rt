@@ -1,4 +1,5 @@
 //! Cases of a watch of a configuration's file, over memory and over a path of the system.
+use crate::case::{Case, Trial};
 use sip_text::Bytes;
 use sipd_reload::{
     FileFault, FileState, Look, MemoryFile, PathFile, Stamp, Told, Watch, WatchedFile,
@@ -15,7 +16,7 @@ const BAD: &str = "what is no configuration";
 
 /// What a file holds.
 #[derive(Clone, Copy)]
-enum Held {
+pub(crate) enum FileHeld {
     Text(&'static str),
     /// It is there, and can't be read.
     Unreadable(FileFault),
@@ -25,7 +26,7 @@ enum Held {
 
 /// What a look comes to.
 #[derive(Clone, Copy)]
-enum Wanted {
+pub(crate) enum Wanted {
     Nothing,
     Unsettled,
     /// These bytes are offered, and taken.
@@ -36,7 +37,166 @@ enum Wanted {
 }
 
 /// A look: its moment, the second at which the file was changed, what it holds, and what that comes to.
-type Row = (u64, u64, Held, Wanted);
+pub(crate) type Row = (u64, u64, FileHeld, Wanted);
+
+/// How a watch of a case is asked.
+#[derive(Clone, Copy)]
+pub(crate) enum Asked {
+    /// At the moment of each row, and a millisecond before.
+    AtRows,
+    /// Each millisecond for ten seconds.
+    Always,
+}
+
+/// What is tried over memory.
+pub(crate) const CASES: &[Case] = &[
+    // A file that is written in pieces isn't offered while it changes each second, and is once it stays; one that changes endlessly never is.
+    Case {
+        name: "written_in_pieces",
+        trial: Trial::Watch(
+            Asked::AtRows,
+            &[
+                (1000, 1, FileHeld::Text("the conf"), Wanted::Unsettled),
+                (
+                    2000,
+                    2,
+                    FileHeld::Text("the configuration th"),
+                    Wanted::Unsettled,
+                ),
+                (
+                    3000,
+                    3,
+                    FileHeld::Text("the configuration that is new"),
+                    Wanted::Unsettled,
+                ),
+                (
+                    4000,
+                    3,
+                    FileHeld::Text("the configuration that is new"),
+                    Wanted::Taken("the configuration that is new"),
+                ),
+                (
+                    5000,
+                    3,
+                    FileHeld::Text("the configuration that is new"),
+                    Wanted::Nothing,
+                ),
+                (6000, 6, FileHeld::Text("one"), Wanted::Unsettled),
+                (7000, 7, FileHeld::Text("another"), Wanted::Unsettled),
+                (8000, 8, FileHeld::Text("one"), Wanted::Unsettled),
+                (9000, 9, FileHeld::Text("another"), Wanted::Unsettled),
+            ],
+        ),
+    },
+    // A file that is gone is told once; back with the same bytes it is nothing, with others they are offered, though it was changed at the same
+    // second, and the same bytes at another second are nothing.
+    Case {
+        name: "gone_and_back",
+        trial: Trial::Watch(
+            Asked::AtRows,
+            &[
+                (1000, 1, FileHeld::Text(OLD), Wanted::Nothing),
+                (
+                    2000,
+                    1,
+                    FileHeld::Fault(FileFault::Gone),
+                    Wanted::Unread(FileFault::Gone),
+                ),
+                (3000, 1, FileHeld::Fault(FileFault::Gone), Wanted::Nothing),
+                (4000, 1, FileHeld::Text(OLD), Wanted::Nothing),
+                (5000, 5, FileHeld::Text(OLD), Wanted::Nothing),
+                (
+                    6000,
+                    5,
+                    FileHeld::Fault(FileFault::Gone),
+                    Wanted::Unread(FileFault::Gone),
+                ),
+                (
+                    7000,
+                    5,
+                    FileHeld::Text("what came in its place"),
+                    Wanted::Unsettled,
+                ),
+                (
+                    8000,
+                    5,
+                    FileHeld::Text("what came in its place"),
+                    Wanted::Taken("what came in its place"),
+                ),
+            ],
+        ),
+    },
+    // What is refused isn't offered again until the file held other bytes.
+    Case {
+        name: "refused_once",
+        trial: Trial::Watch(
+            Asked::AtRows,
+            &[
+                (1000, 1, FileHeld::Text(BAD), Wanted::Unsettled),
+                (2000, 1, FileHeld::Text(BAD), Wanted::Refused(BAD)),
+                (3000, 3, FileHeld::Text(BAD), Wanted::Nothing),
+                (
+                    4000,
+                    3,
+                    FileHeld::Fault(FileFault::Device),
+                    Wanted::Unread(FileFault::Device),
+                ),
+                (5000, 3, FileHeld::Text(BAD), Wanted::Nothing),
+                (6000, 6, FileHeld::Text(OLD), Wanted::Nothing),
+                (7000, 7, FileHeld::Text(BAD), Wanted::Unsettled),
+                (8000, 7, FileHeld::Text(BAD), Wanted::Refused(BAD)),
+            ],
+        ),
+    },
+    // Want of memory is told once, and what was seen before counts still; a file that is too long is told once, and isn't read.
+    Case {
+        name: "without_memory",
+        trial: Trial::Watch(
+            Asked::AtRows,
+            &[
+                (1000, 1, FileHeld::Text("what is new"), Wanted::Unsettled),
+                (
+                    2000,
+                    1,
+                    FileHeld::Unreadable(FileFault::NoMemory),
+                    Wanted::Unread(FileFault::NoMemory),
+                ),
+                (
+                    3000,
+                    1,
+                    FileHeld::Unreadable(FileFault::NoMemory),
+                    Wanted::Nothing,
+                ),
+                (
+                    4000,
+                    1,
+                    FileHeld::Text("what is new"),
+                    Wanted::Refused("what is new"),
+                ),
+                (
+                    5000,
+                    5,
+                    FileHeld::Fault(FileFault::TooLong),
+                    Wanted::Unread(FileFault::TooLong),
+                ),
+                (
+                    6000,
+                    6,
+                    FileHeld::Fault(FileFault::TooLong),
+                    Wanted::Nothing,
+                ),
+            ],
+        ),
+    },
+    // A file that stays as it is is read at two looks, and asked for its stamp once a second from then on.
+    Case {
+        name: "seldom_read",
+        trial: Trial::Watch(
+            Asked::Always,
+            &[(1000, 1, FileHeld::Text(OLD), Wanted::Nothing)],
+        ),
+    },
+];
 
 /// The file of a look.
 fn state_of(alloc: Global, row: &Row) -> Result<FileState, AllocError> {
@@ -47,52 +207,90 @@ fn state_of(alloc: Global, row: &Row) -> Result<FileState, AllocError> {
         length: 20,
     };
     Ok(match row.2 {
-        Held::Text(text) => FileState {
+        FileHeld::Text(text) => FileState {
             stamp: Ok(stamp),
             bytes: Ok(Bytes::copy(alloc, text.as_bytes())?),
         },
-        Held::Unreadable(fault) => FileState {
+        FileHeld::Unreadable(fault) => FileState {
             stamp: Ok(stamp),
             bytes: Err(fault),
         },
-        Held::Fault(fault) => FileState {
+        FileHeld::Fault(fault) => FileState {
             stamp: Err(fault),
             bytes: Err(fault),
         },
     })
 }
 
-/// A watch of a file that is so at these looks, one after the other.
-fn watch_of(alloc: Global, rows: &[Row]) -> Result<Watch<MemoryFile>, AllocError> {
-    let mut states = Vec::new(alloc);
+/// A watch, whose end is proved once and not wherever it is dropped.
+struct Watched<F: WatchedFile> {
+    watch: Watch<F>,
+}
+
+impl<F: WatchedFile> Drop for Watched<F> {
+    fn drop(self) {
+        let Watched { watch: _ } = self;
+    }
+}
+
+fn push_states(alloc: Global, states: &mut Vec<FileState>, rows: &[Row]) -> Result<(), AllocError> {
     for row in rows {
         states.push(state_of(alloc, row)?)?;
     }
-    let in_force = Bytes::copy(alloc, OLD.as_bytes())?;
-    Ok(Watch::new(MemoryFile::new(alloc, states), in_force, 0))
+    Ok(())
 }
 
-/// Whether a look comes to this; what is offered is taken, or refused.
-fn comes_to<F: WatchedFile>(watch: &mut Watch<F>, now: u64, wanted: Wanted) -> bool {
-    match (watch.look(now), wanted) {
-        (Look::Nothing, Wanted::Nothing) | (Look::Unsettled, Wanted::Unsettled) => true,
-        (Look::Unread(fault), Wanted::Unread(other)) => fault == other,
-        (Look::Settled(bytes), Wanted::Taken(text)) => {
-            let is_same = bytes.as_slice() == text.as_bytes();
-            watch.take(bytes);
-            is_same && watch.in_force() == text.as_bytes()
-        }
-        (Look::Settled(bytes), Wanted::Refused(text)) => {
-            let is_same = bytes.as_slice() == text.as_bytes();
-            watch.refuse(bytes);
-            is_same && watch.in_force() == OLD.as_bytes()
-        }
+/// A watch of a file that is so at these looks, one after the other.
+fn watch_of(alloc: Global, rows: &[Row]) -> Result<Watched<MemoryFile>, AllocError> {
+    let in_force = Bytes::copy(alloc, OLD.as_bytes())?;
+    let mut states = Vec::new(alloc);
+    push_states(alloc, &mut states, rows)?;
+    let watch = Watch::new(MemoryFile::new(alloc, states), in_force, 0);
+    Ok(Watched { watch })
+}
+
+/// Takes what is offered. Whether it is this text, which is in force then.
+fn is_taken<F: WatchedFile>(watch: &mut Watch<F>, bytes: Bytes, text: &str) -> bool {
+    let is_same = bytes.as_slice() == text.as_bytes();
+    watch.take(bytes);
+    is_same && watch.in_force() == text.as_bytes()
+}
+
+/// Refuses what is offered. Whether it is this text, and the old one stays in force.
+fn is_refused<F: WatchedFile>(watch: &mut Watch<F>, bytes: Bytes, text: &str) -> bool {
+    let is_same = bytes.as_slice() == text.as_bytes();
+    watch.refuse(bytes);
+    is_same && watch.in_force() == OLD.as_bytes()
+}
+
+/// Whether what is offered is to be taken, or refused, and is what is wanted.
+fn is_settled<F: WatchedFile>(watch: &mut Watch<F>, bytes: Bytes, wanted: Wanted) -> bool {
+    match wanted {
+        Wanted::Taken(text) => is_taken(watch, bytes, text),
+        Wanted::Refused(text) => is_refused(watch, bytes, text),
         _ => false,
     }
 }
 
+fn is_unread(fault: FileFault, wanted: Wanted) -> bool {
+    match wanted {
+        Wanted::Unread(other) => fault == other,
+        _ => false,
+    }
+}
+
+/// Whether a look comes to this; what is offered is taken, or refused.
+fn comes_to<F: WatchedFile>(watch: &mut Watch<F>, now: u64, wanted: Wanted) -> bool {
+    match watch.look(now) {
+        Look::Nothing => matches!(wanted, Wanted::Nothing),
+        Look::Unsettled => matches!(wanted, Wanted::Unsettled),
+        Look::Settled(bytes) => is_settled(watch, bytes, wanted),
+        Look::Unread(fault) => is_unread(fault, wanted),
+    }
+}
+
 /// Whether each look comes to what is wanted, and each moment in between to nothing.
-fn all_come(watch: &mut Watch<MemoryFile>, rows: &[Row]) -> bool {
+fn all_come<F: WatchedFile>(watch: &mut Watch<F>, rows: &[Row]) -> bool {
     for row in rows {
         if !comes_to(watch, row.0.saturating_sub(1), Wanted::Nothing)
             || !comes_to(watch, row.0, row.3)
@@ -103,162 +301,62 @@ fn all_come(watch: &mut Watch<MemoryFile>, rows: &[Row]) -> bool {
     true
 }
 
-fn holds(alloc: Global, rows: &[Row]) -> bool {
+/// How often a file told its stamp, and how often its bytes.
+fn told_by(file: &MemoryFile) -> Option<(usize, usize)> {
+    let told = file.told()?;
+    let mut stamps = 0usize;
+    for told in told {
+        if let Told::Stamped(_) = told {
+            stamps = stamps.saturating_add(1);
+        }
+    }
+    Some((stamps, told.len().saturating_sub(stamps)))
+}
+
+/// Whether a file is read at two looks of ten seconds, and asked for its stamp once a second.
+fn is_seldom_read(watch: &mut Watch<MemoryFile>) -> bool {
+    for now in 0..10_000 {
+        if !comes_to(watch, now, Wanted::Nothing) {
+            return false;
+        }
+    }
+    told_by(watch.file()) == Some((9, 2))
+}
+
+fn is_as_wanted(watch: &mut Watch<MemoryFile>, asked: Asked, rows: &[Row]) -> bool {
+    match asked {
+        Asked::AtRows => all_come(watch, rows),
+        Asked::Always => is_seldom_read(watch),
+    }
+}
+
+/// Whether a watch over memory comes to what is wanted.
+pub(crate) fn hold(alloc: Global, asked: Asked, rows: &[Row]) -> bool {
     match watch_of(alloc, rows) {
-        Ok(mut watch) => all_come(&mut watch, rows),
+        Ok(mut watched) => is_as_wanted(&mut watched.watch, asked, rows),
         Err(_) => false,
     }
 }
 
-/// A file that is written in pieces isn't offered while it changes each second, and is once it stays; one that changes endlessly never is.
-pub(crate) fn written_in_pieces(alloc: Global) -> bool {
-    let rows = [
-        (1000, 1, Held::Text("the conf"), Wanted::Unsettled),
-        (
-            2000,
-            2,
-            Held::Text("the configuration th"),
-            Wanted::Unsettled,
-        ),
-        (
-            3000,
-            3,
-            Held::Text("the configuration that is new"),
-            Wanted::Unsettled,
-        ),
-        (
-            4000,
-            3,
-            Held::Text("the configuration that is new"),
-            Wanted::Taken("the configuration that is new"),
-        ),
-        (
-            5000,
-            3,
-            Held::Text("the configuration that is new"),
-            Wanted::Nothing,
-        ),
-        (6000, 6, Held::Text("one"), Wanted::Unsettled),
-        (7000, 7, Held::Text("another"), Wanted::Unsettled),
-        (8000, 8, Held::Text("one"), Wanted::Unsettled),
-        (9000, 9, Held::Text("another"), Wanted::Unsettled),
-    ];
-    holds(alloc, &rows)
-}
+/// What is tried at paths, one of them that of a file which lies where the cases are tried.
+pub(crate) const PATH_CASES: &[Case] = &[
+    Case {
+        name: "file_offered",
+        trial: Trial::FileOffered("registered.script"),
+    },
+    Case {
+        name: "no_file",
+        trial: Trial::NoFile,
+    },
+];
 
-/// A file that is gone is told once; back with the same bytes it is nothing, with others they are offered, though it was changed at the same
-/// second, and the same bytes at another second are nothing.
-pub(crate) fn gone_and_back(alloc: Global) -> bool {
-    let rows = [
-        (1000, 1, Held::Text(OLD), Wanted::Nothing),
-        (
-            2000,
-            1,
-            Held::Fault(FileFault::Gone),
-            Wanted::Unread(FileFault::Gone),
-        ),
-        (3000, 1, Held::Fault(FileFault::Gone), Wanted::Nothing),
-        (4000, 1, Held::Text(OLD), Wanted::Nothing),
-        (5000, 5, Held::Text(OLD), Wanted::Nothing),
-        (
-            6000,
-            5,
-            Held::Fault(FileFault::Gone),
-            Wanted::Unread(FileFault::Gone),
-        ),
-        (
-            7000,
-            5,
-            Held::Text("what came in its place"),
-            Wanted::Unsettled,
-        ),
-        (
-            8000,
-            5,
-            Held::Text("what came in its place"),
-            Wanted::Taken("what came in its place"),
-        ),
-    ];
-    holds(alloc, &rows)
-}
-
-/// What is refused isn't offered again until the file held other bytes.
-pub(crate) fn refused_once(alloc: Global) -> bool {
-    let fault = FileFault::Device;
-    let rows = [
-        (1000, 1, Held::Text(BAD), Wanted::Unsettled),
-        (2000, 1, Held::Text(BAD), Wanted::Refused(BAD)),
-        (3000, 3, Held::Text(BAD), Wanted::Nothing),
-        (4000, 3, Held::Fault(fault), Wanted::Unread(fault)),
-        (5000, 3, Held::Text(BAD), Wanted::Nothing),
-        (6000, 6, Held::Text(OLD), Wanted::Nothing),
-        (7000, 7, Held::Text(BAD), Wanted::Unsettled),
-        (8000, 7, Held::Text(BAD), Wanted::Refused(BAD)),
-    ];
-    holds(alloc, &rows)
-}
-
-/// Want of memory is told once, and what was seen before counts still; a file that is too long is told once, and isn't read.
-pub(crate) fn without_memory(alloc: Global) -> bool {
-    let rows = [
-        (1000, 1, Held::Text("what is new"), Wanted::Unsettled),
-        (
-            2000,
-            1,
-            Held::Unreadable(FileFault::NoMemory),
-            Wanted::Unread(FileFault::NoMemory),
-        ),
-        (
-            3000,
-            1,
-            Held::Unreadable(FileFault::NoMemory),
-            Wanted::Nothing,
-        ),
-        (
-            4000,
-            1,
-            Held::Text("what is new"),
-            Wanted::Refused("what is new"),
-        ),
-        (
-            5000,
-            5,
-            Held::Fault(FileFault::TooLong),
-            Wanted::Unread(FileFault::TooLong),
-        ),
-        (6000, 6, Held::Fault(FileFault::TooLong), Wanted::Nothing),
-    ];
-    holds(alloc, &rows)
-}
-
-/// How often a file told its stamp, and how often its bytes.
-fn asked(watch: &Watch<MemoryFile>) -> Option<(usize, usize)> {
-    let told = watch.file().told()?;
-    let stamps = told
-        .iter()
-        .filter(|told| matches!(told, Told::Stamped(_)))
-        .count();
-    Some((stamps, told.len() - stamps))
-}
-
-/// A file that stays as it is is read at two looks, and asked for its stamp once a second from then on.
-pub(crate) fn seldom_read(alloc: Global) -> bool {
-    let row = (1000, 1, Held::Text(OLD), Wanted::Nothing);
-    let Ok(mut watch) = watch_of(alloc, &[row]) else {
-        return false;
-    };
-    for now in 0..10_000 {
-        if !comes_to(&mut watch, now, Wanted::Nothing) {
-            return false;
-        }
-    }
-    asked(&watch) == Some((9, 2))
-}
+/// What a watch of the file of a path is asked, while it may lack memory.
+const LOOKS: &[u64] = &[1000, 2000, 3000, 4000];
 
 /// What a watch of the file of a path offers within four looks, of which some may lack memory.
-fn offered_within<R: Files + AllocGlobal>(watch: &mut Watch<PathFile<'_, R>>) -> Option<Bytes> {
-    for now in [1000, 2000, 3000, 4000] {
-        match watch.look(now) {
+fn offered_within<F: WatchedFile>(watch: &mut Watch<F>) -> Option<Bytes> {
+    for now in LOOKS {
+        match watch.look(*now) {
             Look::Settled(bytes) => return Some(bytes),
             Look::Unsettled | Look::Unread(FileFault::NoMemory) => {}
             Look::Nothing | Look::Unread(_) => return None,
@@ -267,17 +365,8 @@ fn offered_within<R: Files + AllocGlobal>(watch: &mut Watch<PathFile<'_, R>>) ->
     None
 }
 
-/// A watch of the file of a path, while other bytes are in force.
-fn path_watch<'a, R: Files + AllocGlobal>(
-    rt: &'a R,
-    path: &'a str,
-) -> Option<Watch<PathFile<'a, R>>> {
-    let old = Bytes::copy(rt.alloc(), OLD.as_bytes()).ok()?;
-    Some(Watch::new(PathFile::new(rt, path), old, 0))
-}
-
 /// The bytes of a file are offered, and once they are taken they are nothing.
-fn is_offered<R: Files + AllocGlobal>(watch: &mut Watch<PathFile<'_, R>>, bytes: &[u8]) -> bool {
+fn is_offered<F: WatchedFile>(watch: &mut Watch<F>, bytes: &[u8]) -> bool {
     let Some(found) = offered_within(watch) else {
         return false;
     };
@@ -286,29 +375,47 @@ fn is_offered<R: Files + AllocGlobal>(watch: &mut Watch<PathFile<'_, R>>, bytes:
     is_same && comes_to(watch, 9000, Wanted::Nothing) && comes_to(watch, 10_000, Wanted::Nothing)
 }
 
-/// A file of the system that holds other bytes than are in force is offered, byte for byte.
-pub(crate) fn file_offered<R: Files + AllocGlobal>(rt: &R, path: &str) -> bool {
-    let Ok(bytes) = fs::read(rt, path) else {
-        return false;
-    };
-    match path_watch(rt, path) {
-        Some(mut watch) => is_offered(&mut watch, bytes.as_slice()),
-        None => false,
+/// Whether the first look tells this fault, and the next one nothing.
+fn is_told_once<F: WatchedFile>(watch: &mut Watch<F>, fault: FileFault) -> bool {
+    comes_to(watch, 1000, Wanted::Unread(fault)) && comes_to(watch, 2000, Wanted::Nothing)
+}
+
+/// A watch of the file of a path, while other bytes are in force.
+fn path_watch<'a, R: Files + AllocGlobal>(
+    rt: &'a R,
+    path: &'a str,
+) -> Result<Watched<PathFile<'a, R>>, AllocError> {
+    let old = Bytes::copy(rt.alloc(), OLD.as_bytes())?;
+    let watch = Watch::new(PathFile::new(rt, path), old, 0);
+    Ok(Watched { watch })
+}
+
+/// Whether a watch finds these bytes, or this fault.
+fn finds<F: WatchedFile>(watch: &mut Watch<F>, found: Result<&[u8], FileFault>) -> bool {
+    match found {
+        Ok(bytes) => is_offered(watch, bytes),
+        Err(fault) => is_told_once(watch, fault),
     }
 }
 
-/// Whether the first look at a path tells this fault, and the next one nothing.
-fn is_unread<R: Files + AllocGlobal>(rt: &R, path: &str, fault: FileFault) -> bool {
+/// Whether a watch of the file of a path does.
+fn finds_at<R: Files + AllocGlobal>(rt: &R, path: &str, found: Result<&[u8], FileFault>) -> bool {
     match path_watch(rt, path) {
-        Some(mut watch) => {
-            comes_to(&mut watch, 1000, Wanted::Unread(fault))
-                && comes_to(&mut watch, 2000, Wanted::Nothing)
-        }
-        None => false,
+        Ok(mut watched) => finds(&mut watched.watch, found),
+        Err(_) => false,
+    }
+}
+
+/// A file of the system that holds other bytes than are in force is offered, byte for byte.
+pub(crate) fn file_offered<R: Files + AllocGlobal>(rt: &R, path: &str) -> bool {
+    match fs::read(rt, path) {
+        Ok(bytes) => finds_at(rt, path, Ok(bytes.as_slice())),
+        Err(_) => false,
     }
 }
 
 /// A path without a file is gone, and a folder is no file.
 pub(crate) fn no_file<R: Files + AllocGlobal>(rt: &R) -> bool {
-    is_unread(rt, "no file has this name", FileFault::Gone) && is_unread(rt, ".", FileFault::Device)
+    finds_at(rt, "no file has this name", Err(FileFault::Gone))
+        && finds_at(rt, ".", Err(FileFault::Device))
 }

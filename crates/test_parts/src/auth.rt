@@ -5,7 +5,6 @@ use sip_message_form::View;
 use sip_policy::{PolicyError, User, Users};
 use sip_text::{Bytes, Items};
 use std::alloc::{AllocError, Global};
-use test_forms::gives;
 
 const REALM: &[u8] = b"testrealm@host.com";
 
@@ -58,29 +57,40 @@ fn is_proof(
     message: &View<'_>,
     user: Option<&[u8]>,
 ) -> bool {
-    gives(
-        proof_of(alloc, REALM, users, nonces, 2_000, message),
-        |proof| proof.name() == user && !proof.is_stale(),
-    )
+    match proof_of(alloc, REALM, users, nonces, 2_000, message) {
+        Ok(proof) => proof.name() == user && !proof.is_stale(),
+        Err(_) => false,
+    }
 }
 
 /// Whether a datagram does.
-fn proves(alloc: Global, datagram: &[u8], user: Option<&[u8]>) -> bool {
-    gives(users(alloc), |users| {
-        gives(issued(alloc), |nonces| {
-            gives(
-                view(alloc, datagram),
-                |message| is_proof(alloc, users, nonces, message, user),
-            )
-        })
-    })
+fn proves(
+    alloc: Global,
+    users: &Users,
+    nonces: &Nonces,
+    datagram: &[u8],
+    user: Option<&[u8]>,
+) -> bool {
+    match view(alloc, datagram) {
+        Ok(message) => is_proof(alloc, users, nonces, &message, user),
+        Err(_) => false,
+    }
+}
+
+fn all_prove(alloc: Global, users: &Users, nonces: &Nonces) -> bool {
+    for (datagram, user) in PROOFS {
+        if !proves(alloc, users, nonces, datagram, *user) {
+            return false;
+        }
+    }
+    true
 }
 
 /// The first well-formed credential for the realm counts, and no other; its URI is compared as a URI (RFC 3261 22.3 and
 /// 19.1.4).
-#[test]
-fn first_for_the_realm(rt: HostRuntime) {
-    for (datagram, user) in PROOFS {
-        assert!(rt; proves(rt.alloc(), datagram, *user), "{datagram:?}");
+pub(crate) fn first_for_the_realm(alloc: Global) -> bool {
+    match (users(alloc), issued(alloc)) {
+        (Ok(users), Ok(nonces)) => all_prove(alloc, &users, &nonces),
+        _ => false,
     }
 }

@@ -56,11 +56,9 @@ fn is_full(alloc: Global, dialogs: &mut Dialogs) -> bool {
     matches!(refused, Err(DialogError::Full)) && stays && later.is_ok()
 }
 
-#[test]
-fn dialogs_full(rt: HostRuntime) {
-    let is_right = match full(rt.alloc()) {
-        Ok(mut dialogs) => is_full(rt.alloc(), &mut dialogs),
+pub(crate) fn dialogs_full(alloc: Global) -> bool {
+    match full(alloc) {
+        Ok(mut dialogs) => is_full(alloc, &mut dialogs),
         Err(_) => false,
-    };
-    assert!(rt; is_right);
+    }
 }

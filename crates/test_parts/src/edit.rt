@@ -4,7 +4,6 @@ use sip_message::view;
 use sip_message_form::{Kept, View};
 use sip_text::Bytes;
 use std::alloc::{AllocError, Global};
-use test_forms::gives;
 
 /// An INVITE as it went on.
 const INVITE: &[u8] =
@@ -24,15 +23,9 @@ fn ack(alloc: Global, sent: &View<'_>, response: &View<'_>) -> Result<Bytes, All
 }
 
 /// The server writes it straight, by `ack_text`, with a To that it kept.
-#[test]
-fn ack_of_a_response(rt: HostRuntime) {
-    let alloc = rt.alloc();
-    assert!(rt;
-        gives(view(alloc, INVITE), |sent| {
-            gives(
-                view(alloc, BUSY),
-                |response| gives_bytes(ack(alloc, sent, response), ACK),
-            )
-        })
-    );
+pub(crate) fn ack_of_a_response(alloc: Global) -> bool {
+    match (view(alloc, INVITE), view(alloc, BUSY)) {
+        (Ok(sent), Ok(response)) => gives_bytes(ack(alloc, &sent, &response), ACK),
+        _ => false,
+    }
 }

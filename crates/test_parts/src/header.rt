@@ -1,6 +1,7 @@
+use crate::bytes::is_place;
 use sip_header::{NameAddr, bracketed_place, cseq_of, name_addr_of, route_of};
 use std::alloc::Global;
-use test_forms::{gives, says, says_nothing};
+use test_forms::says_nothing;
 
 /// Addresses, and the URIs in them as they are written. The first ones are those of RFC 3261 20.10 and 20.20.
 const ADDRESSES: &[(&[u8], &[u8])] = &[
@@ -36,23 +37,26 @@ const ADDRESSES: &[(&[u8], &[u8])] = &[
 
 /// Whether the URI of an address is written so.
 fn has_uri(alloc: Global, address: &NameAddr<'_>, uri: &[u8]) -> bool {
-    gives(address.uri.text(alloc), |text| text.as_slice() == uri)
+    match address.uri.text(alloc) {
+        Ok(text) => text.as_slice() == uri,
+        Err(_) => false,
+    }
 }
 
-#[test]
-fn addresses(rt: HostRuntime) {
-    let alloc = rt.alloc();
-    for (value, uri) in ADDRESSES {
-        assert!(rt;
-            says(
-                name_addr_of(alloc, value),
-                |address| has_uri(alloc, address, uri)
-            ),
-            "{value:?}"
-        );
+fn is_read(alloc: Global, value: &[u8], uri: &[u8]) -> bool {
+    match name_addr_of(alloc, value) {
+        Ok(Some(address)) => has_uri(alloc, &address, uri),
+        Ok(None) | Err(_) => false,
     }
-    assert!(rt; says_nothing(route_of(alloc, b"sip:far.net;lr")));
-    assert!(rt; cseq_of(b"2147483647 INVITE").is_some());
+}
+
+pub(crate) fn addresses(alloc: Global) -> bool {
+    for (value, uri) in ADDRESSES {
+        if !is_read(alloc, value, uri) {
+            return false;
+        }
+    }
+    says_nothing(route_of(alloc, b"sip:far.net;lr")) && cseq_of(b"2147483647 INVITE").is_some()
 }
 
 /// Values that have more than a URI in brackets, or one that is read as a whole alone.
@@ -66,13 +70,22 @@ const NO_PLACES: &[&[u8]] = &[
     b"*",
 ];
 
-#[test]
-fn places_in_brackets(rt: HostRuntime) {
-    let route: &[u8] = b"<sip:sip.host.com:5060;lr>";
-    let contact: &[u8] = b"<sip:help@127.0.0.1>";
-    assert!(rt; bracketed_place(route) == Some((b"sip.host.com".as_slice(), Some(5060))));
-    assert!(rt; bracketed_place(contact) == Some((b"127.0.0.1".as_slice(), None)));
-    for value in NO_PLACES {
-        assert!(rt; bracketed_place(value).is_none(), "{value:?}");
+/// Values that have one, with its host and its port.
+const PLACES: &[(&[u8], &[u8], Option<u16>)] = &[
+    (b"<sip:sip.host.com:5060;lr>", b"sip.host.com", Some(5060)),
+    (b"<sip:help@127.0.0.1>", b"127.0.0.1", None),
+];
+
+pub(crate) fn places_in_brackets() -> bool {
+    for (value, host, port) in PLACES {
+        if !is_place(bracketed_place(value), host, *port) {
+            return false;
+        }
     }
+    for value in NO_PLACES {
+        if bracketed_place(value).is_some() {
+            return false;
+        }
+    }
+    true
 }

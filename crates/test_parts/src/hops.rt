@@ -1,11 +1,11 @@
 use sip_hops::{Hops, HopsError, HostAddress};
 use sip_text::{Bytes, Items};
 use sip_uri::{Addr, parse_uri};
-use std::alloc::Global;
-use test_forms::{gives, gives_text};
+use std::alloc::{AllocError, Global};
+use test_forms::gives_text;
 
 /// Hosts, and the ports of 127.0.0.1 that they lead to. The last is the first one's, in capitals.
-const ROWS: [(&[u8], u16); 3] = [
+const ROWS: &[(&[u8], u16)] = &[
     (b"pc.host.com", 5091),
     (b"[::1]", 5094),
     (b"PC.host.com", 5093),
@@ -18,15 +18,20 @@ fn local(port: u16) -> Addr {
     }
 }
 
-fn tables(alloc: Global) -> Result<Hops, HopsError> {
-    let mut rows = Items::new(alloc);
+fn push_rows(alloc: Global, rows: &mut Items<HostAddress>) -> Result<(), AllocError> {
     for (host, at) in ROWS {
         rows.push(HostAddress {
             host: Bytes::copy(alloc, host)?,
             port: 5060,
-            address: local(at),
+            address: local(*at),
         })?;
     }
+    Ok(())
+}
+
+fn tables(alloc: Global) -> Result<Hops, HopsError> {
+    let mut rows = Items::new(alloc);
+    push_rows(alloc, &mut rows)?;
     Hops::new(alloc, rows, Items::new(alloc))
 }
 
@@ -38,9 +43,13 @@ fn finds_first(alloc: Global, tables: &Hops) -> bool {
     }
 }
 
-#[test]
-fn address_table(rt: HostRuntime) {
-    let alloc = rt.alloc();
-    assert!(rt; gives(tables(alloc), |tables| finds_first(alloc, tables)));
-    assert!(rt; gives_text(HopsError::NoMemory.to_string(alloc), "out of memory"));
+fn is_found(alloc: Global) -> bool {
+    match tables(alloc) {
+        Ok(tables) => finds_first(alloc, &tables),
+        Err(_) => false,
+    }
+}
+
+pub(crate) fn address_table(alloc: Global) -> bool {
+    is_found(alloc) && gives_text(HopsError::NoMemory.to_string(alloc), "out of memory")
 }

@@ -3,7 +3,6 @@ use sip_message::{read, view};
 use sip_message_fields::FieldName;
 use sip_message_form::{Message, View, write, written_length};
 use std::alloc::Global;
-use test_forms::gives;
 
 const COMPACT_AND_FOLDED: &[u8] =
     b"\r\n\r\nOPTIONS sip:a@host.com sip/2.0\r\nv : SIP/2.0/UDP a;branch=1 , \tSIP/2.0/UDP b\r\nSubject: I know\r\n  you\r\nX-Note: one \r\n \r\n\ttwo\r\nl: 2\r\n\r\nabcd";
@@ -11,34 +10,52 @@ const COMPACT_AND_FOLDED: &[u8] =
 const WRITTEN: &[u8] =
     b"OPTIONS sip:a@host.com SIP/2.0\r\nVia: SIP/2.0/UDP a;branch=1\r\nVia: SIP/2.0/UDP b\r\nSubject: I know you\r\nX-Note: one two\r\nContent-Length: 2\r\n\r\nab";
 
+fn has_four_fields(message: &Message) -> bool {
+    match message.fields.clone() {
+        Ok(copy) => copy.as_slice().len() == 4,
+        Err(_) => false,
+    }
+}
+
+fn has_two_vias(alloc: Global, message: &Message) -> bool {
+    match message.fields.values(alloc, &FieldName::Via) {
+        Ok(vias) => vias.len() == 2,
+        Err(_) => false,
+    }
+}
+
 /// Whether a message is the one of these texts: four fields, two of them a Via.
 fn is_message(alloc: Global, message: &Message) -> bool {
     gives_bytes(write(alloc, message), WRITTEN)
         && written_length(message) == WRITTEN.len()
-        && gives(message.fields.clone(), |copy| copy.as_slice().len() == 4)
-        && gives(
-            message.fields.values(alloc, &FieldName::Via),
-            |vias| vias.len() == 2,
-        )
+        && has_four_fields(message)
+        && has_two_vias(alloc, message)
 }
 
 /// Whether a view is of that message.
 fn is_seen(alloc: Global, view: &View<'_>) -> bool {
-    gives(view.to_message(alloc), |message| is_message(alloc, message))
+    match view.to_message(alloc) {
+        Ok(message) => is_message(alloc, &message),
+        Err(_) => false,
+    }
 }
 
-#[test]
-fn read_seen_and_written(rt: HostRuntime) {
-    let alloc = rt.alloc();
-    for text in [COMPACT_AND_FOLDED, WRITTEN] {
-        assert!(rt;
-            gives(
-                read(alloc, text),
-                |message| gives(message.view(alloc), |view| is_seen(alloc, view))
-            ),
-            "{text:?}"
-        );
+fn is_viewed(alloc: Global, message: &Message) -> bool {
+    match message.view(alloc) {
+        Ok(view) => is_seen(alloc, &view),
+        Err(_) => false,
     }
+}
+
+fn is_read(alloc: Global, text: &[u8]) -> bool {
+    match read(alloc, text) {
+        Ok(message) => is_viewed(alloc, &message),
+        Err(_) => false,
+    }
+}
+
+pub(crate) fn read_seen_and_written(alloc: Global) -> bool {
+    is_read(alloc, COMPACT_AND_FOLDED) && is_read(alloc, WRITTEN)
 }
 
 /// Whether the first value of a name is a part of what was read.
@@ -50,14 +67,11 @@ fn is_part(view: &View<'_>, name: &FieldName) -> bool {
 }
 
 /// No byte of a value is copied, but of one with a fold.
-#[test]
-fn parts_of_the_datagram(rt: HostRuntime) {
-    assert!(rt;
-        gives(
-            view(rt.alloc(), COMPACT_AND_FOLDED),
-            |view| is_part(view, &FieldName::Via) && !is_part(view, &FieldName::Subject)
-        )
-    );
+pub(crate) fn parts_of_the_datagram(alloc: Global) -> bool {
+    match view(alloc, COMPACT_AND_FOLDED) {
+        Ok(view) => is_part(&view, &FieldName::Via) && !is_part(&view, &FieldName::Subject),
+        Err(_) => false,
+    }
 }
 
 /// Texts, and the numbers of their refusals, 0 where they are read.
@@ -90,9 +104,11 @@ fn refusal_of(alloc: Global, text: &[u8]) -> u8 {
     }
 }
 
-#[test]
-fn refusals(rt: HostRuntime) {
+pub(crate) fn refusals(alloc: Global) -> bool {
     for (text, number) in TEXTS {
-        assert!(rt; refusal_of(rt.alloc(), text) == *number, "{text:?}");
+        if refusal_of(alloc, text) != *number {
+            return false;
+        }
     }
+    true
 }

@@ -1,6 +1,5 @@
 use sip_digest::{Algorithm, Credential, Nonces, Protection, Worth, answer, nonce_text};
 use std::alloc::{AllocError, Global};
-use test_forms::gives;
 
 /// The digest of the user, the realm and the password of the example of RFC 2617 3.5.
 const MUFASA: &[u8] = b"939e7578ed9e3c518a452acee763bce9";
@@ -47,15 +46,18 @@ const WORTHS: &[(u128, u64, Worth)] = &[
     (2, 300_000, Worth::Stale),
 ];
 
-#[test]
-fn nonces_full(rt: HostRuntime) {
+fn are_worth(nonces: &Nonces) -> bool {
     for (word, now, wanted) in WORTHS {
-        assert!(rt;
-            gives(
-                full(rt.alloc()),
-                |nonces| is_worth(nonces, *word, *now, *wanted)
-            ),
-            "{word} at {now}"
-        );
+        if !is_worth(nonces, *word, *now, *wanted) {
+            return false;
+        }
+    }
+    true
+}
+
+pub(crate) fn nonces_full(alloc: Global) -> bool {
+    match full(alloc) {
+        Ok(nonces) => are_worth(&nonces),
+        Err(_) => false,
     }
 }

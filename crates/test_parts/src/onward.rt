@@ -5,7 +5,6 @@ use sip_message_form::{Kept, View};
 use sip_route::Own;
 use sip_text::{Bytes, Items};
 use std::alloc::{AllocError, Global};
-use test_forms::gives;
 
 const REQUEST: &[u8] = b"OPTIONS sip:a@host.com SIP/2.0\r\nSubject: a\r\nSubject: b\r\n\r\n";
 
@@ -30,15 +29,9 @@ fn recorded(alloc: Global, own: &Own, request: &View<'_>) -> Result<Bytes, Alloc
 }
 
 /// The server writes its Record-Route straight, by `text_to_target`.
-#[test]
-fn record_route(rt: HostRuntime) {
-    let alloc = rt.alloc();
-    assert!(rt;
-        gives(own_place(alloc), |own| {
-            gives(
-                view(alloc, REQUEST),
-                |request| gives_bytes(recorded(alloc, own, request), RECORDED),
-            )
-        })
-    );
+pub(crate) fn record_route(alloc: Global) -> bool {
+    match (own_place(alloc), view(alloc, REQUEST)) {
+        (Ok(own), Ok(request)) => gives_bytes(recorded(alloc, &own, &request), RECORDED),
+        _ => false,
+    }
 }

@@ -23,9 +23,11 @@ const REASONS: &[(u16, &[u8])] = &[
     (505, b"Version Not Supported"),
 ];
 
-#[test]
-fn reasons(rt: HostRuntime) {
+pub(crate) fn reasons() -> bool {
     for (status, reason) in REASONS {
-        assert!(rt; reason_of(*status) == *reason, "{status}");
+        if reason_of(*status) != *reason {
+            return false;
+        }
     }
+    true
 }

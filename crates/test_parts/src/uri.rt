@@ -1,4 +1,4 @@
-use crate::bytes::gives_bytes;
+use crate::bytes::{gives_bytes, is_place};
 use sip_uri::{UriError, parse_uri, plain_place, write_uri};
 use std::alloc::Global;
 use test_forms::gives_text;
@@ -36,11 +36,13 @@ fn is_read(alloc: Global, text: &[u8], is_uri: bool) -> bool {
     }
 }
 
-#[test]
-fn texts_of_uris(rt: HostRuntime) {
+pub(crate) fn texts_of_uris(alloc: Global) -> bool {
     for (text, is_uri) in TEXTS {
-        assert!(rt; is_read(rt.alloc(), text, *is_uri), "{text:?}");
+        if !is_read(alloc, text, *is_uri) {
+            return false;
+        }
     }
+    true
 }
 
 /// URIs whose place is read where it stands: the host, and the number of the port.
@@ -63,22 +65,23 @@ const NO_PLACES: &[&[u8]] = &[
     b"sip:a@far.net:99999",
 ];
 
-#[test]
-fn plain_places(rt: HostRuntime) {
+pub(crate) fn plain_places() -> bool {
     for (text, host, port) in PLACES {
-        assert!(rt; plain_place(text) == Some((*host, *port)), "{text:?}");
+        if !is_place(plain_place(text), host, *port) {
+            return false;
+        }
     }
     for text in NO_PLACES {
-        assert!(rt; plain_place(text).is_none(), "{text:?}");
+        if plain_place(text).is_some() {
+            return false;
+        }
     }
+    true
 }
 
-#[test]
-fn printed(rt: HostRuntime) {
-    assert!(rt;
-        gives_text(
-            UriError::Scheme.to_string(rt.alloc()),
-            "neither a sip nor a sips URI"
-        )
-    );
+pub(crate) fn scheme_printed(alloc: Global) -> bool {
+    gives_text(
+        UriError::Scheme.to_string(alloc),
+        "neither a sip nor a sips URI",
+    )
 }

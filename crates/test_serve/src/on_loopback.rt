@@ -20,18 +20,18 @@ const ANY_PORT: Addr = Addr {
 
 /// A server of the sample configuration, and the port that it hears.
 #[derive(Drop)]
-struct Server {
+struct LoopbackServer {
     alloc: Global,
     trial: Trial<UdpLink>,
     port: u16,
 }
 
-impl Server {
-    fn new<R: Net>(rt: &R, alloc: Global) -> io::Result<Server> {
+impl LoopbackServer {
+    fn new<R: Net>(rt: &R, alloc: Global) -> io::Result<LoopbackServer> {
         let link = UdpLink::bind(rt, alloc, ANY_PORT)?;
         let port = link.port()?;
         let trial = Trial::new(alloc, 1, link, &[1_000])?;
-        Ok(Server { alloc, trial, port })
+        Ok(LoopbackServer { alloc, trial, port })
     }
 
     /// Whether a phone hears something, within so many turns, that begins so and has such a part.
@@ -49,7 +49,7 @@ impl Server {
 }
 
 /// Whether a text was made, and goes from a phone to a server.
-fn is_sent(phone: &Phone, server: &Server, text: Result<String, AllocError>) -> bool {
+fn is_sent(phone: &Phone, server: &LoopbackServer, text: Result<String, AllocError>) -> bool {
     match text {
         Ok(text) => phone.sends(server.port, text.as_str()),
         Err(_) => false,
@@ -66,7 +66,7 @@ const FIRST_CHALLENGE: &str =
 
 /// A REGISTER over UDP is answered to the socket that it came from, by a challenge with the first word.
 pub fn loopback<R: Net>(rt: &R, alloc: Global) -> bool {
-    let Ok(mut server) = Server::new(rt, alloc) else {
+    let Ok(mut server) = LoopbackServer::new(rt, alloc) else {
         return false;
     };
     let Ok(mut phone) = Phone::new(rt, alloc) else {
@@ -78,17 +78,17 @@ pub fn loopback<R: Net>(rt: &R, alloc: Global) -> bool {
 
 /// A user of the sample configuration.
 #[derive(Clone, Copy)]
-struct User {
+struct PhoneUser {
     name: &'static str,
     a1: &'static [u8],
 }
 
-const MUFASA: User = User {
+const MUFASA: PhoneUser = PhoneUser {
     name: "Mufasa",
     a1: b"939e7578ed9e3c518a452acee763bce9",
 };
 
-const HELP: User = User {
+const HELP: PhoneUser = PhoneUser {
     name: "help",
     a1: b"22222222222222222222222222222222",
 };
@@ -112,7 +112,7 @@ fn credential_text<'a>(
 }
 
 /// The header field by which a user answers a challenge.
-fn credential(alloc: Global, user: User, nonce: &str) -> Result<String, AllocError> {
+fn credential(alloc: Global, user: PhoneUser, nonce: &str) -> Result<String, AllocError> {
     let protection = Protection {
         nc: b"00000001",
         cnonce: b"0a4f113b",
@@ -163,7 +163,7 @@ fn register_text<'a>(
 /// A REGISTER of a user at a port, with one more header field or none.
 fn register(
     alloc: Global,
-    user: User,
+    user: PhoneUser,
     port: u16,
     cseq: &str,
     field: &str,
@@ -173,14 +173,14 @@ fn register(
 }
 
 /// The REGISTER of a user whose phone has heard a challenge.
-fn register_again(alloc: Global, user: User, phone: &Phone) -> Result<String, AllocError> {
+fn register_again(alloc: Global, user: PhoneUser, phone: &Phone) -> Result<String, AllocError> {
     let nonce = between(phone.heard(), "nonce=\"", "\"");
     let credential = credential(alloc, user, nonce)?;
     register(alloc, user, phone.port, "2", credential.as_str())
 }
 
 /// Whether a phone registers as a user, who answers the challenge that it hears.
-fn is_registered(server: &mut Server, phone: &mut Phone, user: User) -> bool {
+fn is_registered(server: &mut LoopbackServer, phone: &mut Phone, user: PhoneUser) -> bool {
     let alloc = server.alloc;
     is_sent(phone, server, register(alloc, user, phone.port, "1", ""))
         && server.reaches(phone, CHALLENGED, "\r\nCSeq: 1 REGISTER\r\n")
@@ -252,7 +252,7 @@ fn bye(alloc: Global, port: u16, caller: u16) -> Result<String, AllocError> {
 }
 
 /// Whether a call reaches the phone of `help`, and its answer the phone that calls.
-fn is_answered(server: &mut Server, caller: &mut Phone, called: &mut Phone) -> bool {
+fn is_answered(server: &mut LoopbackServer, caller: &mut Phone, called: &mut Phone) -> bool {
     let alloc = server.alloc;
     let invite = of_caller(alloc, "INVITE", "sip:help@host.com", "", "", caller.port);
     is_sent(caller, server, invite)
@@ -267,7 +267,7 @@ fn is_answered(server: &mut Server, caller: &mut Phone, called: &mut Phone) -> b
 }
 
 /// Whether the ACK of the answer, to the Contact that it has, reaches the phone that was called.
-fn is_acknowledged(server: &mut Server, caller: &mut Phone, called: &mut Phone) -> bool {
+fn is_acknowledged(server: &mut LoopbackServer, caller: &mut Phone, called: &mut Phone) -> bool {
     let contact = between(caller.heard(), "\r\nContact: <", ">");
     let ack = of_caller(server.alloc, "ACK", contact, WAY, ";tag=b1", caller.port);
     is_sent(caller, server, ack)
@@ -275,7 +275,7 @@ fn is_acknowledged(server: &mut Server, caller: &mut Phone, called: &mut Phone) 
 }
 
 /// Whether the phone that was called hangs up: its BYE reaches the other, and the answer to that comes back.
-fn is_hung_up(server: &mut Server, caller: &mut Phone, called: &mut Phone) -> bool {
+fn is_hung_up(server: &mut LoopbackServer, caller: &mut Phone, called: &mut Phone) -> bool {
     let alloc = server.alloc;
     is_sent(called, server, bye(alloc, called.port, caller.port))
         && server.reaches(caller, "BYE sip:Mufasa@127.0.0.1:", "\r\nCSeq: 1 BYE\r\n")
@@ -288,7 +288,7 @@ fn is_hung_up(server: &mut Server, caller: &mut Phone, called: &mut Phone) -> bo
 }
 
 /// Whether two phones register, and one calls the other, which answers and hangs up.
-fn is_called(server: &mut Server, caller: &mut Phone, called: &mut Phone) -> bool {
+fn is_called(server: &mut LoopbackServer, caller: &mut Phone, called: &mut Phone) -> bool {
     is_registered(server, called, HELP)
         && is_registered(server, caller, MUFASA)
         && is_answered(server, caller, called)
@@ -298,7 +298,7 @@ fn is_called(server: &mut Server, caller: &mut Phone, called: &mut Phone) -> boo
 
 /// Two phones register with the right answers to their challenges, and one calls the other through the server.
 pub fn call_on_loopback<R: Net>(rt: &R, alloc: Global) -> bool {
-    let Ok(mut server) = Server::new(rt, alloc) else {
+    let Ok(mut server) = LoopbackServer::new(rt, alloc) else {
         return false;
     };
     let Ok(mut caller) = Phone::new(rt, alloc) else {

@@ -18,12 +18,12 @@ use std::alloc::{AllocError, Global};
 const LONGEST: usize = 65_536;
 
 /// The engine of the program.
-type Server = Engine<WheelTimers, IndexedRules>;
+type TrialServer = Engine<WheelTimers, IndexedRules>;
 
 /// An engine with the sample configuration, and what it is served with.
 pub struct Trial<L: Link> {
     alloc: Global,
-    engine: Server,
+    engine: TrialServer,
     pub link: L,
     pub record: Recorder<Vec<u8>>,
     clock: MemoryClock,
@@ -136,13 +136,13 @@ impl Trial<MemoryLink> {
 }
 
 /// An engine with the sample configuration, whose first datagram has this number.
-fn opened(alloc: Global, first: u64) -> Result<Server, AllocError> {
+fn opened(alloc: Global, first: u64) -> Result<TrialServer, AllocError> {
     let boot = Boot {
         word: 0,
         first,
         keys: 0,
     };
-    Server::open(alloc, sample(alloc)?, boot)
+    TrialServer::open(alloc, sample(alloc)?, boot)
 }
 
 /// Whether this is the datagram that was given.

@@ -4,7 +4,8 @@
 //! With words it tries one thing:
 //!
 //! - `runs`: every stored run of the folder that it runs in;
-//! - `cases`: what no stored run shows of the engine, of replays, of runs over lists of events and of `serve`;
+//! - `cases`: what no stored run shows of the engine, of replays, of runs over lists of events and of `serve`, and of the
+//!   parts, as texts, messages and tables;
 //! - `refusals`: the steps of the script of standard input, where `tests/refuse_each.sh` refuses their memory;
 //! - `tables CASE SIZE TIMES`: calls on a table of a size, so many times, which `bench/measure_tables.py` counts;
 //! - `parts CASE TARGETS TIMES`: calls on the parts, so many times, which `bench/measure_parts.py` counts;
@@ -22,8 +23,9 @@ use sip_text::decimal;
 use std::io::{BufWriter, Write};
 use std::process::ExitCode;
 use std::{env, io};
-use test_counts::{parts, tables};
+use test_counts::tables;
 use test_engine::{Fault, cases, refusals};
+use test_part_counts::parts;
 
 /// The exit status where all that was asked for is done.
 const DONE: u8 = 0;
@@ -55,6 +57,7 @@ fn try_all(rt: &HostRuntime) -> io::Result<()> {
     cases::tell_all(rt)?;
     test_serve::tell_all(rt)?;
     test_kinds::tell_all(rt)?;
+    test_parts::tell_all(rt)?;
     runs::tell_steps(rt, "registered")?;
     tables::tell_all(rt)?;
     parts::tell_all(rt, text.as_str())
@@ -80,6 +83,7 @@ fn try_one(rt: &HostRuntime, trial: &str) -> Result<u8, Fault> {
             cases::tell_all(rt)?;
             test_serve::tell_all(rt)?;
             test_kinds::tell_all(rt)?;
+            test_parts::tell_all(rt)?;
         }
         "refusals" => try_steps(rt)?,
         _ => return Ok(OTHER_WORDS),
@@ -90,8 +94,8 @@ fn try_one(rt: &HostRuntime, trial: &str) -> Result<u8, Fault> {
 /// Whether both kinds answer alike.
 fn compare(rt: &HostRuntime, what: &str, seed: u32, calls: u32) -> io::Result<u8> {
     match what {
-        "timers" => test_kinds::tell_timers(rt, seed, calls)?,
-        "rules" => test_kinds::tell_rules(rt, seed, calls)?,
+        "timers" => test_alike::tell_timers(rt, seed, calls)?,
+        "rules" => test_alike::tell_rules(rt, seed, calls)?,
         _ => return Ok(OTHER_WORDS),
     }
     Ok(DONE)

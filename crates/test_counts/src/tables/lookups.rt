@@ -1,8 +1,8 @@
-use crate::tables::names::name_of;
 use sip_dialog::{DialogError, DialogId, Dialogs, InviteAnswer};
 use sip_text::{Bytes, Items};
 use sip_uri::Addr;
 use std::alloc::{AllocError, Global};
+use test_kind_counts::name_of;
 
 const PHONE: Addr = Addr {
     ip: [127, 0, 0, 1],
@@ -18,25 +18,36 @@ fn id(alloc: Global, number: u32) -> Result<DialogId, AllocError> {
     })
 }
 
-fn ids(alloc: Global, count: u32) -> Option<Vec<DialogId>> {
-    let mut ids = Vec::new(alloc);
+fn push_ids(alloc: Global, ids: &mut Vec<DialogId>, count: u32) -> Result<(), AllocError> {
     for number in 0..count {
-        ids.push(id(alloc, number).ok()?).ok()?;
+        ids.push(id(alloc, number)?)?;
     }
-    Some(ids)
+    Ok(())
+}
+
+fn addresses(alloc: Global) -> Result<Items<Addr>, AllocError> {
+    let mut addresses = Items::new(alloc);
+    addresses.push(PHONE)?;
+    Ok(addresses)
 }
 
 fn learn(alloc: Global, dialogs: &mut Dialogs, number: u32) -> Result<(), DialogError> {
-    let mut addresses = Items::new(alloc);
-    addresses.push(PHONE)?;
+    let id = id(alloc, number)?;
     let answer = InviteAnswer {
-        id: id(alloc, number)?,
+        id,
         number: u64::from(number),
         arrived_at: 1_000,
         is_success: true,
-        addresses,
+        addresses: addresses(alloc)?,
     };
     dialogs.learn(answer, 1_000)
+}
+
+fn learn_all(alloc: Global, dialogs: &mut Dialogs, count: u32) -> Result<(), DialogError> {
+    for number in 0..count {
+        learn(alloc, dialogs, number)?;
+    }
+    Ok(())
 }
 
 /// Whether a request of a turn is in its dialog.
@@ -45,18 +56,29 @@ fn is_allowed(dialogs: &Dialogs, ids: &[DialogId], turn: u32) -> Option<bool> {
     Some(dialogs.allows(ids.get(place)?, PHONE, 2_000))
 }
 
-/// Asks whether a request is in one of so many dialogs, so many times: of each in turn.
-pub fn lookups(alloc: Global, count: u32, times: u32) -> Option<u32> {
-    let ids = ids(alloc, count)?;
-    let mut dialogs = Dialogs::new(alloc, 7);
-    for number in 0..count {
-        learn(alloc, &mut dialogs, number).ok()?;
-    }
+fn count_allowed(dialogs: &Dialogs, ids: &[DialogId], times: u32) -> Option<u32> {
     let mut done = 0u32;
     for turn in 0..times {
-        if is_allowed(&dialogs, ids.as_slice(), turn)? {
+        if is_allowed(dialogs, ids, turn)? {
             done = done.saturating_add(1);
         }
     }
     Some(done)
+}
+
+fn allowed(alloc: Global, ids: &[DialogId], count: u32, times: u32) -> Option<u32> {
+    let mut dialogs = Dialogs::new(alloc, 7);
+    match learn_all(alloc, &mut dialogs, count) {
+        Ok(()) => count_allowed(&dialogs, ids, times),
+        Err(_) => None,
+    }
+}
+
+/// Asks whether a request is in one of so many dialogs, so many times: of each in turn.
+pub fn lookups(alloc: Global, count: u32, times: u32) -> Option<u32> {
+    let mut ids = Vec::new(alloc);
+    match push_ids(alloc, &mut ids, count) {
+        Ok(()) => allowed(alloc, ids.as_slice(), count, times),
+        Err(_) => None,
+    }
 }

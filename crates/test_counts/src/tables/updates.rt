@@ -1,9 +1,9 @@
-use crate::tables::names::name_of;
 use sip_header::Expires;
 use sip_location::{Contacts, Locations, Registration};
 use sip_text::{Bytes, Text};
 use sip_uri::Aor;
 use std::alloc::{AllocError, Global};
+use test_kind_counts::name_of;
 
 /// The address of record of a number.
 fn aor(alloc: Global, number: u32) -> Result<Aor, AllocError> {
@@ -24,18 +24,23 @@ fn registration(alloc: Global, number: u32) -> Result<Registration<'static>, All
     })
 }
 
-fn registrations(alloc: Global, addresses: u32) -> Option<Vec<Registration<'static>>> {
-    let mut requests = Vec::new(alloc);
+fn push_registrations(
+    alloc: Global,
+    requests: &mut Vec<Registration<'static>>,
+    addresses: u32,
+) -> Result<(), AllocError> {
     for number in 0..addresses {
-        requests.push(registration(alloc, number).ok()?).ok()?;
+        requests.push(registration(alloc, number)?)?;
     }
-    Some(requests)
+    Ok(())
 }
 
 /// Gives each address its binding.
 fn bind_all(locations: &mut Locations, requests: &[Registration<'_>]) -> Option<()> {
     for request in requests {
-        locations.update(request, 1_000).ok()?;
+        if locations.update(request, 1_000).is_err() {
+            return None;
+        }
     }
     Some(())
 }
@@ -45,18 +50,36 @@ fn refresh(locations: &mut Locations, requests: &mut [Registration<'_>], turn: u
     let place = (turn as usize).checked_rem(requests.len())?;
     let request = requests.get_mut(place)?;
     request.cseq = turn.saturating_add(2);
-    locations.update(request, 2_000).ok()
+    match locations.update(request, 2_000) {
+        Ok(()) => Some(()),
+        Err(_) => None,
+    }
+}
+
+fn refresh_all(
+    locations: &mut Locations,
+    requests: &mut [Registration<'_>],
+    times: u32,
+) -> Option<u32> {
+    bind_all(locations, requests)?;
+    for turn in 0..times {
+        refresh(locations, requests, turn)?;
+    }
+    Some(times)
+}
+
+fn refreshed(alloc: Global, requests: &mut [Registration<'_>], times: u32) -> Option<u32> {
+    match Locations::new(alloc) {
+        Ok(mut locations) => refresh_all(&mut locations, requests, times),
+        Err(_) => None,
+    }
 }
 
 /// Refreshes bindings, so many times, where so many addresses have one each.
 pub fn updates(alloc: Global, addresses: u32, times: u32) -> Option<u32> {
-    let mut requests = registrations(alloc, addresses)?;
-    let mut locations = Locations::new(alloc).ok()?;
-    bind_all(&mut locations, requests.as_slice())?;
-    let mut done = 0u32;
-    for turn in 0..times {
-        refresh(&mut locations, requests.as_mut_slice(), turn)?;
-        done = done.saturating_add(1);
+    let mut requests = Vec::new(alloc);
+    match push_registrations(alloc, &mut requests, addresses) {
+        Ok(()) => refreshed(alloc, requests.as_mut_slice(), times),
+        Err(_) => None,
     }
-    Some(done)
 }

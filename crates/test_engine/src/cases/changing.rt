@@ -1,7 +1,7 @@
 use crate::cases::datagrams::{REGISTER, REGISTER_AGAIN, REGISTER_LATER};
 use crate::cases::driving::{PHONE, hear, opened};
 use crate::cases::engine::is_bound;
-use crate::kinds::Server;
+use crate::kinds::TestServer;
 use sip_config_change::FrameKey;
 use sip_config_types::{Config, sample};
 use sip_event::StepOut;
@@ -25,7 +25,7 @@ fn in_another_realm(alloc: Global) -> Result<Config, AllocError> {
 }
 
 /// The step of a later REGISTER; nothing is due by its moment.
-fn later(engine: &mut Server) -> Result<StepOut, StepError> {
+fn later(engine: &mut TestServer) -> Result<StepOut, StepError> {
     if fire_next(engine, 3_000)?.is_some() {
         return Err(StepError::MomentTooLarge);
     }
@@ -33,7 +33,7 @@ fn later(engine: &mut Server) -> Result<StepOut, StepError> {
 }
 
 /// Whether it is answered with 403.
-fn denies(engine: &mut Server) -> bool {
+fn denies(engine: &mut TestServer) -> bool {
     match later(engine) {
         Ok(out) => match out.packets.as_slice() {
             [packet] => packet.bytes.as_slice().starts_with(b"SIP/2.0 403 "),
@@ -44,7 +44,7 @@ fn denies(engine: &mut Server) -> bool {
 }
 
 /// Registers Mufasa.
-fn registers(engine: &mut Server) -> bool {
+fn registers(engine: &mut TestServer) -> bool {
     hear(engine, 1_000, 1, REGISTER) == Ok(348) && hear(engine, 2_000, 2, REGISTER_AGAIN) == Ok(267)
 }
 

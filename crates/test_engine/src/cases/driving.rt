@@ -1,6 +1,6 @@
 //! An engine with the sample configuration, and calls of it.
 
-use crate::kinds::{Server, ServerRules, ServerTimers};
+use crate::kinds::{ServerRules, ServerTimers, TestServer};
 use sip_config_types::sample;
 use sip_event::Boot;
 use sip_replay::engine::StepError;
@@ -17,18 +17,23 @@ pub const PHONE: Addr = Addr {
 };
 
 /// An engine with the sample configuration, whose first datagram has this number.
-pub fn opened(alloc: Global, first: u64) -> Result<Server, AllocError> {
+pub fn opened(alloc: Global, first: u64) -> Result<TestServer, AllocError> {
     let boot = Boot {
         word: 0,
         first,
         keys: 0,
     };
-    Server::open(alloc, sample(alloc)?, boot)
+    TestServer::open(alloc, sample(alloc)?, boot)
 }
 
 /// Delivers a datagram; nothing is due by its moment. Answers how long the packet is that goes out for it; 0,
 /// where there is none, or more than one.
-pub fn hear(engine: &mut Server, at: u64, word: u128, bytes: &[u8]) -> Result<usize, StepError> {
+pub fn hear(
+    engine: &mut TestServer,
+    at: u64,
+    word: u128,
+    bytes: &[u8],
+) -> Result<usize, StepError> {
     if fire_next(engine, at)?.is_some() {
         return Err(StepError::MomentTooLarge);
     }

@@ -1,13 +1,13 @@
 use crate::cases::datagrams::{REGISTER, REGISTER_AGAIN};
 use crate::cases::driving::{hear, opened};
-use crate::kinds::Server;
+use crate::kinds::TestServer;
 use sip_replay::engine::StepError;
 use sip_text::Bytes;
 use sip_uri::Aor;
 use std::alloc::Global;
 
 /// Whether Mufasa has one binding, the one that the second REGISTER made.
-pub fn is_bound(alloc: Global, engine: &Server) -> bool {
+pub fn is_bound(alloc: Global, engine: &TestServer) -> bool {
     let Ok(user) = Bytes::copy(alloc, b"Mufasa") else {
         return false;
     };

@@ -1,5 +1,5 @@
 use crate::cases::driving::{PHONE, hear, opened};
-use crate::kinds::Server;
+use crate::kinds::TestServer;
 use sip_event::Ticket;
 use sip_replay::engine::StepError;
 use std::alloc::Global;
@@ -12,7 +12,7 @@ const TICKET: Ticket = Ticket {
 };
 
 /// Whether each step at a moment of 2^62 is refused, and nothing changes.
-fn is_too_late(engine: &mut Server) -> bool {
+fn is_too_late(engine: &mut TestServer) -> bool {
     let late = Some(StepError::MomentTooLarge);
     engine.deliver(TOO_LARGE, 1, PHONE, b"").err() == late
         && engine.fire(TOO_LARGE).err() == late
@@ -21,7 +21,7 @@ fn is_too_late(engine: &mut Server) -> bool {
 }
 
 /// Whether an engine takes the last datagram that has a number and refuses more as worn out, and time passes still.
-fn is_worn_soon(engine: &mut Server) -> bool {
+fn is_worn_soon(engine: &mut TestServer) -> bool {
     hear(engine, 0, 1, b"") == Ok(0)
         && hear(engine, 0, 1, b"") == Err(StepError::Worn)
         && engine.fire(7).err().is_none()

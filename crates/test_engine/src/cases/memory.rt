@@ -1,7 +1,7 @@
 use crate::cases::datagrams::REGISTER;
 use crate::cases::driving::{hear, opened};
 use crate::cases::faults::ends;
-use crate::kinds::Server;
+use crate::kinds::TestServer;
 use sip_replay::ReplayError;
 use sip_replay::engine::StepError;
 use std::alloc::Global;
@@ -9,7 +9,7 @@ use std::io::ErrorKind;
 
 /// Whether a REGISTER is challenged, or is refused for want of memory, changes nothing, and is challenged
 /// when it comes again.
-fn is_challenged_in_the_end(engine: &mut Server) -> bool {
+fn is_challenged_in_the_end(engine: &mut TestServer) -> bool {
     match hear(engine, 1_000, 1, REGISTER) {
         Ok(length) => length == 348,
         Err(StepError::NoMemory) => {

@@ -1,6 +1,6 @@
 //! A script played step by step: a step that is refused for want of memory is given again, and what is printed stays the same.
 use crate::fault::Fault;
-use crate::kinds::Server;
+use crate::kinds::TestServer;
 use crate::refusals::take::take;
 use sip_config_types::Config;
 use sip_event::{Boot, Event};
@@ -20,7 +20,7 @@ const BOOT: Boot = Boot {
 /// Takes the steps of an event, those of what is due before it first, and prints them; how many were refused at first.
 fn take_event<W: Write, M: Write>(
     alloc: Global,
-    engine: &mut Server,
+    engine: &mut TestServer,
     event: &Event,
     output: &mut W,
     marks: &mut M,
@@ -54,7 +54,7 @@ fn event_of(alloc: Global, line: Line, bytes: &Gathered) -> Result<Event, AllocE
 /// Takes the next event of a script, if there is one; how many of its steps were refused at first.
 fn take_next<I: Read, W: Write, M: Write>(
     alloc: Global,
-    engine: &mut Server,
+    engine: &mut TestServer,
     lines: &mut Lines,
     bytes: &mut Gathered,
     input: &mut I,
@@ -71,7 +71,7 @@ fn take_next<I: Read, W: Write, M: Write>(
 /// Takes all events of a script; how many steps were refused at first.
 fn take_all<I: Read, W: Write, M: Write>(
     alloc: Global,
-    engine: &mut Server,
+    engine: &mut TestServer,
     lines: &mut Lines,
     bytes: &mut Gathered,
     input: &mut I,
@@ -96,7 +96,7 @@ pub fn play<I: Read, W: Write, M: Write>(
     output: &mut W,
     marks: &mut M,
 ) -> Result<u64, Fault> {
-    let mut engine = Server::open(alloc, config, BOOT)?;
+    let mut engine = TestServer::open(alloc, config, BOOT)?;
     let mut lines = Lines::new(alloc)?;
     let mut bytes = Gathered::new(alloc);
     take_all(

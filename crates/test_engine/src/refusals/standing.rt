@@ -1,4 +1,4 @@
-use crate::kinds::Server;
+use crate::kinds::TestServer;
 use sip_location::BindingRef;
 use sip_text::{Bytes, same_bytes};
 use sip_uri::Aor;
@@ -11,7 +11,7 @@ const DOMAIN: &str = "host.com";
 
 /// What can be seen of a server: its moment, when something is due, and the bindings of all its users, as text.
 #[derive(Drop)]
-pub struct Standing {
+pub struct ProbeStanding {
     moment: u64,
     due: Option<u64>,
     bindings: Bytes,
@@ -48,7 +48,7 @@ fn aor_of(alloc: Global, user: &str) -> Result<Aor, AllocError> {
 fn put_bindings(
     alloc: Global,
     text: &mut Bytes,
-    engine: &Server,
+    engine: &TestServer,
     user: &str,
 ) -> Result<(), AllocError> {
     let aor = aor_of(alloc, user)?;
@@ -59,20 +59,20 @@ fn put_bindings(
     Ok(())
 }
 
-impl Standing {
-    pub fn of(alloc: Global, engine: &Server) -> Result<Standing, AllocError> {
+impl ProbeStanding {
+    pub fn of(alloc: Global, engine: &TestServer) -> Result<ProbeStanding, AllocError> {
         let mut bindings = Bytes::new(alloc);
         for user in USERS {
             put_bindings(alloc, &mut bindings, engine, user)?;
         }
-        Ok(Standing {
+        Ok(ProbeStanding {
             moment: engine.moment(),
             due: engine.next_due(),
             bindings,
         })
     }
 
-    pub fn is_same(&self, other: &Standing) -> bool {
+    pub fn is_same(&self, other: &ProbeStanding) -> bool {
         self.moment == other.moment
             && self.due == other.due
             && same_bytes(self.bindings.as_slice(), other.bindings.as_slice())

@@ -1,8 +1,8 @@
 ghost use Rattle.std.specs.Prelude.{◌≡◌, OnErr};
 
 use crate::fault::Fault;
-use crate::kinds::Server;
-use crate::refusals::standing::Standing;
+use crate::kinds::TestServer;
+use crate::refusals::standing::ProbeStanding;
 use sip_event::{Event, StepOut};
 use sip_replay::engine::StepError;
 use sip_replay::run::{event_moment, fire_next, take_event};
@@ -11,25 +11,25 @@ use std::io::Write;
 
 /// A step, whether it is its event's own, and whether it was refused at first.
 #[derive(Drop)]
-pub struct Taken {
+pub struct ProbeTaken {
     pub out: StepOut,
     pub is_own: bool,
     pub is_refused: bool,
 }
 
 /// The step of what is due first by an event's moment, or the event's own.
-fn step(engine: &mut Server, event: &Event) -> Result<Taken, StepError>
+fn step(engine: &mut TestServer, event: &Event) -> Result<ProbeTaken, StepError>
     ensures { OnErr result (engine.new ≡ engine.old) }
 {
     if let Some(out) = fire_next(engine, event_moment(event))? {
-        return Ok(Taken {
+        return Ok(ProbeTaken {
             out,
             is_own: false,
             is_refused: false,
         });
     }
     let out = take_event(engine, event)?;
-    Ok(Taken {
+    Ok(ProbeTaken {
         out,
         is_own: true,
         is_refused: false,
@@ -46,16 +46,16 @@ fn say<M: Write>(marks: &mut M, word: &[u8]) -> Result<(), Fault> {
 /// The same step once more, where nothing changed since.
 fn step_again(
     alloc: Global,
-    engine: &mut Server,
+    engine: &mut TestServer,
     event: &Event,
-    before: &Standing,
-) -> Result<Taken, Fault> {
-    let after = Standing::of(alloc, engine)?;
+    before: &ProbeStanding,
+) -> Result<ProbeTaken, Fault> {
+    let after = ProbeStanding::of(alloc, engine)?;
     if !after.is_same(before) {
         return Err(Fault::Changed);
     }
     let taken = step(engine, event)?;
-    Ok(Taken {
+    Ok(ProbeTaken {
         out: taken.out,
         is_own: taken.is_own,
         is_refused: true,
@@ -66,11 +66,11 @@ fn step_again(
 /// want of memory.
 pub fn take<M: Write>(
     alloc: Global,
-    engine: &mut Server,
+    engine: &mut TestServer,
     event: &Event,
     marks: &mut M,
-) -> Result<Taken, Fault> {
-    let before = Standing::of(alloc, engine)?;
+) -> Result<ProbeTaken, Fault> {
+    let before = ProbeStanding::of(alloc, engine)?;
     say(marks, b"step\n")?;
     let first = step(engine, event);
     say(marks, b"done\n")?;

@@ -1,11 +1,9 @@
 //! Users, domains, rules and requests that a seed chooses, for two kinds of rules that have to decide alike.
-use crate::asking::Asking;
 use crate::chance::Chance;
-use sip_policy::{
-    OperationPattern, PolicyError, Rule, RuleVerdict, TargetPattern, User, Users, Who, Window,
-};
+use sip_policy::{OperationPattern, Rule, RuleVerdict, TargetPattern, User, Who, Window};
 use sip_text::{Bytes, Items};
 use std::alloc::{AllocError, Global};
+use test_kinds::Asking;
 
 /// Names of users, of whom some are configured, and of groups.
 const NAMES: [&str; 9] = [
@@ -35,12 +33,25 @@ fn text(alloc: Global, chance: &mut Chance, words: &[&'static str]) -> Result<By
     Bytes::copy(alloc, chance.one_of(words).as_bytes())
 }
 
+/// Adds so many words.
+fn push_words(
+    alloc: Global,
+    chance: &mut Chance,
+    texts: &mut Items<Bytes>,
+    words: &[&'static str],
+    count: u64,
+) -> Result<(), AllocError> {
+    for _ in 0..count {
+        texts.push(text(alloc, chance, words)?)?;
+    }
+    Ok(())
+}
+
 /// Some names, maybe none.
 fn names(alloc: Global, chance: &mut Chance) -> Result<Items<Bytes>, AllocError> {
     let mut names = Items::new(alloc);
-    for _ in 0..chance.below(4) {
-        names.push(text(alloc, chance, &NAMES)?)?;
-    }
+    let count = chance.below(4);
+    push_words(alloc, chance, &mut names, &NAMES, count)?;
     Ok(names)
 }
 
@@ -55,24 +66,28 @@ fn user(alloc: Global, chance: &mut Chance, name: &str) -> Result<User, AllocErr
     })
 }
 
-/// Users of some of the names, each in some groups.
-pub(crate) fn users(alloc: Global, chance: &mut Chance) -> Result<Users, PolicyError> {
-    let mut users = Items::new(alloc);
-    for name in NAMES {
+/// Adds users of some of the names, each in some groups.
+pub(crate) fn push_users(
+    alloc: Global,
+    chance: &mut Chance,
+    users: &mut Items<User>,
+) -> Result<(), AllocError> {
+    for name in &NAMES {
         if !chance.is_once_in(3) {
             users.push(user(alloc, chance, name)?)?;
         }
     }
-    Users::new(alloc, users)
+    Ok(())
 }
 
-/// One or two own domains, or none.
-pub(crate) fn domains(alloc: Global, chance: &mut Chance) -> Result<Items<Bytes>, AllocError> {
-    let mut domains = Items::new(alloc);
-    for _ in 0..chance.below(3) {
-        domains.push(text(alloc, chance, &HOSTS)?)?;
-    }
-    Ok(domains)
+/// Adds one or two own domains, or none.
+pub(crate) fn push_domains(
+    alloc: Global,
+    chance: &mut Chance,
+    domains: &mut Items<Bytes>,
+) -> Result<(), AllocError> {
+    let count = chance.below(3);
+    push_words(alloc, chance, domains, &HOSTS, count)
 }
 
 fn who(alloc: Global, chance: &mut Chance) -> Result<Who, AllocError> {
@@ -93,6 +108,18 @@ fn operation(alloc: Global, chance: &mut Chance) -> Result<OperationPattern, All
     }
 }
 
+fn prefix(alloc: Global, chance: &mut Chance) -> Result<TargetPattern, AllocError> {
+    let prefix = text(alloc, chance, &PREFIXES)?;
+    let domain = text(alloc, chance, &HOSTS)?;
+    Ok(TargetPattern::Prefix { prefix, domain })
+}
+
+fn exact(alloc: Global, chance: &mut Chance) -> Result<TargetPattern, AllocError> {
+    let user = text(alloc, chance, &NAMES)?;
+    let domain = text(alloc, chance, &HOSTS)?;
+    Ok(TargetPattern::Exact { user, domain })
+}
+
 /// A target; where it is to be narrow, one address or those of a front.
 fn target(
     alloc: Global,
@@ -101,16 +128,10 @@ fn target(
 ) -> Result<TargetPattern, AllocError> {
     let kinds = if is_narrow { 4 } else { 6 };
     match chance.below(kinds) {
-        0 => Ok(TargetPattern::Prefix {
-            prefix: text(alloc, chance, &PREFIXES)?,
-            domain: text(alloc, chance, &HOSTS)?,
-        }),
+        0 => prefix(alloc, chance),
         4 => Ok(TargetPattern::SelfTarget),
         5 => Ok(TargetPattern::Any),
-        _ => Ok(TargetPattern::Exact {
-            user: text(alloc, chance, &NAMES)?,
-            domain: text(alloc, chance, &HOSTS)?,
-        }),
+        _ => exact(alloc, chance),
     }
 }
 
@@ -145,15 +166,18 @@ fn rule(alloc: Global, chance: &mut Chance, id: u32, is_narrow: bool) -> Result<
     })
 }
 
-/// Up to 64 rules.
-pub(crate) fn rules(alloc: Global, chance: &mut Chance) -> Result<Items<Rule>, AllocError> {
-    let mut rules = Items::new(alloc);
+/// Adds up to 64 rules.
+pub(crate) fn push_rules(
+    alloc: Global,
+    chance: &mut Chance,
+    rules: &mut Items<Rule>,
+) -> Result<(), AllocError> {
     let is_narrow = chance.is_once_in(2);
     for number in 0..chance.below(65) as u32 {
         let id = number.saturating_add(1);
         rules.push(rule(alloc, chance, id, is_narrow)?)?;
     }
-    Ok(rules)
+    Ok(())
 }
 
 /// A request of nobody, of a user, or of a name that is none.

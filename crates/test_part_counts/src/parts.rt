@@ -3,24 +3,36 @@
 
 mod configurations;
 mod forwards;
+mod invite;
 mod requests;
 mod validations;
 
 use configurations::configurations;
 use forwards::forwards;
+use invite::{Invite, read_invite};
 use std::alloc::Global;
 use std::io;
 use validations::validations;
 
-const CASES: [&str; 3] = ["validate", "onward", "config"];
+const CASES: &[&str] = &["validate", "onward", "config"];
+
+/// What the calls of a case on an INVITE came to.
+fn counted_of(alloc: Global, invite: &Invite, case: &str, targets: u32, times: u32) -> Option<u64> {
+    match case {
+        "validate" => validations(alloc, invite, times),
+        "onward" => forwards(alloc, invite, targets, times),
+        _ => None,
+    }
+}
 
 /// What the calls of a case came to. None where the case is unknown, a call is refused, or memory runs out.
 fn counted(alloc: Global, text: &str, case: &str, targets: u32, times: u32) -> Option<u64> {
-    match case {
-        "validate" => validations(alloc, times),
-        "onward" => forwards(alloc, targets, times),
-        "config" => configurations(alloc, text, times),
-        _ => None,
+    if case == "config" {
+        return configurations(alloc, text, times);
+    }
+    match read_invite(alloc) {
+        Ok(invite) => counted_of(alloc, &invite, case, targets, times),
+        Err(_) => None,
     }
 }
 

@@ -22,7 +22,7 @@ pub enum Order {
 
 /// What is called.
 #[derive(Clone, Copy)]
-pub enum Call {
+pub enum CountedCall {
     Add,
     /// What `add` does, too.
     AddAndCancel,
@@ -54,42 +54,65 @@ fn name(number: u32) -> Name {
 /// Sets the timer of a number, and cancels it.
 fn add_and_cancel<T: Timers>(timers: &mut T, order: Order, number: u32) -> Option<()> {
     timer_stands();
-    let key = timers.add(order.due(number), name(number)).ok()?;
-    timers.cancel(key);
-    Some(())
+    match timers.add(order.due(number), name(number)) {
+        Ok(key) => {
+            timers.cancel(key);
+            Some(())
+        }
+        Err(_) => None,
+    }
 }
 
-/// Calls so many timers once more, in a turn of so many.
-fn call_once<T: Timers>(timers: &mut T, call: Call, order: Order, number: u32) -> Option<()> {
-    match call {
-        Call::Add => {
-            timers.add(order.due(number), name(number)).ok()?;
-            Some(())
-        }
-        Call::AddAndCancel => add_and_cancel(timers, order, number),
-        Call::Next => {
-            timers.next()?;
-            Some(())
-        }
+fn add<T: Timers>(timers: &mut T, order: Order, number: u32) -> Option<()> {
+    match timers.add(order.due(number), name(number)) {
+        Ok(_) => Some(()),
+        Err(_) => None,
     }
+}
+
+/// Makes a call, for the timer of this number where it sets one.
+fn call_once<T: Timers>(
+    timers: &mut T,
+    call: CountedCall,
+    order: Order,
+    number: u32,
+) -> Option<()> {
+    match call {
+        CountedCall::Add => add(timers, order, number),
+        CountedCall::AddAndCancel => add_and_cancel(timers, order, number),
+        CountedCall::Next => match timers.next() {
+            Some(_) => Some(()),
+            None => None,
+        },
+    }
+}
+
+fn call_each<T: Timers>(
+    timers: &mut T,
+    call: CountedCall,
+    order: Order,
+    standing: u32,
+    times: u32,
+) -> Option<u32> {
+    for number in 0..standing {
+        add(timers, order, number)?;
+    }
+    for turn in 0..times {
+        call_once(timers, call, order, standing.saturating_add(turn))?;
+    }
+    Some(times)
 }
 
 /// Calls timers of which so many stand, so many times.
 pub fn timers<T: Timers>(
     alloc: Global,
-    call: Call,
+    call: CountedCall,
     order: Order,
     standing: u32,
     times: u32,
 ) -> Option<u32> {
-    let mut timers = T::new(alloc).ok()?;
-    for number in 0..standing {
-        timers.add(order.due(number), name(number)).ok()?;
+    match T::new(alloc) {
+        Ok(mut timers) => call_each(&mut timers, call, order, standing, times),
+        Err(_) => None,
     }
-    let mut done = 0u32;
-    for turn in 0..times {
-        call_once(&mut timers, call, order, standing.saturating_add(turn))?;
-        done = done.saturating_add(1);
-    }
-    Some(done)
 }

@@ -1,11 +1,12 @@
 //! Random calls on the wheel and on the plain list of timers, which have to answer alike.
 use crate::chance::Chance;
-use crate::keyed_timers::KeyedTimers;
+use crate::rounds::{self, Outcome, Rounds};
 use crate::timer_call::TimerCall;
-use sip_timers::{Letter, ListTimers, Name, Owner, TimerError, Timers};
+use sip_timers::{Letter, ListTimers, Name, Owner, Timers};
 use sip_timers_wheel::WheelTimers;
 use std::alloc::Global;
 use std::io;
+use test_kinds::KeyedTimers;
 
 /// The first distance past the greatest moment at which no timer is set, in milliseconds.
 const TOO_FAR: u64 = 1 << 30;
@@ -15,7 +16,7 @@ const ROUND: u32 = 4_096;
 
 /// What calls are chosen by.
 #[derive(Drop)]
-struct Choice {
+struct CallChoice {
     chance: Chance,
     /// The greatest moment that was given to `pop_due`.
     reached: u64,
@@ -25,9 +26,9 @@ struct Choice {
     pops: u64,
 }
 
-impl Choice {
+impl CallChoice {
     fn new(seed: u32) -> Self {
-        Choice {
+        CallChoice {
             chance: Chance::new(seed),
             reached: 0,
             requests: 0,
@@ -133,58 +134,62 @@ impl Choice {
     }
 }
 
-/// Whether two kinds answer a call alike, and have the same first timer then.
+/// Whether two kinds answer a call alike, and have the same first timer then. None without memory.
 fn agree<A: Timers, B: Timers>(
     first: &mut KeyedTimers<A>,
     second: &mut KeyedTimers<B>,
     call: &TimerCall,
-) -> Result<bool, TimerError> {
+) -> Option<bool> {
     let answer = call.make(first)?;
     let other = call.make(second)?;
-    Ok(answer == other && first.next() == second.next())
+    Some(answer == other && first.next() == second.next())
 }
 
-/// Makes so many calls; the first that isn't answered alike, with its number from 1.
-fn make_round<A: Timers, B: Timers>(
-    alloc: Global,
-    choice: &mut Choice,
+/// Makes so many calls on two kinds.
+fn compare<A: Timers, B: Timers>(
+    first: &mut KeyedTimers<A>,
+    second: &mut KeyedTimers<B>,
+    choice: &mut CallChoice,
     calls: u32,
-) -> Result<Option<(u32, TimerCall)>, TimerError> {
-    let mut first = KeyedTimers::<A>::new(alloc)?;
-    let mut second = KeyedTimers::<B>::new(alloc)?;
-    choice.begin();
+) -> Outcome<TimerCall> {
     for number in 0..calls {
         let call = choice.next_call(first.len());
-        if !agree(&mut first, &mut second, &call)? {
-            return Ok(Some((number.saturating_add(1), call)));
+        match agree(first, second, &call) {
+            Some(true) => {}
+            Some(false) => return Outcome::Differs(number.saturating_add(1), call),
+            None => return Outcome::NoMemory,
         }
     }
-    Ok(None)
+    Outcome::Alike
 }
 
-/// Makes so many calls in rounds.
-fn make_calls<A: Timers, B: Timers>(
+/// Makes so many calls on two kinds that are new.
+fn make_round<A: Timers, B: Timers>(
     alloc: Global,
-    seed: u32,
+    choice: &mut CallChoice,
     calls: u32,
-) -> Result<Option<(u32, TimerCall)>, TimerError> {
-    let mut choice = Choice::new(seed);
-    for round in 0..calls.div_ceil(ROUND) {
-        let done = round.saturating_mul(ROUND);
-        let more = calls.saturating_sub(done).min(ROUND);
-        if let Some((number, call)) = make_round::<A, B>(alloc, &mut choice, more)? {
-            return Ok(Some((done.saturating_add(number), call)));
-        }
+) -> Outcome<TimerCall> {
+    let Ok(mut first) = KeyedTimers::<A>::new(alloc) else {
+        return Outcome::NoMemory;
+    };
+    let Ok(mut second) = KeyedTimers::<B>::new(alloc) else {
+        return Outcome::NoMemory;
+    };
+    choice.begin();
+    compare(&mut first, &mut second, choice, calls)
+}
+
+impl Rounds for CallChoice {
+    type Call = TimerCall;
+
+    fn make(&mut self, alloc: Global, calls: u32) -> Outcome<TimerCall> {
+        make_round::<WheelTimers, ListTimers>(alloc, self, calls)
     }
-    Ok(None)
 }
 
 /// Gives the wheel and the list the same calls, which a seed chooses, and prints whether they answer alike, or the first call
 /// that they don't.
 pub fn tell_timers<R: Print + AllocGlobal>(rt: &R, seed: u32, calls: u32) -> io::Result<()> {
-    match make_calls::<WheelTimers, ListTimers>(rt.alloc(), seed, calls) {
-        Ok(None) => println!(rt; "{calls} calls agree"),
-        Ok(Some((number, call))) => println!(rt; "call {number} DIFFERS: {call}"),
-        Err(_) => println!(rt; "out of memory"),
-    }
+    let mut choice = CallChoice::new(seed);
+    rounds::tell(rt, &mut choice, calls, ROUND)
 }

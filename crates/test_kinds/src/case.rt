@@ -1,0 +1,60 @@
+use crate::kind::Kind;
+use crate::timer_cases::Step;
+use crate::{rule_cases, timer_cases, watch_cases};
+use sip_policy::ListRules;
+use sip_policy_index::IndexedRules;
+use sip_timers::ListTimers;
+use sip_timers_wheel::WheelTimers;
+use std::alloc::Global;
+use std::rt::Files;
+
+/// What is tried.
+#[derive(Clone, Copy)]
+pub(crate) enum Trial {
+    /// Calls of timers.
+    Timers(&'static [Step]),
+    /// Requests, and what the sample's rules decide about them.
+    Rules(&'static [rule_cases::Asked]),
+    /// Looks at a file over memory.
+    Watch(watch_cases::Asked, &'static [watch_cases::Row]),
+    /// The file of this path.
+    FileOffered(&'static str),
+    /// Paths without one.
+    NoFile,
+}
+
+/// A case: its name, and what is tried.
+#[derive(Clone, Copy)]
+pub(crate) struct Case {
+    pub(crate) name: &'static str,
+    pub(crate) trial: Trial,
+}
+
+fn timers_hold(alloc: Global, kind: Kind, steps: &[Step]) -> bool {
+    match kind {
+        Kind::List => timer_cases::hold::<ListTimers>(alloc, steps),
+        Kind::Wheel => timer_cases::hold::<WheelTimers>(alloc, steps),
+        _ => false,
+    }
+}
+
+fn rules_hold(alloc: Global, kind: Kind, rows: &[rule_cases::Asked]) -> bool {
+    match kind {
+        Kind::List => rule_cases::hold::<ListRules>(alloc, rows),
+        Kind::Index => rule_cases::hold::<IndexedRules>(alloc, rows),
+        _ => false,
+    }
+}
+
+impl Case {
+    /// Whether it holds on this kind.
+    pub(crate) fn holds<R: AllocGlobal + Files>(&self, rt: &R, kind: Kind) -> bool {
+        match self.trial {
+            Trial::Timers(steps) => timers_hold(rt.alloc(), kind, steps),
+            Trial::Rules(rows) => rules_hold(rt.alloc(), kind, rows),
+            Trial::Watch(asked, rows) => watch_cases::hold(rt.alloc(), asked, rows),
+            Trial::FileOffered(path) => watch_cases::file_offered(rt, path),
+            Trial::NoFile => watch_cases::no_file(rt),
+        }
+    }
+}
