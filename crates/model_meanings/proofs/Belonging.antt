@@ -163,7 +163,8 @@ named_once_found server text method (q ∷ qs) r b e = by_branch (branch_in serv
 -- ---- a response that is taken
 
 -- the Via on top, where a branch of this server's is read
-own_by : (server : Server) (via : Via) (text : List ℕ) → own_branch server.config.own via ≡ Some text → (is_own_via server.config.own via ≡ true) × (branch_of via.parameters ≡ Some text)
+own_by : (server : Server) (via : Via) (text : List ℕ) → own_branch server.config.own via ≡ Some text
+    → (is_own_via server.config.own via ≡ true) × (branch_of via.parameters ≡ Some text)
 own_by server via text e = by_test (is_own_via server.config.own via) e where
   by_test : (t : Bool) → cond t (branch_of via.parameters) None ≡ Some text → (t ≡ true) × (branch_of via.parameters ≡ Some text)
   by_test true e = (refl, e)

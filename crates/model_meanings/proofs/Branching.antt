@@ -102,7 +102,8 @@ text_by : (t : Bool) → not t ≡ false → t ≡ true
 text_by true e = refl
 text_by false e = absurd (cc)
 
-pub valid_version : (own : Own) (m : Message) (method uri version : List ℕ) → m.start ≡ Request method uri version → refusal_of own m false ≡ None → version ≡ codes "SIP/2.0"
+pub valid_version : (own : Own) (m : Message) (method uri version : List ℕ)
+    → m.start ≡ Request method uri version → refusal_of own m false ≡ None → version ≡ codes "SIP/2.0"
 valid_version own m method uri version e valid =
     let checked = subst (λ (s : Start). option_map_or refusal (candidate_by own m.fields false s) None ≡ None) e valid in
     (bytes_eq-Decides version (codes "SIP/2.0")).0 (text_by (bytes_eq version (codes "SIP/2.0")) (version_by _ (not (bytes_eq version (codes "SIP/2.0"))) _ _ _ _ checked))

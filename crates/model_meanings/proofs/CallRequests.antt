@@ -42,7 +42,8 @@ module _ (known after : ProxyState) (earlier : List Link) where
 -- ---- a CANCEL
 
 -- what gave a request up before a step that is no datagram, did so before
-pub given_up_before : (server : Server) (link : Link) (earlier : List Link) (number : ℕ) → is_datagram link.act ≡ false → WasGivenUp server (link ∷ earlier) number → WasGivenUp server earlier number
+pub given_up_before : (server : Server) (link : Link) (earlier : List Link) (number : ℕ)
+    → is_datagram link.act ≡ false → WasGivenUp server (link ∷ earlier) number → WasGivenUp server earlier number
 given_up_before server link earlier number quiet (ByCaller was) = by_case (Contains-append_cases (link ∷ []) earlier was.link was.is_there) where
   by_case : Contains (link ∷ []) was.link ⊎ Contains earlier was.link → WasGivenUp server earlier number
   by_case (inl now) =

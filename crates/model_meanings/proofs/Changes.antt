@@ -19,7 +19,8 @@ use Rattle.sip_model.specs.context_model.Branches.{Change, is_same_branch, turne
 use Rattle.sip_model.specs.context_model.Retransmission.{branch_next, resent_branch, IsResent, OfAnswer, OfRequest}
 use Rattle.sip_model.specs.steps_model.Step.{Act, IsOverdue, OfSide, OfBranch}
 use Rattle.sip_model.specs.Parts.{IsChangeAt, ByResponse, ByDeadline, ByFault, ByCancel}
-use Rattle.model_meanings.proofs.Lists.{all_left, all_right, all_map, all_flat_map, all_weaker}
+use Rattle.sip_model.proofs.Places.{all_weaker}
+use Rattle.model_meanings.proofs.Lists.{all_left, all_right, all_map, all_flat_map}
 
 -- ---- branches
 
@@ -38,7 +39,7 @@ same_numbers bs h = h
 -- a change of each that leaves its number
 pub edited_numbers : (edit : Branch → Branch) → ((b : Branch) → (edit b).number ≡ b.number) → (bs : List Branch) → KeepNumbers bs (map edit bs)
 edited_numbers edit same bs h =
-    all_map (λ (b : Branch). 1 ≤ b.number) edit bs (all_weaker (λ (b : Branch). 1 ≤ b.number) (λ (b : Branch). 1 ≤ (edit b).number) (λ b own. subst (λ (n : ℕ). 1 ≤ n) (sym (same b)) own) bs h)
+    all_map (λ (b : Branch). 1 ≤ b.number) edit bs (all_weaker (λ (b : Branch). 1 ≤ b.number) (λ (b : Branch). 1 ≤ (edit b).number) bs (λ b own. subst (λ (n : ℕ). 1 ≤ n) (sym (same b)) own) h)
 
 -- of two branches with a number either has it
 either_number : (t : Bool) (x y : Branch) (n : ℕ) → x.number ≡ n → y.number ≡ n → (cond t x y).number ≡ n
@@ -65,7 +66,7 @@ resent_number told next x = either_number (is_same_branch x told) (record x { ag
 cancels_numbers : (now : ℕ) (bs : List Branch) → KeepNumbers bs (flat_map (with_cancel now) bs)
 cancels_numbers now bs h =
     all_flat_map (λ (b : Branch). 1 ≤ b.number) (with_cancel now) bs
-    (all_weaker (λ (b : Branch). 1 ≤ b.number) (λ (b : Branch). AreNumbered (with_cancel now b)) (λ b own. by_test b own (is_cancellable b)) bs h) where
+    (all_weaker (λ (b : Branch). 1 ≤ b.number) (λ (b : Branch). AreNumbered (with_cancel now b)) bs (λ b own. by_test b own (is_cancellable b)) h) where
       by_test : (b : Branch) → 1 ≤ b.number → (t : Bool) → AreNumbered (cond t (held_branch now b ∷ cancel_branch now b ∷ []) (b ∷ []))
       by_test b own true = (own, (own, tt))
       by_test b own false = (own, tt)

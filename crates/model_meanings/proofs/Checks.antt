@@ -31,9 +31,8 @@ use Rattle.sip_model.specs.verdict_model.Verdict.{message_in, is_register}
 use Rattle.sip_model.specs.steps_model.Step.{Given}
 use Rattle.sip_model.specs.Run.{Link}
 use Rattle.sip_model.specs.Access.{IsSaidAt, IsNewRequest}
-use Rattle.sip_model.proofs.Places.{none_found}
+use Rattle.sip_model.proofs.Places.{none_found, found_in, contains_from_in}
 use Rattle.model_meanings.specs.Headline.{Came, checked, IsSaid, IsChecked, IsValid, IsNew}
-use Rattle.model_meanings.proofs.Lists.{found_in, contains_from_in}
 use Rattle.model_meanings.proofs.Belonging.{counted}
 use Rattle.model_meanings.proofs.OneKey.{equal_keys, same_keys}
 use Rattle.model_meanings.proofs.Branching.{valid_version}
@@ -233,7 +232,8 @@ outside_back false (Some id) (inl e) = absurd (cc)
 outside_back false (Some id) (inr e) = absurd (cc)
 
 -- what the model takes for a valid new request is one
-pub new_of : (server : Server) (link : Link) (a : Arrival) (bytes : List ℕ) (m : Message) (method : List ℕ) (core : CoreFields) → IsSaidAt link.before link.act a bytes m false
+pub new_of : (server : Server) (link : Link) (a : Arrival) (bytes : List ℕ) (m : Message) (method : List ℕ) (core : CoreFields)
+    → IsSaidAt link.before link.act a bytes m false
     → IsNewRequest server link.before bytes m method core
     → IsNew server link (came_in a m method core)
 new_of server link a bytes m method core said new = record {
@@ -275,7 +275,8 @@ pub record NamesDialog (m : Message) (id : DialogId) : Type 0 where
   pub core_is : core_of m ≡ Ok core
   pub names : id_of core ≡ Some id
 
-pub names_dialog : (m : Message) (id : DialogId) (read : Result CoreFields HeaderError) → core_of m ≡ read → option_and_then (λ core. id_of core) (result_ok read) ≡ Some id
+pub names_dialog : (m : Message) (id : DialogId) (read : Result CoreFields HeaderError)
+    → core_of m ≡ read → option_and_then (λ core. id_of core) (result_ok read) ≡ Some id
     → NamesDialog m id
 names_dialog m id (Ok core) is e = record { core = core; core_is = is; names = e }
 names_dialog m id (Err error) is e = absurd (cc)

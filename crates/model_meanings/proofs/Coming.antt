@@ -17,7 +17,7 @@ use Rattle.sip_model.specs.Run.{Link}
 use Rattle.sip_model.specs.Access.{ComesNow, IsAckNow, IsPassedOn, Early, Accepting, EndsNow, ByResponse, BySilence, ByLaterSilence, ByCancel, ByFault, IsHeardNow, IsCancelledNow, AreCancelsNow, IsForOpen, ForNone, ForOne, IsAllSent, sent_for}
 use Rattle.model_meanings.proofs.Refused.{holds_of, is_fault, HasNoAnswer, no_answers}
 use Rattle.model_meanings.proofs.Said.{found_same}
-use Rattle.model_meanings.proofs.Firsts.{all_append}
+use Rattle.model_meanings.proofs.Lists.{all_append}
 
 -- two moments differ, where a test says so
 pub differ : (x y : ℕ) → (x == y) ≡ false → (y == y) ≡ true → Some x ≡ Some y → ⊥
@@ -66,7 +66,8 @@ module _ (server : Server) (state : ProxyState) (act : Act) (at : ℕ) where
 -- ---- where the caller gets nothing
 
 -- what holds of what a function makes of each holds of what it makes of some
-pub all_of_some : {X Y : Type 0} (P : Y → Type 0) (f : X → List Y) (test : X → Bool) (xs : List X) → AllByRecursion (λ x. AllByRecursion P (f x)) xs → AllByRecursion P (flat_map f (filter test xs))
+pub all_of_some : {X Y : Type 0} (P : Y → Type 0) (f : X → List Y) (test : X → Bool) (xs : List X)
+    → AllByRecursion (λ x. AllByRecursion P (f x)) xs → AllByRecursion P (flat_map f (filter test xs))
 all_of_some P f test [] a = tt
 all_of_some {X} {Y} P f test (x ∷ xs) a = by_test (test x) (all_of_some P f test xs a.1) where
   by_test : (t : Bool) → AllByRecursion P (flat_map f (filter test xs)) → AllByRecursion P (flat_map f (cond t (x ∷ filter test xs) (filter test xs)))

@@ -25,7 +25,8 @@ abbrev pub GoesByTime : ℕ → List Packet → Type 0
 GoesByTime at packets = (packets ≡ branch_packets sample true one_target first_branch) × (branch_due one_target first_branch ≡ Some at)
 
 -- where that INVITE alone is open, and no datagram comes, nothing goes again but this
-goes_by_time : (state : ProxyState) (act : Act) (at : ℕ) (packets : List Packet) → is_datagram act ≡ false → state.requests ≡ one_target ∷ [] → GoesAgain sample state act at packets
+goes_by_time : (state : ProxyState) (act : Act) (at : ℕ) (packets : List Packet)
+    → is_datagram act ≡ false → state.requests ≡ one_target ∷ [] → GoesAgain sample state act at packets
     → (packets ≡ []) ⊎ GoesByTime at packets
 goes_by_time state act at _ quiet alone Nothing = inl refl
 goes_by_time state act at _ quiet alone (ByCopy a bytes m short key r said no_ack key_is found) = absurd (not_said sample state act quiet a bytes m short said)

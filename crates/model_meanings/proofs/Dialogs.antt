@@ -40,7 +40,8 @@ use Rattle.sip_model.specs.Run.{Link}
 use Rattle.sip_model.specs.Histories.{forking_dialogs, verdict_dialogs, branch_dialogs, fault_dialogs, step_dialogs}
 use Rattle.model_meanings.specs.Requests.{IsBrought, WentToCaller, HasCome}
 use Rattle.model_meanings.specs.Dialogs.{WasSentOn}
-use Rattle.model_meanings.proofs.Lists.{IsIn, in_from_contains, found_in, all_in, all_left, all_right, all_every}
+use Rattle.sip_model.proofs.Places.{IsIn, in_from_contains, found_in, all_in}
+use Rattle.model_meanings.proofs.Lists.{all_left, all_right, all_every}
 use Rattle.model_meanings.proofs.Changes.{KeepNumbers, Tells, settled_kept, responded_kept, overdue_kept, failed_kept, cancelled_kept}
 use Rattle.model_meanings.proofs.Requests.{WasSent, upward_went}
 use Rattle.model_meanings.proofs.Facts.{IsForBranch, IsKeyed, Facts, message_facts}

@@ -41,7 +41,8 @@ use Rattle.sip_model.specs.Run.{Link, under, IsChain}
 use Rattle.sip_model.specs.Histories.{forking_dialogs, verdict_dialogs, branch_dialogs, fault_dialogs, step_dialogs, history_dialogs}
 use Rattle.sip_model.specs.Order.{is_numbered, AreNumbered, CanEnd}
 use Rattle.model_meanings.specs.Dialogs.{IsInviteOpen}
-use Rattle.model_meanings.proofs.Lists.{IsIn, in_from_contains, contains_from_in, found_in, all_in, all_append, all_filter, all_map, all_weaker, all_every}
+use Rattle.sip_model.proofs.Places.{IsIn, in_from_contains, contains_from_in, found_in, all_in, all_weaker}
+use Rattle.model_meanings.proofs.Lists.{all_append, all_filter, all_map, all_every}
 use Rattle.model_meanings.proofs.Changes.{KeepNumbers, Tells, responded_kept, overdue_kept, failed_kept, cancelled_kept, resent_kept, acknowledged_kept}
 use Rattle.model_meanings.proofs.Facts.{Facts, message_facts}
 use Rattle.model_meanings.proofs.Failures.{Refusing, opening_honest, unsent_fail}
@@ -69,7 +70,7 @@ module _ (P : ℕ → Type 0) where
       → AllByRecursion (Stands P) (edited now id edit dialogs)
   edited_stands now id edit dialogs keeps h =
       all_map (Stands P) (λ d. cond (is_named id d) (edit d) d) (known now dialogs)
-      (all_weaker (Stands P) (λ d. Stands P (cond (is_named id d) (edit d) d)) (λ d own. by_test d own (is_named id d)) (known now dialogs) (all_filter (Stands P) (is_known now) dialogs h)) where
+      (all_weaker (Stands P) (λ d. Stands P (cond (is_named id d) (edit d) d)) (known now dialogs) (λ d own. by_test d own (is_named id d)) (all_filter (Stands P) (is_known now) dialogs h)) where
         by_test : (d : Dialog) → Stands P d → (t : Bool) → Stands P (cond t (edit d) d)
         by_test d own true = keeps d own
         by_test d own false = own
@@ -158,7 +159,7 @@ module _ (P : ℕ → Type 0) where
       let change : Change = opening server now (forking a m branches) in
       leaving_stands server now change.request (after_answers server now change.request change.upward dialogs)
       (answers_stand server now change.request change.upward dialogs
-      (all_weaker Refusing (MayBegin change.request) (refusal_begins change.request) change.upward (opening_honest Refusing (λ u is. is) server now (forking a m branches) (unsent_fail Refusing (λ u is. is) branches)).upward) h)
+      (all_weaker Refusing (MayBegin change.request) change.upward (refusal_begins change.request) (opening_honest Refusing (λ u is. is) server now (forking a m branches) (unsent_fail Refusing (λ u is. is) branches)).upward) h)
 
 -- ---- open INVITEs
 
@@ -298,7 +299,7 @@ module _ (requests : List OpenRequest) (apart : AreApart requests) (r s : OpenRe
   -- so do the dialogs
   all_stay : ((has_left s ≡ false) ⊎ (is_invite s ≡ false)) → (dialogs : List Dialog) → AllByRecursion (Stands (HasInvite requests)) dialogs
       → AllByRecursion (Stands (HasInvite (replaced s requests))) dialogs
-  all_stay why dialogs h = all_weaker (Stands (HasInvite requests)) (Stands (HasInvite (replaced s requests))) each dialogs h where
+  all_stay why dialogs h = all_weaker (Stands (HasInvite requests)) (Stands (HasInvite (replaced s requests))) dialogs each h where
     each : (d : Dialog) → Stands (HasInvite requests) d → Stands (HasInvite (replaced s requests)) d
     each d (inl e) = inl e
     each d (inr own) = inr (invite_stays why d.number own)
@@ -339,7 +340,8 @@ module _ (requests : List OpenRequest) (apart : AreApart requests) (r s : OpenRe
     by_tests false invite u left = all_stay (inr invite) dialogs h
 
 -- after a change of an open request each dialog was confirmed, or its INVITE is open
-change_stands : (server : Server) (now : ℕ) (requests : List OpenRequest) (r : OpenRequest) (change : Change) (dialogs : List Dialog) → AreApart requests → IsIn r requests
+change_stands : (server : Server) (now : ℕ) (requests : List OpenRequest) (r : OpenRequest) (change : Change) (dialogs : List Dialog)
+    → AreApart requests → IsIn r requests
     → IsStill r change.request → AllByRecursion (Stands (HasInvite requests)) dialogs
     → AllByRecursion (Stands (HasInvite (replaced change.request requests))) (dialogs_after server now change dialogs)
 change_stands server now requests r change dialogs apart there still h =
@@ -351,7 +353,8 @@ change_stands server now requests r change dialogs apart there still h =
 -- ---- what changes a request without a change of dialogs
 
 -- what goes again ends no branch
-resent_ends : (b : Branch) (next : Resend) (bs : List Branch) → list_all (λ (x : Branch). is_ended x.phase) (map (resent_branch b next) bs) ≡ list_all (λ (x : Branch). is_ended x.phase) bs
+resent_ends : (b : Branch) (next : Resend) (bs : List Branch)
+    → list_all (λ (x : Branch). is_ended x.phase) (map (resent_branch b next) bs) ≡ list_all (λ (x : Branch). is_ended x.phase) bs
 resent_ends b next [] = refl
 resent_ends b next (x ∷ xs) = both (is_same_branch x b) (resent_ends b next xs) where
   both : (t : Bool) → list_all (λ (y : Branch). is_ended y.phase) (map (resent_branch b next) xs) ≡ list_all (λ (y : Branch). is_ended y.phase) xs
@@ -360,7 +363,8 @@ resent_ends b next (x ∷ xs) = both (is_same_branch x b) (resent_ends b next xs
   both false e = ap (λ (u : Bool). is_ended x.phase && u) e
 
 -- so that the request stays open
-resent_stays : (server : Server) (now : ℕ) (r : OpenRequest) (packets : List Packet) (later : OpenRequest) → IsResent server now r packets later → has_left r ≡ false → has_left later ≡ false
+resent_stays : (server : Server) (now : ℕ) (r : OpenRequest) (packets : List Packet) (later : OpenRequest)
+    → IsResent server now r packets later → has_left r ≡ false → has_left later ≡ false
 resent_stays server now r _ _ (OfAnswer due) h = h
 resent_stays server now r _ _ (OfRequest b there due) h = ap (λ (u : Bool). is_closed r.side && u) (resent_ends b (branch_next r b) r.branches) ∙ h
 
@@ -386,14 +390,15 @@ AllStand requests dialogs = AllByRecursion (Stands (HasInvite requests)) dialogs
 
 -- it is so where one more may have been opened
 opened_stand : (c : OpenRequest) (state : ProxyState) (dialogs : List Dialog) → AllStand state.requests dialogs → AllStand (opened c state) dialogs
-opened_stand c state dialogs h = all_weaker (Stands (HasInvite state.requests)) (Stands (HasInvite (opened c state))) each dialogs h where
+opened_stand c state dialogs h = all_weaker (Stands (HasInvite state.requests)) (Stands (HasInvite (opened c state))) dialogs each h where
   each : (d : Dialog) → Stands (HasInvite state.requests) d → Stands (HasInvite (opened c state)) d
   each d (inl e) = inl e
   each d (inr own) = inr (opened_has c state d.number own)
 
 -- and where another one changed behind it
-behind_stand : (s c : OpenRequest) (state : ProxyState) (dialogs : List Dialog) → AllStand (replaced s state.requests) dialogs → AllStand (replaced s (opened c state)) dialogs
-behind_stand s c state dialogs h = all_weaker (Stands (HasInvite (replaced s state.requests))) (Stands (HasInvite (replaced s (opened c state)))) each dialogs h where
+behind_stand : (s c : OpenRequest) (state : ProxyState) (dialogs : List Dialog)
+    → AllStand (replaced s state.requests) dialogs → AllStand (replaced s (opened c state)) dialogs
+behind_stand s c state dialogs h = all_weaker (Stands (HasInvite (replaced s state.requests))) (Stands (HasInvite (replaced s (opened c state)))) dialogs each h where
   each : (d : Dialog) → Stands (HasInvite (replaced s state.requests)) d → Stands (HasInvite (replaced s (opened c state))) d
   each d (inl e) = inl e
   each d (inr own) = inr (record { request = own.request; there = opened_replaced s c own.request state own.there; numbered = own.numbered; invites = own.invites })
@@ -525,7 +530,7 @@ module _ (differ : (server : Server) (first : ℕ) (history : List Link) (last :
   chain_open : (server : Server) (first : ℕ) (history : List Link) (last : ProxyState) → IsChain server (first_state first) history last → AreOpen last.requests
   chain_open server first history last h = record {
     apart = numbered_apart last.next last.requests (differ server first history last h);
-    stay = all_weaker CanEnd (λ (r : OpenRequest). has_left r ≡ false) (λ r can. can.stays_open) last.requests (can_end server first history last h);
+    stay = all_weaker CanEnd (λ (r : OpenRequest). has_left r ≡ false) last.requests (λ r can. can.stays_open) (can_end server first history last h);
   }
 
   -- the dialogs that a history makes

@@ -10,7 +10,8 @@ use Rattle.sip_dialog.specs.Dialogs.{is_known, known, is_named, told, edited, ta
 use Rattle.sip_model.specs.state.declared.server.Server.{Server}
 use Rattle.sip_model.specs.Run.{Link}
 use Rattle.model_meanings.specs.Dialogs.{IsAddressOf, HadRequest, WasTold}
-use Rattle.model_meanings.proofs.Lists.{all_append, all_filter, all_map, all_weaker}
+use Rattle.sip_model.proofs.Places.{all_weaker}
+use Rattle.model_meanings.proofs.Lists.{all_append, all_filter, all_map}
 use Rattle.model_meanings.proofs.Telling.{IsLesson, taught_told, renewed_told, begun_told, again_told}
 
 -- What is said of a dialog is kept by what a step may tell of it.
@@ -41,7 +42,7 @@ module _ (server : Server) (history : List Link) (link : Link) (T : Dialog → T
       → AllByRecursion T (edited now id edit dialogs)
   edited_kept now id edit dialogs keeps h =
       all_map T (λ d. cond (is_named id d) (edit d) d) (known now dialogs)
-      (all_weaker T (λ d. T (cond (is_named id d) (edit d) d)) (λ d own. by_test d own (is_named id d) refl) (known now dialogs) (known_kept now dialogs h)) where
+      (all_weaker T (λ d. T (cond (is_named id d) (edit d) d)) (known now dialogs) (λ d own. by_test d own (is_named id d) refl) (known_kept now dialogs h)) where
         by_test : (d : Dialog) → T d → (t : Bool) → is_named id d ≡ t → T (cond t (edit d) d)
         by_test d own true is = keeps d is own
         by_test d own false is = own

@@ -40,7 +40,8 @@ use Rattle.sip_model.specs.Run.{Link, under, IsChain}
 use Rattle.sip_model.specs.Histories.{verdict_dialogs, step_dialogs, history_dialogs}
 use Rattle.sip_model.specs.Parts.{HasParts}
 use Rattle.model_meanings.specs.Dialogs.{IsNamed, Names, EndsDialog, WasToldAnew}
-use Rattle.model_meanings.proofs.Lists.{in_from_contains, all_filter, all_map, all_weaker, all_every}
+use Rattle.sip_model.proofs.Places.{in_from_contains, all_weaker}
+use Rattle.model_meanings.proofs.Lists.{all_filter, all_map, all_every}
 use Rattle.model_meanings.proofs.Changes.{KeepNumbers, Tells, responded_kept}
 use Rattle.model_meanings.proofs.Requests.{later_there, sent_now}
 use Rattle.model_meanings.proofs.Edits.{IsClosed}
@@ -94,11 +95,6 @@ same_name d id named = and_holds _ _ (text_same d.call_id id.call_id named.0) (b
 abbrev HasOther : DialogId → Dialog → Type 0
 HasOther id d = is_named id d ≡ false
 
--- a test whose contrary passes fails
-not_passes : (t : Bool) → not t ≡ true → t ≡ false
-not_passes true e = absurd (cc)
-not_passes false e = refl
-
 -- those that are left without it
 without_other : (now : ℕ) (id : DialogId) (dialogs : List Dialog) → AllByRecursion (HasOther id) (without_dialog now id dialogs)
 without_other now id dialogs = each (known now dialogs) where
@@ -122,7 +118,7 @@ module _ (server : Server) (now : ℕ) (r : OpenRequest) (id : DialogId) (is : d
     by_test true = without_other now id dialogs
     by_test false =
         all_map (HasOther id) (λ d. cond (is_named id d) (told (addresses_of server u.message) d) d) (known now dialogs)
-        (all_weaker (HasOther id) (λ d. HasOther id (cond (is_named id d) (told (addresses_of server u.message) d) d)) (λ d own. kept d own (is_named id d)) (known now dialogs)
+        (all_weaker (HasOther id) (λ d. HasOther id (cond (is_named id d) (told (addresses_of server u.message) d) d)) (known now dialogs) (λ d own. kept d own (is_named id d))
         (all_filter (HasOther id) (is_known now) dialogs h))
 
   -- after one
@@ -174,7 +170,8 @@ success_final : (status : ℕ) → is_success status ≡ true → is_provisional
 success_final status e = grind (arith, nat_tests)
 
 -- the change that a first 2xx to a request makes
-first_success : (server : Server) (now : ℕ) (r : OpenRequest) (b : Branch) (status : ℕ) (m : Message) → is_success status ≡ true → b.is_cancel ≡ false → is_final b.phase ≡ false
+first_success : (server : Server) (now : ℕ) (r : OpenRequest) (b : Branch) (status : ℕ) (m : Message)
+    → is_success status ≡ true → b.is_cancel ≡ false → is_final b.phase ≡ false
     → is_answering r.side ≡ true
     → responded server now r b status m ≡ settled server now (acks_of server r b status m) (Some (relayed_from b status m)) (with_answer r b now status m)
 first_success server now r b status m success target first waits =
@@ -208,14 +205,16 @@ success_other server now r b status m id dialogs success target first waits bye 
           (answers_other server now change.request id is others told_first (bye_other server now change.request id is (relayed_from b status m) dialogs (success_above status success) success method))
 
 -- the verdict on it
-verdict_responds : (server : Server) (old : ProxyState) (a : Arrival) (m : Message) (status : ℕ) (reason : List ℕ) (r : OpenRequest) (b : Branch) → m.start ≡ Status status reason
+verdict_responds : (server : Server) (old : ProxyState) (a : Arrival) (m : Message) (status : ℕ) (reason : List ℕ) (r : OpenRequest) (b : Branch)
+    → m.start ≡ Status status reason
     → responding server old.requests m.fields ≡ Some (r, b) → is_many (values_of Name.Via m.fields) ≡ true → message_verdict server old a m false ≡ Respond r b status
 verdict_responds server old a m status reason r b start found many =
     ap (λ (x : Start). by_start server old a m false x) start ∙ ap (λ (o : Option (OpenRequest × Branch)). response_verdict m.fields status o) found
     ∙ ap (λ (t : Bool). cond t (Respond r b status) Drop) (or_second b.is_cancel (is_many (values_of Name.Via m.fields)) many)
 
 -- the step that ends a dialog leaves none of its name
-step_other : (server : Server) (link : Link) (id : DialogId) (h : EndsDialog server link id) (step : IsStep (under server link.config) link.before link.act link.out link.after) (dialogs : List Dialog)
+step_other : (server : Server) (link : Link) (id : DialogId) (h : EndsDialog server link id)
+    (step : IsStep (under server link.config) link.before link.act link.out link.after) (dialogs : List Dialog)
     → AllByRecursion (HasOther (id_in h.names.core h.names.tag)) (step_dialogs (under server link.config) link.before link.act link.out link.after step dialogs)
 step_other server link id h step dialogs =
     subst (λ (act : Act). (s : IsStep by link.before act link.out link.after) → AllByRecursion (HasOther (id_in h.names.core h.names.tag)) (step_dialogs by link.before act link.out link.after s dialogs))
@@ -243,7 +242,8 @@ abbrev ToldAnewIf : Server → List Link → List Link → DialogId → Dialog �
 ToldAnewIf server newer history id d = is_same_dialog d.id id ≡ true → WasToldAnew server newer history d.id
 
 -- that is kept by what a step tells
-anew_closed : (server : Server) (link : Link) (newer history : List Link) (id : DialogId) → IsClosed (under server link.config) history link (ToldAnewIf server (link ∷ newer) history id)
+anew_closed : (server : Server) (link : Link) (newer history : List Link) (id : DialogId)
+    → IsClosed (under server link.config) history link (ToldAnewIf server (link ∷ newer) history id)
 anew_closed server link newer history id = record {
   on_taught = λ name addresses d same own was. was;
   on_renewed = λ now name addresses d same own had was. was;
@@ -262,7 +262,8 @@ anew_closed server link newer history id = record {
 }
 
 -- and holds in longer histories
-later_anew : (server : Server) (link : Link) (newer history : List Link) (id : DialogId) → WasToldAnew server newer history id → WasToldAnew server (link ∷ newer) (link ∷ history) id
+later_anew : (server : Server) (link : Link) (newer history : List Link) (id : DialogId)
+    → WasToldAnew server newer history id → WasToldAnew server (link ∷ newer) (link ∷ history) id
 later_anew server link newer history id h = record {
   a = h.a;
   invite = h.invite;
@@ -283,15 +284,15 @@ module _ (parts : (server : Server) (old : ProxyState) (act : Act) (out : StepOu
       (ends : EndsDialog server link id)
       → AllByRecursion (ToldAnewIf server newer (newer ++ link ∷ older) (id_in ends.names.core ends.names.tag)) (history_dialogs server (first_state first) (newer ++ link ∷ older) last h)
   chain_anew server first [] link older last h id ends =
-      all_weaker (HasOther (id_in ends.names.core ends.names.tag)) (ToldAnewIf server [] (link ∷ older) (id_in ends.names.core ends.names.tag)) (λ d other same. absurd (contrary _ other same))
-      (step_dialogs (under server link.config) link.before link.act link.out link.after h.1 (history_dialogs server (first_state first) older link.before h.2))
+      all_weaker (HasOther (id_in ends.names.core ends.names.tag)) (ToldAnewIf server [] (link ∷ older) (id_in ends.names.core ends.names.tag)) (step_dialogs (under server link.config) link.before link.act link.out link.after h.1 (history_dialogs server (first_state first) older link.before h.2))
+      (λ d other same. absurd (contrary _ other same))
       (step_other server link id ends h.1 (history_dialogs server (first_state first) older link.before h.2))
   chain_anew server first (newest ∷ newer) link older last h id ends =
       step_told (under server newest.config) (newest ∷ newer ++ link ∷ older) newest (ToldAnewIf server (newest ∷ newer) (newest ∷ newer ++ link ∷ older) (id_in ends.names.core ends.names.tag))
       (anew_closed server newest newer (newest ∷ newer ++ link ∷ older) (id_in ends.names.core ends.names.tag)) (taken_now server newest (newer ++ link ∷ older)) newest.before newest.act newest.out newest.after h.1
       (history_dialogs server (first_state first) (newer ++ link ∷ older) newest.before h.2) (chain_here parts server first newest (newer ++ link ∷ older) h.2) (sent_now newest [])
       (all_weaker (ToldAnewIf server newer (newer ++ link ∷ older) (id_in ends.names.core ends.names.tag)) (ToldAnewIf server (newest ∷ newer) (newest ∷ newer ++ link ∷ older) (id_in ends.names.core ends.names.tag))
-      (λ d was same. later_anew server newest newer (newer ++ link ∷ older) d.id (was same)) (history_dialogs server (first_state first) (newer ++ link ∷ older) newest.before h.2)
+      (history_dialogs server (first_state first) (newer ++ link ∷ older) newest.before h.2) (λ d was same. later_anew server newest newer (newer ++ link ∷ older) d.id (was same))
       (chain_anew server first newer link older newest.before h.2 id ends))
 
   -- each known one was

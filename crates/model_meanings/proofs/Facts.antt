@@ -29,7 +29,7 @@ use Rattle.sip_model.specs.context_model.FoundBranch.{branch_in, found_branch}
 use Rattle.sip_model.specs.verdict_model.declared.question.Question.{Question}
 use Rattle.sip_model.specs.verdict_model.Verdict.{Verdict, Drop, Respond, Copy, AckOn, Cancel, Answer, InDialog, Challenge, Deny, Send, Register, is_many, response_verdict, top_branch, responding, within_at, within, next_address, ack_verdict, is_full, is_cancelled_by, found_for_cancel, cancel_verdict, is_register, registration_by, request_targets, let_through, decided, policy_verdict, question_of, answer_of, is_outside, core_verdict, checked_verdict, new_verdict, by_open, by_key, by_start, message_verdict}
 use Rattle.sip_model.specs.steps_model.Effect.{method_of}
-use Rattle.model_meanings.proofs.Lists.{IsIn, found_in}
+use Rattle.sip_model.proofs.Places.{IsIn, found_in}
 
 -- ---- what is said of a verdict
 

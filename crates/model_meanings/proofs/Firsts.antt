@@ -21,21 +21,12 @@ use Rattle.sip_model.specs.context_model.Sending.{to_branch, branch_packets, tic
 use Rattle.sip_model.specs.steps_model.Step.{Act, Given, Passing, originals, arrival_of}
 use Rattle.sip_model.specs.Run.{Link, under}
 use Rattle.sip_model.specs.Access.{has_address, answer_alone, answer_at_once, sent_to_branches, sent_at_once, sent_for, Access}
+use Rattle.model_meanings.proofs.Lists.{all_append, all_flat_map, all_every}
 use Rattle.model_meanings.proofs.Refused.{some_is_not_none, sends_alone, IsIdle}
 
 -- a packet is sent for the first time
 abbrev pub IsFirst : Packet → Type 0
 IsFirst p = p.again ≡ false
-
--- what holds of each element of two lists holds of each of both
-pub all_append : {X : Type 0} (P : X → Type 0) (xs ys : List X) → AllByRecursion P xs → AllByRecursion P ys → AllByRecursion P (xs ++ ys)
-all_append P [] ys a b = b
-all_append P (x ∷ xs) ys a b = (a.0, all_append P xs ys a.1 b)
-
--- what holds of each element of the lists that a function makes of some values holds of all of them
-pub all_flat_map : {X Y : Type 0} (P : Y → Type 0) (f : X → List Y) (xs : List X) → ((x : X) → AllByRecursion P (f x)) → AllByRecursion P (flat_map f xs)
-all_flat_map P f [] each = tt
-all_flat_map P f (x ∷ xs) each = all_append P (f x) (flat_map f xs) (each x) (all_flat_map P f xs each)
 
 -- a message to a branch
 to_branch_first : (r : OpenRequest) (b : Branch) (target : ℕ) (m : Message) → AllByRecursion IsFirst (to_branch r b target false m)
@@ -58,7 +49,9 @@ module _ (server : Server) (a : Arrival) (m : Message) where
   to_branches_first : (branches : List Branch) → AllByRecursion IsFirst (sent_to_branches server a m branches)
   to_branches_first branches =
       all_append IsFirst (answer_at_once server a m branches) (flat_map (branch_packets server false (arriving a m)) branches) (at_once_first branches)
-      (all_flat_map IsFirst (branch_packets server false (arriving a m)) branches (λ (b : Branch). to_branch_first (arriving a m) b (ticket_branch b) (sent_of server (arriving a m) b)))
+      (all_flat_map IsFirst (branch_packets server false (arriving a m)) branches
+      (all_every (λ (b : Branch). AllByRecursion IsFirst (branch_packets server false (arriving a m) b))
+      (λ b. to_branch_first (arriving a m) b (ticket_branch b) (sent_of server (arriving a m) b)) branches))
 
   -- by each verdict
   by_verdict : (verdict : Verdict) → AllByRecursion IsFirst (sent_at_once server a m verdict)

@@ -83,7 +83,8 @@ few_registering : (server : Server) (a : Arrival) (m : Message) (q : Question) (
 few_registering server a m q id (Bound rows) state few = few_opened _ (record state { bindings = rows }) few
 few_registering server a m q id (Refused status extras) state few = few_opened _ state few
 
-few_by_verdict : (server : Server) (a : Arrival) (m : Message) (verdict : Verdict) (state : ProxyState) → length state.requests ≤ 1024 → LeavesFew (effect_of server a m verdict state)
+few_by_verdict : (server : Server) (a : Arrival) (m : Message) (verdict : Verdict) (state : ProxyState)
+    → length state.requests ≤ 1024 → LeavesFew (effect_of server a m verdict state)
 few_by_verdict server a m Drop state few = few
 few_by_verdict server a m (Respond r b status) state few = few_replaced (responded server a.now r b status m).request state.requests few
 few_by_verdict server a m (Copy r) state few = few_copied a m r state few
@@ -101,7 +102,8 @@ few_by_datagram : (server : Server) (a : Arrival) (o : Option (Message × Verdic
 few_by_datagram server a None state few = few
 few_by_datagram server a (Some x) state few = few_by_verdict server a x.0 x.1 state few
 
-few_by_branch : (server : Server) (now : ℕ) (state : ProxyState) (r : OpenRequest) (o : Option Branch) → length state.requests ≤ 1024 → LeavesFew (failed_branch server now state r o)
+few_by_branch : (server : Server) (now : ℕ) (state : ProxyState) (r : OpenRequest) (o : Option Branch)
+    → length state.requests ≤ 1024 → LeavesFew (failed_branch server now state r o)
 few_by_branch server now state r None few = few
 few_by_branch server now state r (Some b) few = few_replaced (send_failed server now r b).request state.requests few
 
@@ -116,7 +118,8 @@ few_by_fault server now ticket state (Some r) few = few_by_branch server now sta
 as_left : (new : ProxyState) (requests : List OpenRequest) → new.requests ≡ requests → length requests ≤ 1024 → length new.requests ≤ 1024
 as_left new requests e few = subst (λ (rs : List OpenRequest). length rs ≤ 1024) (sym e) few
 
-few_by_step : (server : Server) (old : ProxyState) (act : Act) (out : StepOut) (new : ProxyState) → IsStep server old act out new → length old.requests ≤ 1024 → length new.requests ≤ 1024
+few_by_step : (server : Server) (old : ProxyState) (act : Act) (out : StepOut) (new : ProxyState)
+    → IsStep server old act out new → length old.requests ≤ 1024 → length new.requests ≤ 1024
 few_by_step server old (Given (Datagram at word from bytes)) out new step few =
     let a : Arrival = arrival_of old at word from in
     as_left new (datagram_effect server old a bytes).state.requests step.does.leaves.requests (few_by_datagram server a (verdict_of server old a bytes) (counted a old) few)

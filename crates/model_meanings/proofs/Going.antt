@@ -12,7 +12,7 @@ use Rattle.sip_model.specs.state.Arrival.{Arrival}
 use Rattle.sip_model.specs.Access.{IsWithin}
 use Rattle.sip_model.specs.Run.{Link, under, IsChain}
 use Rattle.model_meanings.specs.Dialogs.{IsNamed, IsAddressOf, WasTold, GoesWhereTold}
-use Rattle.model_meanings.proofs.Lists.{in_from_contains, all_in}
+use Rattle.sip_model.proofs.Places.{in_from_contains, all_in}
 use Rattle.model_meanings.proofs.Telling.{named_alike, address_alike, request_alike}
 use Rattle.model_meanings.proofs.Ended.{same_name}
 

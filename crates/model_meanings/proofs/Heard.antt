@@ -39,6 +39,7 @@ module _ (server : Server) (old new : ProxyState) (at word : ℕ) (from : Addr) 
   binds h = (subst (λ (e : Effect). SameState new e.state) (effect_is h) h.step.does.leaves).bindings
 
 pub copied : (server : Server) (old new : ProxyState) (at word : ℕ) (from : Addr) (bytes : List ℕ) (m : Message) (out : StepOut) (r : OpenRequest)
-    → Hears server old at word from bytes m (Verdict.Copy r) out new → bytes_eq (method_of m.start) (codes "ACK") ≡ false → retransmissions out.packets ≡ answers_again r r.answer
+    → Hears server old at word from bytes m (Verdict.Copy r) out new → bytes_eq (method_of m.start) (codes "ACK") ≡ false
+    → retransmissions out.packets ≡ answers_again r r.answer
 copied server old new at word from bytes m out r h is =
     repeats server old new at word from bytes m (Verdict.Copy r) out h ∙ ap (λ (t : Bool). cond t [] (answers_again r r.answer)) is

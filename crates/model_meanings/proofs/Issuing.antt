@@ -17,11 +17,13 @@ use Rattle.model_meanings.specs.Nonces.{TellsNonce}
 -- ---- what is told
 
 -- the parts of a challenge, taken together in another way
-parted : (a r front told nonce end rest stale : List ℕ) → a ++ r ++ (front ++ told) ++ nonce ++ (end ++ rest) ++ stale ≡ (a ++ r ++ front) ++ told ++ nonce ++ end ++ (rest ++ stale)
+parted : (a r front told nonce end rest stale : List ℕ)
+    → a ++ r ++ (front ++ told) ++ nonce ++ (end ++ rest) ++ stale ≡ (a ++ r ++ front) ++ told ++ nonce ++ end ++ (rest ++ stale)
 parted a r front told nonce end rest stale = simp append_assoc
 
 -- of one algorithm
-told_by : (name : FieldName) (realm nonce : List ℕ) (stale : Bool) (algorithm : Algorithm) → TellsNonce nonce (record { name = name; value = challenge algorithm realm nonce stale })
+told_by : (name : FieldName) (realm nonce : List ℕ) (stale : Bool) (algorithm : Algorithm)
+    → TellsNonce nonce (record { name = name; value = challenge algorithm realm nonce stale })
 told_by name realm nonce stale algorithm = record {
   front = codes "Digest realm=\"" ++ realm ++ codes "\", ";
   back = (codes ", algorithm=" ++ name_of algorithm ++ codes ", qop=\"auth\"") ++ stale_part stale;
@@ -30,7 +32,8 @@ told_by name realm nonce stale algorithm = record {
 }
 
 -- of each that is offered
-pub all_told : (name : FieldName) (realm nonce : List ℕ) (stale with_sha256 : Bool) → AllByRecursion (TellsNonce nonce) (challenge_fields name with_sha256 realm nonce stale)
+pub all_told : (name : FieldName) (realm nonce : List ℕ) (stale with_sha256 : Bool)
+    → AllByRecursion (TellsNonce nonce) (challenge_fields name with_sha256 realm nonce stale)
 all_told name realm nonce stale false = (told_by name realm nonce stale Md5, tt)
 all_told name realm nonce stale true = (told_by name realm nonce stale Sha256, (told_by name realm nonce stale Md5, tt))
 
@@ -85,7 +88,8 @@ known_once_issued rows word now = by_test (list_any (is_this word now) rows) ref
       (last_kept rows (record { word = word; since = now; count = 0 })) (refl, omega arith)
 
 -- it is new where none of its word lived
-pub new_once_issued : (rows : List Nonce) (word now : ℕ) → count_by (is_this word now) rows ≡ 0 → Contains (issued rows word now) (record { word = word; since = now; count = 0 })
+pub new_once_issued : (rows : List Nonce) (word now : ℕ) → count_by (is_this word now) rows ≡ 0
+    → Contains (issued rows word now) (record { word = word; since = now; count = 0 })
 new_once_issued rows word now none = by_test (list_any (is_this word now) rows) (none_by (is_this word now) rows none) where
   by_test : (t : Bool) → t ≡ false → Contains (cond t rows (keep_last 4096 (rows ++ record { word = word; since = now; count = 0 } ∷ []))) (record { word = word; since = now; count = 0 })
   by_test true e = absurd (cc)

@@ -35,6 +35,7 @@ use Rattle.sip_model.specs.Bindings.{Arrived, rows_after, after_register, bindin
 use Rattle.sip_model.specs.Lives.{sent_first}
 use Rattle.sip_model.specs.Access.{IsServed as GetsIts, Serves, IsAllowedRegister, rule_of, decision_on, targets_on, requests_to, branch_originals, answer_alone, Access}
 use Rattle.model_meanings.specs.Headline.{Came, bound_by, IsNew, IsAllowed, places, GoesTo, IsAnswered, IsServed, Binds, Registers, Stays, Leads, Begins, Goes, Headline}
+use Rattle.model_meanings.specs.Proven.{by_digest}
 use Rattle.model_meanings.proofs.Branching.{all_go}
 use Rattle.model_meanings.proofs.Checks.{came_in, new_of, new_to}
 use Rattle.model_meanings.proofs.Naming.{IsNotCopied, warning_not_copied, contact_not_copied, reply_has, all_contacts, bound_is, rows_are, IsRefusal, refusal_is}
@@ -44,7 +45,8 @@ use Rattle.model_meanings.proofs.Owners.{all_belong, all_went}
 -- ---- what a new request gets
 
 -- one response that is made here, alone
-alone : (server : Server) (a : Arrival) (q : Came) (packets : List Packet) (status : ℕ) (name : FieldName) (extras fields : List Field) → a.from ≡ q.from → IsNotCopied name
+alone : (server : Server) (a : Arrival) (q : Came) (packets : List Packet) (status : ℕ) (name : FieldName) (extras fields : List Field)
+    → a.from ≡ q.from → IsNotCopied name
     → all_named name extras ≡ fields
     → originals packets ≡ answer_alone server a q.message status extras → IsAnswered q packets status name fields
 alone server a q packets status name extras fields source copied has e =
@@ -70,14 +72,14 @@ module _ (server : Server) (rows : List Binding) (link : Link) (serves : Serves 
       subst (λ (now : ℕ). GetsIts server rows link.before (record { number = link.before.next; now = now; word = new.is_valid.word; from = q.from }) q.message q.method q.core link.out) new.is_valid.is_now
       ((subst (λ (act : Act). Serves server rows link.before act link.out) new.is_valid.is_act serves) q.message q.method q.core (new_to server link q new))
 
-  goes_there : AllZip (GoesTo q.method) (branch_originals link.out.packets) (places server rows link q)
+  goes_there : AllZip (GoesTo q.method) (branch_originals link.out.packets) (places by_digest server rows link q)
   goes_there =
       let ts : List Target = targets_on server rows link.before q.now q.message q.method q.core in
-      subst (λ (packets : List Packet). AllZip (GoesTo q.method) packets (places server rows link q)) (sym gets.reaches)
+      subst (λ (packets : List Packet). AllZip (GoesTo q.method) packets (places by_digest server rows link q)) (sym gets.reaches)
       (subst (λ (xs : List (Addr × List ℕ)). AllZip (GoesTo q.method) (requests_to server arrival q.message ts) xs) (same_places server rows link q)
       (zipped link.before.next q.method 1 ts (requests_to server arrival q.message ts) (all_go server arrival q.message q.method new.is_valid.uri new.is_valid.is_said.is_request 1 ts)))
 
-  served : IsServed server rows link q
+  served : IsServed by_digest server rows link q
   served = record {
     goes = goes_there;
     denies = λ id e.
@@ -114,7 +116,7 @@ let_by server state (Passing at) r e = absurd (cc)
 
 module _ (law : (server : Server) (state : ProxyState) (a : Arrival) (bytes : List ℕ) (r : Arrived) → (allowed_in server state a bytes ≡ Some r) ↔ IsAllowedRegister server state a bytes r) where
   -- a REGISTER that is allowed is one of those of the history
-  is_counted : (server : Server) (link : Link) (q : Came) → IsAllowed server link q
+  is_counted : (server : Server) (link : Link) (q : Came) → IsAllowed by_digest server link q
       → allowed_at server link.before link.act ≡ Some (record { config = server.config; at = q.now; request = q.message })
   is_counted server link q allowed =
       let said = allowed.is_new.is_valid in
@@ -140,7 +142,7 @@ module _ (law : (server : Server) (state : ProxyState) (a : Arrival) (bytes : Li
     rows = bindings_after server history
 
     -- by the REGISTER that a step lets through
-    registers : (r : Arrived) → IsLet now_under link.before link.act r → Binds now_under link rows (after_register server r rows)
+    registers : (r : Arrived) → IsLet now_under link.before link.act r → Binds by_digest now_under link rows (after_register server r rows)
     registers r let_through =
         let a : Arrival = arrival_of link.before let_through.at let_through.word let_through.from in
         let h : IsAllowedRegister now_under link.before a let_through.bytes r = (law now_under link.before a let_through.bytes r).0 let_through.is_allowed in
@@ -151,20 +153,20 @@ module _ (law : (server : Server) (state : ProxyState) (a : Arrival) (bytes : Li
         let same : after_register server r rows ≡ unwrap_or (bound_by now_under rows q) rows =
         ap (λ (x : Arrived). after_register server x rows) h.is_it
         ∙ ap (λ (read : Result CoreFields HeaderError). option_map_or (λ (core : CoreFields). rows_after rows (registration_by now_under rows a.now h.m core)) (result_ok read) rows) h.is_new.core_is ∙ rows_are now_under rows q in
-        subst (Binds now_under link rows) (sym same) (Registers q (record { id = h.id; is_new = new; registers = h.registers; is_let_through = h.is_let_through }))
+        subst (Binds by_digest now_under link rows) (sym same) (Registers q (record { id = h.id; is_new = new; registers = h.registers; is_let_through = h.is_let_through }))
 
     none_is : (r : Arrived) → ◌≡◌ {A = Option Arrived} None (Some r) → ⊥
     none_is r e = absurd (cc)
 
-    binds : Binds now_under link rows (bindings_after server (link ∷ history))
+    binds : Binds by_digest now_under link rows (bindings_after server (link ∷ history))
     binds = by_allowed (allowed_at now_under link.before link.act) refl where
-      by_allowed : (o : Option Arrived) → allowed_at now_under link.before link.act ≡ o → Binds now_under link rows (bindings_by server (option_to_list o ++ allowed_registers server history))
+      by_allowed : (o : Option Arrived) → allowed_at now_under link.before link.act ≡ o → Binds by_digest now_under link rows (bindings_by server (option_to_list o ++ allowed_registers server history))
       by_allowed None is = Stays (λ q allowed. none_is _ (sym is ∙ is_counted now_under link q allowed))
       by_allowed (Some r) is = registers r (let_by now_under link.before link.act r is)
 
   -- ---- the headline
 
-  leads : (server : Server) (history : List Link) → Access server history → Leads server history (bindings_after server history)
+  leads : (server : Server) (history : List Link) → Access server history → Leads by_digest server history (bindings_after server history)
   leads server [] access = Begins
   leads server (link ∷ history) access =
       Goes link history (bindings_after server history) (bindings_after server (link ∷ history)) (leads server history access.1)
@@ -177,5 +179,5 @@ module _ (law : (server : Server) (state : ProxyState) (a : Arrival) (bytes : Li
         went = all_went (sent_first history) link.out.packets access.0.went;
       })
 
-  pub headline : (server : Server) (history : List Link) → Access server history → Headline server history
+  pub headline : (server : Server) (history : List Link) → Access server history → Headline by_digest server history
   headline server history access = record { bindings = bindings_after server history; leads = leads server history access }

@@ -9,7 +9,8 @@ use Rattle.model_meanings.specs.WrongAnswers.{answered_later, denied_register}
 use Rattle.model_meanings.proofs.Refused.{some_is_not_none, sends_nothing, nothing_comes, idle_without}
 
 -- an answer that is made later
-pub answered_later_refused : (status : ℕ) (extras : List Field) (known after : ProxyState) (earlier : List Link) → Access sample (answered_later status extras known after ∷ earlier) → ⊥
+pub answered_later_refused : (status : ℕ) (extras : List Field) (known after : ProxyState) (earlier : List Link)
+    → Access sample (answered_later status extras known after ∷ earlier) → ⊥
 answered_later_refused status extras known after earlier access =
     let link : Link = answered_later status extras known after in
     some_is_not_none _ _

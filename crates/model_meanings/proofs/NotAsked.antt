@@ -41,12 +41,14 @@ abbrev IsNotAsked : Verdict → Type 0
 IsNotAsked v = asked_in v ≡ None
 
 -- where policy is asked in the first of two verdicts, and isn't in the one that a test takes, this is the second
-taken_second : (t : Bool) (asked like rest : Verdict) → (IsNotAsked asked → ⊥) → IsNotAsked (if t then asked else rest) → (if t then like else rest) ≡ (if t then asked else rest)
+taken_second : (t : Bool) (asked like rest : Verdict) → (IsNotAsked asked → ⊥) → IsNotAsked (if t then asked else rest)
+    → (if t then like else rest) ≡ (if t then asked else rest)
 taken_second true asked like rest is e = absurd (is e)
 taken_second false asked like rest is e = refl
 
 -- a second one in place of the same
-second_same : (t : Bool) (first rest like : Verdict) → (IsNotAsked rest → like ≡ rest) → IsNotAsked (if t then first else rest) → (if t then first else like) ≡ (if t then first else rest)
+second_same : (t : Bool) (first rest like : Verdict) → (IsNotAsked rest → like ≡ rest) → IsNotAsked (if t then first else rest)
+    → (if t then first else like) ≡ (if t then first else rest)
 second_same true first rest like same e = refl
 second_same false first rest like same e = same e
 
@@ -240,6 +242,7 @@ module _ (server : Server) (config : Config) where
 
 -- whose addresses are the same, they are these
 pub step_stays : (server : Server) (config : Config) (old new : ProxyState) (act : Act) (out : StepOut) → config.addresses ≡ server.config.addresses
-    → option_and_then (λ (j : Judged). asked_in j.verdict) (judged_at server old act) ≡ None → IsStep server old act out new → IsStep (under server config) old act out new
+    → option_and_then (λ (j : Judged). asked_in j.verdict) (judged_at server old act) ≡ None → IsStep server old act out new
+    → IsStep (under server config) old act out new
 step_stays server config old new act out same e h =
     subst (λ (rows : List HostAddress). IsStep (under server (record config { addresses = rows })) old act out new) (sym same) (step_same server config old act out new e h)

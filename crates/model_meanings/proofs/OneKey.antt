@@ -79,7 +79,8 @@ by_cookie : (t : Bool) (made key : Key) → cond t (Some made) None ≡ Some key
 by_cookie true made key e = sym (ap (λ (o : Option Key). unwrap_or o made) e)
 by_cookie false made key e = absurd (cc)
 
-pub key_is : (m : Message) (method : List ℕ) (via : Via) (branch : List ℕ) (key : Key) → SaysOnTop m method via branch → key_of m ≡ Some key → key ≡ made_of method via branch
+pub key_is : (m : Message) (method : List ℕ) (via : Via) (branch : List ℕ) (key : Key)
+    → SaysOnTop m method via branch → key_of m ≡ Some key → key ≡ made_of method via branch
 key_is m method via branch key says e = by_cookie (has_cookie branch) (made_of method via branch) key (sym (key_on_top m method via branch says) ∙ e)
 
 -- ---- its parts

@@ -48,7 +48,8 @@ gets_denial : sent_for denying known invite_comes ≡ denial_by 3 ∷ []
 gets_denial = gets denying known 62000 9 (local 5070) (text_of Onward.invite) Onward.invite invite_said ∙ is_denied
 
 -- and all that a lawful step sends
-sends_denial : (packets : List Packet) (records : List Record) (after : ProxyState) (earlier : List Link) → Access sample (call_while_denied packets records after ∷ earlier)
+sends_denial : (packets : List Packet) (records : List Record) (after : ProxyState) (earlier : List Link)
+    → Access sample (call_while_denied packets records after ∷ earlier)
     → originals packets ≡ denial_by 3 ∷ []
 sends_denial packets records after earlier access = none_open sample earlier (call_while_denied packets records after) refl access ∙ gets_denial
 

@@ -37,7 +37,8 @@ use Rattle.sip_model.specs.Lives.{first_sending}
 use Rattle.sip_model.specs.Access.{IsServed as GetsIts, Serves, IsSaidAt, IsNewRequest, IsOpen, Before, Brought, IsOwed, ToTarget, Answers, Forwards, Acknowledges, Cancels, InKnownDialog, targets_on, requests_to}
 use Rattle.model_meanings.specs.Headline.{Belongs, WentBefore}
 use Rattle.model_meanings.specs.Headline as Whose
-use Rattle.model_meanings.proofs.Lists.{contains_from_in, all_append, all_flat_map, all_from_in, all_weaker}
+use Rattle.sip_model.proofs.Places.{contains_from_in, all_weaker}
+use Rattle.model_meanings.proofs.Lists.{all_append, all_flat_map, all_from_in}
 use Rattle.model_meanings.proofs.Refused.{holds_of}
 use Rattle.model_meanings.proofs.Belonging.{taken}
 use Rattle.model_meanings.proofs.Heads.{HasHead, head_in}
@@ -165,7 +166,8 @@ joined P (p ∷ ps) a b = by_test p.again a b (joined P ps) where
   by_test false a b rest = (a.0, rest a.1 b)
 
 -- what goes again of all went before
-pub all_went : (sent : List Packet) (ps : List Packet) → AllByRecursion (λ (p : Packet). Contains sent (first_sending p)) (retransmissions ps) → AllByRecursion (WentBefore sent) ps
+pub all_went : (sent : List Packet) (ps : List Packet) → AllByRecursion (λ (p : Packet). Contains sent (first_sending p)) (retransmissions ps)
+    → AllByRecursion (WentBefore sent) ps
 all_went sent [] a = tt
 all_went sent (p ∷ ps) a = by_test p.again refl a (all_went sent ps) where
   by_test : (t : Bool) → p.again ≡ t → AllByRecursion (λ (p : Packet). Contains sent (first_sending p)) (cond t (p ∷ retransmissions ps) (retransmissions ps))
@@ -174,9 +176,10 @@ all_went sent (p ∷ ps) a = by_test p.again refl a (all_went sent ps) where
   by_test false is a rest = ((λ e. absurd (true≢false (sym e ∙ is))), rest a)
 
 -- each belongs to something
-pub all_belong : (server : Server) (rows : List Binding) (link : Link) (history : List Link) → Serves server rows link.before link.act link.out → AllByRecursion (IsOwed server history link.before link.act rows) (originals link.out.packets)
+pub all_belong : (server : Server) (rows : List Binding) (link : Link) (history : List Link)
+    → Serves server rows link.before link.act link.out → AllByRecursion (IsOwed server history link.before link.act rows) (originals link.out.packets)
     → AllByRecursion (IsRetransmission server link.before.requests) (retransmissions link.out.packets) → AllByRecursion (Belongs server link) link.out.packets
 all_belong server rows link history serves owed again =
     joined (Belongs server link) link.out.packets
-    (all_weaker (IsOwed server history link.before link.act rows) (Belongs server link) (of_owed server rows link serves history) (originals link.out.packets) owed)
-    (all_weaker (IsRetransmission server link.before.requests) (Belongs server link) (of_retransmission server rows link) (retransmissions link.out.packets) again)
+    (all_weaker (IsOwed server history link.before link.act rows) (Belongs server link) (originals link.out.packets) (of_owed server rows link serves history) owed)
+    (all_weaker (IsRetransmission server link.before.requests) (Belongs server link) (retransmissions link.out.packets) (of_retransmission server rows link) again)

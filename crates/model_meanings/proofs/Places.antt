@@ -25,6 +25,7 @@ use Rattle.sip_model.specs.Run.{Link}
 use Rattle.sip_model.specs.Access.{targets_on}
 use Rattle.model_meanings.specs.Packets.{GoToTargets, NoMore, Goes, GoesNowhere}
 use Rattle.model_meanings.specs.Headline.{Came, decided, led_by, places, place_of, GoesTo}
+use Rattle.model_meanings.specs.Proven.{by_digest}
 
 -- ---- packets to targets
 
@@ -33,7 +34,8 @@ abbrev pub spot_of : Target → Option (Addr × List ℕ)
 spot_of t = option_map (λ address. (address, UriText.text_of t.uri)) t.address
 
 -- packets that go to some targets go to these
-pub zipped : (number : ℕ) (method : List ℕ) (place : ℕ) (ts : List Target) (ps : List Packet) → GoToTargets number method place ts ps → AllZip (GoesTo method) ps (filter_map spot_of ts)
+pub zipped : (number : ℕ) (method : List ℕ) (place : ℕ) (ts : List Target) (ps : List Packet)
+    → GoToTargets number method place ts ps → AllZip (GoesTo method) ps (filter_map spot_of ts)
 zipped number method _ _ _ (NoMore place) = tt
 zipped number method _ _ _ (Goes place t address p ts ps is goes rest) =
     subst (λ (o : Option Addr). AllZip (GoesTo method) (p ∷ ps) (cons_option (option_map (λ (x : Addr). (x, UriText.text_of t.uri)) o) (filter_map spot_of ts))) (sym is)
@@ -75,8 +77,8 @@ module _ (server : Server) (rows : List Binding) (now : ℕ) where
 
 -- those of the model
 pub same_places : (server : Server) (rows : List Binding) (link : Link) (q : Came)
-    → filter_map spot_of (targets_on server rows link.before q.now q.message q.method q.core) ≡ places server rows link q
-same_places server rows link q = by_test (decided server link q) (is_register q.method) where
+    → filter_map spot_of (targets_on server rows link.before q.now q.message q.method q.core) ≡ places by_digest server rows link q
+same_places server rows link q = by_test (decided by_digest server link q) (is_register q.method) where
   by_test : (decision : Decision) (t : Bool)
       → filter_map spot_of
       (cond t [] (given server rows q.now decision (cond t (to_aor q.core) (aor_or_nobody (request_uri_of server.config.own q.message))) (request_uri_of server.config.own q.message)))

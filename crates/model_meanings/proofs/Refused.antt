@@ -97,7 +97,8 @@ module _ (server : Server) (history : List Link) (state : ProxyState) (act : Act
       sent.are_all ∙ ap (λ (xs : List Packet). sent_for server state act ++ xs) (idle_sends idle sent.others sent.are_owed) ∙ append-nil (sent_for server state act)
 
 -- and a step that sends nothing at once, in which each has nothing to send, sends nothing for the first time
-pub sends_nothing : (server : Server) (earlier : List Link) (link : Link) → AllByRecursion (IsIdle (under server link.config) (link ∷ earlier) link.before link.act link.out.at) link.before.requests
+pub sends_nothing : (server : Server) (earlier : List Link) (link : Link)
+    → AllByRecursion (IsIdle (under server link.config) (link ∷ earlier) link.before link.act link.out.at) link.before.requests
     → sent_for (under server link.config) link.before link.act ≡ [] → Access server (link ∷ earlier) → originals link.out.packets ≡ []
 sends_nothing server earlier link idle gets access =
     sends_alone (under server link.config) (link ∷ earlier) link.before link.act link.out.at idle (originals link.out.packets) access.0.sent ∙ gets

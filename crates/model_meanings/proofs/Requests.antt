@@ -29,7 +29,8 @@ use Rattle.sip_model.specs.Run.{Link, under, IsChain}
 use Rattle.sip_model.specs.Lives.{sent_first}
 use Rattle.sip_model.specs.Parts.{AreBegun, made_text, IsOpening, Answered, Sent, IsChangeAt, IsPart, Stays, Passes, Copies, TurnsAway, Opens, Changes, Resends, Acknowledges, AreParts, One, Two, HasParts}
 use Rattle.model_meanings.specs.Requests.{IsBrought, WentToCaller, HasCome}
-use Rattle.model_meanings.proofs.Lists.{IsIn, in_from_contains, all_in, all_append, all_left, all_right, all_every, all_weaker, all_mapped, all_from_in, contains_from_in}
+use Rattle.sip_model.proofs.Places.{IsIn, in_from_contains, all_in, all_weaker, contains_from_in}
+use Rattle.model_meanings.proofs.Lists.{all_append, all_left, all_right, all_every, all_mapped, all_from_in}
 use Rattle.model_meanings.proofs.Changes.{KeepNumbers, Tells, settled_kept, change_kept, resent_kept, acknowledged_kept}
 
 -- ---- lists of open requests
@@ -97,7 +98,7 @@ module _ (history : List Link) where
       → AllByRecursion (λ (u : Upward). WentToCaller history number m from (text_of u.message)) change.upward
   upward_went change number m from is packets =
       all_weaker (λ (u : Upward). WasSent (answer_to false change.request (text_of u.message))) (λ (u : Upward). WentToCaller history number m from (text_of u.message))
-      (λ u there. from_packet u (answer_went change.request.number change.request.request change.request.source (text_of u.message) there)) change.upward
+      change.upward (λ u there. from_packet u (answer_went change.request.number change.request.request change.request.source (text_of u.message) there))
       (all_mapped WasSent (λ (u : Upward). answer_to false change.request (text_of u.message)) change.upward
       (all_right WasSent change.acks (upward_packets change.request change.upward) (all_left WasSent (change.acks ++ upward_packets change.request change.upward) change.cancels packets))) where
         from_packet : (u : Upward) → WentToCaller history change.request.number change.request.request change.request.source (text_of u.message)
@@ -164,7 +165,7 @@ module _ (history : List Link) where
   answers_told : (number : ℕ) (m : Message) (from : Addr) (now : ℕ) (us : List Upward) → AllByRecursion (λ (u : Upward). WentToCaller history number m from (text_of u.message)) us
       → AllByRecursion (Tells (IsCome number m from) (come_kept number m from) now) us
   answers_told number m from now us went =
-      all_weaker (λ (u : Upward). WentToCaller history number m from (text_of u.message)) (Tells (IsCome number m from) (come_kept number m from) now) (come_told number m from now) us went
+      all_weaker (λ (u : Upward). WentToCaller history number m from (text_of u.message)) (Tells (IsCome number m from) (come_kept number m from) now) us (come_told number m from now) went
 
   -- a request as it is, which came
   come_as : (r : OpenRequest) → HasCome history r → IsCome r.number r.request r.source r
@@ -244,7 +245,7 @@ module _ (history : List Link) where
       in
       let trying_went : AllByRecursion (λ (u : Upward). WentToCaller history r.number r.request r.source (text_of u.message)) (trying server r) =
       all_weaker (λ (u : Upward). WasSent (answer_to false r (text_of u.message))) (λ (u : Upward). WentToCaller history r.number r.request r.source (text_of u.message))
-      (λ u there. answer_went r.number r.request r.source (text_of u.message) there) (trying server r)
+      (trying server r) (λ u there. answer_went r.number r.request r.source (text_of u.message) there)
       (all_mapped WasSent (λ (u : Upward). answer_to false r (text_of u.message)) (trying server r)
       (all_left WasSent (upward_packets r (trying server r)) (change_packets change) answers))
       in
@@ -359,7 +360,8 @@ sent_in history link p is there =
     sent_by_one history link p (in_from_contains history link is) (subst (λ (ps : List Packet). Contains ps p) (append-nil (originals link.out.packets)) there)
 
 -- so what it sent to a caller
-pub went_in : (history : List Link) (link : Link) (number : ℕ) (m : Message) (from : Addr) (text : List ℕ) → Contains history link → WentToCaller (link ∷ []) number m from text
+pub went_in : (history : List Link) (link : Link) (number : ℕ) (m : Message) (from : Addr) (text : List ℕ)
+    → Contains history link → WentToCaller (link ∷ []) number m from text
     → WentToCaller history number m from text
 went_in history link number m from text is h = record {
   packet = h.packet;
@@ -397,10 +399,11 @@ sent_now link history =
 
 -- each open request came
 pub chain_come : ((server : Server) (old : ProxyState) (act : Act) (out : StepOut) (new : ProxyState) → IsStep server old act out new → HasParts server old act out new)
-    → (server : Server) (first : ℕ) (history : List Link) (last : ProxyState) → IsChain server (first_state first) history last → AllByRecursion (HasCome history) last.requests
+    → (server : Server) (first : ℕ) (history : List Link) (last : ProxyState) → IsChain server (first_state first) history last
+    → AllByRecursion (HasCome history) last.requests
 chain_come parts server first [] last h = subst (λ (s : ProxyState). AllByRecursion (HasCome []) s.requests) (sym h) tt
 chain_come parts server first (link ∷ history) last h =
     let has = parts (under server link.config) link.before link.act link.out link.after h.1 in
     subst (λ (s : ProxyState). AllByRecursion (HasCome (link ∷ history)) s.requests) (sym h.0)
     (parts_come (link ∷ history) (under server link.config) link.before link.act link.after.moment (brought_now link history) link.before.requests link.after.requests (originals link.out.packets) _ has.parts (sent_now link history)
-    (all_weaker (HasCome history) (HasCome (link ∷ history)) (later_come link history) link.before.requests (chain_come parts server first history link.before h.2)))
+    (all_weaker (HasCome history) (HasCome (link ∷ history)) link.before.requests (later_come link history) (chain_come parts server first history link.before h.2)))

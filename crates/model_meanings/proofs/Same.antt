@@ -11,7 +11,8 @@ use Rattle.sip_dialog.specs.declared.dialog.Dialog.{Dialog}
 use Rattle.sip_dialog.specs.Addresses.{is_same_addr}
 use Rattle.sip_dialog.specs.Dialogs.{is_known, known}
 use Rattle.sip_dialog.specs.Sameness.{SameDialogs}
-use Rattle.model_meanings.proofs.Lists.{IsIn, all_in, all_filter}
+use Rattle.sip_model.proofs.Places.{IsIn, all_in}
+use Rattle.model_meanings.proofs.Lists.{all_filter}
 
 -- ---- tests on one dialog
 

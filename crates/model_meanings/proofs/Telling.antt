@@ -33,7 +33,8 @@ use Rattle.sip_model.specs.state.Dialogs.{dialog_of, addresses_of, answered_dial
 use Rattle.sip_model.specs.state.Arrival.{Arrival}
 use Rattle.sip_model.specs.Run.{Link, under}
 use Rattle.model_meanings.specs.Dialogs.{IsNamed, Names, NamesFor, Begins, WentThrough, Invite, AnswerToInvite, AnswerWithin, Within, Gives, ByContact, ByRecordRoute, IsAddressOf, OfCaller, OfBranch, OfMessage, HadRequest, AtFirst, Later, WasAccepted, WasTold}
-use Rattle.model_meanings.proofs.Lists.{IsIn, contains_from_in, all_append, all_weaker}
+use Rattle.sip_model.proofs.Places.{IsIn, contains_from_in, all_weaker}
+use Rattle.model_meanings.proofs.Lists.{all_append}
 
 -- ---- names
 
@@ -110,7 +111,8 @@ answer_names r answer id e = by_core (core_of r.request) refl e where
 -- ---- addresses
 
 -- the address that a field gives, a message that has the field gives
-field_gives : (server : Server) (m : Message) (field : Field) (address : Addr) → Contains m.fields field → address_in (address_of server.config.addresses) field ≡ Some address
+field_gives : (server : Server) (m : Message) (field : Field) (address : Addr)
+    → Contains m.fields field → address_in (address_of server.config.addresses) field ≡ Some address
     → Gives server m address
 field_gives server m field address there e = by_names (is_same_name field.name Name.Contact) refl (is_same_name field.name Name.RecordRoute) refl e where
   by : AnyUri → Option Addr
@@ -225,7 +227,7 @@ module _ (server : Server) (history : List Link) where
   -- a message's addresses are the dialog's
   pub addresses_told : (link : Link) → IsTakenIn link → (id : DialogId) (m : Message) → WentThrough server history id link m → AllByRecursion (IsAddressOf server history id) (addresses_of server m)
   addresses_told link taken id m through =
-      all_weaker (Gives server m) (IsAddressOf server history id) (λ address gives. OfMessage link m through (subst (λ (s : Server). Gives s m address) (sym taken.is_by) gives)) (addresses_of server m)
+      all_weaker (Gives server m) (IsAddressOf server history id) (addresses_of server m) (λ address gives. OfMessage link m through (subst (λ (s : Server). Gives s m address) (sym taken.is_by) gives))
       (message_gives server m)
 
   -- ---- a dialog that was told
@@ -236,7 +238,7 @@ module _ (server : Server) (history : List Link) where
       → AllByRecursion (IsAddressOf server history d.id) (with_addresses d.addresses more)
   more_told id more d same own held =
       more_held (IsAddressOf server history d.id) d.addresses more held
-      (all_weaker (IsAddressOf server history id) (IsAddressOf server history d.id) (address_alike d.id id same) more own)
+      (all_weaker (IsAddressOf server history id) (IsAddressOf server history d.id) more (address_alike d.id id same) own)
 
   -- it was, once an answer told it addresses
   pub taught_told : (id : DialogId) (addresses : List Addr) (d : Dialog) → is_named id d ≡ true → AllByRecursion (IsAddressOf server history id) addresses → WasTold server history d

@@ -28,7 +28,8 @@ use Rattle.sip_model.specs.Histories.{step_dialogs, history_dialogs}
 use Rattle.sip_model.specs.Parts.{IsOpening, Answered, Sent, IsChangeAt, ByResponse, ByDeadline, ByFault, ByCancel, IsPart, Stays, Passes, Copies, TurnsAway, Opens, Changes, Resends, Acknowledges, AreParts, One, Two, HasParts}
 use Rattle.model_meanings.specs.Requests.{HasCome}
 use Rattle.model_meanings.specs.Dialogs.{Begins, WasSentOn, WentThrough, Invite, AnswerToInvite, AnswerWithin, Within, IsAddressOf, OfCaller, OfBranch, OfMessage, HadRequest, AtFirst, Later, WasAccepted, WasTold}
-use Rattle.model_meanings.proofs.Lists.{in_from_contains, all_in, all_append, all_weaker}
+use Rattle.sip_model.proofs.Places.{in_from_contains, all_in, all_weaker}
+use Rattle.model_meanings.proofs.Lists.{all_append}
 use Rattle.model_meanings.proofs.Requests.{all_replaced, later_there, later_sent, later_brought, later_went, later_come, brought_now, sent_now, chain_come}
 use Rattle.model_meanings.proofs.Failures.{KeepsFailures, Refusing, responded_honest, overdue_honest, failed_honest, cancelled_honest, opening_honest, unsent_fail}
 use Rattle.model_meanings.proofs.Telling.{IsTakenIn}
@@ -178,7 +179,7 @@ module _ (server : Server) (link : Link) (history : List Link) where
     is_number = h.is_number;
     had_request = later_request d.id d.since h.had_request;
     was_accepted = λ is. accepted (h.was_accepted is);
-    are_addresses = all_weaker (IsAddressOf server history d.id) (IsAddressOf server (link ∷ history) d.id) (later_address d.id) d.addresses h.are_addresses;
+    are_addresses = all_weaker (IsAddressOf server history d.id) (IsAddressOf server (link ∷ history) d.id) d.addresses (later_address d.id) h.are_addresses;
   } where
     accepted : WasAccepted server history d.id → WasAccepted server (link ∷ history) d.id
     accepted x = record {
@@ -229,7 +230,7 @@ module _ (parts : (server : Server) (old : ProxyState) (act : Act) (out : StepOu
       refl,
       refl,
     );
-    requests = all_weaker (HasCome history) (HasCome (link ∷ history)) (later_come link history) link.before.requests (chain_come parts server first history link.before h);
+    requests = all_weaker (HasCome history) (HasCome (link ∷ history)) link.before.requests (later_come link history) (chain_come parts server first history link.before h);
     failures = chain_fails server first history link.before h;
   }
 
@@ -240,10 +241,10 @@ module _ (parts : (server : Server) (old : ProxyState) (act : Act) (out : StepOu
   chain_told server first (link ∷ history) last h =
       let by : Server = under server link.config in
       let dialogs : List Dialog = history_dialogs server (first_state first) history link.before h.2 in
-      all_weaker (WasTold by (link ∷ history)) (WasTold server (link ∷ history)) (told_under by server.config (link ∷ history)) (step_dialogs by link.before link.act link.out link.after h.1 dialogs)
+      all_weaker (WasTold by (link ∷ history)) (WasTold server (link ∷ history)) (step_dialogs by link.before link.act link.out link.after h.1 dialogs) (told_under by server.config (link ∷ history))
       (step_told by (link ∷ history) link (WasTold by (link ∷ history)) (told_closed by (link ∷ history) link) (taken_now server link history) link.before link.act link.out link.after h.1 dialogs
       (chain_here server first link history h.2) (sent_now link [])
-      (all_weaker (WasTold server history) (WasTold by (link ∷ history)) (λ d was. told_under server link.config (link ∷ history) d (later_told server link history d was)) dialogs
+      (all_weaker (WasTold server history) (WasTold by (link ∷ history)) dialogs (λ d was. told_under server link.config (link ∷ history) d (later_told server link history d was))
       (chain_told server first history link.before h.2)))
 
   -- each known dialog was

@@ -179,6 +179,7 @@ gone_and_back_chain = (refl, back_is, (refl, gone_is, refl))
 -- ---- no run of one server
 
 -- the one has three users, and the other one none
-pub of_no_server : (server : Server) (events : List Event) (until : Option ℕ) (steps : List StepOut) (last : ProxyState) → IsRun server (first_state 1) events until steps two_seconds last → ⊥
+pub of_no_server : (server : Server) (events : List Event) (until : Option ℕ) (steps : List StepOut) (last : ProxyState)
+    → IsRun server (first_state 1) events until steps two_seconds last → ⊥
 of_no_server server events until steps last run =
     differ 3 0 refl refl (ap (λ (config : Config). Some (length config.users)) (run.configured.1.0 ∙ sym run.configured.0))

@@ -10,7 +10,7 @@ use Rattle.sip_model.specs.state.Arrival.{Arrival}
 use Rattle.sip_model.specs.Access.{CameFor}
 use Rattle.sip_model.specs.Run.{Link, under}
 use Rattle.model_meanings.specs.Dialogs.{Begins, WentThrough, Invite, AnswerToInvite, AnswerWithin, Within, IsAddressOf, OfCaller, OfBranch, OfMessage, HadRequest, AtFirst, Later, WasAccepted, WasTold}
-use Rattle.model_meanings.proofs.Lists.{all_weaker}
+use Rattle.sip_model.proofs.Places.{all_weaker}
 
 -- Under its own configuration the server under another one is what it was, so each of these leads back, too.
 module _ (server : Server) (config : Config) (history : List Link) where
@@ -83,7 +83,7 @@ module _ (server : Server) (config : Config) (history : List Link) where
     is_number = h.is_number;
     had_request = request_under d.id d.since h.had_request;
     was_accepted = λ is. accepted (h.was_accepted is);
-    are_addresses = all_weaker (IsAddressOf server history d.id) (IsAddressOf (under server config) history d.id) (address_under d.id) d.addresses h.are_addresses;
+    are_addresses = all_weaker (IsAddressOf server history d.id) (IsAddressOf (under server config) history d.id) d.addresses (address_under d.id) h.are_addresses;
   } where
     accepted : WasAccepted server history d.id → WasAccepted (under server config) history d.id
     accepted x = record {

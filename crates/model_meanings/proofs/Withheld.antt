@@ -31,7 +31,7 @@ use Rattle.model_meanings.specs.Links.{knowing_open}
 use Rattle.model_meanings.specs.WrongAnswers.{two_called, busy}
 use Rattle.model_meanings.specs.WrongRequests.{ending, bye_open}
 use Rattle.model_meanings.specs.WrongSilence.{ringing_untold, busy_unacknowledged, busy_untold, cancel_withheld, bye_answered, copy_unanswered, silence_untold, copy_withheld, deadline_passed}
-use Rattle.model_meanings.proofs.Lists.{in_from_contains, contains_from_in}
+use Rattle.sip_model.proofs.Places.{in_from_contains, contains_from_in}
 use Rattle.model_meanings.proofs.Refused.{holds_of}
 use Rattle.model_meanings.proofs.Messages.{busy_said, busy_is_for, first_ringing_said, ending_said, ending_key}
 use Rattle.model_meanings.proofs.Coming.{differ}
@@ -76,7 +76,8 @@ alone : OthersEnded one_target first_branch
 alone = ((λ target other. absurd (true≢false other)), tt)
 
 -- so its caller is owed an answer
-owes_best : (link : Link) (last : Final) → is_some (best_of (last ∷ [])) ≡ true → Contains link.before.requests one_target → MustEnd sample link one_target first_branch last → ((p : Packet) → Owes sample link p → p.to.port ≡ 5070 → ⊥) → ⊥
+owes_best : (link : Link) (last : Final) → is_some (best_of (last ∷ [])) ≡ true → Contains link.before.requests one_target
+    → MustEnd sample link one_target first_branch last → ((p : Packet) → Owes sample link p → p.to.port ≡ 5070 → ⊥) → ⊥
 owes_best link last some there ends refuses = by_best (best_of (last ∷ [])) refl where
   by_best : (o : Option Final) → best_of (last ∷ []) ≡ o → ⊥
   by_best None e = true≢false (sym some ∙ ap is_some e)

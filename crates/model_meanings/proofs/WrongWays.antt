@@ -27,6 +27,7 @@ use Rattle.sip_model.specs.Lives.{sent_first}
 use Rattle.sip_model.specs.Access.{IsSaidAt, IsNewRequest, decision_on}
 use Rattle.model_meanings.specs.Links.{saying}
 use Rattle.model_meanings.specs.Headline.{Came, IsNew, places, place_of, GoesTo, IsAnswered, IsServed, IsKept, Leads, Goes, Headline}
+use Rattle.model_meanings.specs.Proven.{by_digest}
 use Rattle.model_meanings.specs.WrongHeadlines.{before_call, calls, goes_elsewhere, goes_to_expired, denial_with, denied_with, denied_without_rule, denied_by_another}
 use Rattle.model_meanings.proofs.FirstRequests.{invite_said, new_invite, vault_said, new_vault}
 use Rattle.model_meanings.proofs.Checks.{came_in, new_of}
@@ -38,9 +39,9 @@ use Rattle.model_meanings.proofs.Counts.{passing, of_both, text_has}
 record Kept (server : Server) (link : Link) (earlier : List Link) : Type 0 where
   rows : List Binding
   after : List Binding
-  is_kept : IsKept (under server link.config) (sent_first earlier) rows link after
+  is_kept : IsKept by_digest (under server link.config) (sent_first earlier) rows link after
 
-kept_by : (server : Server) (link : Link) (earlier : List Link) (bindings : List Binding) → Leads server (link ∷ earlier) bindings → Kept server link earlier
+kept_by : (server : Server) (link : Link) (earlier : List Link) (bindings : List Binding) → Leads by_digest server (link ∷ earlier) bindings → Kept server link earlier
 kept_by server _ _ _ (Goes link earlier rows after before is) = record { rows = rows; after = after; is_kept = is }
 
 -- ---- a call
@@ -79,27 +80,27 @@ module _ (expires_at port : ℕ) (after : ProxyState) where
       })
 
   -- it goes to the live bindings of help@host.com
-  call_places : (rows : List Binding) → places sample rows call caller ≡ filter_map (place_of sample.config.addresses) (map (λ (b : Binding). b.uri) (live help 62000 rows))
+  call_places : (rows : List Binding) → places by_digest sample rows call caller ≡ filter_map (place_of sample.config.addresses) (map (λ (b : Binding). b.uri) (live help 62000 rows))
   unfolding digits Uris.rest_of Uris.reading_of
   call_places rows = refl
 
   -- as they are in the state
-  call_goes : (earlier : List Link) → Headline sample (call ∷ earlier)
+  call_goes : (earlier : List Link) → Headline by_digest sample (call ∷ earlier)
       → AllZip (GoesTo (codes "INVITE")) call.out.packets (filter_map (place_of sample.config.addresses) (map (λ (b : Binding). b.uri) (live help 62000 (before_call expires_at).bindings)))
   call_goes earlier headline =
       let kept : Kept sample call earlier = kept_by sample call earlier headline.bindings headline.leads in
-      let served : IsServed sample kept.rows call caller = kept.is_kept.serves caller call_is_new in
+      let served : IsServed by_digest sample kept.rows call caller = kept.is_kept.serves caller call_is_new in
       subst (λ (bs : List Binding). AllZip (GoesTo (codes "INVITE")) call.out.packets (filter_map (place_of sample.config.addresses) (map (λ (b : Binding). b.uri) bs)))
       (sym (kept.is_kept.had help 62000 (omega arith))) (subst (λ ps. AllZip (GoesTo (codes "INVITE")) call.out.packets ps) (call_places kept.rows) served.goes)
 
-pub elsewhere : (after : ProxyState) (earlier : List Link) → Headline sample (goes_elsewhere after ∷ earlier) → ⊥
+pub elsewhere : (after : ProxyState) (earlier : List Link) → Headline by_digest sample (goes_elsewhere after ∷ earlier) → ⊥
 unfolding digits
 elsewhere after earlier headline =
     let one = call_goes 3602000 6666 after earlier headline in
     let ports : ◌≡◌ {A = ℕ} 6666 5082 = ap (λ (a : Addr). a.port) one.0.0 in
     absurd (omega (arith, ports))
 
-pub expired : (after : ProxyState) (earlier : List Link) → Headline sample (goes_to_expired after ∷ earlier) → ⊥
+pub expired : (after : ProxyState) (earlier : List Link) → Headline by_digest sample (goes_to_expired after ∷ earlier) → ⊥
 expired after earlier headline = call_goes 60000 5082 after earlier headline
 
 -- ---- a denial
@@ -130,11 +131,11 @@ module _ (extras : List Field) (after : ProxyState) where
   by_rule_3 = refl
 
   -- so the digit 3 stands in its text three times
-  has_threes : (earlier : List Link) → Headline sample (denial ∷ earlier) → 3 ≤ passing is_three (denial_with extras).bytes
+  has_threes : (earlier : List Link) → Headline by_digest sample (denial ∷ earlier) → 3 ≤ passing is_three (denial_with extras).bytes
   unfolding is_three digits
   has_threes earlier headline =
       let kept : Kept sample denial earlier = kept_by sample denial earlier headline.bindings headline.leads in
-      let served : IsServed sample kept.rows denial denied = kept.is_kept.serves denied denied_is_new in
+      let served : IsServed by_digest sample kept.rows denial denied = kept.is_kept.serves denied denied_is_new in
       let answered : IsAnswered denied denial.out.packets 403 Name.Warning (denial_warning sample.config.own 3 ∷ []) = served.denies 3 by_rule_3 in
       let packet : denial_with extras ≡ answered.packet = ap (λ (ps : List Packet). get_or ps 0 answered.packet) answered.is_alone in
       let front : List ℕ = codes "SIP/2.0 " ++ decimal 403 ++ codes " " in
@@ -145,13 +146,13 @@ module _ (extras : List Field) (after : ProxyState) where
       ap (λ (p : Packet). passing is_three p.bytes) packet ∙ ap (passing is_three) answered.is_text in
       omega (arith, start, one, two, text, of_both is_three front answered.reason, text_has is_three answered.response Name.Warning (denial_warning sample.config.own 3) answered.has)
 
-pub without_rule : (after : ProxyState) (earlier : List Link) → Headline sample (denied_without_rule after ∷ earlier) → ⊥
+pub without_rule : (after : ProxyState) (earlier : List Link) → Headline by_digest sample (denied_without_rule after ∷ earlier) → ⊥
 unfolding is_three digits encode_with Uris.rest_of Uris.reading_of
 without_rule after earlier headline =
     let few : passing is_three (denial_with []).bytes ≡ 1 = refl in
     absurd (omega (arith, few, has_threes [] after earlier headline))
 
-pub by_another : (after : ProxyState) (earlier : List Link) → Headline sample (denied_by_another after ∷ earlier) → ⊥
+pub by_another : (after : ProxyState) (earlier : List Link) → Headline by_digest sample (denied_by_another after ∷ earlier) → ⊥
 unfolding is_three digits encode_with Uris.rest_of Uris.reading_of
 by_another after earlier headline =
     let few : passing is_three (denial_with (denial_warning sample.config.own 0 ∷ [])).bytes ≡ 2 = refl in

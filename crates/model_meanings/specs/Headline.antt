@@ -34,7 +34,6 @@ use Rattle.sip_validate.specs.Faults.{has_other_cseq_method, has_bad_max_forward
 use Rattle.sip_validate.specs.Refusal.{has_other_scheme, has_no_hops, has_own_via, needs_extension, has_other_route}
 use Rattle.sip_edit.specs.ReceivedRequest.{response_address}
 use Rattle.sip_edit_response.specs.Extras.{denial_warning}
-use Rattle.sip_auth.specs.Proof.{proof_of, proven}
 use Rattle.sip_policy.specs.declared.decision.Decision.{Decision}
 use Rattle.sip_policy.specs.Decision.{decision_of}
 use Rattle.sip_policy.specs.Operation.{operation_of}
@@ -53,6 +52,7 @@ use Rattle.sip_dialog.specs.Dialogs.{IsInDialog}
 use Rattle.sip_event.specs.declared.packet.Packet.{Packet}
 use Rattle.sip_event.specs.declared.event.Event.TheVariants.{Datagram}
 use Rattle.sip_model.specs.state.declared.server.Server.{Server}
+use Rattle.sip_model.specs.state.declared.proxy_state.ProxyState.{ProxyState}
 use Rattle.sip_model.specs.state.declared.branch.Branch.{Branch}
 use Rattle.sip_model.specs.state.declared.open_request.OpenRequest.{OpenRequest}
 use Rattle.sip_model.specs.verdict_model.Verdict.{is_register, has_contact, target_of}
@@ -75,7 +75,16 @@ pub record Came : Type 0 where
 
 -- it as it is checked, with its Request-URI
 abbrev pub checked : Own → Came → List ℕ → Candidate
-checked own q uri = record { own = own; method = q.method; uri = uri; version = codes "SIP/2.0"; fields = q.message.fields; short = false; core = Some q.core; way = way_from own uri q.message.fields }
+checked own q uri = record {
+  own = own;
+  method = q.method;
+  uri = uri;
+  version = codes "SIP/2.0";
+  fields = q.message.fields;
+  short = false;
+  core = Some q.core;
+  way = way_from own uri q.message.fields;
+}
 
 -- Bytes say it, with this Request-URI: their first line is its request line; each further line, with its folds, writes a field, and what is
 -- kept of these are its fields; what follows the empty line is its body, as long as Content-Length says (RFC 3261 7).
@@ -131,20 +140,24 @@ pub record IsNew (server : Server) (link : Link) (q : Came) : Type 0 where
   pub has_room : length link.before.requests < 1024
   pub is_outside : (is_register q.method ≡ true) ⊎ (id_of q.core ≡ None)
 
+-- whom a message proves to come from, if anyone, to a server in a state, at a moment: who is proven is told by no definition here; of
+-- this server it is told by `by_digest` of `specs/Proven`
+abbrev pub Proves : Type 0
+Proves = Server → ProxyState → ℕ → Message → Option (List ℕ)
+
 -- what the first matching rule decides about it: for the user whom it proves to come from, or for nobody, about what it asks for, of
 -- which address of record, at the minute of the day
-abbrev pub decided : Server → Link → Came → Decision
-decided server link q =
-    decision_of server.config.rules server.config.users server.config.own.domains
-    (proven (proof_of server.config.realm server.config.users link.before.nonces q.now q.message)) (operation_of q.method (has_contact q.message.fields))
-    (target_of server q.message q.method q.core) (minute_of q.now server.config.offset)
+abbrev pub decided : Proves → Server → Link → Came → Decision
+decided proves server link q =
+    decision_of server.config.rules server.config.users server.config.own.domains (proves server link.before q.now q.message)
+    (operation_of q.method (has_contact q.message.fields)) (target_of server q.message q.method q.core) (minute_of q.now server.config.offset)
 
 -- it is a REGISTER, and a rule lets it through (RFC 3261 10.3 steps 3 and 4)
-pub record IsAllowed (server : Server) (link : Link) (q : Came) : Type 0 where
+pub record IsAllowed (proves : Proves) (server : Server) (link : Link) (q : Came) : Type 0 where
   pub id : ℕ
   pub is_new : IsNew server link q
   pub registers : is_register q.method ≡ true
-  pub is_let_through : rule_of (decided server link q) ≡ Some id
+  pub is_let_through : rule_of (decided proves server link q) ≡ Some id
 
 -- whether it is for a domain of this server, and its To a user's address (RFC 3261 10.3 steps 1 and 5)
 abbrev pub is_served_here : Server → Came → Bool
@@ -181,10 +194,10 @@ led_by server rows now (Decision.Deny id) uri = []
 led_by server rows now Decision.Challenge uri = []
 
 -- the places of its targets: none of a REGISTER, which is for this server
-abbrev pub places : Server → List Binding → Link → Came → List (Addr × List ℕ)
-places server rows link q =
+abbrev pub places : Proves → Server → List Binding → Link → Came → List (Addr × List ℕ)
+places proves server rows link q =
     if is_register q.method then []
-    else option_map_or (led_by server rows q.now (decided server link q)) (request_uri_of server.config.own q.message) []
+    else option_map_or (led_by server rows q.now (decided proves server link q)) (request_uri_of server.config.own q.message) []
 
 -- a packet is a request of a method to a place: it goes to the address, and its Request-URI is that text (RFC 3261 7.1, 16.6)
 abbrev pub GoesTo : List ℕ → Packet → Addr × List ℕ → Type 0
@@ -207,19 +220,19 @@ pub record IsAnswered (q : Came) (packets : List Packet) (status : ℕ) (name : 
 -- What becomes of it over some bindings: it is sent to exactly its targets, one by one in their order; where policy denies it, it gets
 -- the 403 whose one Warning names that rule; a REGISTER that is allowed gets the 200 whose Contacts are the live bindings of its
 -- address after it, or another final response without a Contact where the registrar refuses it (RFC 3261 10.3, 16.6, 20.43).
-pub record IsServed (server : Server) (rows : List Binding) (link : Link) (q : Came) : Type 0 where
-  pub goes : AllZip (GoesTo q.method) (branch_originals link.out.packets) (places server rows link q)
-  pub denies : (id : ℕ) → decided server link q ≡ Decision.Deny id
+pub record IsServed (proves : Proves) (server : Server) (rows : List Binding) (link : Link) (q : Came) : Type 0 where
+  pub goes : AllZip (GoesTo q.method) (branch_originals link.out.packets) (places proves server rows link q)
+  pub denies : (id : ℕ) → decided proves server link q ≡ Decision.Deny id
       → IsAnswered q link.out.packets 403 Name.Warning (denial_warning server.config.own id ∷ [])
-  pub lists : (after : List Binding) → IsAllowed server link q → bound_by server rows q ≡ Some after
+  pub lists : (after : List Binding) → IsAllowed proves server link q → bound_by server rows q ≡ Some after
       → IsAnswered q link.out.packets 200 Name.Contact (contact_fields q.now (to_aor q.core) after)
-  pub refuses : IsAllowed server link q → bound_by server rows q ≡ None → (status : ℕ) × (300 ≤ status) × IsAnswered q link.out.packets status Name.Contact []
+  pub refuses : IsAllowed proves server link q → bound_by server rows q ≡ None → (status : ℕ) × (300 ≤ status) × IsAnswered q link.out.packets status Name.Contact []
 
 -- The bindings after a step: by the REGISTER that is allowed in it, what the registrar makes of those before it; where it refuses it,
 -- or none is allowed, those before it (RFC 3261 10.3).
-pub data Binds (server : Server) (link : Link) (rows : List Binding) : List Binding → Type 0 where
-  Registers : (q : Came) → IsAllowed server link q → Binds server link rows (unwrap_or (bound_by server rows q) rows)
-  Stays : ((q : Came) → IsAllowed server link q → ⊥) → Binds server link rows rows
+pub data Binds (proves : Proves) (server : Server) (link : Link) (rows : List Binding) : List Binding → Type 0 where
+  Registers : (q : Came) → IsAllowed proves server link q → Binds proves server link rows (unwrap_or (bound_by server rows q) rows)
+  Stays : ((q : Came) → IsAllowed proves server link q → ⊥) → Binds proves server link rows rows
 
 -- ---- what else is sent
 
@@ -245,24 +258,24 @@ WentBefore sent p = p.again ≡ true → Contains sent (first_sending p)
 -- ---- the headline
 
 -- A step keeps it, over the bindings before it, which it leaves as others: they are what the state has from its moment on, before and after.
-pub record IsKept (server : Server) (sent : List Packet) (rows : List Binding) (link : Link) (after : List Binding) : Type 0 where
+pub record IsKept (proves : Proves) (server : Server) (sent : List Packet) (rows : List Binding) (link : Link) (after : List Binding) : Type 0 where
   pub had : SameBindings link.before.moment link.before.bindings rows
-  pub serves : (q : Came) → IsNew server link q → IsServed server rows link q
-  pub binds : Binds server link rows after
+  pub serves : (q : Came) → IsNew server link q → IsServed proves server rows link q
+  pub binds : Binds proves server link rows after
   pub has : SameBindings link.after.moment link.after.bindings after
   pub belongs : AllByRecursion (Belongs server link) link.out.packets
   pub went : AllByRecursion (WentBefore sent) link.out.packets
 
 -- each step of a history keeps it, by the configuration in force, from no binding on, and these are left
-pub data Leads (server : Server) : List Link → List Binding → Type 0 where
-  Begins : Leads server [] []
-  Goes : (link : Link) (history : List Link) (rows after : List Binding) → Leads server history rows
-      → IsKept (under server link.config) (sent_first history) rows link after → Leads server (link ∷ history) after
+pub data Leads (proves : Proves) (server : Server) : List Link → List Binding → Type 0 where
+  Begins : Leads proves server [] []
+  Goes : (link : Link) (history : List Link) (rows after : List Binding) → Leads proves server history rows
+      → IsKept proves (under server link.config) (sent_first history) rows link after → Leads proves server (link ∷ history) after
 
 -- Over every list of datagrams, timer moments and send faults, each valid new request outside a dialog is sent to exactly the
 -- unexpired bindings or the configured hop that the first matching rule gives its proven user; bindings change or are listed exactly as
 -- an allowed REGISTER says; every policy denial is a 403 whose Warning names that rule; all else sent belongs to an open request or a
 -- known dialog. The newest step stands first.
-pub record Headline (server : Server) (history : List Link) : Type 0 where
+pub record Headline (proves : Proves) (server : Server) (history : List Link) : Type 0 where
   pub bindings : List Binding
-  pub leads : Leads server history bindings
+  pub leads : Leads proves server history bindings

@@ -19,4 +19,5 @@ pub mod TwoConfigurations
 pub mod TwoPeriods
 pub mod WrongRules
 pub mod Headline
+pub mod Proven
 pub mod WrongHeadlines

@@ -172,7 +172,8 @@ changed_key = with_users (mufasa_by (codes "8aefb310669d400be72ec1f1b60f56bc") â
 -- the response to the first nonce by it, with the first count, which another program made
 abbrev pub mufasas_by_new_key : List â„•
 mufasas_by_new_key =
-    codes "Digest username=\"Mufasa\", realm=\"testrealm@host.com\", nonce=\"00000000000000000000000000000001\", uri=\"sip:host.com\", response=\"093011773292aeb19eeab0d0705ab243\", qop=auth, nc=00000001, cnonce=\"0a4f113b\""
+    codes "Digest username=\"Mufasa\", realm=\"testrealm@host.com\", nonce=\"00000000000000000000000000000001\", uri=\"sip:host.com\", "
+    ++ codes "response=\"093011773292aeb19eeab0d0705ab243\", qop=auth, nc=00000001, cnonce=\"0a4f113b\""
 
 -- he was challenged before; he answers by the key of before, and then by the new one
 abbrev pub first_challenge : Effect

@@ -1,5 +1,5 @@
 //! What a datagram makes a server send, send again, record and bind, in bytes, for each kind of request and for responses.
-ghost use Rattle.std.specs.Prelude.{◌≡◌, ◌+◌, [], ◌∷◌, ◌++◌, ℕ, Bool, List, Some, false, true, codes, length};
+ghost use Rattle.std.specs.Prelude.{◌≡◌, [], ◌∷◌, ℕ, List, Some, false, codes, length};
 ghost use Rattle.std.specs.Str.{bytes_eq};
 ghost use Rattle.sip_event.specs.declared.event.StepOut.{StepOut};
 ghost use Rattle.sip_audit.specs.declared.record.Outcome.TheVariants as Outcome;

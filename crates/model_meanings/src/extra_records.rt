@@ -1,4 +1,4 @@
-ghost use Rattle.std.specs.Prelude.{◌≡◌, List, [], ◌∷◌, length};
+ghost use Rattle.std.specs.Prelude.{◌≡◌, List, ◌∷◌, length};
 ghost use Rattle.sip_model.specs.state.declared.proxy_state.ProxyState.{ProxyState};
 ghost use Rattle.sip_model.specs.steps_model.Examples.{sample, vault_effect};
 ghost use Rattle.sip_model.specs.Run.{Link};

@@ -1,10 +1,8 @@
-ghost use Rattle.std.specs.Prelude.{◌≡◌, ◌<◌, ◌≤◌, ◌^◌, ℕ, true, List, Some, length, Any, count_by, Contains, find};
+ghost use Rattle.std.specs.Prelude.{◌≡◌, ◌<◌, ◌≤◌, ◌^◌, ℕ, List, Some, length, Any, count_by, Contains};
 ghost use Rattle.std.specs.List.{AllByRecursion};
 ghost use Rattle.sip_digest.specs.declared.nonces.Nonce.{Nonce};
-ghost use Rattle.sip_digest.specs.declared.nonces.Worth.TheVariants.{Right};
 ghost use Rattle.sip_digest.specs.NonceText.{nonce_text, word_of};
-ghost use Rattle.sip_digest.specs.Nonces.{IsNonceOf, is_this, issued, worth_of};
-ghost use Rattle.sip_digest.specs.Credential.{Credential, is_answer, count_of};
+ghost use Rattle.sip_digest.specs.Nonces.{IsNonceOf, is_this, issued};
 ghost use Rattle.sip_message_form.specs.declared.message.Message.{Message};
 ghost use Rattle.sip_model.specs.state.declared.server.Server.{Server};
 ghost use Rattle.sip_model.specs.state.declared.proxy_state.ProxyState.{ProxyState};
