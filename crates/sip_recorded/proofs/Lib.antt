@@ -4,3 +4,4 @@ pub mod Joining
 pub mod OfEvents
 pub mod Recorded
 pub mod Replayed
+pub mod Unresumed

@@ -9,22 +9,27 @@ ghost use Rattle.sip_segment_text.specs.Segments.{SaysWhole, Segment};
 ghost use Rattle.sip_config.specs.Stated.{States};
 ghost use Rattle.sip_record.specs.Record.{NotesConfiguration};
 ghost use Rattle.sip_replay_print.specs.Print.{printed};
+ghost use Rattle.sip_replay_script.specs.Lines.{IsSpent};
 ghost use Rattle.model_bounds.specs.state.declared.server.Server.{Server};
 ghost use Rattle.model_order.specs.Order.{Standing, first_standing};
 ghost use Rattle.model_ties.specs.Ties.{AreOne};
 ghost use Rattle.sip_replay.specs.resume.Outputs.{Outputs};
-ghost use Rattle.sip_replay.specs.resume.Whole.{IsRecordResumed};
+ghost use Rattle.sip_replay.specs.resume.Whole.{IsRecordResumed, IsRecordUnresumed};
+ghost use Rattle.sip_replay.specs.resume.declared.record_error.RecordError.{RecordError};
 ghost use Rattle.sip_replay.specs.Records.{IsRecordReplay};
 ghost use Rattle.sip_replay.specs.Replays.{server_with};
 ghost use Rattle.sip_loop.specs.Serving.{IsServed, IsUnserved, Told, gathered, steps_taken};
 ghost use Rattle.sip_loop.specs.declared.served.ServeError.{ServeError};
 ghost use Rattle.sip_recorded.specs.Recorded.{IsRecordedUnder, PrintsFront, RecordsFront};
+ghost use Rattle.sip_recorded.specs.Unresumed.{BeginsNoConfiguration, IsUnresumed};
 
+use model_bounds::model::periods::under_one_is_a_run;
 use model_bounds::model::runs::runs_join;
 use model_ties::laws::runs_are_one;
 use sip_config_change::laws::policy_in_the_old_frame_is_new;
 use sip_loop::laws::replayed_is_served;
 use sip_replay::laws::script_says_one_list;
+use sip_replay_script::TellingReader;
 use sip_replay_script::laws::{next_event_is_one, written_event_is_recorded};
 use sip_segment_text::laws::{next_configuration_is_one, record_says_one_list};
 
@@ -140,4 +145,17 @@ pub fn cut_replay_prints_what_was_served()
 {
     front_is_recorded();
     records_are_one();
+}
+
+/// A record that holds no configuration, and isn't taken further: where none comes next in what is left, either, it is refused as one of
+/// events alone is, by one of the refusals of an event, at a line that is counted so, and the server stands where the events led, or just
+/// behind; and it is the same server.
+pub fn record_of_events_is_unresumed<I: TellingReader>()
+    ensures { (server server_then : Server) (old new : Standing) (longest : ℕ) (reader : I) (asks : ℕ) (bytes : Option (List ℕ))
+        (outs outs_then : Outputs) (e : RecordError)
+        → (refused : IsRecordUnresumed server server_then old new longest (IsSpent (I.has_failed reader) asks) bytes 0 outs outs_then e)
+        → refused.segments ≡ [] → BeginsNoConfiguration longest refused.rest
+        → IsUnresumed server old new (IsSpent (I.has_failed reader) asks) bytes outs outs_then e × (server_then ≡ server) }
+{
+    under_one_is_a_run();
 }
