@@ -8,9 +8,10 @@ use Rattle.sip_loop_link.specs.declared.datagram.Given.{Given}
 use Rattle.sip_loop_link.specs.declared.datagram.Heard.{Heard}
 use Rattle.sip_loop_link.specs.declared.datagram.LinkFault.{LinkFault}
 use Rattle.sip_uri.specs.declared.addr.Addr.{Addr}
+use Rattle.sip_base.specs.Keyed.{fed_first}
 use Rattle.sip_guard.specs.Allowance.{admits}
 use Rattle.sip_guard.specs.Limits.{limit_of}
-use Rattle.sip_guard.specs.Sources.{SourceTable, AreFew, same_ip, used_of, IsCharged}
+use Rattle.sip_guard.specs.Sources.{SourceTable, no_sources, AreFew, same_ip, used_of, IsCharged}
 use Rattle.sip_guard.specs.Unheard.{UnheardCounts, most_sources, none_unheard, noted}
 use Rattle.sip_guard.specs.declared.limit.Limit.{Limit}
 
@@ -53,14 +54,15 @@ pub record GuardState : Type 0 where
 abbrev pub IsBounded : AllowanceState → Type 0
 IsBounded allowances = AreFew allowances.sources × (length allowances.unheard.sources ≤ most_sources)
 
--- what is kept at first
-abbrev pub allowances_of : List (List ℕ) → Limit → AllowanceState
-allowances_of always limit = record { limit = limit; always = always; present = 0; sources = record { recent = []; earlier = []; recent_until = 0; earlier_until = 0 }; unheard = none_unheard }
+-- what is kept at first, under a secret of these keys
+abbrev pub allowances_of : ℕ → List (List ℕ) → Limit → AllowanceState
+allowances_of keys always limit = record { limit = limit; always = always; present = 0; sources = no_sources (fed_first keys); unheard = none_unheard }
 
--- a guard that hears so many datagrams a second from one address, where that is said, and some IP addresses always, and that wasn't asked yet
-abbrev pub guard_over : List (List ℕ) → Option ℕ → LinkState → Option (List ℕ) → GuardState
-guard_over always per_source link readings = record {
-  allowances = option_map (allowances_of always) (option_and_then limit_of per_source);
+-- a guard that hears so many datagrams a second from one address, where that is said, and some IP addresses always, and that wasn't asked
+-- yet; what it keeps of addresses is hashed under a secret of these keys
+abbrev pub guard_over : ℕ → List (List ℕ) → Option ℕ → LinkState → Option (List ℕ) → GuardState
+guard_over keys always per_source link readings = record {
+  allowances = option_map (allowances_of keys always) (option_and_then limit_of per_source);
   link = link;
   readings = readings;
   receives = 0;

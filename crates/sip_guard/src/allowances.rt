@@ -39,14 +39,14 @@ fn is_among(always: &[[u8; 4]], ip: [u8; 4]) -> bool
 }
 
 impl Allowances {
-    /// No source yet. Makes room for all. `AllocError` is the only refusal.
+    /// No source yet; what is kept of them is hashed under a secret of these keys. Makes room for all. `AllocError` is the only refusal.
     pub(crate) fn new(
         alloc: Global,
         keys: u128,
         limit: Limit,
         always: Vec<[u8; 4]>,
     ) -> Result<Allowances, AllocError>
-        ensures { IfOk result (λ allowances. allowances ≡ allowances_of always.items limit) }
+        ensures { IfOk result (λ allowances. allowances ≡ allowances_of keys always.items limit) }
     {
         Ok(Allowances {
             limit,

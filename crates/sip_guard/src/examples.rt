@@ -5,7 +5,7 @@ ghost use Rattle.sip_guard.specs.Rates.{handed_on, used_by};
 ghost use Rattle.sip_guard.specs.Sources.{finds_room, used_of};
 ghost use Rattle.sip_guard.specs.Unheard.{none_unheard, noted};
 ghost use Rattle.sip_guard.specs.Guard.{hearing, is_within};
-ghost use Rattle.sip_guard.specs.Examples.{one_a_second, six_moments, desk, scanner, full, desk_always};
+ghost use Rattle.sip_guard.specs.Examples.{one_a_second, six_moments, desk, scanner, tables, full, desk_always};
 
 /// Twenty a second, and forty at once; neither none nor more than a million a second.
 pub fn limit_example()
@@ -26,9 +26,9 @@ pub fn allowance_example()
 
 /// A source has the greater of its two numbers, and 0 where it isn't kept. It finds room among few others.
 pub fn sources_example()
-    ensures kept { used_of desk (record { recent = (desk, 7) ∷ []; earlier = (scanner, 5) ∷ (desk, 3) ∷ []; recent_until = 7; earlier_until = 5 }) ≡ 7 }
-    ensures other { used_of scanner (record { recent = (desk, 7) ∷ []; earlier = []; recent_until = 7; earlier_until = 5 }) ≡ 0 }
-    ensures room { finds_room 0 scanner (record { recent = (desk, 7) ∷ []; earlier = []; recent_until = 7; earlier_until = 5 }) ≡ true }
+    ensures kept { used_of desk (tables ((desk, 7) ∷ []) ((scanner, 5) ∷ (desk, 3) ∷ [])) ≡ 7 }
+    ensures other { used_of scanner (tables ((desk, 7) ∷ []) []) ≡ 0 }
+    ensures room { finds_room 0 scanner (tables ((desk, 7) ∷ []) []) ≡ true }
 {}
 
 /// Among as many sources as there is room for, one that is kept finds room, and another one once none of the earlier ones is past

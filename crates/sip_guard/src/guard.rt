@@ -109,7 +109,7 @@ impl<L: Link, C: Clock> Guard<L, C> {
         per_source: Option<u32>,
         always: Vec<[u8; 4]>,
     ) -> Result<Guard<L, C>, AllocError>
-        ensures { IfOk result (λ guard. guard ≡ guard_over always.items per_source
+        ensures { IfOk result (λ guard. guard ≡ guard_over keys always.items per_source
             (record { heard = L.heard link; fresh = L.fresh link; aside = L.aside link; given = L.given link; held = L.held link; waits = L.waits link; receives = L.receives link; failures = L.failures link })
             (C.readings clock)) }
     {

@@ -1,10 +1,11 @@
 //! What each source has used of its allowance, for at most 4,096 sources, in constant time for each datagram and without memory.
 //! How much a source may use is said in `limit`.
 ghost use Rattle.std.specs.Prelude.{◌≡◌, ◌≤◌, ◌+◌, ℕ, List, [], true, false, length, is_some, IfOk, if◌then◌else◌};
-ghost use Rattle.std.specs.HashMap.{spare};
+ghost use Rattle.std.specs.HashMap.{hasher_of, spare};
 ghost use Rattle.std.specs.Map.{lookup};
+ghost use Rattle.sip_base.specs.Keyed.{fed_first};
 ghost use Rattle.sip_guard.specs.Allowance.{admits};
-ghost use Rattle.sip_guard.specs.Sources.{AreFew, half, same_ip, number_in, used_of, fits_in, IsPut, IsCharged};
+ghost use Rattle.sip_guard.specs.Sources.{no_sources, AreFew, half, same_ip, number_in, used_of, fits_in, IsPut, IsCharged};
 
 use crate::limit::Limit;
 use sip_base::Keyed;
@@ -32,27 +33,29 @@ pub(crate) struct Sources {
 }
 
 impl Model for Sources {
-    ghost use Rattle.std.specs.Prelude.{◌≤◌, ◌+◌, ℕ, List, length};
-    ghost use Rattle.std.specs.HashMap.{spare};
+    ghost use Rattle.std.specs.Prelude.{◌≡◌, ◌≤◌, ◌+◌, ℕ, List, length};
+    ghost use Rattle.std.specs.HashMap.{hasher_of, spare};
     ghost use Rattle.sip_guard.specs.Sources.{SourceTable, half, number_in};
 
     ghost Value = { SourceTable };
 
     ghost view = { λ s. record {
+      secret = hasher_of s.recent;
       recent = s.recent.entries;
       earlier = s.earlier.entries;
       recent_until = s.recent_until;
       earlier_until = s.earlier_until;
     } };
 
-    ghost invariant = { λ s. (length s.recent.entries ≤ half) × (length s.earlier.entries ≤ half)
+    ghost invariant = { λ s. (hasher_of s.earlier ≡ hasher_of s.recent) × (length s.recent.entries ≤ half) × (length s.earlier.entries ≤ half)
         × (half ≤ length s.recent.entries + spare s.recent) × (half ≤ length s.earlier.entries + spare s.earlier)
         × ((ip : List ℕ) → number_in ip s.recent.entries ≤ s.recent_until) × ((ip : List ℕ) → number_in ip s.earlier.entries ≤ s.earlier_until) };
 }
 
-/// An empty table with room for its sources.
+/// An empty table with room for its sources, hashed under a secret of these keys.
 fn table(alloc: Global, keys: u128) -> Result<Numbers, AllocError>
     ensures none { IfOk result (λ table. table.entries ≡ []) }
+    ensures secret { IfOk result (λ table. hasher_of table ≡ fed_first keys) }
     ensures room { IfOk result (λ table. half ≤ spare table) }
 {
     HashMap::with_capacity_and_hasher(alloc, HALF, Keyed::new(keys))
@@ -79,6 +82,7 @@ fn put(table: &mut Numbers, ip: [u8; 4], number: u128) -> bool
     ensures more { length table.new.entries
         ≤ (if is_some (lookup (same_ip ip) table.old.entries) then length table.old.entries else length table.old.entries + 1) }
     ensures room { half ≤ length table.new.entries + spare table.new }
+    ensures secret { hasher_of table.new ≡ hasher_of table.old }
     ensures few { length table.new.entries ≤ half }
 {
     if let Some(place) = table.get_mut(&ip) {
@@ -94,9 +98,9 @@ fn put(table: &mut Numbers, ip: [u8; 4], number: u128) -> bool
 }
 
 impl Sources {
-    /// No source. Makes room for all that will be. `AllocError` is the only refusal.
+    /// No source, under a secret of these keys. Makes room for all that will be. `AllocError` is the only refusal.
     pub(crate) fn new(alloc: Global, keys: u128) -> Result<Sources, AllocError>
-        ensures { IfOk result (λ sources. sources ≡ record { recent = []; earlier = []; recent_until = 0; earlier_until = 0 }) }
+        ensures { IfOk result (λ sources. sources ≡ no_sources (fed_first keys)) }
     {
         Ok(Sources {
             recent: table(alloc, keys)?,
@@ -116,7 +120,7 @@ impl Sources {
 
     /// Those of late become the earlier ones, which are forgotten.
     fn turn(&mut self)
-        ensures { self.new ≡ record { recent = []; earlier = self.old.recent; recent_until = 0; earlier_until = self.old.recent_until } }
+        ensures { self.new ≡ record { secret = self.old.secret; recent = []; earlier = self.old.recent; recent_until = 0; earlier_until = self.old.recent_until } }
     {
         self.earlier.clear();
         swap(&mut self.recent, &mut self.earlier);
