@@ -19,6 +19,7 @@ use Rattle.sipd_arguments.specs.declared.call.ReplayCall.{ReplayCall}
 use Rattle.sipd_arguments.specs.declared.call.ReplayCall.TheVariants.{Script, Record}
 use Rattle.sipd_arguments.specs.declared.call.ServeCall.{ServeCall}
 use Rattle.sipd_arguments.specs.declared.call.DecideCall.{DecideCall}
+use Rattle.sipd_arguments.specs.declared.call.MatrixCall.{MatrixCall}
 use Rattle.sipd_arguments.specs.declared.call.ReportCall.{ReportCall}
 use Rattle.sipd_arguments.specs.declared.call.UserCall.{UserCall}
 use Rattle.sipd_exit.specs.declared.record_place.RecordFault.{RecordFault}
@@ -84,6 +85,9 @@ decide_command = command (codes "decide")
     ∷ word (codes "TARGET") 2
     ∷ [])
 
+abbrev pub matrix_command : Shape
+matrix_command = command (codes "matrix") (needed (option (codes "config")) ∷ option (codes "method") ∷ [])
+
 abbrev pub report_command : Shape
 report_command = command (codes "report")
     (option (codes "config")
@@ -109,7 +113,7 @@ no_commands = record (new_app (codes "sipd")) { top = record (new_app (codes "si
 abbrev pub program : App
 program = record {
   top = record no_commands.top { is_leaf = false };
-  subs = check_command ∷ replay_command ∷ serve_command ∷ decide_command ∷ report_command ∷ user_command ∷ [];
+  subs = check_command ∷ replay_command ∷ serve_command ∷ decide_command ∷ matrix_command ∷ report_command ∷ user_command ∷ [];
 }
 
 -- ---- what is said of an option
@@ -185,6 +189,11 @@ pub record IsDecide (rows : List Row) (call : DecideCall) : Type 0 where
   pub method : string_bytes call.method ≡ needed_text (codes "METHOD") rows
   pub target : string_bytes call.target ≡ needed_text (codes "TARGET") rows
 
+-- `matrix`
+pub record IsMatrix (rows : List Row) (call : MatrixCall) : Type 0 where
+  pub config : string_bytes call.config ≡ needed_text (codes "config") rows
+  pub method : option_map string_bytes call.method ≡ text_at (codes "method") rows
+
 -- `report`
 pub record IsReport (rows : List Row) (call : ReportCall) : Type 0 where
   pub config : option_map string_bytes call.config ≡ text_at (codes "config") rows
@@ -206,6 +215,7 @@ IsCall name rows (calls.Check call) = (name ≡ codes "check") × IsCheck rows c
 IsCall name rows (calls.Replay call) = (name ≡ codes "replay") × IsReplay rows call
 IsCall name rows (calls.Serve call) = (name ≡ codes "serve") × IsServe rows call
 IsCall name rows (calls.Decide call) = (name ≡ codes "decide") × IsDecide rows call
+IsCall name rows (calls.Matrix call) = (name ≡ codes "matrix") × IsMatrix rows call
 IsCall name rows (calls.Report call) = (name ≡ codes "report") × IsReport rows call
 IsCall name rows (calls.User call) = (name ≡ codes "user") × IsUser rows call
 
@@ -241,7 +251,7 @@ user_misuse rows =
 
 -- the commands whose options all stand together
 abbrev pub is_free : Text → Bool
-is_free name = list_any (bytes_eq name) (codes "check" ∷ codes "replay" ∷ codes "decide" ∷ codes "report" ∷ [])
+is_free name = list_any (bytes_eq name) (codes "check" ∷ codes "replay" ∷ codes "decide" ∷ codes "matrix" ∷ codes "report" ∷ [])
 
 abbrev pub misuse_in : Text → List Row → Option Misuse
 misuse_in name rows =

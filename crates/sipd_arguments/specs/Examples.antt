@@ -31,6 +31,7 @@ pub record AreLines : Type 0 where
   pub joined : faults_in (line (codes "replay" ∷ codes "--config=a.toml" ∷ [])) ≡ []
   pub serve : faults_in (serving (codes "--turns" ∷ codes "3" ∷ codes "--record" ∷ codes "day" ∷ [])) ≡ []
   pub decide : faults_in (line (codes "decide" ∷ codes "INVITE" ∷ codes "--config" ∷ codes "a.toml" ∷ codes "a@b" ∷ [])) ≡ []
+  pub matrix : faults_in (line (codes "matrix" ∷ codes "--config" ∷ codes "a.toml" ∷ codes "--method" ∷ codes "list" ∷ [])) ≡ []
   pub no_option : faults_in (line (codes "report" ∷ [])) ≡ []
   pub user : faults_in (line (codes "user" ∷ codes "carol" ∷ codes "--realm" ∷ codes "office" ∷ codes "--sha256" ∷ [])) ≡ []
   pub no_command : faults_in (line []) ≡ kinds.MissingSubcommand ∷ []

@@ -7,6 +7,7 @@ pub enum Call {
     Replay(ReplayCall),
     Serve(ServeCall),
     Decide(DecideCall),
+    Matrix(MatrixCall),
     Report(ReportCall),
     User(UserCall),
 }
@@ -65,6 +66,15 @@ pub struct DecideCall {
     pub method: String,
     /// `USER@HOST`, or a SIP URI.
     pub target: String,
+}
+
+/// `matrix`: the whole policy as a table.
+#[derive(Drop)]
+pub struct MatrixCall {
+    /// The file of the configuration.
+    pub config: String,
+    /// A method, or `register` or `list`; INVITE where none is named.
+    pub method: Option<String>,
 }
 
 /// `report`: audit lines on standard input are made a table.

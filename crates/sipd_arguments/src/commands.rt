@@ -193,6 +193,24 @@ fn decide_command<'a>(alloc: Global) -> Result<Command<'a>, AllocError>
         .arg(word(alloc, "TARGET", 2, "USER@HOST or a SIP URI"))
 }
 
+/// `--method M`.
+fn method_argument<'a>(alloc: Global) -> Arg<'a>
+    ensures rule { rule_of result ≡ Definitions.option (codes "method") }
+    ensures local { result.global ≡ false }
+{
+    let help = "Of this method, or of register or list; of INVITE, if not given";
+    option(alloc, "method", "M", help)
+}
+
+fn matrix_command<'a>(alloc: Global) -> Result<Command<'a>, AllocError>
+    ensures { IfOk result (IsCommand Definitions.matrix_command) }
+{
+    Command::new(alloc, "matrix")
+        .about("Prints who may ask for whom, by which rule, as a table that is all of it")
+        .arg(config_argument(alloc).required(true))?
+        .arg(method_argument(alloc))
+}
+
 /// `--rule ID`.
 fn rule_argument<'a>(alloc: Global) -> Arg<'a>
     ensures rule { rule_of result ≡ Definitions.number_from 0 4294967295 (Definitions.option (codes "rule")) }
@@ -263,6 +281,7 @@ fn commands<'a>(alloc: Global) -> Result<Command<'a>, AllocError>
         .subcommand(replay_command(alloc)?)?
         .subcommand(serve_command(alloc)?)?
         .subcommand(decide_command(alloc)?)?
+        .subcommand(matrix_command(alloc)?)?
         .subcommand(report_command(alloc)?)?
         .subcommand(user_command(alloc)?)
 }

@@ -13,6 +13,8 @@ mod matches;
 mod misuse;
 mod summary;
 
-pub use call::{Call, CheckCall, DecideCall, ReplayCall, ReportCall, ServeCall, UserCall};
+pub use call::{
+    Call, CheckCall, DecideCall, MatrixCall, ReplayCall, ReportCall, ServeCall, UserCall,
+};
 pub use commands::{Parsed, parse};
 pub use summary::summary_of;

@@ -5,7 +5,9 @@ ghost use Rattle.sipd_arguments.specs.CommandLine as Definitions;
 ghost use Rattle.sipd_arguments.specs.CommandLine.{IsCall, IsCallOf, IsPlace};
 ghost use Rattle.sipd_arguments.specs.Commands.{IsWhy};
 
-use crate::call::{Call, CheckCall, DecideCall, ReplayCall, ReportCall, ServeCall, UserCall};
+use crate::call::{
+    Call, CheckCall, DecideCall, MatrixCall, ReplayCall, ReportCall, ServeCall, UserCall,
+};
 use crate::misuse::Misuse;
 use clap::ArgMatches;
 use sipd_exit::{RecordFault, RecordPlace};
@@ -192,6 +194,15 @@ fn decide_call(alloc: Global, matches: &ArgMatches<'_>) -> Result<DecideCall, Al
     })
 }
 
+fn matrix_call(alloc: Global, matches: &ArgMatches<'_>) -> Result<MatrixCall, AllocError>
+    ensures { IfOk result (Definitions.IsMatrix (rows_of (found_of matches.now))) }
+{
+    Ok(MatrixCall {
+        config: needed_text(alloc, matches, "config")?,
+        method: text_of(alloc, matches, "method")?,
+    })
+}
+
 fn report_call(alloc: Global, matches: &ArgMatches<'_>) -> Result<ReportCall, AllocError>
     ensures { IfOk result (Definitions.IsReport (rows_of (found_of matches.now))) }
 {
@@ -243,6 +254,7 @@ fn call_named(alloc: Global, name: &str, matches: &ArgMatches<'_>) -> Result<Cal
         "replay" => Ok(Call::Replay(replay_call(alloc, matches)?)),
         "serve" => Ok(Call::Serve(serve_call(alloc, matches)?)),
         "decide" => Ok(Call::Decide(decide_call(alloc, matches)?)),
+        "matrix" => Ok(Call::Matrix(matrix_call(alloc, matches)?)),
         "report" => Ok(Call::Report(report_call(alloc, matches)?)),
         "user" => Ok(Call::User(user_call(alloc, matches)?)),
         _ => Err(Uncalled::Misused(Misuse::NoCommand)),

@@ -14,32 +14,32 @@ use Rattle.sip_config_types.specs.declared.config.Config.{Config}
 use Rattle.sip_config_change.specs.declared.key.FrameKey.{FrameKey}
 use Rattle.sip_config_change.specs.Frame.{is_kept, frame_keys, frame_key_of}
 use Rattle.sipd_questions.specs.Show.{patterns_text, rule_text}
-use Rattle.sipd_changes.specs.declared.change.Move.TheVariants as Moving
-use Rattle.sipd_changes.specs.declared.change.Revision.TheVariants as Revised
-use Rattle.sipd_changes.specs.declared.change.DigestKey.TheVariants.{A1, A1Sha256}
-use Rattle.sipd_changes.specs.declared.change.Change.{Change}
-use Rattle.sipd_changes.specs.declared.change.Change.TheVariants.{Frame, BoundPort, Offset, UserComes, UserGoes, Digest, Joins, Leaves, NumberAgain, Order}
-use Rattle.sipd_changes.specs.declared.change.Change.TheVariants as Changed
-use Rattle.sipd_changes.specs.Changes.{unless, frame_changes, head_changes, same_sha256, digest_changes, group_changes, user_now, user_changes, is_same_address, is_hop, hop_now, hop_changes, is_row, row_now, row_changes, is_number, revised, rule_now, rules_now, rules_gone, numbers_in, order_changes, rule_changes, changes_of, needs_restart, can_be_taken}
+use Rattle.sipd_changes.specs.declared.difference.Move.TheVariants as Moving
+use Rattle.sipd_changes.specs.declared.difference.Revision.TheVariants as Revised
+use Rattle.sipd_changes.specs.declared.difference.DigestKey.TheVariants.{A1, A1Sha256}
+use Rattle.sipd_changes.specs.declared.difference.Difference.{Difference}
+use Rattle.sipd_changes.specs.declared.difference.Difference.TheVariants.{Frame, BoundPort, Offset, UserGoes, Digest, Joins, Leaves, NumberAgain, Order}
+use Rattle.sipd_changes.specs.declared.difference.Difference.TheVariants as Changed
+use Rattle.sipd_changes.specs.Changes.{unless, frame_changes, head_changes, same_sha256, digest_changes, group_changes, user_now, user_changes, is_same_address, is_hop, hop_now, hop_changes, is_row, row_now, row_changes, is_number, rule_now, rules_now, rules_gone, numbers_in, order_changes, rule_changes, changes_of, needs_restart, can_be_taken}
 
 -- whether some change of a list needs a restart
-abbrev any : List Change → Bool
+abbrev any : List Difference → Bool
 any changes = list_any needs_restart changes
 
 -- ---- lists of changes of which none does
 
-behind : (xs ys : List Change) → any ys ≡ false → any (xs ++ ys) ≡ any xs
+behind : (xs ys : List Difference) → any ys ≡ false → any (xs ++ ys) ≡ any xs
 behind [] ys none = none
 behind (x ∷ xs) ys none = ap (λ b. needs_restart x || b) (behind xs ys none)
 
-both : (xs ys : List Change) → any xs ≡ false → any ys ≡ false → any (xs ++ ys) ≡ false
+both : (xs ys : List Difference) → any xs ≡ false → any ys ≡ false → any (xs ++ ys) ≡ false
 both xs ys front none = behind xs ys none ∙ front
 
-each : {A : Type 0} (f : A → List Change) → ((x : A) → any (f x) ≡ false) → (xs : List A) → any (flat_map f xs) ≡ false
+each : {A : Type 0} (f : A → List Difference) → ((x : A) → any (f x) ≡ false) → (xs : List A) → any (flat_map f xs) ≡ false
 each f none [] = refl
 each f none (x ∷ xs) = both (f x) (flat_map f xs) (none x) (each f none xs)
 
-quiet : (stays : Bool) (change : Change) → needs_restart change ≡ false → any (unless stays change) ≡ false
+quiet : (stays : Bool) (change : Difference) → needs_restart change ≡ false → any (unless stays change) ≡ false
 quiet true change none = refl
 quiet false change none = rw none refl
 
@@ -124,7 +124,7 @@ or_assoc : (a b c : Bool) → (a || (b || c)) ≡ ((a || b) || c)
 or_assoc true b c = refl
 or_assoc false b c = refl
 
-port_any : (xs : List Change) (stays : Bool) (before now : ℕ) → any (xs ++ unless stays (BoundPort before now)) ≡ (any xs || not stays)
+port_any : (xs : List Difference) (stays : Bool) (before now : ℕ) → any (xs ++ unless stays (BoundPort before now)) ≡ (any xs || not stays)
 port_any [] true before now = refl
 port_any [] false before now = refl
 port_any (x ∷ xs) stays before now = ap (λ b. needs_restart x || b) (port_any xs stays before now) ∙ or_assoc (needs_restart x) (any xs) (not stays)

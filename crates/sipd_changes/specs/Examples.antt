@@ -1,9 +1,9 @@
 -- What is told of changes of the sample configuration.
-use Rattle.std.specs.Prelude.{ℕ, pos, negsuc, List, [], ◌∷◌, ◌++◌, codes, map, Some}
+use Rattle.std.specs.Prelude.{ℕ, List, [], ◌∷◌, codes, map, Some}
 use Rattle.sip_policy.specs.declared.rule.Rule.{Rule}
 use Rattle.sip_policy.specs.declared.rule_verdict.RuleVerdict.{RuleVerdict}
 use Rattle.sip_policy.specs.declared.user.User.{User}
-use Rattle.sip_policy.specs.Examples.{user_of, mufasas_a1, sample_users, rule_1, rule_2, rule_3, rule_4, rule_5, rule_6}
+use Rattle.sip_policy.specs.Examples.{user_of, mufasas_a1, rule_1, rule_2, rule_3, rule_4, rule_5, rule_6}
 use Rattle.sip_hops.specs.declared.hop.Hop.{Hop}
 use Rattle.sip_hops.specs.declared.host_address.HostAddress.{HostAddress}
 use Rattle.sip_hops.specs.Examples.{local}

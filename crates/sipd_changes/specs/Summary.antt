@@ -1,34 +1,34 @@
 -- What two configurations differ in, in a few words: users by how many they are, rules by their numbers, all else by its key.
-use Rattle.std.specs.Prelude.{ℕ, ◌+◌, Bool, true, false, not, ◌&&◌, ◌==◌, nat_le, if◌then◌else◌, List, [], ◌∷◌, ◌++◌, codes, decimal, length, map, fold, take, drop, Option, Some, None}
+use Rattle.std.specs.Prelude.{ℕ, ◌+◌, ◌==◌, nat_le, if◌then◌else◌, List, [], ◌∷◌, ◌++◌, codes, decimal, length, map, fold, take, drop, Option, Some, None}
 use Rattle.std.specs.List.{flat_map, list_any}
 use Rattle.std.specs.Str.{bytes_eq}
 use Rattle.sip_config_change.specs.FrameKey.{name_of}
 use Rattle.sipd_questions.specs.Decide.{numbered}
-use Rattle.sipd_changes.specs.declared.change.Revision.TheVariants.{Comes, Goes, Says}
-use Rattle.sipd_changes.specs.declared.change.Change.{Change}
-use Rattle.sipd_changes.specs.declared.change.Change.TheVariants.{Frame, BoundPort, Offset, UserComes, UserGoes, Digest, Joins, Leaves, Hop, Host, Rule, NumberAgain, Order}
+use Rattle.sipd_changes.specs.declared.difference.Revision.TheVariants.{Comes, Goes, Says}
+use Rattle.sipd_changes.specs.declared.difference.Difference.{Difference}
+use Rattle.sipd_changes.specs.declared.difference.Difference.TheVariants.{Frame, BoundPort, Offset, UserComes, UserGoes, Digest, Joins, Leaves, Hop, Host, Rule, NumberAgain, Order}
 use Rattle.sipd_changes.specs.declared.fate.Fate.{Fate}
 use Rattle.sipd_changes.specs.declared.fate.Fate.TheVariants.{More, Fewer, Changed}
 
 -- ---- users, by how many they are
 
 -- who comes, if a change tells that; who goes; and who has other digests or groups
-abbrev pub who_comes : Change → Option (List ℕ)
+abbrev pub who_comes : Difference → Option (List ℕ)
 who_comes (UserComes user) = Some user
 who_comes change = None
 
-abbrev pub who_goes : Change → Option (List ℕ)
+abbrev pub who_goes : Difference → Option (List ℕ)
 who_goes (UserGoes user) = Some user
 who_goes change = None
 
-abbrev pub who_changes : Change → Option (List ℕ)
+abbrev pub who_changes : Difference → Option (List ℕ)
 who_changes (Digest user key) = Some user
 who_changes (Joins user group) = Some user
 who_changes (Leaves user group) = Some user
 who_changes change = None
 
 -- the user of whom a change tells that this becomes of him
-abbrev pub user_of : Fate → Change → Option (List ℕ)
+abbrev pub user_of : Fate → Difference → Option (List ℕ)
 user_of More change = who_comes change
 user_of Fewer change = who_goes change
 user_of Changed change = who_changes change
@@ -40,7 +40,7 @@ one_more None (Some user) = 1
 one_more (Some before) (Some user) = if bytes_eq before user then 0 else 1
 
 -- how many users this becomes of, behind a change that told it of one, or of none
-abbrev pub users_in : Fate → Option (List ℕ) → List Change → ℕ
+abbrev pub users_in : Fate → Option (List ℕ) → List Difference → ℕ
 users_in fate before [] = 0
 users_in fate before (change ∷ changes) = one_more before (user_of fate change) + users_in fate (user_of fate change) changes
 
@@ -58,22 +58,22 @@ users_text fate count = if count == 0 then [] else decimal count ++ user_word co
 
 -- ---- rules, by their numbers
 
-abbrev pub which_comes : Change → Option ℕ
+abbrev pub which_comes : Difference → Option ℕ
 which_comes (Rule id (Comes behind text)) = Some id
 which_comes change = None
 
-abbrev pub which_goes : Change → Option ℕ
+abbrev pub which_goes : Difference → Option ℕ
 which_goes (Rule id (Goes text)) = Some id
 which_goes change = None
 
 -- which rule says something else, or is for other requests
-abbrev pub which_changes : Change → Option ℕ
+abbrev pub which_changes : Difference → Option ℕ
 which_changes (Rule id (Says before now)) = Some id
 which_changes (NumberAgain id) = Some id
 which_changes change = None
 
 -- the number of the rule of which a change tells that this becomes of it
-abbrev pub rule_of : Fate → Change → Option ℕ
+abbrev pub rule_of : Fate → Difference → Option ℕ
 rule_of More change = which_comes change
 rule_of Fewer change = which_goes change
 rule_of Changed change = which_changes change
@@ -85,7 +85,7 @@ unless_same None (Some id) = id ∷ []
 unless_same (Some before) (Some id) = if before == id then [] else id ∷ []
 
 -- the numbers of the rules that this becomes of, behind a change that told it of one, or of none
-abbrev pub rules_in : Fate → Option ℕ → List Change → List ℕ
+abbrev pub rules_in : Fate → Option ℕ → List Difference → List ℕ
 rules_in fate before [] = []
 rules_in fate before (change ∷ changes) = unless_same before (rule_of fate change) ++ rules_in fate (rule_of fate change) changes
 
@@ -136,7 +136,7 @@ rules_text fate (id ∷ ids) = rule_word ids ++ numbers_text (id ∷ ids) ++ rul
 -- ---- all else, by its key
 
 -- what of the file a change is of, beside users and rules
-abbrev pub key_of : Change → List ℕ
+abbrev pub key_of : Difference → List ℕ
 key_of (Frame key) = name_of key
 key_of (BoundPort before now) = codes "address"
 key_of (Offset before now) = codes "offset"
@@ -153,7 +153,7 @@ abbrev pub fixed_keys : List (List ℕ)
 fixed_keys = codes "host" ∷ codes "port" ∷ codes "address" ∷ codes "domains" ∷ codes "realm" ∷ []
 
 -- `KEY changed`, if some change is of it
-abbrev pub key_text : List Change → List ℕ → List ℕ
+abbrev pub key_text : List Difference → List ℕ → List ℕ
 key_text changes key = if list_any (λ change. bytes_eq (key_of change) key) changes then key ++ codes " changed" else []
 
 -- ---- all
@@ -171,16 +171,16 @@ and_part text (byte ∷ bytes) = text ++ comma_behind text ++ (byte ∷ bytes)
 abbrev pub fates : List Fate
 fates = More ∷ Fewer ∷ Changed ∷ []
 
-abbrev pub user_parts : List Change → List (List ℕ)
+abbrev pub user_parts : List Difference → List (List ℕ)
 user_parts changes = map (λ fate. users_text fate (users_in fate None changes)) fates
 
-abbrev pub rule_parts : List Change → List (List ℕ)
+abbrev pub rule_parts : List Difference → List (List ℕ)
 rule_parts changes = map (λ fate. rules_text fate (rules_in fate None changes)) fates
 
-abbrev pub key_parts : List (List ℕ) → List Change → List (List ℕ)
+abbrev pub key_parts : List (List ℕ) → List Difference → List (List ℕ)
 key_parts keys changes = map (key_text changes) keys
 
-abbrev pub summed_up : List Change → List ℕ
+abbrev pub summed_up : List Difference → List ℕ
 summed_up [] = codes "nothing differs"
 summed_up (change ∷ changes) =
     fold and_part [] (user_parts (change ∷ changes) ++ rule_parts (change ∷ changes) ++ key_parts policy_keys (change ∷ changes)

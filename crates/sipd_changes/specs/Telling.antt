@@ -1,20 +1,19 @@
 -- The text of changes, line by line.
 use Rattle.std.specs.Prelude.{ℕ, List, [], ◌∷◌, ◌++◌, codes, decimal, Option, Some, None, if◌then◌else◌}
 use Rattle.std.specs.List.{flat_map}
-use Rattle.sip_uri.specs.declared.addr.Addr.{Addr}
 use Rattle.sip_uri.specs.Addresses.{addr_text}
 use Rattle.sip_config_change.specs.FrameKey.{name_of}
 use Rattle.sipd_questions.specs.Decide.{numbered}
 use Rattle.sipd_questions.specs.Show.{signed}
-use Rattle.sipd_changes.specs.declared.change.Move.{Move}
-use Rattle.sipd_changes.specs.declared.change.Move.TheVariants as Moving
-use Rattle.sipd_changes.specs.declared.change.Revision.{Revision}
-use Rattle.sipd_changes.specs.declared.change.Revision.TheVariants as Revised
-use Rattle.sipd_changes.specs.declared.change.DigestKey.{DigestKey}
-use Rattle.sipd_changes.specs.declared.change.DigestKey.TheVariants.{A1, A1Sha256}
-use Rattle.sipd_changes.specs.declared.change.Change.{Change}
-use Rattle.sipd_changes.specs.declared.change.Change.TheVariants.{Frame, BoundPort, Offset, UserComes, UserGoes, Digest, Joins, Leaves, NumberAgain, Order}
-use Rattle.sipd_changes.specs.declared.change.Change.TheVariants as Changed
+use Rattle.sipd_changes.specs.declared.difference.Move.{Move}
+use Rattle.sipd_changes.specs.declared.difference.Move.TheVariants as Moving
+use Rattle.sipd_changes.specs.declared.difference.Revision.{Revision}
+use Rattle.sipd_changes.specs.declared.difference.Revision.TheVariants as Revised
+use Rattle.sipd_changes.specs.declared.difference.DigestKey.{DigestKey}
+use Rattle.sipd_changes.specs.declared.difference.DigestKey.TheVariants.{A1, A1Sha256}
+use Rattle.sipd_changes.specs.declared.difference.Difference.{Difference}
+use Rattle.sipd_changes.specs.declared.difference.Difference.TheVariants.{Frame, BoundPort, Offset, UserComes, UserGoes, Digest, Joins, Leaves, NumberAgain, Order}
+use Rattle.sipd_changes.specs.declared.difference.Difference.TheVariants as Changed
 use Rattle.sipd_changes.specs.Changes.{can_be_taken}
 
 -- ---- users
@@ -70,7 +69,7 @@ order_text ids = codes "rules in another order:" ++ flat_map (λ id. codes " " +
 
 -- ---- all
 
-abbrev pub change_text : Change → List ℕ
+abbrev pub change_text : Difference → List ℕ
 change_text (Frame key) = name_of key ++ codes " differs: a server that runs can't take it, and a restart with it begins anew\n"
 change_text (BoundPort before now) =
     numbered (codes "port of address ") before (codes " before, ") ++ decimal now ++ codes " now: a server that runs can't take it\n"
@@ -88,10 +87,10 @@ change_text (NumberAgain id) =
 change_text (Order ids) = order_text ids
 
 -- whether a server that runs can take it
-abbrev pub ending_of : List Change → List ℕ
+abbrev pub ending_of : List Difference → List ℕ
 ending_of [] = codes "nothing differs\n"
 ending_of (change ∷ changes) =
     if can_be_taken (change ∷ changes) then codes "a server that runs can take it\n" else codes "a server that runs can't take it\n"
 
-abbrev pub told : List Change → List ℕ
+abbrev pub told : List Difference → List ℕ
 told changes = flat_map change_text changes ++ ending_of changes

@@ -1,5 +1,5 @@
 //! Worked examples of changes told and summed up, as contracts that compute.
-ghost use Rattle.std.specs.Prelude.{◌≡◌, ◌++◌, [], ◌∷◌, codes, pos, negsuc, true, false};
+ghost use Rattle.std.specs.Prelude.{◌≡◌, ◌++◌, [], ◌∷◌, codes, negsuc, true, false};
 ghost use Rattle.sip_policy.specs.Examples.{rule_1, rule_2, rule_3, rule_4, rule_5, rule_6};
 ghost use Rattle.sip_policy.specs.declared.rule_verdict.RuleVerdict.{RuleVerdict};
 ghost use Rattle.sip_hops.specs.Examples.{local};
@@ -84,7 +84,12 @@ pub fn changes_are_summed_up()
     ensures users { summed_of (with_users zazu_for_help) ≡ codes "1 user more, 1 user fewer, 1 user changed" }
     ensures same_users { summed_of (with_users same_names) ≡ codes "2 users changed" }
     ensures nobody { summed_of (with_users []) ≡ codes "3 users fewer" }
-    ensures places { summed_of (record sample { hops = far_first; rules = rule_1 ∷ rule_2 ∷ rule_3 ∷ rule_4 ∷ by_second ∷ rule_6 ∷ []; addresses = pc_at 5092; offset = negsuc 299 })
+    ensures places { summed_of (record sample {
+      hops = far_first;
+      rules = rule_1 ∷ rule_2 ∷ rule_3 ∷ rule_4 ∷ by_second ∷ rule_6 ∷ [];
+      addresses = pc_at 5092;
+      offset = negsuc 299;
+    })
         ≡ codes "offset changed, hop changed, host_address changed" }
     ensures frame { summed_of moved ≡ codes "address changed, realm changed" }
 {}
@@ -92,7 +97,8 @@ pub fn changes_are_summed_up()
 /// And rules by their numbers, twelve at most; one of which all is told twice is named once.
 pub fn rules_are_summed_up()
     ensures goes { summed_of (with_rules (rule_1 ∷ rule_2 ∷ rule_4 ∷ rule_5 ∷ rule_6 ∷ [])) ≡ codes "rule 3 gone" }
-    ensures comes { summed_of (with_rules (record rule_6 { id = 7 } ∷ rule_1 ∷ record rule_3 { id = 8 } ∷ rule_2 ∷ rule_3 ∷ rule_4 ∷ rule_5 ∷ rule_6 ∷ []))
+    ensures comes { summed_of (with_rules
+        (record rule_6 { id = 7 } ∷ rule_1 ∷ record rule_3 { id = 8 } ∷ rule_2 ∷ rule_3 ∷ rule_4 ∷ rule_5 ∷ rule_6 ∷ []))
         ≡ codes "rules 7 and 8 new" }
     ensures again { summed_of (with_rules (rule_1 ∷ rule_2 ∷ record rule_4 { id = 3 } ∷ record rule_5 { verdict = RuleVerdict.Deny } ∷ rule_6 ∷ []))
         ≡ codes "rule 4 gone, rules 3 and 5 changed" }

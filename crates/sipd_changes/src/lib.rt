@@ -11,7 +11,7 @@
 //! ```
 #![tactic(auto)]
 
-mod change;
+mod difference;
 mod differing;
 pub mod examples;
 mod fate;
@@ -22,7 +22,7 @@ mod summary;
 mod telling;
 mod users;
 
-pub use change::{Change, DigestKey, Move, Revision};
+pub use difference::{Difference, DigestKey, Move, Revision};
 pub use differing::{can_be_taken, changes_of};
 pub use summary::summed_up;
 pub use telling::told;

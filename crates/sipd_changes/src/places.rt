@@ -2,11 +2,11 @@
 ghost use Rattle.std.specs.Prelude.{◌≡◌, [], ◌∷◌, ◌++◌, find, OnOk};
 ghost use Rattle.std.specs.List.{flat_map, list_any};
 ghost use Rattle.std.specs.Option.{option_copied};
-ghost use Rattle.sipd_changes.specs.declared.change.Move.TheVariants as Moving;
-ghost use Rattle.sipd_changes.specs.declared.change.Change.TheVariants as Changed;
+ghost use Rattle.sipd_changes.specs.declared.difference.Move.TheVariants as Moving;
+ghost use Rattle.sipd_changes.specs.declared.difference.Difference.TheVariants as Changed;
 ghost use Rattle.sipd_changes.specs.Changes as Definitions;
 
-use crate::change::{Change, Move};
+use crate::difference::{Difference, Move};
 use sip_hops::{Hop, HostAddress};
 use sip_text::{Items, same_bytes, same_no_case};
 use sip_uri::Addr;
@@ -39,15 +39,19 @@ fn has_hop(hops: &[Hop], name: &[u8]) -> bool
 }
 
 /// Adds a change of a hop.
-fn push_hop(changes: &mut Items<Change>, hop: &Hop, change: Move) -> Result<(), AllocError>
+fn push_hop(changes: &mut Items<Difference>, hop: &Hop, change: Move) -> Result<(), AllocError>
     ensures { OnOk result (changes.new ≡ changes.old ++ Changed.Hop hop.now.name change ∷ []) }
 {
     let name = hop.name.clone()?;
-    changes.push(Change::Hop { name, change })
+    changes.push(Difference::Hop { name, change })
 }
 
 /// Adds what becomes of a hop that was another one before, or wasn't there.
-fn add_hop(changes: &mut Items<Change>, now: &Hop, before: Option<&Hop>) -> Result<(), AllocError>
+fn add_hop(
+    changes: &mut Items<Difference>,
+    now: &Hop,
+    before: Option<&Hop>,
+) -> Result<(), AllocError>
     ensures { OnOk result (changes.new ≡ changes.old ++ Definitions.hop_now now.now (option_copied before.entry)) }
 {
     let Some(before) = before else {
@@ -63,7 +67,7 @@ fn add_hop(changes: &mut Items<Change>, now: &Hop, before: Option<&Hop>) -> Resu
     push_hop(changes, now, change)
 }
 
-fn add_hops_now(changes: &mut Items<Change>, old: &[Hop], new: &[Hop]) -> Result<(), AllocError>
+fn add_hops_now(changes: &mut Items<Difference>, old: &[Hop], new: &[Hop]) -> Result<(), AllocError>
     ensures { OnOk result (changes.new ≡ changes.old
         ++ flat_map (λ hop. Definitions.hop_now hop (find (Definitions.is_hop hop.name) old.now)) new.now) }
 {
@@ -74,7 +78,7 @@ fn add_hops_now(changes: &mut Items<Change>, old: &[Hop], new: &[Hop]) -> Result
 }
 
 /// Adds that a hop goes, unless its name stays.
-fn add_gone_hop(changes: &mut Items<Change>, stays: bool, hop: &Hop) -> Result<(), AllocError>
+fn add_gone_hop(changes: &mut Items<Difference>, stays: bool, hop: &Hop) -> Result<(), AllocError>
     ensures { OnOk result (changes.new ≡ changes.old
         ++ Definitions.unless stays (Changed.Hop hop.now.name (Moving.Goes hop.now.address))) }
 {
@@ -84,7 +88,11 @@ fn add_gone_hop(changes: &mut Items<Change>, stays: bool, hop: &Hop) -> Result<(
     push_hop(changes, hop, Move::Goes(hop.address))
 }
 
-fn add_hops_gone(changes: &mut Items<Change>, old: &[Hop], new: &[Hop]) -> Result<(), AllocError>
+fn add_hops_gone(
+    changes: &mut Items<Difference>,
+    old: &[Hop],
+    new: &[Hop],
+) -> Result<(), AllocError>
     ensures { OnOk result (changes.new ≡ changes.old
         ++ flat_map (λ hop. Definitions.unless (list_any (Definitions.is_hop hop.name) new.now)
         (Changed.Hop hop.name (Moving.Goes hop.address))) old.now) }
@@ -97,7 +105,7 @@ fn add_hops_gone(changes: &mut Items<Change>, old: &[Hop], new: &[Hop]) -> Resul
 
 /// Adds what becomes of hops.
 pub(crate) fn add_hops(
-    changes: &mut Items<Change>,
+    changes: &mut Items<Difference>,
     old: &[Hop],
     new: &[Hop],
 ) -> Result<(), AllocError>
@@ -128,11 +136,15 @@ fn has_row(rows: &[HostAddress], host: &[u8], port: u16) -> bool
 }
 
 /// Adds a change of the address of a host.
-fn push_row(changes: &mut Items<Change>, row: &HostAddress, change: Move) -> Result<(), AllocError>
+fn push_row(
+    changes: &mut Items<Difference>,
+    row: &HostAddress,
+    change: Move,
+) -> Result<(), AllocError>
     ensures { OnOk result (changes.new ≡ changes.old ++ Changed.Host row.now.host row.now.port change ∷ []) }
 {
     let host = row.host.clone()?;
-    changes.push(Change::Host {
+    changes.push(Difference::Host {
         host,
         port: row.port,
         change,
@@ -141,7 +153,7 @@ fn push_row(changes: &mut Items<Change>, row: &HostAddress, change: Move) -> Res
 
 /// Adds what becomes of the address of a host that had another one before, or none.
 fn add_row(
-    changes: &mut Items<Change>,
+    changes: &mut Items<Difference>,
     now: &HostAddress,
     before: Option<&HostAddress>,
 ) -> Result<(), AllocError>
@@ -161,7 +173,7 @@ fn add_row(
 }
 
 fn add_rows_now(
-    changes: &mut Items<Change>,
+    changes: &mut Items<Difference>,
     old: &[HostAddress],
     new: &[HostAddress],
 ) -> Result<(), AllocError>
@@ -176,7 +188,7 @@ fn add_rows_now(
 
 /// Adds that the address of a host goes, unless the host with its port stays.
 fn add_gone_row(
-    changes: &mut Items<Change>,
+    changes: &mut Items<Difference>,
     stays: bool,
     row: &HostAddress,
 ) -> Result<(), AllocError>
@@ -190,7 +202,7 @@ fn add_gone_row(
 }
 
 fn add_rows_gone(
-    changes: &mut Items<Change>,
+    changes: &mut Items<Difference>,
     old: &[HostAddress],
     new: &[HostAddress],
 ) -> Result<(), AllocError>
@@ -207,7 +219,7 @@ fn add_rows_gone(
 
 /// Adds what becomes of the addresses of hosts.
 pub(crate) fn add_rows(
-    changes: &mut Items<Change>,
+    changes: &mut Items<Difference>,
     old: &[HostAddress],
     new: &[HostAddress],
 ) -> Result<(), AllocError>

@@ -1,15 +1,15 @@
 //! What differs in the rules, for `differing`: texts, numbers that are used again, and the order of those that stay.
 ghost use Rattle.std.specs.Prelude.{◌≡◌, ◌++◌, [], ◌∷◌, nat_eq, if◌then◌else◌, find, None, IfOk, OnOk};
-ghost use Rattle.std.specs.List.{flat_map, list_any};
+ghost use Rattle.std.specs.List.{list_any};
 ghost use Rattle.std.specs.Option.{option_copied};
 ghost use Rattle.std.specs.Cmp.Lexicographic.{pointwise};
 ghost use Rattle.std.specs.Str.{bytes_eq};
 ghost use Rattle.sipd_questions.specs.Show.{patterns_text, rule_text};
-ghost use Rattle.sipd_changes.specs.declared.change.Revision.TheVariants as Revised;
-ghost use Rattle.sipd_changes.specs.declared.change.Change.TheVariants as Changed;
+ghost use Rattle.sipd_changes.specs.declared.difference.Revision.TheVariants as Revised;
+ghost use Rattle.sipd_changes.specs.declared.difference.Difference.TheVariants as Changed;
 ghost use Rattle.sipd_changes.specs.Changes as Definitions;
 
-use crate::change::{Change, Revision};
+use crate::difference::{Difference, Revision};
 use sip_config_types::Config;
 use sip_hops::Hop;
 use sip_policy::Rule;
@@ -36,15 +36,15 @@ fn has_rule(rules: &[Rule], id: u32) -> bool
 }
 
 /// Adds a change of a rule.
-fn push_rule(changes: &mut Items<Change>, id: u32, revision: Revision) -> Result<(), AllocError>
+fn push_rule(changes: &mut Items<Difference>, id: u32, revision: Revision) -> Result<(), AllocError>
     ensures { OnOk result (changes.new ≡ changes.old ++ Changed.Rule id revision ∷ []) }
 {
-    changes.push(Change::Rule { id, revision })
+    changes.push(Difference::Rule { id, revision })
 }
 
 /// Adds that a rule says something else, unless it says the same.
 fn add_text(
-    changes: &mut Items<Change>,
+    changes: &mut Items<Difference>,
     id: u32,
     before: Bytes,
     now: Bytes,
@@ -59,7 +59,7 @@ fn add_text(
 
 /// Adds that a number is used again, unless the rule is for the same requests.
 fn add_number(
-    changes: &mut Items<Change>,
+    changes: &mut Items<Difference>,
     id: u32,
     before: &[u8],
     now: &[u8],
@@ -69,12 +69,12 @@ fn add_number(
     if same_bytes(before, now) {
         return Ok(());
     }
-    changes.push(Change::NumberAgain(id))
+    changes.push(Difference::NumberAgain(id))
 }
 
 fn add_revised(
     alloc: Global,
-    changes: &mut Items<Change>,
+    changes: &mut Items<Difference>,
     old_hops: &[Hop],
     new_hops: &[Hop],
     before: &Rule,
@@ -98,7 +98,7 @@ fn add_revised(
 /// Adds what becomes of a rule behind another one, which was another one before, or wasn't there.
 fn add_rule(
     alloc: Global,
-    changes: &mut Items<Change>,
+    changes: &mut Items<Difference>,
     old: &Config,
     hops: &[Hop],
     behind: Option<u32>,
@@ -116,7 +116,7 @@ fn add_rule(
 
 fn add_rules_now(
     alloc: Global,
-    changes: &mut Items<Change>,
+    changes: &mut Items<Difference>,
     old: &Config,
     hops: &[Hop],
     rules: &[Rule],
@@ -134,7 +134,7 @@ fn add_rules_now(
 /// Adds that a rule goes, unless its number stays.
 fn add_gone_rule(
     alloc: Global,
-    changes: &mut Items<Change>,
+    changes: &mut Items<Difference>,
     stays: bool,
     hops: &[Hop],
     rule: &Rule,
@@ -151,7 +151,7 @@ fn add_gone_rule(
 
 fn add_rules_gone(
     alloc: Global,
-    changes: &mut Items<Change>,
+    changes: &mut Items<Difference>,
     old: &Config,
     new: &[Rule],
 ) -> Result<(), AllocError>
@@ -192,7 +192,7 @@ fn same_numbers(left: &[u32], right: &[u32]) -> bool
 /// Adds the order of the rules that stay, unless it stays.
 fn add_order(
     alloc: Global,
-    changes: &mut Items<Change>,
+    changes: &mut Items<Difference>,
     old: &[Rule],
     new: &[Rule],
 ) -> Result<(), AllocError>
@@ -203,13 +203,13 @@ fn add_order(
     if same_numbers(before.as_slice(), now.as_slice()) {
         return Ok(());
     }
-    changes.push(Change::Order(now))
+    changes.push(Difference::Order(now))
 }
 
 /// Adds what becomes of rules.
 pub(crate) fn add_rules(
     alloc: Global,
-    changes: &mut Items<Change>,
+    changes: &mut Items<Difference>,
     old: &Config,
     new: &Config,
 ) -> Result<(), AllocError>

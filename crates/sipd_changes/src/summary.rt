@@ -1,11 +1,11 @@
 //! What a change was in a few words, for the line that a serving program prints when another configuration comes into force.
-ghost use Rattle.std.specs.Prelude.{◌≡◌, ◌++◌, codes, decimal, None, fold, length, IfOk, OnOk};
+ghost use Rattle.std.specs.Prelude.{◌≡◌, ◌++◌, codes, decimal, None, fold, IfOk, OnOk};
 ghost use Rattle.std.specs.List.{flat_map, list_any};
 ghost use Rattle.std.specs.Option.{option_copied};
 ghost use Rattle.std.specs.Str.{bytes_eq};
 ghost use Rattle.sipd_changes.specs.Summary as Definitions;
 
-use crate::change::{Change, Revision};
+use crate::difference::{Difference, Revision};
 use crate::fate::Fate;
 use sip_text::{Bytes, Items, same_bytes};
 use sipd_questions::put_number;
@@ -16,37 +16,37 @@ const MOST_NUMBERS: usize = 12;
 
 // ---- users
 
-fn who_comes(change: &Change) -> Option<&[u8]>
+fn who_comes(change: &Difference) -> Option<&[u8]>
     ensures { option_copied result ≡ Definitions.who_comes change.now }
 {
     match change {
-        Change::UserComes(user) => Some(user.as_slice()),
+        Difference::UserComes(user) => Some(user.as_slice()),
         _ => None,
     }
 }
 
-fn who_goes(change: &Change) -> Option<&[u8]>
+fn who_goes(change: &Difference) -> Option<&[u8]>
     ensures { option_copied result ≡ Definitions.who_goes change.now }
 {
     match change {
-        Change::UserGoes(user) => Some(user.as_slice()),
+        Difference::UserGoes(user) => Some(user.as_slice()),
         _ => None,
     }
 }
 
-fn who_changes(change: &Change) -> Option<&[u8]>
+fn who_changes(change: &Difference) -> Option<&[u8]>
     ensures { option_copied result ≡ Definitions.who_changes change.now }
 {
     match change {
-        Change::Digest { user, .. } => Some(user.as_slice()),
-        Change::Joins { user, .. } => Some(user.as_slice()),
-        Change::Leaves { user, .. } => Some(user.as_slice()),
+        Difference::Digest { user, .. } => Some(user.as_slice()),
+        Difference::Joins { user, .. } => Some(user.as_slice()),
+        Difference::Leaves { user, .. } => Some(user.as_slice()),
         _ => None,
     }
 }
 
 /// The user of whom a change tells that this becomes of him.
-fn user_of(fate: Fate, change: &Change) -> Option<&[u8]>
+fn user_of(fate: Fate, change: &Difference) -> Option<&[u8]>
     ensures { option_copied result ≡ Definitions.user_of fate change.now }
 {
     match fate {
@@ -68,7 +68,7 @@ fn one_more(before: Option<&[u8]>, now: Option<&[u8]>) -> u64
 }
 
 /// How many users this becomes of.
-fn users_in(fate: Fate, changes: &[Change]) -> u64
+fn users_in(fate: Fate, changes: &[Difference]) -> u64
     ensures { result ≡ Definitions.users_in fate None changes.now }
 {
     let mut count: u64 = 0;
@@ -114,11 +114,11 @@ fn users_text(alloc: Global, fate: Fate, count: u64) -> Result<Bytes, AllocError
 
 // ---- rules
 
-fn which_comes(change: &Change) -> Option<u32>
+fn which_comes(change: &Difference) -> Option<u32>
     ensures { result ≡ Definitions.which_comes change.now }
 {
     match change {
-        Change::Rule {
+        Difference::Rule {
             id,
             revision: Revision::Comes { .. },
         } => Some(*id),
@@ -126,11 +126,11 @@ fn which_comes(change: &Change) -> Option<u32>
     }
 }
 
-fn which_goes(change: &Change) -> Option<u32>
+fn which_goes(change: &Difference) -> Option<u32>
     ensures { result ≡ Definitions.which_goes change.now }
 {
     match change {
-        Change::Rule {
+        Difference::Rule {
             id,
             revision: Revision::Goes(_),
         } => Some(*id),
@@ -139,21 +139,21 @@ fn which_goes(change: &Change) -> Option<u32>
 }
 
 /// Which rule says something else, or is for other requests.
-fn which_changes(change: &Change) -> Option<u32>
+fn which_changes(change: &Difference) -> Option<u32>
     ensures { result ≡ Definitions.which_changes change.now }
 {
     match change {
-        Change::Rule {
+        Difference::Rule {
             id,
             revision: Revision::Says { .. },
         } => Some(*id),
-        Change::NumberAgain(id) => Some(*id),
+        Difference::NumberAgain(id) => Some(*id),
         _ => None,
     }
 }
 
 /// The number of the rule of which a change tells that this becomes of it.
-fn rule_of(fate: Fate, change: &Change) -> Option<u32>
+fn rule_of(fate: Fate, change: &Difference) -> Option<u32>
     ensures { result ≡ Definitions.rule_of fate change.now }
 {
     match fate {
@@ -175,7 +175,7 @@ fn add_id(ids: &mut Items<u32>, before: Option<u32>, now: Option<u32>) -> Result
 }
 
 /// The numbers of the rules that this becomes of.
-fn rules_in(alloc: Global, fate: Fate, changes: &[Change]) -> Result<Items<u32>, AllocError>
+fn rules_in(alloc: Global, fate: Fate, changes: &[Difference]) -> Result<Items<u32>, AllocError>
     ensures { IfOk result (λ ids. ids ≡ Definitions.rules_in fate None changes.now) }
 {
     let mut ids = Items::new(alloc);
@@ -294,27 +294,27 @@ fn rules_text(alloc: Global, fate: Fate, ids: &[u32]) -> Result<Bytes, AllocErro
 // ---- all else
 
 /// What of the file a change is of, beside users and rules.
-fn key_of(change: &Change) -> &[u8]
+fn key_of(change: &Difference) -> &[u8]
     ensures { result.now ≡ Definitions.key_of change.now }
 {
     match change {
-        Change::Frame(key) => key.name().as_bytes(),
-        Change::BoundPort { .. } => b"address",
-        Change::Offset { .. } => b"offset",
-        Change::Hop { .. } => b"hop",
-        Change::Host { .. } => b"host_address",
-        Change::Order(_) => b"order of rules",
+        Difference::Frame(key) => key.name().as_bytes(),
+        Difference::BoundPort { .. } => b"address",
+        Difference::Offset { .. } => b"offset",
+        Difference::Hop { .. } => b"hop",
+        Difference::Host { .. } => b"host_address",
+        Difference::Order(_) => b"order of rules",
         _ => b"",
     }
 }
 
-fn is_of(key: &[u8], change: &Change) -> bool
+fn is_of(key: &[u8], change: &Difference) -> bool
     ensures { result ≡ bytes_eq (Definitions.key_of change.now) key.now }
 {
     same_bytes(key_of(change), key)
 }
 
-fn is_changed(key: &[u8], changes: &[Change]) -> bool
+fn is_changed(key: &[u8], changes: &[Difference]) -> bool
     ensures { result ≡ list_any (λ change. bytes_eq (Definitions.key_of change) key.now) changes.now }
 {
     changes.iter().any(|change| is_of(key, change))
@@ -344,7 +344,7 @@ fn add_part(text: &mut Bytes, part: &[u8]) -> Result<(), AllocError>
 fn add_key(
     alloc: Global,
     text: &mut Bytes,
-    changes: &[Change],
+    changes: &[Difference],
     key: &[u8],
 ) -> Result<(), AllocError>
     ensures { OnOk result (text.new ≡ Definitions.and_part text.old (Definitions.key_text changes.now key.now)) }
@@ -360,7 +360,7 @@ fn add_key(
 fn add_users(
     alloc: Global,
     text: &mut Bytes,
-    changes: &[Change],
+    changes: &[Difference],
     fate: Fate,
 ) -> Result<(), AllocError>
     ensures { OnOk result (text.new ≡ Definitions.and_part text.old (Definitions.users_text fate (Definitions.users_in fate None changes.now))) }
@@ -373,7 +373,7 @@ fn add_users(
 fn add_rules(
     alloc: Global,
     text: &mut Bytes,
-    changes: &[Change],
+    changes: &[Difference],
     fate: Fate,
 ) -> Result<(), AllocError>
     ensures { OnOk result (text.new ≡ Definitions.and_part text.old (Definitions.rules_text fate (Definitions.rules_in fate None changes.now))) }
@@ -383,7 +383,7 @@ fn add_rules(
     add_part(text, part.as_slice())
 }
 
-fn add_user_parts(alloc: Global, text: &mut Bytes, changes: &[Change]) -> Result<(), AllocError>
+fn add_user_parts(alloc: Global, text: &mut Bytes, changes: &[Difference]) -> Result<(), AllocError>
     ensures { OnOk result (text.new ≡ fold Definitions.and_part text.old (Definitions.user_parts changes.now)) }
 {
     add_users(alloc, text, changes, Fate::More)?;
@@ -391,7 +391,7 @@ fn add_user_parts(alloc: Global, text: &mut Bytes, changes: &[Change]) -> Result
     add_users(alloc, text, changes, Fate::Changed)
 }
 
-fn add_rule_parts(alloc: Global, text: &mut Bytes, changes: &[Change]) -> Result<(), AllocError>
+fn add_rule_parts(alloc: Global, text: &mut Bytes, changes: &[Difference]) -> Result<(), AllocError>
     ensures { OnOk result (text.new ≡ fold Definitions.and_part text.old (Definitions.rule_parts changes.now)) }
 {
     add_rules(alloc, text, changes, Fate::More)?;
@@ -400,7 +400,11 @@ fn add_rule_parts(alloc: Global, text: &mut Bytes, changes: &[Change]) -> Result
 }
 
 /// Adds which keys of the policy changed, beside users and rules.
-fn add_policy_parts(alloc: Global, text: &mut Bytes, changes: &[Change]) -> Result<(), AllocError>
+fn add_policy_parts(
+    alloc: Global,
+    text: &mut Bytes,
+    changes: &[Difference],
+) -> Result<(), AllocError>
     ensures { OnOk result (text.new ≡ fold Definitions.and_part text.old (Definitions.key_parts Definitions.policy_keys changes.now)) }
 {
     add_key(alloc, text, changes, b"order of rules")?;
@@ -410,7 +414,11 @@ fn add_policy_parts(alloc: Global, text: &mut Bytes, changes: &[Change]) -> Resu
 }
 
 /// Adds which keys changed that can't while a server runs.
-fn add_frame_parts(alloc: Global, text: &mut Bytes, changes: &[Change]) -> Result<(), AllocError>
+fn add_frame_parts(
+    alloc: Global,
+    text: &mut Bytes,
+    changes: &[Difference],
+) -> Result<(), AllocError>
     ensures { OnOk result (text.new ≡ fold Definitions.and_part text.old (Definitions.key_parts Definitions.fixed_keys changes.now)) }
 {
     add_key(alloc, text, changes, b"host")?;
@@ -422,7 +430,7 @@ fn add_frame_parts(alloc: Global, text: &mut Bytes, changes: &[Change]) -> Resul
 
 /// What changed in a few words, without an end of the line: users by how many they are, rules by their numbers, of which twelve are named
 /// at most, and all else by its key; or that nothing differs. `AllocError` is the only refusal.
-pub fn summed_up(alloc: Global, changes: &Items<Change>) -> Result<Bytes, AllocError>
+pub fn summed_up(alloc: Global, changes: &Items<Difference>) -> Result<Bytes, AllocError>
     ensures { IfOk result (λ text. text ≡ Definitions.summed_up changes.now) }
 {
     let changes = changes.as_slice();

@@ -2,11 +2,11 @@
 ghost use Rattle.std.specs.Prelude.{◌≡◌, ◌++◌, codes, decimal, IfOk, OnOk};
 ghost use Rattle.std.specs.List.{flat_map};
 ghost use Rattle.sip_uri.specs.Addresses;
-ghost use Rattle.sipd_changes.specs.declared.change.Change.TheVariants as Changed;
+ghost use Rattle.sipd_changes.specs.declared.difference.Difference.TheVariants as Changed;
 ghost use Rattle.sipd_questions.specs.Decide.{numbered};
 ghost use Rattle.sipd_changes.specs.Telling as Definitions;
 
-use crate::change::{Change, DigestKey, Move, Revision};
+use crate::difference::{Difference, DigestKey, Move, Revision};
 use crate::differing::can_be_taken;
 use sip_config_change::FrameKey;
 use sip_text::{Bytes, Items};
@@ -224,39 +224,39 @@ fn put_number_again(text: &mut Bytes, id: u32) -> Result<(), AllocError>
 
 // ---- all
 
-fn put_change(alloc: Global, text: &mut Bytes, change: &Change) -> Result<(), AllocError>
+fn put_change(alloc: Global, text: &mut Bytes, change: &Difference) -> Result<(), AllocError>
     ensures { OnOk result (text.new ≡ text.old ++ Definitions.change_text change.now) }
 {
     match change {
-        Change::Frame(key) => put_key(text, *key),
-        Change::BoundPort { before, now } => put_port(text, *before, *now),
-        Change::Offset { before, now } => put_offset(text, *before, *now),
-        Change::UserComes(user) => put_user(text, user.as_slice(), b" comes\n"),
-        Change::UserGoes(user) => put_user(
+        Difference::Frame(key) => put_key(text, *key),
+        Difference::BoundPort { before, now } => put_port(text, *before, *now),
+        Difference::Offset { before, now } => put_offset(text, *before, *now),
+        Difference::UserComes(user) => put_user(text, user.as_slice(), b" comes\n"),
+        Difference::UserGoes(user) => put_user(
             text,
             user.as_slice(),
             b" goes: calls to it get 404, and its phones stay registered until their intervals are over\n",
         ),
-        Change::Digest { user, key } => {
+        Difference::Digest { user, key } => {
             put_user_and(text, user.as_slice(), b" has another ", digest_name(*key))
         }
-        Change::Joins { user, group } => {
+        Difference::Joins { user, group } => {
             put_user_and(text, user.as_slice(), b" joins group ", group.as_slice())
         }
-        Change::Leaves { user, group } => {
+        Difference::Leaves { user, group } => {
             put_user_and(text, user.as_slice(), b" leaves group ", group.as_slice())
         }
-        Change::Hop { name, change } => put_hop(alloc, text, name.as_slice(), *change),
-        Change::Host { host, port, change } => {
+        Difference::Hop { name, change } => put_hop(alloc, text, name.as_slice(), *change),
+        Difference::Host { host, port, change } => {
             put_host(alloc, text, host.as_slice(), *port, *change)
         }
-        Change::Rule { id, revision } => put_revision(text, *id, revision),
-        Change::NumberAgain(id) => put_number_again(text, *id),
-        Change::Order(ids) => put_order(text, ids.as_slice()),
+        Difference::Rule { id, revision } => put_revision(text, *id, revision),
+        Difference::NumberAgain(id) => put_number_again(text, *id),
+        Difference::Order(ids) => put_order(text, ids.as_slice()),
     }
 }
 
-fn put_changes(alloc: Global, text: &mut Bytes, changes: &[Change]) -> Result<(), AllocError>
+fn put_changes(alloc: Global, text: &mut Bytes, changes: &[Difference]) -> Result<(), AllocError>
     ensures { OnOk result (text.new ≡ text.old ++ flat_map Definitions.change_text changes.now) }
 {
     for change in changes {
@@ -266,7 +266,7 @@ fn put_changes(alloc: Global, text: &mut Bytes, changes: &[Change]) -> Result<()
 }
 
 /// Whether a server that runs can take some changes, in a sentence.
-fn ending_of(changes: &[Change]) -> &'static [u8]
+fn ending_of(changes: &[Difference]) -> &'static [u8]
     ensures { result.now ≡ Definitions.ending_of changes.now }
 {
     if changes.is_empty() {
@@ -280,7 +280,7 @@ fn ending_of(changes: &[Change]) -> &'static [u8]
 
 /// Changes as lines, one or two for each, and a sentence at the end: that nothing differs, that a server that runs can take it, or that
 /// it can't. `AllocError` is the only refusal.
-pub fn told(alloc: Global, changes: &Items<Change>) -> Result<Bytes, AllocError>
+pub fn told(alloc: Global, changes: &Items<Difference>) -> Result<Bytes, AllocError>
     ensures { IfOk result (λ text. text ≡ Definitions.told changes.now) }
 {
     let mut text = Bytes::new(alloc);

@@ -4,11 +4,11 @@ ghost use Rattle.std.specs.List.{flat_map, list_any};
 ghost use Rattle.std.specs.Option.{option_copied};
 ghost use Rattle.std.specs.Str.{bytes_eq};
 ghost use Rattle.sip_policy.specs.User.{is_named, is_users_name};
-ghost use Rattle.sipd_changes.specs.declared.change.DigestKey.TheVariants.{A1, A1Sha256};
-ghost use Rattle.sipd_changes.specs.declared.change.Change.TheVariants as Changed;
+ghost use Rattle.sipd_changes.specs.declared.difference.DigestKey.TheVariants.{A1, A1Sha256};
+ghost use Rattle.sipd_changes.specs.declared.difference.Difference.TheVariants as Changed;
 ghost use Rattle.sipd_changes.specs.Changes as Definitions;
 
-use crate::change::{Change, DigestKey};
+use crate::difference::{Difference, DigestKey};
 use sip_policy::{User, Users};
 use sip_text::{Bytes, Items, same_bytes};
 use std::alloc::AllocError;
@@ -27,7 +27,7 @@ fn same_sha256(before: Option<&[u8; 64]>, now: Option<&[u8; 64]>) -> bool
 
 /// Adds that a user has another digest, unless it stays.
 fn add_digest(
-    changes: &mut Items<Change>,
+    changes: &mut Items<Difference>,
     stays: bool,
     user: &Bytes,
     key: DigestKey,
@@ -38,10 +38,10 @@ fn add_digest(
         return Ok(());
     }
     let user = user.clone()?;
-    changes.push(Change::Digest { user, key })
+    changes.push(Difference::Digest { user, key })
 }
 
-fn add_digests(changes: &mut Items<Change>, before: &User, now: &User) -> Result<(), AllocError>
+fn add_digests(changes: &mut Items<Difference>, before: &User, now: &User) -> Result<(), AllocError>
     ensures { OnOk result (changes.new ≡ changes.old ++ Definitions.digest_changes before.now now.now) }
 {
     let same_md5 = same_bytes(&before.a1, &now.a1);
@@ -51,7 +51,7 @@ fn add_digests(changes: &mut Items<Change>, before: &User, now: &User) -> Result
 }
 
 fn add_leaving(
-    changes: &mut Items<Change>,
+    changes: &mut Items<Difference>,
     stays: bool,
     user: &Bytes,
     group: &Bytes,
@@ -63,11 +63,11 @@ fn add_leaving(
     }
     let user = user.clone()?;
     let group = group.clone()?;
-    changes.push(Change::Leaves { user, group })
+    changes.push(Difference::Leaves { user, group })
 }
 
 fn add_joining(
-    changes: &mut Items<Change>,
+    changes: &mut Items<Difference>,
     stays: bool,
     user: &Bytes,
     group: &Bytes,
@@ -79,11 +79,11 @@ fn add_joining(
     }
     let user = user.clone()?;
     let group = group.clone()?;
-    changes.push(Change::Joins { user, group })
+    changes.push(Difference::Joins { user, group })
 }
 
 /// Adds the groups of some that the user of now isn't in.
-fn add_left(changes: &mut Items<Change>, groups: &[Bytes], now: &User) -> Result<(), AllocError>
+fn add_left(changes: &mut Items<Difference>, groups: &[Bytes], now: &User) -> Result<(), AllocError>
     ensures { OnOk result (changes.new ≡ changes.old
         ++ flat_map (λ group. Definitions.unless (list_any (bytes_eq group) now.now.groups) (Changed.Leaves now.now.name group)) groups.now) }
 {
@@ -95,7 +95,7 @@ fn add_left(changes: &mut Items<Change>, groups: &[Bytes], now: &User) -> Result
 
 /// Adds the groups of some that the user of before wasn't in.
 fn add_joined(
-    changes: &mut Items<Change>,
+    changes: &mut Items<Difference>,
     groups: &[Bytes],
     before: &User,
     name: &Bytes,
@@ -109,7 +109,7 @@ fn add_joined(
     Ok(())
 }
 
-fn add_groups(changes: &mut Items<Change>, before: &User, now: &User) -> Result<(), AllocError>
+fn add_groups(changes: &mut Items<Difference>, before: &User, now: &User) -> Result<(), AllocError>
     ensures { OnOk result (changes.new ≡ changes.old ++ Definitions.group_changes before.now now.now) }
 {
     add_left(changes, before.groups.as_slice(), now)?;
@@ -118,20 +118,24 @@ fn add_groups(changes: &mut Items<Change>, before: &User, now: &User) -> Result<
 
 /// Adds what becomes of a user who was another one before, or wasn't there.
 fn add_user(
-    changes: &mut Items<Change>,
+    changes: &mut Items<Difference>,
     now: &User,
     before: Option<&User>,
 ) -> Result<(), AllocError>
     ensures { OnOk result (changes.new ≡ changes.old ++ Definitions.user_now now.now (option_copied before.entry)) }
 {
     let Some(before) = before else {
-        return changes.push(Change::UserComes(now.name.clone()?));
+        return changes.push(Difference::UserComes(now.name.clone()?));
     };
     add_digests(changes, before, now)?;
     add_groups(changes, before, now)
 }
 
-fn add_users_now(changes: &mut Items<Change>, old: &Users, new: &[User]) -> Result<(), AllocError>
+fn add_users_now(
+    changes: &mut Items<Difference>,
+    old: &Users,
+    new: &[User],
+) -> Result<(), AllocError>
     ensures { OnOk result (changes.new ≡ changes.old
         ++ flat_map (λ user. Definitions.user_now user (find (is_named user.name) old.now)) new.now) }
 {
@@ -142,16 +146,20 @@ fn add_users_now(changes: &mut Items<Change>, old: &Users, new: &[User]) -> Resu
 }
 
 /// Adds that a user goes, unless the name stays.
-fn add_going(changes: &mut Items<Change>, stays: bool, name: &Bytes) -> Result<(), AllocError>
+fn add_going(changes: &mut Items<Difference>, stays: bool, name: &Bytes) -> Result<(), AllocError>
     ensures { OnOk result (changes.new ≡ changes.old ++ Definitions.unless stays (Changed.UserGoes name.now)) }
 {
     if stays {
         return Ok(());
     }
-    changes.push(Change::UserGoes(name.clone()?))
+    changes.push(Difference::UserGoes(name.clone()?))
 }
 
-fn add_users_gone(changes: &mut Items<Change>, old: &[User], new: &Users) -> Result<(), AllocError>
+fn add_users_gone(
+    changes: &mut Items<Difference>,
+    old: &[User],
+    new: &Users,
+) -> Result<(), AllocError>
     ensures { OnOk result (changes.new ≡ changes.old
         ++ flat_map (λ user. Definitions.unless (is_users_name new.now user.name) (Changed.UserGoes user.name)) old.now) }
 {
@@ -163,7 +171,7 @@ fn add_users_gone(changes: &mut Items<Change>, old: &[User], new: &Users) -> Res
 
 /// Adds what becomes of users.
 pub(crate) fn add_users(
-    changes: &mut Items<Change>,
+    changes: &mut Items<Difference>,
     old: &Users,
     new: &Users,
 ) -> Result<(), AllocError>

@@ -6,7 +6,7 @@ use sip_timers::Timers;
 use sipd_arguments::{Call, Parsed, ReplayCall, parse};
 use sipd_exit::{Exit, print};
 use sipd_replay::{replay_record, replay_script};
-use sipd_tools::{check, decide, make_report, make_user};
+use sipd_tools::{check, decide, make_report, make_user, matrix};
 use std::io::{Read, Write};
 use std::net::Net;
 use std::random::RandomSource;
@@ -45,6 +45,7 @@ fn carry_out<
         Call::Replay(call) => replay_call::<T, P, R, I, W, C>(rt, call, input, output, complaints),
         Call::Serve(call) => { serve_file::<T, P, R, I, W, C>(rt, call, input, output, complaints) }
         Call::Decide(call) => decide(rt, call, output),
+        Call::Matrix(call) => matrix(rt, call, output),
         Call::Report(call) => make_report(rt, call, input, output, complaints),
         Call::User(call) => make_user(rt, call, input, output, complaints),
     }

@@ -2,7 +2,7 @@
 //! The turns themselves are in `sipd_service`.
 ghost use Rattle.std.specs.Prelude.{◌≡◌, is_some, IfOk, IfSome, OnOk, string_bytes};
 ghost use Rattle.sip_guard.specs.Guard.{guard_over, link_told};
-ghost use Rattle.sipd_boot.specs.Boots.{behind_secret};
+ghost use Rattle.sipd_boot.specs.Boots.{behind_secret, secret_from};
 ghost use Rattle.sipd_service.specs.Printing.{PrintsServed};
 ghost use Rattle.sipd_service.specs.Hops.{hop_addresses};
 ghost use Rattle.sipd_command.specs.Starts.{bound_address};
@@ -35,7 +35,7 @@ use std::rt::Files;
 
 /// What a server of one start serves with, beside its engine and its journal.
 #[derive(Drop)]
-struct Start<L: Link, N: Rng + Drop> {
+struct ServeStart<L: Link, N: Rng + Drop> {
     link: L,
     address: Addr,
     /// The path of the configuration's file, as the command line says it.
@@ -75,11 +75,12 @@ fn start_of<L: Link, N: Rng + Drop>(
     config: &Config,
     link: L,
     words: N,
-) -> Result<Start<L, N>, AllocError>
+) -> Result<ServeStart<L, N>, AllocError>
     ensures { IfOk result (λ start. (start.link ≡ link) × (start.address ≡ bound_address config.now)
-        × (start.path ≡ string_bytes call.now.config) × (start.hops.items ≡ hop_addresses config.now) × (start.words ≡ words) × (start.per_source ≡ call.now.per_source) × (start.turns ≡ call.now.turns)) }
+        × (start.path ≡ string_bytes call.now.config) × (start.hops.items ≡ hop_addresses config.now) × (start.words ≡ words)
+        × (start.per_source ≡ call.now.per_source) × (start.turns ≡ call.now.turns)) }
 {
-    Ok(Start {
+    Ok(ServeStart {
         link,
         address: address_of(config),
         path: Bytes::copy(alloc, call.config.as_bytes())?,
@@ -95,7 +96,9 @@ fn clock_from<'a, R: rt::Clock, M: Write>(
     rt: &'a R,
     moment: u64,
     complaints: &mut M,
-) -> SteadyClock<'a, R> {
+) -> SteadyClock<'a, R>
+    ensures { result ≡ record { wall = result.wall; least = moment; passed = 0 } }
+{
     let clock = SteadyClock::from(rt, moment);
     let behind = clock.behind();
     if behind > 0 {
@@ -108,7 +111,7 @@ fn clock_from<'a, R: rt::Clock, M: Write>(
 }
 
 /// The service of a start: over its link a guard hears so many datagrams a second from one address as are asked for, and hops always.
-/// The guard's keys are drawn first.
+/// The guard's keys are the source's next numbers.
 fn service_of<
     T: Timers,
     P: Rules,
@@ -119,7 +122,7 @@ fn service_of<
     F: WatchedFile,
 >(
     alloc: Global,
-    start: Start<L, N>,
+    start: ServeStart<L, N>,
     engine: Engine<T, P>,
     journal: J,
     aside: C,
@@ -130,11 +133,12 @@ fn service_of<
     ensures journal { IfOk result (λ service. service.journal ≡ journal) }
     ensures clock { IfOk result (λ service. service.clock ≡ clock) }
     ensures words { IfOk result (λ service. N.stream service.words ≡ behind_secret (N.stream start.words)) }
-    ensures guard { IfOk result (λ service. service.link ≡ guard_over start.hops.items start.per_source (link_told (L.heard start.link) (L.fresh start.link) (L.aside start.link)
-        (L.given start.link) (L.held start.link) (L.waits start.link) (L.receives start.link) (L.failures start.link)) (C.readings aside)) }
+    ensures guard { IfOk result (λ service. service.link ≡ guard_over (secret_from (N.stream start.words)) start.hops.items start.per_source
+        (link_told (L.heard start.link) (L.fresh start.link) (L.aside start.link) (L.given start.link) (L.held start.link)
+        (L.waits start.link) (L.receives start.link) (L.failures start.link)) (C.readings aside)) }
     ensures watch { IfOk result (λ service. (service.watch ≡ watch) × (service.port ≡ start.address.port) × (service.path ≡ start.path)) }
 {
-    let Start {
+    let ServeStart {
         link,
         address,
         path,
@@ -171,7 +175,7 @@ fn serve_with<
     M: Write,
 >(
     rt: &R,
-    start: Start<L, N>,
+    start: ServeStart<L, N>,
     engine: Engine<T, P>,
     journal: J,
     decided: &[Record],
@@ -204,7 +208,7 @@ fn serve_begun<
     M: Write,
 >(
     rt: &R,
-    start: Start<L, StdRng>,
+    start: ServeStart<L, StdRng>,
     begun: Begun<'_, T, P, R>,
     watch: Option<Watch<F>>,
     printer: &mut LinePrinter<W>,

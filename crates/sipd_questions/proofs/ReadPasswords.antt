@@ -7,7 +7,7 @@ use Rattle.std.specs.Prelude.{nat_le}
 use Rattle.sip_config_values.specs.Grammar.{is_name}
 use Rattle.sipd_questions.specs.declared.error.QuestionError.{QuestionError}
 use Rattle.sipd_questions.specs.declared.error.QuestionError.TheVariants.{BadName, BadRealm, LongPassword}
-use Rattle.sipd_questions.specs.declared.user.Digests.{Digests}
+use Rattle.sipd_questions.specs.declared.user.UserDigests.{UserDigests}
 use Rattle.sipd_questions.specs.Fronts.{front_before}
 use Rattle.sipd_questions.specs.Refusals.{◌>>=◌, confirmed}
 use Rattle.sipd_questions.specs.User.{without_cr, first_line, is_digested_realm, table_of, user_table}
@@ -17,7 +17,7 @@ refused : List ℕ → List ℕ → Result (List ℕ) QuestionError
 refused name realm =
     confirmed (is_name name) BadName >>= (λ ok. confirmed (is_digested_realm realm) BadRealm >>= (λ right. Err LongPassword))
 
-too_long : (name realm password : List ℕ) (digests : Digests) → 1025 ≤ length password
+too_long : (name realm password : List ℕ) (digests : UserDigests) → 1025 ≤ length password
     → user_table name realm password digests ≡ refused name realm
 unfolding refused
 too_long name realm [] digests long = absurd (omega arith)
@@ -36,7 +36,7 @@ one_less (b ∷ []) = by_end b (b == 13)
     by_end b false = omega arith
 one_less (b ∷ c ∷ rest) = let others = one_less (c ∷ rest) in omega (arith, others)
 
-by_length : (name realm line : List ℕ) (digests : Digests)
+by_length : (name realm line : List ℕ) (digests : UserDigests)
     → user_table name realm (without_cr (take 1026 line)) digests ≡ user_table name realm (without_cr line) digests
 by_length name realm line digests =
     elim (leb_tells (length line) 1026) [
@@ -48,6 +48,6 @@ by_length name realm line digests =
     ]
 
 -- what is answered to a first line that is read so far is answered to it whole
-pub read_so_far : (name realm text : List ℕ) (digests : Digests)
+pub read_so_far : (name realm text : List ℕ) (digests : UserDigests)
     → user_table name realm (without_cr (take 1026 (front_before 10 text))) digests ≡ user_table name realm (first_line text) digests
 read_so_far name realm text digests = by_length name realm (front_before 10 text) digests

@@ -1,5 +1,7 @@
 -- A text of another scheme than SIP's two isn't `sip:`.
-use Rattle.std.proofs.Common.{◌≡◌, ℕ, List, Bool, true, false, not, Option, Some, None, Result, Ok, Err, refl, ap, codes}
+use Rattle.std.proofs.Common.{◌≡◌, ℕ, List, Bool, true, false, not, ◌&&◌, ◌||◌, Option, Some, None, Result, Ok, Err, is_ok, refl, ap, codes}
+use Rattle.std.specs.Char.{is_ascii_graphic}
+use Rattle.std.specs.List.{list_all}
 use Rattle.std.specs.Option.{ok_or, option_map_or}
 use Rattle.sip_text.specs.Words.{is_same_text}
 use Rattle.std.specs.Str.{byte}
@@ -15,7 +17,7 @@ use Rattle.sip_uri.specs.Host.{place_of}
 use Rattle.sip_uri.specs.Reading.{◌>>=◌, userinfo_of, user_from, user_of, before_parameters, parameters_behind, parameter_text_of, headers_behind, header_text_of, rest_of, reading_of}
 use Rattle.sip_policy.specs.declared.operation.Operation.{Operation}
 use Rattle.sip_validate.specs.Faults.{has_sip_scheme}
-use Rattle.sipd_questions.specs.Decide.{is_refused_before}
+use Rattle.sipd_questions.specs.Decide.{is_bad_before, is_of_scheme, is_refused_before}
 
 -- what isn't refused for its scheme, and then what isn't
 then_never : {A B : Type 0} (first : Result A UriError) (next : A → Result B UriError) → (first ≡ Err Refusal.Scheme → ⊥)
@@ -58,10 +60,36 @@ other_scheme : (text : List ℕ) → reading_of text ≡ Err Refusal.Scheme → 
 unfolding reading_of
 other_scheme text e = by_parts (split_at_byte (byte ":") text) e
 
+-- whether what stands before the first `:` is a scheme, in any case
+abbrev has_scheme : List ℕ → List ℕ → Bool
+has_scheme scheme text = option_map_or (λ x. is_same_text x.0 scheme) (split_at_byte (byte ":") text) false
+
+front_holds : (a b : Bool) → (a && b) ≡ true → a ≡ true
+front_holds true b is = refl
+front_holds false b is = cc
+
 -- what is sent on and refused for the scheme of its URI isn't `sip:`
 pub refused_is_other : (text method : List ℕ) (reading : Result Uri UriError) → reading_of text ≡ reading
     → is_refused_before (Operation.Send method) text reading ≡ true → not (has_sip_scheme text) ≡ true
 refused_is_other text method (Ok uri) is refused = refused
 refused_is_other text method (Err Refusal.Scheme) is refused = ap not (other_scheme text is)
-refused_is_other text method (Err NoMemory) is refused = cc
-refused_is_other text method (Err Syntax) is refused = cc
+refused_is_other text method (Err NoMemory) is refused = front_holds _ _ refused
+refused_is_other text method (Err Syntax) is refused = front_holds _ _ refused
+
+-- what stands in one word behind `sip`, where another test says that it isn't behind another scheme
+by_tests : (sip sips graphic : Bool) → (not sip && (graphic && sips)) ≡ false → ((graphic && sip) || (graphic && sips)) ≡ true → sip ≡ true
+by_tests true sips graphic other named = refl
+by_tests false true true other named = cc
+by_tests false true false other named = cc
+by_tests false false true other named = cc
+by_tests false false false other named = cc
+
+-- what is sent on and bad for its URI begins with `sip:` and is none
+pub bad_is_unread : (text method : List ℕ) (reading : Result Uri UriError) → is_refused_before (Operation.Send method) text reading ≡ false
+    → is_bad_before text reading ≡ true → (has_sip_scheme text && not (is_ok reading)) ≡ true
+bad_is_unread text method (Ok uri) other bad = cc
+bad_is_unread text method (Err Refusal.Scheme) other bad = cc
+bad_is_unread text method (Err NoMemory) other bad =
+    rw (by_tests (has_sip_scheme text) (has_scheme (codes "sips") text) (list_all is_ascii_graphic text) other bad) refl
+bad_is_unread text method (Err Syntax) other bad =
+    rw (by_tests (has_sip_scheme text) (has_scheme (codes "sips") text) (list_all is_ascii_graphic text) other bad) refl

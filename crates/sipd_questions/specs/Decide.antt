@@ -1,6 +1,11 @@
 -- What is answered to a question: the rule that decides, its verdict, and where the request goes.
-use Rattle.std.specs.Prelude.{ℕ, Bool, true, false, not, ◌==◌, nat_lt, if◌then◌else◌, List, [], ◌++◌, codes, decimal, Option, Some, None, Result, Ok, Err}
-use Rattle.std.specs.List.{slice_get}
+use Rattle.std.specs.Prelude.{ℕ, Bool, true, false, not, ◌&&◌, ◌||◌, ◌==◌, nat_lt, if◌then◌else◌, List, [], ◌++◌, codes, decimal, Option, Some, None, Result, Ok, Err}
+use Rattle.std.specs.Char.{is_ascii_graphic}
+use Rattle.std.specs.List.{slice_get, list_all}
+use Rattle.std.specs.Option.{option_map_or}
+use Rattle.std.specs.Str.{byte}
+use Rattle.sip_text.specs.Splits.{split_at_byte}
+use Rattle.sip_text.specs.Words.{is_same_text}
 use Rattle.sip_uri.specs.declared.uri.Uri.{Uri}
 use Rattle.sip_uri.specs.declared.error.UriError.{UriError}
 use Rattle.sip_uri.specs.Reading.{reading_of}
@@ -19,7 +24,7 @@ use Rattle.sipd_questions.specs.declared.error.QuestionError.TheVariants.{BadMin
 use Rattle.sipd_questions.specs.declared.destination.Destination.{Destination}
 use Rattle.sipd_questions.specs.declared.destination.Destination.TheVariants.{Nowhere, Registrar, Bindings, Hop, NotFound}
 use Rattle.sipd_questions.specs.Refusals.{◌>>=◌, confirmed}
-use Rattle.sipd_questions.specs.Question.{Question, is_configured, operation_asked, uri_text, uri_read}
+use Rattle.sipd_questions.specs.Question.{ShownQuestion, is_configured, operation_asked, uri_text, uri_read}
 use Rattle.sipd_questions.specs.Destination.{destination_of}
 
 -- a number between two texts
@@ -96,12 +101,24 @@ is_sent_elsewhere Operation.Register text = false
 is_sent_elsewhere Operation.List text = false
 is_sent_elsewhere (Operation.Send method) text = not (has_sip_scheme text)
 
--- whether a check of the server refuses what is asked before any rule is: the target's URI is of another scheme than `sip:`; `sips:` is
--- taken where a REGISTER names whom it is for, in To (RFC 3261 16.3 step 2; 10.3 step 5)
+-- whether a text stands in one word, as what a request asks for does (RFC 3261 7.1), behind a scheme, in any case
+abbrev pub is_of_scheme : List ℕ → List ℕ → Bool
+is_of_scheme scheme text =
+    list_all is_ascii_graphic text && option_map_or (λ x. is_same_text x.0 scheme) (split_at_byte (byte ":") text) false
+
+-- whether a check of the server refuses what is asked before any rule is: the target's URI is of another scheme than `sip:`, whatever
+-- stands behind `sips:`; `sips:` is taken where a REGISTER names whom it is for, in To (RFC 3261 16.3 step 2; 10.3 step 5)
 abbrev pub is_refused_before : Operation → List ℕ → Result Uri UriError → Bool
 is_refused_before operation text (Ok uri) = is_sent_elsewhere operation text
 is_refused_before operation text (Err UriError.Scheme) = true
-is_refused_before operation text (Err e) = false
+is_refused_before operation text (Err e) = is_sent_elsewhere operation text && is_of_scheme (codes "sips") text
+
+-- whether a check of the server refuses what is asked as a bad request: what begins as a SIP or SIPS URI is none (RFC 3261 16.3 step
+-- 1, 19.1.1)
+abbrev pub is_bad_before : List ℕ → Result Uri UriError → Bool
+is_bad_before text (Ok uri) = false
+is_bad_before text (Err UriError.Scheme) = false
+is_bad_before text (Err e) = is_of_scheme (codes "sip") text || is_of_scheme (codes "sips") text
 
 -- that refusal
 abbrev pub refusal_text : Operation → List ℕ
@@ -109,16 +126,23 @@ refusal_text Operation.Register = codes "400 before any rule: To of a REGISTER i
 refusal_text Operation.List = codes "400 before any rule: To of a REGISTER is sip: or sips:\n"
 refusal_text (Operation.Send method) = codes "416 before any rule: a Request-URI is sip:\n"
 
--- what the server answers to what is asked, where the text of a URI reads so; a text that is none is no target
-abbrev pub answer_by : Config → Question → Operation → List ℕ → Result Uri UriError → Result (List ℕ) QuestionError
+-- that a request is a bad one
+abbrev pub bad_text : Operation → List ℕ
+bad_text Operation.Register = codes "400 before any rule: To of a REGISTER is no URI\n"
+bad_text Operation.List = codes "400 before any rule: To of a REGISTER is no URI\n"
+bad_text (Operation.Send method) = codes "400 before any rule: the Request-URI is no URI\n"
+
+-- what the server answers to what is asked, where the text of the URI that the target means reads so; a text that is none is no target
+abbrev pub answer_by : Config → ShownQuestion → Operation → List ℕ → Result Uri UriError → Result (List ℕ) QuestionError
 answer_by config question operation text reading =
     if is_refused_before operation text reading then Ok (refusal_text operation)
+    else if is_bad_before question.target reading then Ok (bad_text operation)
     else do
       uri ← uri_read reading
       Ok (line_for config question.user operation (aor_of uri) question.minute)
 
 -- the answer to a question, or why there is none
-abbrev pub answer_to : Config → Question → Result (List ℕ) QuestionError
+abbrev pub answer_to : Config → ShownQuestion → Result (List ℕ) QuestionError
 answer_to config question = do
   _ ← confirmed (nat_lt question.minute 1440) BadMinute
   operation ← operation_asked question.operation

@@ -13,17 +13,17 @@ use Rattle.sipd_questions.specs.declared.error.QuestionError.{QuestionError}
 use Rattle.sipd_questions.specs.declared.error.QuestionError.TheVariants.{BadMethod, BadTarget, SmallLetter}
 use Rattle.sipd_questions.specs.Fronts.{front_before}
 use Rattle.sipd_questions.specs.Methods.{has_small_letter}
-use Rattle.sipd_questions.specs.declared.question.Question.{Question as Given}
+use Rattle.sipd_questions.specs.declared.question.DecideQuestion.{DecideQuestion}
 
 -- the proven user, if one is proven, the minute of the day, and what is asked and for whom, as words
-pub record Question : Type 0 where
+pub record ShownQuestion : Type 0 where
   pub user : Option (List ℕ)
   pub minute : ℕ
   pub operation : List ℕ
   pub target : List ℕ
 
 -- the bytes of a question that a call is given
-abbrev pub shown : Given → Question
+abbrev pub shown : DecideQuestion → ShownQuestion
 shown q = record { user = option_copied q.user; minute = q.minute; operation = q.operation.now; target = q.target.now }
 
 -- whether a user, if one is named, is configured

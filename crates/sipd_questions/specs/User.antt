@@ -9,8 +9,8 @@ use Rattle.sip_policy.specs.declared.user.User.{User}
 use Rattle.sip_policy.specs.User.{is_users_name}
 use Rattle.sip_config_types.specs.declared.config.Config.{Config}
 use Rattle.sip_config_values.specs.Grammar.{is_name, is_realm}
-use Rattle.sipd_questions.specs.declared.user.Digests.{Digests}
-use Rattle.sipd_questions.specs.declared.user.Digests.TheVariants.{Md5, Both}
+use Rattle.sipd_questions.specs.declared.user.UserDigests.{UserDigests}
+use Rattle.sipd_questions.specs.declared.user.UserDigests.TheVariants.{Md5, Both}
 use Rattle.sipd_questions.specs.declared.error.QuestionError.{QuestionError}
 use Rattle.sipd_questions.specs.declared.error.QuestionError.TheVariants.{BadName, BadRealm, EmptyPassword, LongPassword, TakenName, OtherRealm}
 use Rattle.sipd_questions.specs.Fronts.{front_before}
@@ -44,21 +44,21 @@ abbrev pub key_line : List ℕ → List ℕ → List ℕ
 key_line key text = key ++ codes " = \"" ++ text ++ codes "\"\n"
 
 -- `a1_sha256`, where both digests are wanted
-abbrev pub sha256_line : Digests → List ℕ → List ℕ
+abbrev pub sha256_line : UserDigests → List ℕ → List ℕ
 sha256_line Md5 a1_sha256 = []
 sha256_line Both a1_sha256 = key_line (codes "a1_sha256") a1_sha256
 
 -- `[[user]]` with `name` and the digests
-abbrev pub table_with : Digests → List ℕ → List ℕ → List ℕ → List ℕ
+abbrev pub table_with : UserDigests → List ℕ → List ℕ → List ℕ → List ℕ
 table_with digests name a1 a1_sha256 =
     codes "[[user]]\n" ++ key_line (codes "name") name ++ key_line (codes "a1") a1 ++ sha256_line digests a1_sha256
 
 -- the same of name, realm and password (RFC 2617 3.2.2.2; RFC 7616 3.4.2)
-abbrev pub table_of : Digests → List ℕ → List ℕ → List ℕ → List ℕ
+abbrev pub table_of : UserDigests → List ℕ → List ℕ → List ℕ → List ℕ
 table_of digests name realm password = table_with digests name (a1_of By.Md5 name realm password) (a1_of By.Sha256 name realm password)
 
 -- the same, or why there is none; a password has 1 to 1,024 bytes (this project's profile)
-abbrev pub user_table : List ℕ → List ℕ → List ℕ → Digests → Result (List ℕ) QuestionError
+abbrev pub user_table : List ℕ → List ℕ → List ℕ → UserDigests → Result (List ℕ) QuestionError
 user_table name realm password digests = do
   _ ← confirmed (is_name name) BadName
   _ ← confirmed (is_digested_realm realm) BadRealm
@@ -69,7 +69,7 @@ user_table name realm password digests = do
 -- ---- a user more of a configuration
 
 -- which digests a user needs beside these: both where one of them has both, since every phone is offered both then
-abbrev pub digests_beside : List User → Digests
+abbrev pub digests_beside : List User → UserDigests
 digests_beside users = if list_any (λ user. is_some user.a1_sha256) users then Both else Md5
 
 -- whether a realm, if one is said, is this one

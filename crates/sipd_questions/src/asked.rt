@@ -31,8 +31,9 @@ fn method_asked(alloc: Global, method: &[u8]) -> Result<Operation, QuestionError
     Ok(Operation::Send(Bytes::copy(alloc, method)?))
 }
 
-/// What a word asks for.
-pub(crate) fn operation_asked(alloc: Global, word: &[u8]) -> Result<Operation, QuestionError>
+/// What a word asks for: `register`, `list`, or a method of requests that are sent on. Refuses BadMethod or SmallLetter; NoMemory may
+/// come in place of any answer.
+pub fn operation_asked(alloc: Global, word: &[u8]) -> Result<Operation, QuestionError>
     ensures { Reads (λ operation. operation) result (Definitions.operation_asked word.now) }
 {
     if same_bytes(word, b"register") {

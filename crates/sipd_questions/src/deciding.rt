@@ -1,15 +1,20 @@
 //! What a server with a configuration would answer to a request, as one line, for the command `decide`. No server runs for it.
-ghost use Rattle.std.specs.Prelude.{◌≡◌, IfOk, Ok};
-ghost use Rattle.std.specs.Option.{option_copied};
+ghost use Rattle.std.specs.Prelude.{◌≡◌, false, IfOk, Ok, Err};
+ghost use Rattle.std.specs.Char.{is_ascii_graphic};
+ghost use Rattle.std.specs.List.{list_all};
+ghost use Rattle.std.specs.Option.{option_copied, option_map_or};
+ghost use Rattle.sip_text.specs.Splits.{split_at_byte};
+ghost use Rattle.sip_text.specs.Words.{is_same_text};
 ghost use Rattle.sipd_questions.specs.Refusals.{Reads};
 ghost use Rattle.sip_uri.specs.Reading.{reading_of};
+ghost use Rattle.sip_uri.specs.declared.error.UriError.TheVariants.{Syntax};
 ghost use Rattle.sip_validate.specs.Faults;
 ghost use Rattle.sipd_questions.specs.Question.{shown};
 ghost use Rattle.sipd_questions.specs.Decide as Definitions;
 
 use crate::asked::{is_configured, operation_asked, uri_text};
 use crate::error::{QuestionError, confirm};
-use crate::question::Question;
+use crate::question::DecideQuestion;
 use crate::telling::line_by;
 use sip_config_types::Config;
 use sip_policy::{Operation, deciding_rule, ruling_by};
@@ -44,14 +49,21 @@ fn line_for(
     line_by(alloc, config, operation, aor, rule, decision)
 }
 
-/// Whether what stands before the first `:` is `sip`, in any case, as the server tests a Request-URI.
+/// Whether what stands before the first `:` is this scheme, in any case.
+fn begins_with_scheme(scheme: &[u8], text: &[u8]) -> bool
+    ensures { result ≡ option_map_or (λ x. is_same_text x.0 scheme.now) (split_at_byte 58 text.now) false }
+{
+    match split_once(text, b':') {
+        Some((front, _)) => same_no_case(front, scheme),
+        None => false,
+    }
+}
+
+/// Whether a URI is `sip:`, as the server tests a Request-URI.
 fn has_sip_scheme(uri: &[u8]) -> bool
     ensures { result ≡ Faults.has_sip_scheme uri.now }
 {
-    match split_once(uri, b':') {
-        Some((scheme, _)) => same_no_case(scheme, b"sip"),
-        None => false,
-    }
+    begins_with_scheme(b"sip", uri)
 }
 
 /// Whether a request that is sent on would go to another URI than `sip:`.
@@ -79,7 +91,7 @@ fn refusal_text(operation: &Operation) -> &'static [u8]
 fn answer_for(
     alloc: Global,
     config: &Config,
-    question: &Question<'_>,
+    question: &DecideQuestion<'_>,
     operation: &Operation,
     text: &[u8],
     uri: &Uri,
@@ -100,11 +112,55 @@ fn answer_for(
     )?)
 }
 
+/// Whether a text has visible bytes alone, as a Request-URI has (RFC 3261 7.1).
+fn is_one_word(text: &[u8]) -> bool
+    ensures { result ≡ list_all is_ascii_graphic text.now }
+{
+    text.iter().all(|byte| byte.is_ascii_graphic())
+}
+
+/// Whether a text stands in one word behind a scheme, in any case.
+fn is_of_scheme(scheme: &[u8], text: &[u8]) -> bool
+    ensures { result ≡ Definitions.is_of_scheme scheme.now text.now }
+{
+    is_one_word(text) && begins_with_scheme(scheme, text)
+}
+
+/// That a request is a bad one.
+fn bad_text(operation: &Operation) -> &'static [u8]
+    ensures { result.now ≡ Definitions.bad_text operation.now }
+{
+    match operation {
+        Operation::Register => b"400 before any rule: To of a REGISTER is no URI\n",
+        Operation::List => b"400 before any rule: To of a REGISTER is no URI\n",
+        Operation::Send(_) => b"400 before any rule: the Request-URI is no URI\n",
+    }
+}
+
+/// The same of a text that is no URI: what a check of the server says of what begins as a SIP or SIPS URI.
+fn unread_answer(
+    alloc: Global,
+    config: &Config,
+    question: &DecideQuestion<'_>,
+    operation: &Operation,
+    text: &[u8],
+) -> Result<Bytes, QuestionError>
+    ensures { Reads (λ line. line) result (Definitions.answer_by config.now (shown question.now) operation.now text.now (Err Syntax)) }
+{
+    if is_sent_elsewhere(operation, text) && is_of_scheme(b"sips", text) {
+        return Ok(Bytes::copy(alloc, refusal_text(operation))?);
+    }
+    if is_of_scheme(b"sip", question.target) || is_of_scheme(b"sips", question.target) {
+        return Ok(Bytes::copy(alloc, bad_text(operation))?);
+    }
+    Err(QuestionError::BadTarget)
+}
+
 /// The same of this text, whatever it is.
 fn answer_by(
     alloc: Global,
     config: &Config,
-    question: &Question<'_>,
+    question: &DecideQuestion<'_>,
     operation: &Operation,
     text: &[u8],
 ) -> Result<Bytes, QuestionError>
@@ -114,21 +170,21 @@ fn answer_by(
         Ok(uri) => answer_for(alloc, config, question, operation, text, &uri),
         Err(UriError::Scheme) => Ok(Bytes::copy(alloc, refusal_text(operation))?),
         Err(UriError::NoMemory) => Err(QuestionError::NoMemory),
-        Err(UriError::Syntax) => Err(QuestionError::BadTarget),
+        Err(UriError::Syntax) => unread_answer(alloc, config, question, operation, text),
     }
 }
 
 /// Who may call whom: the rule that decides, its verdict and where the request goes, as a line, by the definition by
 /// which a server with this configuration decides (`decision_of` of `sip_policy`). Where it goes is said as far as it is
-/// known without bindings. What a check of the server refuses for the scheme of the target's URI, 416 or in a REGISTER
-/// 400, before any rule is asked, is said so (RFC 3261 16.3, 10.3).
+/// known without bindings. What a check of the server refuses before any rule is asked is said so: for the scheme of the target's
+/// URI, 416 or in a REGISTER 400, and 400 where what begins as a SIP or SIPS URI is none (RFC 3261 16.3, 10.3).
 ///
 /// Refuses, in this order: BadMinute, BadMethod or SmallLetter, UnknownUser, BadTarget. NoMemory may come in place of any
 /// answer.
 pub fn decision_text(
     alloc: Global,
     config: &Config,
-    question: &Question<'_>,
+    question: &DecideQuestion<'_>,
 ) -> Result<Bytes, QuestionError>
     ensures { Reads (λ line. line) result (Definitions.answer_to config.now (shown question.now)) }
 {

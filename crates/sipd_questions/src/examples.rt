@@ -3,7 +3,7 @@ ghost use Rattle.std.specs.Prelude.{◌≡◌, ◌++◌, [], ◌∷◌, codes, r
 ghost use Rattle.sip_digest.specs.Answers.{a1_of};
 ghost use Rattle.sip_digest.specs.declared.algorithm.Algorithm.TheVariants as By;
 ghost use Rattle.sipd_questions.specs.declared.error.QuestionError.TheVariants as Refusal;
-ghost use Rattle.sipd_questions.specs.declared.user.Digests.TheVariants.{Md5, Both};
+ghost use Rattle.sipd_questions.specs.declared.user.UserDigests.TheVariants.{Md5, Both};
 ghost use Rattle.sipd_questions.specs.User.{user_table, added_user, table_with, first_line};
 ghost use Rattle.sip_config_types.specs.Sample.{sample};
 ghost use Rattle.sip_config.specs.Configuration.{stated_in};
@@ -46,8 +46,9 @@ pub fn registration()
         ≡ Ok (codes "challenged, 401: rule 1 may match once the caller has proved who he is\n") }
 {}
 
-/// What is sent on to `sips:`, or to another scheme, is answered 416, whatever the rules say of its address of record. A REGISTER
-/// names whom it is for in To, where `sips:` is taken, and another scheme is answered 400.
+/// What is sent on to `sips:`, whatever stands behind it, or to another scheme, is answered 416, whatever the rules say of its address
+/// of record. A REGISTER names whom it is for in To, where `sips:` is taken, and another scheme is answered 400, as is what begins as a
+/// SIP URI and is none.
 #[tactic(auto, unfolding(sip_uri::specs::Reading::reading_of, sip_uri::specs::Reading::rest_of))]
 pub fn before_rules()
     ensures allowed { asked None (codes "INVITE") (codes "sips:help@host.com") ≡ Ok (codes "416 before any rule: a Request-URI is sip:\n") }
@@ -58,6 +59,10 @@ pub fn before_rules()
     ensures telephone { asked None (codes "INVITE") (codes "tel:+1-201-555-0123") ≡ Ok (codes "416 before any rule: a Request-URI is sip:\n") }
     ensures registers_telephone { asked None (codes "register") (codes "tel:+1-201-555-0123")
         ≡ Ok (codes "400 before any rule: To of a REGISTER is sip: or sips:\n") }
+    ensures no_sips_uri { asked None (codes "INVITE") (codes "SIPS:@host.com") ≡ Ok (codes "416 before any rule: a Request-URI is sip:\n") }
+    ensures no_uri { asked None (codes "INVITE") (codes "sip:@host.com") ≡ Ok (codes "400 before any rule: the Request-URI is no URI\n") }
+    ensures registers_no_uri { asked None (codes "register") (codes "sips:@host.com")
+        ≡ Ok (codes "400 before any rule: To of a REGISTER is no URI\n") }
 {}
 
 /// A method with a small letter is no method of a rule, and isn't taken for another one; `register` and `list` are words.
@@ -77,6 +82,8 @@ pub fn refusals()
     ensures user { asked (Some (codes "zazu")) (codes "INVITE") (codes "a b") ≡ Err Refusal.UnknownUser }
     ensures target { asked None (codes "INVITE") (codes "a b") ≡ Err Refusal.BadTarget }
     ensures no_scheme { asked None (codes "INVITE") (codes "+1:help@host.com") ≡ Err Refusal.BadTarget }
+    ensures two_words { asked None (codes "INVITE") (codes "sip:help me@host.com") ≡ Err Refusal.BadTarget }
+    ensures no_host { asked None (codes "INVITE") (codes "help@") ≡ Err Refusal.BadTarget }
 {}
 
 /// The table of the user of RFC 2617 3.5, whose digest stands there.

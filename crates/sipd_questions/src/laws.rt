@@ -11,12 +11,12 @@ ghost use Rattle.sip_config_types.specs.declared.config.Config.{Config};
 ghost use Rattle.sip_validate.specs.Candidate.{Candidate};
 ghost use Rattle.sip_validate.specs.Faults.{is_bad};
 ghost use Rattle.sip_validate.specs.Refusal.{has_other_version, refusal};
-ghost use Rattle.sipd_questions.specs.Decide.{is_refused_before};
+ghost use Rattle.sipd_questions.specs.Decide.{is_bad_before, is_refused_before};
 ghost use Rattle.sipd_questions.specs.Destination.{destination_of, targets_there};
 ghost use Rattle.sipd_questions.specs.Fronts.{front_before};
 ghost use Rattle.sipd_questions.specs.Show.{user_line};
 ghost use Rattle.sipd_questions.specs.User.{without_cr, first_line, user_table};
-ghost use Rattle.sipd_questions.specs.declared.user.Digests.{Digests};
+ghost use Rattle.sipd_questions.specs.declared.user.UserDigests.{UserDigests};
 
 /// Where a request that is sent on goes, whatever policy decided about it, is where the server sends it: with any live
 /// contacts, the targets are the same.
@@ -34,9 +34,17 @@ pub fn refused_by_the_server()
         → is_bad request ≡ false → has_other_version request ≡ false → refusal request ≡ Some (416, []) }
 {}
 
+/// What is said to be answered 400 before any rule where it is sent on the server answers so: each request that came with that
+/// Request-URI.
+pub fn bad_for_the_server()
+    ensures { (request : Candidate) (method : List ℕ)
+        → is_refused_before (Operation.Send method) request.uri (reading_of request.uri) ≡ false
+        → is_bad_before request.uri (reading_of request.uri) ≡ true → refusal request ≡ Some (400, []) }
+{}
+
 /// What is said to a password of which no more than 1,026 bytes of its line were read is what is said to the whole line's.
 pub fn read_so_far()
-    ensures { (name realm text : List ℕ) (digests : Digests)
+    ensures { (name realm text : List ℕ) (digests : UserDigests)
         → user_table name realm (without_cr (take 1026 (front_before 10 text))) digests ≡ user_table name realm (first_line text) digests }
 {}
 

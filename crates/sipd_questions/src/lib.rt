@@ -26,11 +26,12 @@ mod telling;
 mod user;
 mod warning;
 
+pub use asked::operation_asked;
 pub use deciding::decision_text;
 pub use error::QuestionError;
 pub use password::password_in;
-pub use question::Question;
+pub use question::DecideQuestion;
 pub use showing::{patterns_text, put_signed, rule_text, show};
 pub use telling::{put_address, put_number};
-pub use user::{Digests, added_user, user_table};
+pub use user::{UserDigests, added_user, user_table};
 pub use warning::digest_warning;

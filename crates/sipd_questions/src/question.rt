@@ -1,6 +1,6 @@
 /// What is asked about a configuration.
 #[derive(Clone, Copy)]
-pub struct Question<'a> {
+pub struct DecideQuestion<'a> {
     /// The name of the user who is proven to ask; without one nobody is proven.
     pub user: Option<&'a [u8]>,
     /// The minute of the day, 0 to 1439, by the configured offset from UTC.

@@ -40,7 +40,7 @@ fn put_text(table: &mut Bytes, key: &[u8], text: &[u8]) -> Result<(), AllocError
 
 /// Which digests of a password stand in a user's table.
 #[derive(Clone, Copy, PartialEq, Eq)]
-pub enum Digests {
+pub enum UserDigests {
     /// That by MD5, `a1`.
     Md5,
     /// That by SHA-256 behind it, `a1_sha256`, too.
@@ -48,12 +48,12 @@ pub enum Digests {
 }
 
 /// Adds a digest by SHA-256, where both are wanted.
-fn put_sha256(table: &mut Bytes, digests: Digests, digest: &[u8]) -> Result<(), AllocError>
+fn put_sha256(table: &mut Bytes, digests: UserDigests, digest: &[u8]) -> Result<(), AllocError>
     ensures { OnOk result (table.new ≡ table.old ++ Definitions.sha256_line digests digest.now) }
 {
     match digests {
-        Digests::Md5 => Ok(()),
-        Digests::Both => put_text(table, b"a1_sha256", digest),
+        UserDigests::Md5 => Ok(()),
+        UserDigests::Both => put_text(table, b"a1_sha256", digest),
     }
 }
 
@@ -62,7 +62,7 @@ fn table_of(
     name: &[u8],
     realm: &[u8],
     password: &[u8],
-    digests: Digests,
+    digests: UserDigests,
 ) -> Result<Bytes, AllocError>
     ensures { IfOk result (λ table. table ≡ Definitions.table_of digests name.now realm.now password.now) }
 {
@@ -84,7 +84,7 @@ pub fn user_table(
     name: &[u8],
     realm: &[u8],
     password: &[u8],
-    digests: Digests,
+    digests: UserDigests,
 ) -> Result<Bytes, QuestionError>
     ensures { Reads (λ table. table) result (Definitions.user_table name.now realm.now password.now digests) }
 {
@@ -99,13 +99,13 @@ pub fn user_table(
 }
 
 /// Which digests a user needs beside others.
-fn digests_beside(users: &Users) -> Digests
+fn digests_beside(users: &Users) -> UserDigests
     ensures { result ≡ Definitions.digests_beside users.now }
 {
     if users.any_has_sha256() {
-        Digests::Both
+        UserDigests::Both
     } else {
-        Digests::Md5
+        UserDigests::Md5
     }
 }
 

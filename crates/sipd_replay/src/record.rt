@@ -144,7 +144,8 @@ fn replay_behind<T: Timers, P: Rules, I: TellingReader, W: TellingWriter + Drop>
 ) -> Result<(), Exit>
     ensures replayed { OnOk result (IsReplayed head.now named.entry (I.remaining reader.old) (W.contents printer.old.writer) (W.contents printer.new.writer)) }
     ensures refused { IfErr result (IsUnreplayed head.now named.entry (I.has_failed reader.new) (I.asked reader.old) (I.asked reader.new)
-        (GaveUp (W.has_failed printer.new.writer) (W.called printer.new.writer)) (I.remaining reader.old) (W.contents printer.old.writer) (W.contents printer.new.writer)) }
+        (GaveUp (W.has_failed printer.new.writer) (W.called printer.new.writer)) (I.remaining reader.old)
+        (W.contents printer.old.writer) (W.contents printer.new.writer)) }
 {
     let mut lines = Lines::new(alloc)?;
     let config = configuration_of(alloc, head, named, &mut lines, reader)?;
@@ -172,7 +173,8 @@ fn replay_whole<T: Timers, P: Rules, I: TellingReader, W: TellingWriter + Drop>(
     ensures replayed { OnOk result (IsReplayedOn head.now named.entry (I.remaining reader.old) (W.contents printer.old.writer) (W.contents printer.new.writer)) }
     ensures flushed { OnOk result (W.is_flushed printer.new.writer) }
     ensures refused { IfErr result (λ exit. IsUnreplayed head.now named.entry (I.has_failed reader.new) (I.asked reader.old) (I.asked reader.new)
-        (GaveUp (W.has_failed printer.new.writer) (W.called printer.new.writer)) (I.remaining reader.old) (W.contents printer.old.writer) (W.contents printer.new.writer) exit
+        (GaveUp (W.has_failed printer.new.writer) (W.called printer.new.writer)) (I.remaining reader.old)
+        (W.contents printer.old.writer) (W.contents printer.new.writer) exit
         ⊎ IsKeptBack head.now named.entry (GaveUp (W.has_failed printer.new.writer) (W.called printer.new.writer)) (I.remaining reader.old)
         (W.contents printer.old.writer) (W.contents printer.new.writer) exit) }
 {

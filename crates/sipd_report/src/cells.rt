@@ -1,5 +1,5 @@
 //! A row of a report as text: columns of a table, or fields of CSV (RFC 4180). What its cells say is made in `row`.
-ghost use Rattle.std.specs.Prelude.{◌≡◌, ◌++◌, ◌-◌, replicate, length, OnOk, IfOk};
+ghost use Rattle.std.specs.Prelude.{◌≡◌, ◌++◌, ◌-◌, replicate, OnOk, IfOk};
 ghost use Rattle.std.specs.List.{flat_map, list_any};
 ghost use Rattle.sipd_report.specs.Cells as Definitions;
 

@@ -21,14 +21,14 @@ const BUFFER: usize = 8192;
 
 /// The lines of an input, through a buffer. The reader is asked at most 4,294,967,295 times.
 #[derive(Drop)]
-pub(crate) struct Lines {
+pub(crate) struct LogLines {
     buffer: Vec<u8>,
     start: usize,
     end: usize,
     asks: u32,
 }
 
-impl Model for Lines {
+impl Model for LogLines {
     ghost use Rattle.std.specs.Prelude.{◌≡◌, ◌≤◌, vec_len};
     ghost use Rattle.std.specs.List.{slice_range};
     ghost use Rattle.sipd_report.specs.Lines.{Reading};
@@ -40,13 +40,13 @@ impl Model for Lines {
     ghost invariant = { λ l. (l.start ≤ l.end) × (l.end ≤ 8192) × (vec_len l.buffer ≡ 8192) };
 }
 
-impl Lines {
+impl LogLines {
     /// Nothing read yet.
-    pub(crate) fn new(alloc: Global) -> Result<Lines, AllocError>
+    pub(crate) fn new(alloc: Global) -> Result<LogLines, AllocError>
         ensures { IfOk result (λ lines. lines ≡ record { unread = []; asks = 4294967295 }) }
     {
         let buffer = zeros(alloc, BUFFER)?;
-        Ok(Lines {
+        Ok(LogLines {
             buffer,
             start: 0,
             end: 0,

@@ -1,6 +1,6 @@
 //! What the command `report` writes: a row for each record that is asked for and, in a table, what is counted of them.
 ghost use Rattle.std.specs.Prelude.{◌≡◌, ◌≤◌, ◌⊎◌, true, false, IfOk, IfErr, OnOk};
-ghost use Rattle.std.specs.Io.KnownBytes.{Appends, Keeps};
+ghost use Rattle.std.specs.Io.KnownBytes.{Appends};
 ghost use Rattle.sip_replay_script.specs.Devices.{later, GaveUp};
 ghost use Rattle.sip_replay_script.specs.Lines.{IsSpent};
 ghost use Rattle.sipd_report.specs.Cells;
@@ -14,7 +14,7 @@ use crate::cells::{column_names, row_text};
 use crate::ending::ending_text;
 use crate::entry::entry_of;
 use crate::error::ReportError;
-use crate::lines::Lines;
+use crate::lines::LogLines;
 use crate::query::{Form, Query};
 use crate::row::cells_of;
 use crate::tally::Tally;
@@ -46,7 +46,7 @@ pub fn report<I: TellingReader, W: TellingWriter>(
         (I.has_failed input.new ⊎ (I.asked input.new ≡ later 4294967295 (I.asked input.old))) (GaveUp (W.has_failed output.new) (W.called output.new))) }
     ensures asked { IsAsked 4294967295 (I.asked input.old) (I.asked input.new) }
 {
-    let mut lines = Lines::new(alloc)?;
+    let mut lines = LogLines::new(alloc)?;
     let mut line = Vec::new(alloc);
     let mut tally = Tally::new(alloc);
     begin(alloc, query.form, output)?;
@@ -78,7 +78,7 @@ fn begin<W: TellingWriter>(alloc: Global, form: Form, output: &mut W) -> Result<
 fn take_next<I: TellingReader, W: TellingWriter>(
     alloc: Global,
     query: &Query<'_>,
-    lines: &mut Lines,
+    lines: &mut LogLines,
     line: &mut Vec<u8>,
     tally: &mut Tally,
     input: &mut I,

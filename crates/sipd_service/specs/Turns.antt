@@ -37,7 +37,8 @@ pub record ServiceSeen : Type 0 where
 
 -- of its engine, its port and its watch; of the link under its guard, its clock's readings, what was written of its journal, whether that
 -- answers faults, and the numbers of its source; and of what it prints on, whether that has failed, and its bytes
-abbrev pub service_seen : Engine → ℕ → Option WatchState → GuardState → Option (List ℕ) → Option (Option (List ℕ)) → Bool → Stream → Bool → Option (List ℕ) → ServiceSeen
+abbrev pub service_seen : Engine → ℕ → Option WatchState → GuardState → Option (List ℕ) → Option (Option (List ℕ)) → Bool → Stream → Bool
+    → Option (List ℕ) → ServiceSeen
 service_seen engine port file guard readings written faulted words has_failed contents = record {
   engine = engine;
   port = port;

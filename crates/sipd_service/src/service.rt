@@ -214,11 +214,19 @@ fn do_turn<
 ) -> Result<(), Exit>
     ensures failed { OnOk result (printer.new.has_failed ≡ printer.old.has_failed) }
     ensures turn { OnOk result (IsTurn
-        (service_seen service.old.engine service.old.port service.old.watch service.old.link (C.readings service.old.clock) (J.written service.old.journal) (J.faulted service.old.journal) (N.stream service.old.words) printer.old.has_failed (O.contents printer.old.output))
-        (service_seen service.new.engine service.new.port service.new.watch service.new.link (C.readings service.new.clock) (J.written service.new.journal) (J.faulted service.new.journal) (N.stream service.new.words) printer.new.has_failed (O.contents printer.new.output))) }
+        (service_seen service.old.engine service.old.port service.old.watch
+        service.old.link (C.readings service.old.clock) (J.written service.old.journal) (J.faulted service.old.journal)
+        (N.stream service.old.words) printer.old.has_failed (O.contents printer.old.output))
+        (service_seen service.new.engine service.new.port service.new.watch
+        service.new.link (C.readings service.new.clock) (J.written service.new.journal) (J.faulted service.new.journal)
+        (N.stream service.new.words) printer.new.has_failed (O.contents printer.new.output))) }
     ensures ended { IfErr result (EndsTurn
-        (service_seen service.old.engine service.old.port service.old.watch service.old.link (C.readings service.old.clock) (J.written service.old.journal) (J.faulted service.old.journal) (N.stream service.old.words) printer.old.has_failed (O.contents printer.old.output))
-        (service_seen service.new.engine service.new.port service.new.watch service.new.link (C.readings service.new.clock) (J.written service.new.journal) (J.faulted service.new.journal) (N.stream service.new.words) printer.new.has_failed (O.contents printer.new.output)) printer.new.fault) }
+        (service_seen service.old.engine service.old.port service.old.watch
+        service.old.link (C.readings service.old.clock) (J.written service.old.journal) (J.faulted service.old.journal)
+        (N.stream service.old.words) printer.old.has_failed (O.contents printer.old.output))
+        (service_seen service.new.engine service.new.port service.new.watch
+        service.new.link (C.readings service.new.clock) (J.written service.new.journal) (J.faulted service.new.journal)
+        (N.stream service.new.words) printer.new.has_failed (O.contents printer.new.output)) printer.new.fault) }
 {
     let now = service.clock.now();
     look(&mut service.journal, &mut service.said, now);
@@ -277,11 +285,19 @@ fn do_turns<
 ) -> Result<(), Exit>
     ensures failed { OnOk result (printer.new.has_failed ≡ printer.old.has_failed) }
     ensures turns { OnOk result (AreTurns turns
-        (service_seen service.old.engine service.old.port service.old.watch service.old.link (C.readings service.old.clock) (J.written service.old.journal) (J.faulted service.old.journal) (N.stream service.old.words) printer.old.has_failed (O.contents printer.old.output))
-        (service_seen service.new.engine service.new.port service.new.watch service.new.link (C.readings service.new.clock) (J.written service.new.journal) (J.faulted service.new.journal) (N.stream service.new.words) printer.new.has_failed (O.contents printer.new.output))) }
+        (service_seen service.old.engine service.old.port service.old.watch
+        service.old.link (C.readings service.old.clock) (J.written service.old.journal) (J.faulted service.old.journal)
+        (N.stream service.old.words) printer.old.has_failed (O.contents printer.old.output))
+        (service_seen service.new.engine service.new.port service.new.watch
+        service.new.link (C.readings service.new.clock) (J.written service.new.journal) (J.faulted service.new.journal)
+        (N.stream service.new.words) printer.new.has_failed (O.contents printer.new.output))) }
     ensures ended { IfErr result (EndsWithin turns
-        (service_seen service.old.engine service.old.port service.old.watch service.old.link (C.readings service.old.clock) (J.written service.old.journal) (J.faulted service.old.journal) (N.stream service.old.words) printer.old.has_failed (O.contents printer.old.output))
-        (service_seen service.new.engine service.new.port service.new.watch service.new.link (C.readings service.new.clock) (J.written service.new.journal) (J.faulted service.new.journal) (N.stream service.new.words) printer.new.has_failed (O.contents printer.new.output)) printer.new.fault) }
+        (service_seen service.old.engine service.old.port service.old.watch
+        service.old.link (C.readings service.old.clock) (J.written service.old.journal) (J.faulted service.old.journal)
+        (N.stream service.old.words) printer.old.has_failed (O.contents printer.old.output))
+        (service_seen service.new.engine service.new.port service.new.watch
+        service.new.link (C.readings service.new.clock) (J.written service.new.journal) (J.faulted service.new.journal)
+        (N.stream service.new.words) printer.new.has_failed (O.contents printer.new.output)) printer.new.fault) }
 {
     for _ in 0..turns {
         do_turn(alloc, service, printer, complaints)?;
@@ -327,12 +343,20 @@ fn serve_on<
     complaints: &mut M,
 ) -> Result<(), Exit>
     ensures served { OnOk result (Serves served.now.address served.now.decided.now turns
-        (service_seen service.old.engine service.old.port service.old.watch service.old.link (C.readings service.old.clock) (J.written service.old.journal) (J.faulted service.old.journal) (N.stream service.old.words) printer.old.has_failed (O.contents printer.old.output))
-        (service_seen service.new.engine service.new.port service.new.watch service.new.link (C.readings service.new.clock) (J.written service.new.journal) (J.faulted service.new.journal) (N.stream service.new.words) printer.new.has_failed (O.contents printer.new.output))
+        (service_seen service.old.engine service.old.port service.old.watch
+        service.old.link (C.readings service.old.clock) (J.written service.old.journal) (J.faulted service.old.journal)
+        (N.stream service.old.words) printer.old.has_failed (O.contents printer.old.output))
+        (service_seen service.new.engine service.new.port service.new.watch
+        service.new.link (C.readings service.new.clock) (J.written service.new.journal) (J.faulted service.new.journal)
+        (N.stream service.new.words) printer.new.has_failed (O.contents printer.new.output))
         (O.contents printer.old.output) (O.contents printer.new.output)) }
     ensures ended { IfErr result (EndsEarly served.now.address served.now.decided.now turns
-        (service_seen service.old.engine service.old.port service.old.watch service.old.link (C.readings service.old.clock) (J.written service.old.journal) (J.faulted service.old.journal) (N.stream service.old.words) printer.old.has_failed (O.contents printer.old.output))
-        (service_seen service.new.engine service.new.port service.new.watch service.new.link (C.readings service.new.clock) (J.written service.new.journal) (J.faulted service.new.journal) (N.stream service.new.words) printer.new.has_failed (O.contents printer.new.output))
+        (service_seen service.old.engine service.old.port service.old.watch
+        service.old.link (C.readings service.old.clock) (J.written service.old.journal) (J.faulted service.old.journal)
+        (N.stream service.old.words) printer.old.has_failed (O.contents printer.old.output))
+        (service_seen service.new.engine service.new.port service.new.watch
+        service.new.link (C.readings service.new.clock) (J.written service.new.journal) (J.faulted service.new.journal)
+        (N.stream service.new.words) printer.new.has_failed (O.contents printer.new.output))
         (O.contents printer.old.output) printer.new.fault) }
 {
     print_start(served.address, served.decided, printer)?;
@@ -359,13 +383,21 @@ fn serve_counted<
     complaints: &mut M,
 ) -> Result<(), Exit>
     ensures served { OnOk result (ServesCounted served.now.address served.now.decided.now turns
-        (service_seen service.old.engine service.old.port service.old.watch service.old.link (C.readings service.old.clock) (J.written service.old.journal) (J.faulted service.old.journal) (N.stream service.old.words) printer.old.has_failed (O.contents printer.old.output))
-        (service_seen service.new.engine service.new.port service.new.watch service.new.link (C.readings service.new.clock) (J.written service.new.journal) (J.faulted service.new.journal) (N.stream service.new.words) printer.new.has_failed (O.contents printer.new.output))
+        (service_seen service.old.engine service.old.port service.old.watch
+        service.old.link (C.readings service.old.clock) (J.written service.old.journal) (J.faulted service.old.journal)
+        (N.stream service.old.words) printer.old.has_failed (O.contents printer.old.output))
+        (service_seen service.new.engine service.new.port service.new.watch
+        service.new.link (C.readings service.new.clock) (J.written service.new.journal) (J.faulted service.new.journal)
+        (N.stream service.new.words) printer.new.has_failed (O.contents printer.new.output))
         (O.contents printer.old.output) (O.contents printer.new.output)) }
     ensures printed { OnOk result (PrintsServed served.now.address served.now.decided.now turns (O.contents printer.old.output) (O.contents printer.new.output)) }
     ensures ended { IfErr result (EndsCounted served.now.address served.now.decided.now turns
-        (service_seen service.old.engine service.old.port service.old.watch service.old.link (C.readings service.old.clock) (J.written service.old.journal) (J.faulted service.old.journal) (N.stream service.old.words) printer.old.has_failed (O.contents printer.old.output))
-        (service_seen service.new.engine service.new.port service.new.watch service.new.link (C.readings service.new.clock) (J.written service.new.journal) (J.faulted service.new.journal) (N.stream service.new.words) printer.new.has_failed (O.contents printer.new.output))
+        (service_seen service.old.engine service.old.port service.old.watch
+        service.old.link (C.readings service.old.clock) (J.written service.old.journal) (J.faulted service.old.journal)
+        (N.stream service.old.words) printer.old.has_failed (O.contents printer.old.output))
+        (service_seen service.new.engine service.new.port service.new.watch
+        service.new.link (C.readings service.new.clock) (J.written service.new.journal) (J.faulted service.new.journal)
+        (N.stream service.new.words) printer.new.has_failed (O.contents printer.new.output))
         (O.contents printer.old.output) printer.new.fault) }
 {
     serve_on(
@@ -400,21 +432,38 @@ pub fn serve_turns<
     complaints: &mut M,
 ) -> Result<(), Exit>
     ensures served { IfSome served.now.turns (λ turns. OnOk result (ServesCounted served.now.address served.now.decided.now turns
-        (service_seen service.old.engine service.old.port service.old.watch service.old.link (C.readings service.old.clock) (J.written service.old.journal) (J.faulted service.old.journal) (N.stream service.old.words) printer.old.has_failed (O.contents printer.old.output))
-        (service_seen service.new.engine service.new.port service.new.watch service.new.link (C.readings service.new.clock) (J.written service.new.journal) (J.faulted service.new.journal) (N.stream service.new.words) printer.new.has_failed (O.contents printer.new.output))
+        (service_seen service.old.engine service.old.port service.old.watch
+        service.old.link (C.readings service.old.clock) (J.written service.old.journal) (J.faulted service.old.journal)
+        (N.stream service.old.words) printer.old.has_failed (O.contents printer.old.output))
+        (service_seen service.new.engine service.new.port service.new.watch
+        service.new.link (C.readings service.new.clock) (J.written service.new.journal) (J.faulted service.new.journal)
+        (N.stream service.new.words) printer.new.has_failed (O.contents printer.new.output))
         (O.contents printer.old.output) (O.contents printer.new.output))) }
-    ensures printed { IfSome served.now.turns (λ turns. OnOk result (PrintsServed served.now.address served.now.decided.now turns (O.contents printer.old.output) (O.contents printer.new.output))) }
+    ensures printed { IfSome served.now.turns (λ turns. OnOk result (PrintsServed served.now.address served.now.decided.now turns
+        (O.contents printer.old.output) (O.contents printer.new.output))) }
     ensures ended { IfSome served.now.turns (λ turns. IfErr result (EndsCounted served.now.address served.now.decided.now turns
-        (service_seen service.old.engine service.old.port service.old.watch service.old.link (C.readings service.old.clock) (J.written service.old.journal) (J.faulted service.old.journal) (N.stream service.old.words) printer.old.has_failed (O.contents printer.old.output))
-        (service_seen service.new.engine service.new.port service.new.watch service.new.link (C.readings service.new.clock) (J.written service.new.journal) (J.faulted service.new.journal) (N.stream service.new.words) printer.new.has_failed (O.contents printer.new.output))
+        (service_seen service.old.engine service.old.port service.old.watch
+        service.old.link (C.readings service.old.clock) (J.written service.old.journal) (J.faulted service.old.journal)
+        (N.stream service.old.words) printer.old.has_failed (O.contents printer.old.output))
+        (service_seen service.new.engine service.new.port service.new.watch
+        service.new.link (C.readings service.new.clock) (J.written service.new.journal) (J.faulted service.new.journal)
+        (N.stream service.new.words) printer.new.has_failed (O.contents printer.new.output))
         (O.contents printer.old.output) printer.new.fault)) }
     ensures endless { IfNone served.now.turns (OnOk result (Serves served.now.address served.now.decided.now (2 ^ 64 - 1)
-        (service_seen service.old.engine service.old.port service.old.watch service.old.link (C.readings service.old.clock) (J.written service.old.journal) (J.faulted service.old.journal) (N.stream service.old.words) printer.old.has_failed (O.contents printer.old.output))
-        (service_seen service.new.engine service.new.port service.new.watch service.new.link (C.readings service.new.clock) (J.written service.new.journal) (J.faulted service.new.journal) (N.stream service.new.words) printer.new.has_failed (O.contents printer.new.output))
+        (service_seen service.old.engine service.old.port service.old.watch
+        service.old.link (C.readings service.old.clock) (J.written service.old.journal) (J.faulted service.old.journal)
+        (N.stream service.old.words) printer.old.has_failed (O.contents printer.old.output))
+        (service_seen service.new.engine service.new.port service.new.watch
+        service.new.link (C.readings service.new.clock) (J.written service.new.journal) (J.faulted service.new.journal)
+        (N.stream service.new.words) printer.new.has_failed (O.contents printer.new.output))
         (O.contents printer.old.output) (O.contents printer.new.output))) }
     ensures ended_endless { IfNone served.now.turns (IfErr result (EndsEarly served.now.address served.now.decided.now (2 ^ 64 - 1)
-        (service_seen service.old.engine service.old.port service.old.watch service.old.link (C.readings service.old.clock) (J.written service.old.journal) (J.faulted service.old.journal) (N.stream service.old.words) printer.old.has_failed (O.contents printer.old.output))
-        (service_seen service.new.engine service.new.port service.new.watch service.new.link (C.readings service.new.clock) (J.written service.new.journal) (J.faulted service.new.journal) (N.stream service.new.words) printer.new.has_failed (O.contents printer.new.output))
+        (service_seen service.old.engine service.old.port service.old.watch
+        service.old.link (C.readings service.old.clock) (J.written service.old.journal) (J.faulted service.old.journal)
+        (N.stream service.old.words) printer.old.has_failed (O.contents printer.old.output))
+        (service_seen service.new.engine service.new.port service.new.watch
+        service.new.link (C.readings service.new.clock) (J.written service.new.journal) (J.faulted service.new.journal)
+        (N.stream service.new.words) printer.new.has_failed (O.contents printer.new.output))
         (O.contents printer.old.output) printer.new.fault)) }
 {
     match served.turns {

@@ -21,6 +21,7 @@ pub stopped_before : BeforeLaw → (F : Type 0) (n : ℕ) (before middle now : O
 stopped_before law F n before middle now h (inl failed) = inl failed
 stopped_before law F n before middle now h (inr asked) = inr (law n before middle now h asked)
 
-pub stopped_further : FurtherLaw → (F : Type 0) (asks n : ℕ) (before middle now : Option ℕ) → later asks middle ≡ later n before → HasStopped F asks middle now → HasStopped F n before now
+pub stopped_further : FurtherLaw → (F : Type 0) (asks n : ℕ) (before middle now : Option ℕ) → later asks middle ≡ later n before
+    → HasStopped F asks middle now → HasStopped F n before now
 stopped_further law F asks n before middle now h (inl failed) = inl failed
 stopped_further law F asks n before middle now h (inr asked) = inr (law asks n before middle now h asked)

@@ -26,7 +26,7 @@ use Rattle.sipd_boot.specs.Boots.{behind_boot, behind_secret}
 use Rattle.sipd_start.specs.OldRecords.{IsBegunBy}
 use Rattle.sipd_start.specs.Places.{is_input}
 use Rattle.sipd_start.specs.declared.not_resumed.NotResumed.{NotResumed as Reason}
-use Rattle.sipd_start.specs.declared.not_resumed.Stop.TheVariants.{NotResumed}
+use Rattle.sipd_start.specs.declared.not_resumed.StartStop.TheVariants.{NotResumed}
 
 -- ---- the server of a file
 
@@ -47,11 +47,13 @@ is_opened_by bytes config word server states is = record {
   word_is = ap (λ (s : Server). s.word) is;
 }
 
-pub is_begun : (bytes : List ℕ) (config : Config) (head : RecordHead) (words : Stream) (boot : Boot) (server : Server) → boot ≡ boot_again head words → States bytes config → server ≡ server_with config boot.word
+pub is_begun : (bytes : List ℕ) (config : Config) (head : RecordHead) (words : Stream) (boot : Boot) (server : Server)
+    → boot ≡ boot_again head words → States bytes config → server ≡ server_with config boot.word
     → IsServerOf bytes head.word server
 is_begun bytes config head words boot server is states opened = subst (λ w. IsServerOf bytes w server) (ap (λ (b : Boot). b.word) is) (is_opened_by bytes config boot.word server states opened)
 
-pub is_at_first : (head : RecordHead) (words : Stream) (boot : Boot) (old : Standing) → boot ≡ boot_again head words → old ≡ first_standing boot.first → old ≡ first_standing head.first
+pub is_at_first : (head : RecordHead) (words : Stream) (boot : Boot) (old : Standing)
+    → boot ≡ boot_again head words → old ≡ first_standing boot.first → old ≡ first_standing head.first
 is_at_first head words boot old is fresh = fresh ∙ ap (λ (b : Boot). first_standing b.first) is
 
 -- it stands where it was opened, with no timer
@@ -64,8 +66,10 @@ same_standing old new state timers = standing_is new old.state old.timers state 
 
 -- ---- what is left of a record
 
-pub takes_old : (first bytes : List ℕ) (server middle server_then : Server) (old new new_then : Standing) (events : Option (List ℕ)) (number lines : ℕ) (last : Option StepOut) (written : Written) (begun taken : Outputs) (written_then : Written)
-    → NotesConfiguration written begun.written first → IsRecordResumed server middle old new events number begun taken lines last → NotesConfiguration taken.written written_then bytes
+pub takes_old : (first bytes : List ℕ) (server middle server_then : Server) (old new new_then : Standing) (events : Option (List ℕ))
+    (number lines : ℕ) (last : Option StepOut) (written : Written) (begun taken : Outputs) (written_then : Written)
+    → NotesConfiguration written begun.written first → IsRecordResumed server middle old new events number begun taken lines last
+    → NotesConfiguration taken.written written_then bytes
     → IsServerOf bytes middle.word server_then → new_then ≡ new → TakesOld first bytes server server_then old new_then number events lines last written written_then
 takes_old first bytes server middle server_then old new new_then events number lines last written begun taken written_then told h behind under same =
     let word : middle.word ≡ server.word = ap (λ (s : Server). s.word) h.takes.in_force in
@@ -79,14 +83,18 @@ takes_old first bytes server middle server_then old new new_then events number l
       is_under = subst (λ w. IsServerOf bytes w server_then) word under;
     }
 
-pub leads : (first bytes : List ℕ) (server server_then : Server) (old new : Standing) (number : ℕ) (events : Option (List ℕ)) (lines : ℕ) (last : Option StepOut) (written written_then : Written)
-    → TakesOld first bytes server server_then old new number events lines last written written_then → LeadsTo first bytes server server_then old number events new lines last
+pub leads : (first bytes : List ℕ) (server server_then : Server) (old new : Standing) (number : ℕ) (events : Option (List ℕ)) (lines : ℕ)
+    (last : Option StepOut) (written written_then : Written)
+    → TakesOld first bytes server server_then old new number events lines last written written_then
+    → LeadsTo first bytes server server_then old number events new lines last
 leads first bytes server server_then old new number events lines last written written_then h = record { written = written; written_then = written_then; takes = h }
 
 -- ---- it goes on
 
-goes_on : (first bytes digest : List ℕ) (head : RecordHead) (words : Stream) (boot : Boot) (events : Option (List ℕ)) (reading : Reading) (rest : Option (List ℕ)) (config : Config) (server engine : Server) (old new : Standing) (lines : ℕ) (last : Option StepOut)
-    → boot ≡ boot_again head words → States first config → server ≡ server_with config boot.word → old ≡ first_standing boot.first → IsBegunBy bytes digest head events reading rest first
+goes_on : (first bytes digest : List ℕ) (head : RecordHead) (words : Stream) (boot : Boot) (events : Option (List ℕ)) (reading : Reading)
+    (rest : Option (List ℕ)) (config : Config) (server engine : Server) (old new : Standing) (lines : ℕ) (last : Option StepOut)
+    → boot ≡ boot_again head words → States first config → server ≡ server_with config boot.word → old ≡ first_standing boot.first
+    → IsBegunBy bytes digest head events reading rest first
     → LeadsTo first bytes server engine old reading.number (pending reading rest) new lines last → GoesOn bytes digest head events engine new lines last
 goes_on first bytes digest head words boot events reading rest config server engine old new lines last is states opened fresh by h =
     let begun : IsServerOf first head.word server = is_begun first config head words boot server is states opened in
@@ -103,7 +111,8 @@ goes_on first bytes digest head words boot events reading rest config server eng
 
 pub went_on : {A E : Type 0} (result : Result A E) (server_of : A → Server) (state_of : A → Standing) (lines_of : A → ℕ) (last_of : A → Option StepOut)
     (first bytes digest : List ℕ) (head : RecordHead) (words : Stream) (boot : Boot) (events : Option (List ℕ)) (reading : Reading) (rest : Option (List ℕ)) (config : Config) (server : Server) (old : Standing)
-    → boot ≡ boot_again head words → States first config → server ≡ server_with config boot.word → old ≡ first_standing boot.first → IsBegunBy bytes digest head events reading rest first
+    → boot ≡ boot_again head words → States first config → server ≡ server_with config boot.word → old ≡ first_standing boot.first
+    → IsBegunBy bytes digest head events reading rest first
     → IfOk result (λ a. LeadsTo first bytes server (server_of a) old reading.number (pending reading rest) (state_of a) (lines_of a) (last_of a))
     → IfOk result (λ a. GoesOn bytes digest head events (server_of a) (state_of a) (lines_of a) (last_of a))
 went_on (Ok a) server_of state_of lines_of last_of first bytes digest head words boot events reading rest config server old is states opened fresh by h =
@@ -115,30 +124,37 @@ pub goes_on_from : (bytes digest : List ℕ) (head : RecordHead) (whole events :
 goes_on_from bytes digest head whole events server state lines last says is_whole h =
     record { head = head; events = events; says = says; is_whole = is_whole; goes_on = h }
 
-pub goes_on_from_input : (is_input : Bool) (input : Option (List ℕ)) (bytes digest : List ℕ) (words left : Stream) (server : Server) (state : Standing) (lines : ℕ) (last : Option StepOut)
+pub goes_on_from_input : (is_input : Bool) (input : Option (List ℕ)) (bytes digest : List ℕ) (words left : Stream) (server : Server)
+    (state : Standing) (lines : ℕ) (last : Option StepOut)
     → GoesOnFrom bytes digest input server state lines last → left ≡ behind_secret words → GoesOnFromFile is_input input bytes digest words server state last left
 goes_on_from_input is_input input bytes digest words left server state lines last h rest =
     record { whole = input; of_input = λ _. refl; lines = lines; goes_on = h; rest = rest }
 
-pub goes_on_from_file : (is_input : Bool) (input whole : Option (List ℕ)) (bytes digest : List ℕ) (words left : Stream) (server : Server) (state : Standing) (lines : ℕ) (last : Option StepOut)
-    → is_input ≡ false → GoesOnFrom bytes digest whole server state lines last → left ≡ behind_secret words → GoesOnFromFile is_input input bytes digest words server state last left
+pub goes_on_from_file : (is_input : Bool) (input whole : Option (List ℕ)) (bytes digest : List ℕ) (words left : Stream) (server : Server)
+    (state : Standing) (lines : ℕ) (last : Option StepOut)
+    → is_input ≡ false → GoesOnFrom bytes digest whole server state lines last → left ≡ behind_secret words
+    → GoesOnFromFile is_input input bytes digest words server state last left
 goes_on_from_file true input whole bytes digest words left server state lines last is h rest = absurd cc
 goes_on_from_file false input whole bytes digest words left server state lines last is h rest =
     record { whole = whole; of_input = λ other. absurd cc; lines = lines; goes_on = h; rest = rest }
 
-pub begins_again : (named : Option (List ℕ)) (old : List ℕ) (input : Option (List ℕ)) (F : Type 0) (before now : Option ℕ) (bytes digest : List ℕ) (words left : Stream) (server : Server) (state : Standing) (last : Option StepOut) → named ≡ Some old
+pub begins_again : (named : Option (List ℕ)) (old : List ℕ) (input : Option (List ℕ)) (F : Type 0) (before now : Option ℕ) (bytes digest : List ℕ)
+    (words left : Stream) (server : Server) (state : Standing) (last : Option StepOut) → named ≡ Some old
     → GoesOnFromFile (is_input old) input bytes digest words server state last left → Begins named input F before now bytes digest words server state last left
 begins_again named old input F before now bytes digest words left server state last is h =
     subst (λ (n : Option (List ℕ)). Begins n input F before now bytes digest words server state last left) (sym is) (inr h)
 
-pub begins_anew : (named : Option (List ℕ)) (old : List ℕ) (reason : Reason) (input : Option (List ℕ)) (F : Type 0) (before now : Option ℕ) (bytes digest : List ℕ) (words next left : Stream) (server : Server) (state : Standing) (last : Option StepOut) → named ≡ Some old
-    → IsFileNotResumed (is_input old) input F before now bytes digest (NotResumed reason) → IsLeftBehind words next → StartsAnew bytes next server state last → left ≡ behind_boot next
+pub begins_anew : (named : Option (List ℕ)) (old : List ℕ) (reason : Reason) (input : Option (List ℕ)) (F : Type 0) (before now : Option ℕ)
+    (bytes digest : List ℕ) (words next left : Stream) (server : Server) (state : Standing) (last : Option StepOut) → named ≡ Some old
+    → IsFileNotResumed (is_input old) input F before now bytes digest (NotResumed reason) → IsLeftBehind words next
+    → StartsAnew bytes next server state last → left ≡ behind_boot next
     → Begins named input F before now bytes digest words server state last left
 begins_anew named old reason input F before now bytes digest words next left server state last is why behind h rest =
     subst (λ (n : Option (List ℕ)). Begins n input F before now bytes digest words server state last left) (sym is)
     (inl (record { why = (reason, why); next = next; behind = behind; starts = h; rest = rest }))
 
-pub begins_alone : (named input : Option (List ℕ)) (F : Type 0) (before now : Option ℕ) (bytes digest : List ℕ) (words left : Stream) (server : Server) (state : Standing) (last : Option StepOut) → named ≡ None
+pub begins_alone : (named input : Option (List ℕ)) (F : Type 0) (before now : Option ℕ) (bytes digest : List ℕ) (words left : Stream)
+    (server : Server) (state : Standing) (last : Option StepOut) → named ≡ None
     → StartsAnew bytes words server state last → left ≡ behind_boot words → Begins named input F before now bytes digest words server state last left
 begins_alone named input F before now bytes digest words left server state last is h rest =
     subst (λ (n : Option (List ℕ)). Begins n input F before now bytes digest words server state last left) (sym is)

@@ -16,8 +16,8 @@ use Rattle.sipd_old_record.specs.Own.{unread as fresh}
 use Rattle.sipd_old_record.specs.Readers.{HasStopped, most_asks}
 use Rattle.sipd_start.specs.OldRecords.{ByFile, ByOwn, HaveFrameOf, IsBegunBy, IsNotFirst, IsUnbegun}
 use Rattle.sipd_start.specs.Stops.{unheld}
-use Rattle.sipd_start.specs.declared.not_resumed.Stop.{Stop}
-use Rattle.sipd_start.specs.declared.not_resumed.Stop.TheVariants.{NotResumed, Exits}
+use Rattle.sipd_start.specs.declared.not_resumed.StartStop.{StartStop}
+use Rattle.sipd_start.specs.declared.not_resumed.StartStop.TheVariants.{NotResumed, Exits}
 use Rattle.sipd_start.proofs.Asked.{SpentLaw, has_stopped}
 use Rattle.sipd_start.proofs.Refusals.{FramesLaw, own_stops_as}
 
@@ -31,7 +31,8 @@ own_frame bytes config law states = record { config = config; states = states; s
 
 -- ---- its own configuration isn't read
 
-unheld_reason : (bytes digest : List ℕ) (F : Type 0) (head : RecordHead) (events : Option (List ℕ)) (why : SegmentStop) → OwnStops head.digest F events 0 why → IsUnbegun F bytes digest head events (unheld why)
+unheld_reason : (bytes digest : List ℕ) (F : Type 0) (head : RecordHead) (events : Option (List ℕ)) (why : SegmentStop)
+    → OwnStops head.digest F events 0 why → IsUnbegun F bytes digest head events (unheld why)
 unheld_reason bytes digest F head events segments.NoMemory h = inl (inl refl)
 unheld_reason bytes digest F head events (segments.Damaged line) h = inl (record { why = segments.Damaged line; stops = h; same = refl })
 unheld_reason bytes digest F head events (segments.Cut line) h = inl (record { why = segments.Cut line; stops = h; same = refl })
@@ -41,8 +42,10 @@ unheld_reason bytes digest F head events (segments.NoConfiguration line e) h = i
 unheld_reason bytes digest F head events (segments.OtherFrame line key) h = inl (record { why = segments.OtherFrame line key; stops = h; same = refl })
 
 -- where nothing was read before
-pub unheld_so : (bytes digest : List ℕ) (F : Type 0) (before now : Option ℕ) (head : RecordHead) (events : Option (List ℕ)) (lines : Reading) (asks : ℕ) (why : SegmentStop) (stop : Stop) → SpentLaw → lines ≡ fresh → later asks now ≡ later lines.asks before
-    → stop ≡ unheld why → OwnStops head.digest (IsSpent F asks) (pending lines events) lines.number why → IsUnbegun (HasStopped F most_asks before now) bytes digest head events stop
+pub unheld_so : (bytes digest : List ℕ) (F : Type 0) (before now : Option ℕ) (head : RecordHead) (events : Option (List ℕ)) (lines : Reading)
+    (asks : ℕ) (why : SegmentStop) (stop : StartStop) → SpentLaw → lines ≡ fresh → later asks now ≡ later lines.asks before
+    → stop ≡ unheld why → OwnStops head.digest (IsSpent F asks) (pending lines events) lines.number why
+    → IsUnbegun (HasStopped F most_asks before now) bytes digest head events stop
 unheld_so bytes digest F before now head events lines asks why stop law new asked is h =
     let count : later asks now ≡ later most_asks before = subst (λ (r : Reading). later asks now ≡ later r.asks before) new asked in
     let here : OwnStops head.digest (IsSpent F asks) (pending fresh events) 0 why = subst (λ (r : Reading). OwnStops head.digest (IsSpent F asks) (pending r events) r.number why) new h in
@@ -58,7 +61,8 @@ OwnIs head own old new events rest = IfSome own (λ held. HoldsOwn head.digest o
 abbrev pub NoneIs : Option Held → Reading → Reading → Option (List ℕ) → Option (List ℕ) → Type 0
 NoneIs own old new events rest = IfNone own (HoldsNone old new events rest)
 
-pub unbegun_of : (bytes digest : List ℕ) (F : Type 0) (head : RecordHead) (events rest : Option (List ℕ)) (own : Option Held) (old new : Reading) (stop : Stop) → old ≡ fresh → OwnIs head own old new events rest → NoneIs own old new events rest
+pub unbegun_of : (bytes digest : List ℕ) (F : Type 0) (head : RecordHead) (events rest : Option (List ℕ)) (own : Option Held) (old new : Reading)
+    (stop : StartStop) → old ≡ fresh → OwnIs head own old new events rest → NoneIs own old new events rest
     → IsNotFirst bytes digest head own stop → IsUnbegun F bytes digest head events stop
 unbegun_of bytes digest F head events rest None old new (Exits exit) is holds none h = h
 unbegun_of bytes digest F head events rest (Some own) old new (Exits exit) is holds none h = h
@@ -79,14 +83,17 @@ unbegun_of bytes digest F head events rest (Some own) old new (NotResumed reason
   },
 ))
 
-pub begun_of : (bytes digest : List ℕ) (head : RecordHead) (events rest : Option (List ℕ)) (own : Option Held) (first : Held) (old new : Reading) → old ≡ fresh → OwnIs head own old new events rest → NoneIs own old new events rest
-    → IfSome own (λ held. (first ≡ held) × HaveFrameOf bytes held.config) → IfNone own ((first.text ≡ bytes) × (head.digest ≡ digest)) → IsBegunBy bytes digest head events new rest first.text
+pub begun_of : (bytes digest : List ℕ) (head : RecordHead) (events rest : Option (List ℕ)) (own : Option Held) (first : Held) (old new : Reading)
+    → old ≡ fresh → OwnIs head own old new events rest → NoneIs own old new events rest
+    → IfSome own (λ held. (first ≡ held) × HaveFrameOf bytes held.config) → IfNone own ((first.text ≡ bytes) × (head.digest ≡ digest))
+    → IsBegunBy bytes digest head events new rest first.text
 begun_of bytes digest head events rest None first old new is holds none own file = ByFile (subst (λ (r : Reading). HoldsNone r new events rest) is none) file.1 file.0
 begun_of bytes digest head events rest (Some held) first old new is holds none own file =
     subst (λ (f : Held). IsBegunBy bytes digest head events new rest f.text) (sym own.0)
     (ByOwn held.config (subst (λ (r : Reading). HoldsOwn head.digest r new events rest held.text held.config) is holds) own.1)
 
-pub states_of : (head : RecordHead) (events rest : Option (List ℕ)) (bytes : List ℕ) (own : Option Held) (first : Held) (old new : Reading) → OwnIs head own old new events rest → IfSome own (λ held. (first ≡ held) × HaveFrameOf bytes held.config)
+pub states_of : (head : RecordHead) (events rest : Option (List ℕ)) (bytes : List ℕ) (own : Option Held) (first : Held) (old new : Reading)
+    → OwnIs head own old new events rest → IfSome own (λ held. (first ≡ held) × HaveFrameOf bytes held.config)
     → IfNone own (States first.text first.config) → States first.text first.config
 states_of head events rest bytes None first old new holds own file = file
 states_of head events rest bytes (Some held) first old new holds own file = subst (λ (f : Held). States f.text f.config) (sym own.0) holds.gives.states

@@ -42,14 +42,15 @@ use Rattle.sipd_start.specs.OldRecords.{HaveFrameOf, IsBegunBy, IsUnbegun, IsUnh
 use Rattle.sipd_start.specs.Stops.{EndsStart, IsNotUnder, IsUnmade, StatesOtherFrame, is_unreadable, unheld, unread, untaken}
 use Rattle.sipd_start.specs.declared.not_resumed.NotResumed.{NotResumed as Reason}
 use Rattle.sipd_start.specs.declared.not_resumed.NotResumed.TheVariants.{Unreadable}
-use Rattle.sipd_start.specs.declared.not_resumed.Stop.{Stop}
-use Rattle.sipd_start.specs.declared.not_resumed.Stop.TheVariants.{NotResumed, Exits}
+use Rattle.sipd_start.specs.declared.not_resumed.StartStop.{StartStop}
+use Rattle.sipd_start.specs.declared.not_resumed.StartStop.TheVariants.{NotResumed, Exits}
 use Rattle.sipd_start.proofs.Asked.{BeforeLaw, FurtherLaw, SpentLaw, has_stopped, stopped_before, stopped_further}
 use Rattle.sipd_start.proofs.Beginnings.{is_at_first, is_begun, server_with, states_one}
 
 -- ---- what is known of the reader
 
-stops_as : (server server_then : Server) (old new : Standing) (longest : ℕ) (F G : Type 0) (rest : Option (List ℕ)) (lines : ℕ) (outs outs_then : Outputs) (e : RecordError) → (F → G)
+stops_as : (server server_then : Server) (old new : Standing) (longest : ℕ) (F G : Type 0) (rest : Option (List ℕ)) (lines : ℕ)
+    (outs outs_then : Outputs) (e : RecordError) → (F → G)
     → RecordStops server server_then old new longest F rest lines outs outs_then e → RecordStops server server_then old new longest G rest lines outs outs_then e
 stops_as server server_then old new longest F G rest lines outs outs_then resuming.NoMemory f h = h
 stops_as server server_then old new longest F G rest lines outs outs_then (resuming.Damaged line) f h = h
@@ -61,8 +62,10 @@ stops_as server server_then old new longest F G rest lines outs outs_then (resum
 stops_as server server_then old new longest F G rest lines outs outs_then (resuming.OtherFrame line key) f h = h
 stops_as server server_then old new longest F G rest lines outs outs_then resuming.Write f h = h
 
-unresumed_as : (server server_then : Server) (old new : Standing) (longest : ℕ) (F G : Type 0) (rest : Option (List ℕ)) (lines : ℕ) (outs outs_then : Outputs) (e : RecordError) → (F → G)
-    → IsRecordUnresumed server server_then old new longest F rest lines outs outs_then e → IsRecordUnresumed server server_then old new longest G rest lines outs outs_then e
+unresumed_as : (server server_then : Server) (old new : Standing) (longest : ℕ) (F G : Type 0) (rest : Option (List ℕ)) (lines : ℕ)
+    (outs outs_then : Outputs) (e : RecordError) → (F → G)
+    → IsRecordUnresumed server server_then old new longest F rest lines outs outs_then e
+    → IsRecordUnresumed server server_then old new longest G rest lines outs outs_then e
 unresumed_as server server_then old new longest F G rest lines outs outs_then e f h = record {
   text = h.text;
   events = h.events;
@@ -79,7 +82,7 @@ unresumed_as server server_then old new longest F G rest lines outs outs_then e 
   why = stops_as h.in_force server_then h.reached new longest F G h.rest (lines + count_by is_end h.text) h.half outs_then e f h.why;
 }
 
-events_stop_as : (first : List ℕ) (F G : Type 0) (server : Server) (old : Standing) (number : ℕ) (events : Option (List ℕ)) (stop : Stop) → (F → G)
+events_stop_as : (first : List ℕ) (F G : Type 0) (server : Server) (old : Standing) (number : ℕ) (events : Option (List ℕ)) (stop : StartStop) → (F → G)
     → EventsStop first F server old number events stop → EventsStop first G server old number events stop
 events_stop_as first F G server old number events stop f h = record {
   in_force = h.in_force;
@@ -93,7 +96,8 @@ events_stop_as first F G server old number events stop f h = record {
   same = h.same;
 }
 
-read_stops_as : (F G : Type 0) (rest : Option (List ℕ)) (lines : ℕ) (stop : SegmentStop) → (F → G) → ReadStops most_bytes F rest lines stop → ReadStops most_bytes G rest lines stop
+read_stops_as : (F G : Type 0) (rest : Option (List ℕ)) (lines : ℕ) (stop : SegmentStop)
+    → (F → G) → ReadStops most_bytes F rest lines stop → ReadStops most_bytes G rest lines stop
 read_stops_as F G rest lines segments.NoMemory f h = tt
 read_stops_as F G rest lines (segments.Damaged line) f h = h
 read_stops_as F G rest lines (segments.Cut line) f h = h
@@ -102,20 +106,23 @@ read_stops_as F G rest lines (segments.TooLong line) f h = h
 read_stops_as F G rest lines (segments.NoConfiguration line e) f h = h
 read_stops_as F G rest lines (segments.OtherFrame line key) f h = absurd h
 
-pub own_stops_as : (digest : List ℕ) (F G : Type 0) (rest : Option (List ℕ)) (lines : ℕ) (stop : SegmentStop) → (F → G) → OwnStops digest F rest lines stop → OwnStops digest G rest lines stop
+pub own_stops_as : (digest : List ℕ) (F G : Type 0) (rest : Option (List ℕ)) (lines : ℕ) (stop : SegmentStop)
+    → (F → G) → OwnStops digest F rest lines stop → OwnStops digest G rest lines stop
 own_stops_as digest F G rest lines stop f (inl h) = inl h
 own_stops_as digest F G rest lines stop f (inr (inl h)) = inr (inl h)
 own_stops_as digest F G rest lines stop f (inr (inr h)) = inr (inr (read_stops_as F G rest lines stop f h))
 
-unheld_as : (F G : Type 0) (head : RecordHead) (events : Option (List ℕ)) (stop : Stop) → (F → G) → IsUnheld F head events stop → IsUnheld G head events stop
+unheld_as : (F G : Type 0) (head : RecordHead) (events : Option (List ℕ)) (stop : StartStop) → (F → G) → IsUnheld F head events stop → IsUnheld G head events stop
 unheld_as F G head events stop f h = record { why = h.why; stops = own_stops_as head.digest F G events 0 h.why f h.stops; same = h.same }
 
-unbegun_as : (bytes digest : List ℕ) (F G : Type 0) (head : RecordHead) (events : Option (List ℕ)) (stop : Stop) → (F → G) → IsUnbegun F bytes digest head events stop → IsUnbegun G bytes digest head events stop
+unbegun_as : (bytes digest : List ℕ) (F G : Type 0) (head : RecordHead) (events : Option (List ℕ)) (stop : StartStop)
+    → (F → G) → IsUnbegun F bytes digest head events stop → IsUnbegun G bytes digest head events stop
 unbegun_as bytes digest F G head events (Exits exit) f h = h
 unbegun_as bytes digest F G head events (NotResumed reason) f (inl h) = inl (unheld_as F G head events (NotResumed reason) f h)
 unbegun_as bytes digest F G head events (NotResumed reason) f (inr h) = inr h
 
-stopped_as : (bytes digest : List ℕ) (F G : Type 0) (head : RecordHead) (events : Option (List ℕ)) (stop : Stop) → (F → G) → IsStopped bytes digest F head events stop → IsStopped bytes digest G head events stop
+stopped_as : (bytes digest : List ℕ) (F G : Type 0) (head : RecordHead) (events : Option (List ℕ)) (stop : StartStop)
+    → (F → G) → IsStopped bytes digest F head events stop → IsStopped bytes digest G head events stop
 stopped_as bytes digest F G head events stop f s = record {
   reading = s.reading;
   rest = s.rest;
@@ -126,7 +133,8 @@ stopped_as bytes digest F G head events stop f s = record {
   stops = events_stop_as s.first F G s.server (first_standing head.first) s.reading.number (pending s.reading s.rest) stop f s.stops;
 }
 
-not_gone_on_as : (bytes digest : List ℕ) (F G : Type 0) (head : RecordHead) (events : Option (List ℕ)) (stop : Stop) → (F → G) → IsNotGoneOn bytes digest F head events stop
+not_gone_on_as : (bytes digest : List ℕ) (F G : Type 0) (head : RecordHead) (events : Option (List ℕ)) (stop : StartStop)
+    → (F → G) → IsNotGoneOn bytes digest F head events stop
     → IsNotGoneOn bytes digest G head events stop
 not_gone_on_as bytes digest F G head events (Exits exit) f h = h
 not_gone_on_as bytes digest F G head events (NotResumed reason) f (inl h) = inl (unbegun_as bytes digest F G head events (NotResumed reason) f h)
@@ -134,8 +142,10 @@ not_gone_on_as bytes digest F G head events (NotResumed reason) f (inr h) = inr 
 
 -- ---- what is left isn't taken
 
-events_stop : (first : List ℕ) (server server_then : Server) (old new : Standing) (F G : Type 0) (events : Option (List ℕ)) (number : ℕ) (written : Written) (outs outs_then : Outputs) (e : RecordError)
-    → (F → G) → NotesConfiguration written outs.written first → IsRecordUnresumed server server_then old new most_bytes F events number outs outs_then e → EventsStop first G server old number events (untaken e)
+events_stop : (first : List ℕ) (server server_then : Server) (old new : Standing) (F G : Type 0) (events : Option (List ℕ)) (number : ℕ)
+    (written : Written) (outs outs_then : Outputs) (e : RecordError)
+    → (F → G) → NotesConfiguration written outs.written first
+    → IsRecordUnresumed server server_then old new most_bytes F events number outs outs_then e → EventsStop first G server old number events (untaken e)
 events_stop first server server_then old new F G events number written outs outs_then e f told h = record {
   in_force = server_then;
   reached = new;
@@ -160,27 +170,32 @@ at_stop first bytes F server old number events (resuming.NoConfiguration line er
 at_stop first bytes F server old number events (resuming.OtherFrame line key) other h = h
 at_stop first bytes F server old number events resuming.Write other h = absurd (other refl)
 
-pub stops_at : {A : Type 0} (result : Result A RecordError) (first bytes : List ℕ) (server server_then : Server) (old new : Standing) (F : Type 0) (asks least : ℕ) (before now : Option ℕ)
-    (events : Option (List ℕ)) (number : ℕ) (written : Written) (outs outs_then : Outputs) (e : RecordError) (stop : Stop) → SpentLaw → result ≡ Err e → (result ≡ Err resuming.Write → ⊥)
+pub stops_at : {A : Type 0} (result : Result A RecordError) (first bytes : List ℕ) (server server_then : Server) (old new : Standing) (F : Type 0)
+    (asks least : ℕ) (before now : Option ℕ)
+    (events : Option (List ℕ)) (number : ℕ) (written : Written) (outs outs_then : Outputs) (e : RecordError) (stop : StartStop) → SpentLaw → result ≡ Err e → (result ≡ Err resuming.Write → ⊥)
     → stop ≡ untaken e → NotesConfiguration written outs.written first → later asks now ≡ later least before
-    → IsRecordUnresumed server server_then old new most_bytes (IsSpent F asks) events number outs outs_then e → StopsAt first bytes (HasStopped F least before now) server old number events stop
+    → IsRecordUnresumed server server_then old new most_bytes (IsSpent F asks) events number outs outs_then e
+    → StopsAt first bytes (HasStopped F least before now) server old number events stop
 stops_at result first bytes server server_then old new F asks least before now events number written outs outs_then e stop spent was other is told asked h =
     let not_written : e ≡ resuming.Write → ⊥ = λ same. other (subst (λ (x : RecordError). result ≡ Err x) same was) in
     subst (λ s. StopsAt first bytes (HasStopped F least before now) server old number events s) (sym is) (at_stop first bytes (HasStopped F least before now) server old number events e not_written
     (events_stop first server server_then old new (IsSpent F asks) (HasStopped F least before now) events number written outs outs_then e (has_stopped spent F asks least before now asked) told h))
 
-pub exits_at : (first bytes : List ℕ) (F : Type 0) (server : Server) (old : Standing) (number : ℕ) (events : Option (List ℕ)) (exit : Exit) (stop : Stop) → stop ≡ Exits exit → IsUnmade exit
+pub exits_at : (first bytes : List ℕ) (F : Type 0) (server : Server) (old : Standing) (number : ℕ) (events : Option (List ℕ)) (exit : Exit)
+    (stop : StartStop) → stop ≡ Exits exit → IsUnmade exit
     → StopsAt first bytes F server old number events stop
 exits_at first bytes F server old number events exit stop is h = subst (λ s. StopsAt first bytes F server old number events s) (sym is) (λ frame. h)
 
-pub untold_at : (first bytes : List ℕ) (F : Type 0) (server : Server) (old : Standing) (number : ℕ) (events : Option (List ℕ)) (exit : Exit) (stop : Stop) → stop ≡ Exits exit → exit ≡ exits.Recording
+pub untold_at : (first bytes : List ℕ) (F : Type 0) (server : Server) (old : Standing) (number : ℕ) (events : Option (List ℕ)) (exit : Exit)
+    (stop : StartStop) → stop ≡ Exits exit → exit ≡ exits.Recording
     → StopsAt first bytes F server old number events stop
 untold_at first bytes F server old number events exit stop is h = exits_at first bytes F server old number events exit stop is (inr (inr h))
 
 -- ---- the server comes under the configuration of the file
 
 -- a refusal that isn't one of those that come where no key differs
-pub other_frame : {E : Type 0} (bytes : List ℕ) (old config : Config) (result : Result (Unit {0}) E) (error this : E) (Is : E → Type 0) → result ≡ Err error → error ≡ this
+pub other_frame : {E : Type 0} (bytes : List ℕ) (old config : Config) (result : Result (Unit {0}) E) (error this : E) (Is : E → Type 0)
+    → result ≡ Err error → error ≡ this
     → (frame_key_of old config ≡ None → IfErr result Is) → (Is this → ⊥) → States bytes config → StatesOtherFrame bytes old
 other_frame {E} bytes old config result error this Is is there same differs states = by_key (frame_key_of old config) refl where
   by_key : (found : Option FrameKey) → frame_key_of old config ≡ found → StatesOtherFrame bytes old
@@ -195,7 +210,8 @@ FramesLaw = (old new : Config) → (frame_key_of old new ≡ None) ↔ ((new.own
 abbrev SameFrame : Config → Config → Type 0
 SameFrame one other = (one.own ≡ other.own) × (one.realm ≡ other.realm)
 
-frame_behind : (server : Server) (config : Config) (periods : List Period) → SameFrame config server.config → AllByRecursion (KeepsFrame server) periods → SameFrame (config_behind config periods) server.config
+frame_behind : (server : Server) (config : Config) (periods : List Period)
+    → SameFrame config server.config → AllByRecursion (KeepsFrame server) periods → SameFrame (config_behind config periods) server.config
 frame_behind server config [] same all = same
 frame_behind server config (period ∷ periods) same all =
     frame_behind server period.config periods (ap (λ (s : Server). s.config.own) all.0, ap (λ (s : Server). s.config.realm) all.0) all.1
@@ -211,7 +227,8 @@ states_some : (bytes : List ℕ) (config : Config) (error : ConfigError) → Sta
 states_some bytes config error states (inl h) = h.0 states.utf8
 states_some bytes config error states (inr h) = let e : Ok config ≡ Err error = sym states.stated ∙ h.stated in absurd cc
 
-under_own : (bytes : List ℕ) (own in_force : Config) (exit : Exit) → frame_key_of in_force own ≡ None → States bytes own → IsNotUnder bytes in_force exit → exit ≡ exits.Memory
+under_own : (bytes : List ℕ) (own in_force : Config) (exit : Exit)
+    → frame_key_of in_force own ≡ None → States bytes own → IsNotUnder bytes in_force exit → exit ≡ exits.Memory
 under_own bytes own in_force exit same states (inl h) = h
 under_own bytes own in_force exit same states (inr (inl h)) = absurd (states_some bytes own h.error states h.none)
 under_own bytes own in_force exit same states (inr (inr h)) =
@@ -219,13 +236,16 @@ under_own bytes own in_force exit same states (inr (inr h)) =
     absurd (none-some h.1.key (sym same ∙ subst (λ (c : Config). frame_key_of in_force c ≡ Some h.1.key) (sym one) h.1.other))
 
 -- what bytes state is of the frame of what is in force
-of_frame : (bytes : List ℕ) (server server_then : Server) (exit : Exit) → FramesLaw → SameFrame server_then.config server.config → HaveFrameOf bytes server.config → IsNotUnder bytes server_then.config exit → exit ≡ exits.Memory
+of_frame : (bytes : List ℕ) (server server_then : Server) (exit : Exit)
+    → FramesLaw → SameFrame server_then.config server.config → HaveFrameOf bytes server.config → IsNotUnder bytes server_then.config exit → exit ≡ exits.Memory
 of_frame bytes server server_then exit law same frame refused =
     let kept = (law frame.config server.config).0 frame.same in
     under_own bytes frame.config server_then.config exit ((law server_then.config frame.config).1 (sym kept.0 ∙ sym same.0, sym kept.1 ∙ sym same.1)) frame.states refused
 
-pub under_exits : (first bytes : List ℕ) (F : Type 0) (server server_then : Server) (old new : Standing) (events rest : Option (List ℕ)) (number lines : ℕ) (outs outs_then : Outputs) (last : Option StepOut) (exit : Exit) (stop : Stop)
-    → FramesLaw → IsRecordResumed server server_then old new events number outs outs_then lines last → IsNotUnder bytes server_then.config exit → stop ≡ Exits exit → StopsAt first bytes F server old number rest stop
+pub under_exits : (first bytes : List ℕ) (F : Type 0) (server server_then : Server) (old new : Standing) (events rest : Option (List ℕ))
+    (number lines : ℕ) (outs outs_then : Outputs) (last : Option StepOut) (exit : Exit) (stop : StartStop)
+    → FramesLaw → IsRecordResumed server server_then old new events number outs outs_then lines last → IsNotUnder bytes server_then.config exit
+    → stop ≡ Exits exit → StopsAt first bytes F server old number rest stop
 under_exits first bytes F server server_then old new events rest number lines outs outs_then last exit stop law h refused is =
     let here : HaveFrameOf bytes server.config → IsUnmade exit =
     λ frame. inl (of_frame bytes server server_then exit law (keeps_frame server server_then old new events number lines outs outs_then last h) frame refused) in
@@ -233,9 +253,13 @@ under_exits first bytes F server server_then old new events rest number lines ou
 
 -- ---- it isn't gone on from a record
 
-not_gone_on : (first bytes digest : List ℕ) (F : Type 0) (before middle now : Option ℕ) (head : RecordHead) (words : Stream) (boot : Boot) (events : Option (List ℕ)) (reading : Reading) (rest : Option (List ℕ)) (config : Config) (server : Server) (old : Standing) (stop : Stop)
-    → FurtherLaw → boot ≡ boot_again head words → States first config → server ≡ server_with config boot.word → old ≡ first_standing boot.first → IsBegunBy bytes digest head events reading rest first → HaveFrameOf bytes config
-    → later reading.asks middle ≡ later most_asks before → StopsAt first bytes (HasStopped F reading.asks middle now) server old reading.number (pending reading rest) stop → IsNotGoneOn bytes digest (HasStopped F most_asks before now) head events stop
+not_gone_on : (first bytes digest : List ℕ) (F : Type 0) (before middle now : Option ℕ) (head : RecordHead) (words : Stream) (boot : Boot)
+    (events : Option (List ℕ)) (reading : Reading) (rest : Option (List ℕ)) (config : Config) (server : Server) (old : Standing) (stop : StartStop)
+    → FurtherLaw → boot ≡ boot_again head words → States first config → server ≡ server_with config boot.word → old ≡ first_standing boot.first
+    → IsBegunBy bytes digest head events reading rest first → HaveFrameOf bytes config
+    → later reading.asks middle ≡ later most_asks before
+    → StopsAt first bytes (HasStopped F reading.asks middle now) server old reading.number (pending reading rest) stop
+    → IsNotGoneOn bytes digest (HasStopped F most_asks before now) head events stop
 not_gone_on first bytes digest F before middle now head words boot events reading rest config server old (Exits exit) further is states opened fresh by frame asked h =
     inl (h (subst (λ (c : Config). HaveFrameOf bytes c) (sym (ap (λ (s : Server). s.config) opened)) frame))
 not_gone_on first bytes digest F before middle now head words boot events reading rest config server old (NotResumed reason) further is states opened fresh by frame asked h =
@@ -252,22 +276,30 @@ not_gone_on first bytes digest F before middle now head words boot events readin
       stops = subst (λ s. EventsStop first (HasStopped F most_asks before now) server s reading.number (pending reading rest) (NotResumed reason)) (is_at_first head words boot old is fresh) stops;
     })
 
-pub not_gone_on_so : {A : Type 0} (result : Result A Stop) (first bytes digest : List ℕ) (F : Type 0) (before middle now : Option ℕ) (head : RecordHead) (words : Stream) (boot : Boot) (events : Option (List ℕ)) (reading : Reading) (rest : Option (List ℕ)) (config : Config) (server : Server) (old : Standing)
-    → FurtherLaw → boot ≡ boot_again head words → States first config → server ≡ server_with config boot.word → old ≡ first_standing boot.first → IsBegunBy bytes digest head events reading rest first → HaveFrameOf bytes config
-    → later reading.asks middle ≡ later most_asks before → IfErr result (StopsAt first bytes (HasStopped F reading.asks middle now) server old reading.number (pending reading rest)) → IfErr result (IsNotGoneOn bytes digest (HasStopped F most_asks before now) head events)
+pub not_gone_on_so : {A : Type 0} (result : Result A StartStop) (first bytes digest : List ℕ) (F : Type 0) (before middle now : Option ℕ)
+    (head : RecordHead) (words : Stream) (boot : Boot) (events : Option (List ℕ)) (reading : Reading) (rest : Option (List ℕ)) (config : Config)
+    (server : Server) (old : Standing)
+    → FurtherLaw → boot ≡ boot_again head words → States first config → server ≡ server_with config boot.word → old ≡ first_standing boot.first
+    → IsBegunBy bytes digest head events reading rest first → HaveFrameOf bytes config
+    → later reading.asks middle ≡ later most_asks before
+    → IfErr result (StopsAt first bytes (HasStopped F reading.asks middle now) server old reading.number (pending reading rest))
+    → IfErr result (IsNotGoneOn bytes digest (HasStopped F most_asks before now) head events)
 not_gone_on_so (Ok a) first bytes digest F before middle now head words boot events reading rest config server old further is states opened fresh by frame asked h = tt
 not_gone_on_so (Err stop) first bytes digest F before middle now head words boot events reading rest config server old further is states opened fresh by frame asked h =
     not_gone_on first bytes digest F before middle now head words boot events reading rest config server old stop further is states opened fresh by frame asked h
 
 -- nothing was taken of it
-unbegun_on : (bytes digest : List ℕ) (F : Type 0) (head : RecordHead) (events : Option (List ℕ)) (stop : Stop) → IsUnbegun F bytes digest head events stop → IsNotGoneOn bytes digest F head events stop
+unbegun_on : (bytes digest : List ℕ) (F : Type 0) (head : RecordHead) (events : Option (List ℕ)) (stop : StartStop)
+    → IsUnbegun F bytes digest head events stop → IsNotGoneOn bytes digest F head events stop
 unbegun_on bytes digest F head events (Exits exit) h = h
 unbegun_on bytes digest F head events (NotResumed reason) h = inl h
 
-pub unbegun_so : (bytes digest : List ℕ) (F : Type 0) (head : RecordHead) (events : Option (List ℕ)) (stop other : Stop) → other ≡ stop → IsUnbegun F bytes digest head events stop → IsNotGoneOn bytes digest F head events other
+pub unbegun_so : (bytes digest : List ℕ) (F : Type 0) (head : RecordHead) (events : Option (List ℕ)) (stop other : StartStop)
+    → other ≡ stop → IsUnbegun F bytes digest head events stop → IsNotGoneOn bytes digest F head events other
 unbegun_so bytes digest F head events stop other is h = subst (λ s. IsNotGoneOn bytes digest F head events s) (sym is) (unbegun_on bytes digest F head events stop h)
 
-pub exits_on : (bytes digest : List ℕ) (F : Type 0) (head : RecordHead) (events : Option (List ℕ)) (exit : Exit) (stop : Stop) → stop ≡ Exits exit → EndsStart bytes exit → IsNotGoneOn bytes digest F head events stop
+pub exits_on : (bytes digest : List ℕ) (F : Type 0) (head : RecordHead) (events : Option (List ℕ)) (exit : Exit) (stop : StartStop)
+    → stop ≡ Exits exit → EndsStart bytes exit → IsNotGoneOn bytes digest F head events stop
 exits_on bytes digest F head events exit stop is h = subst (λ s. IsNotGoneOn bytes digest F head events s) (sym is) h
 
 -- ---- no first line of a record is read
@@ -277,14 +309,16 @@ system_exit : (kind : ErrorKind) → (exit_of_kind kind ≡ exits.Memory) ⊎ ((
 system_exit OutOfMemory = inl refl
 system_exit kind = inr (fault_of kind, refl)
 
-unread_fault : (bytes digest : List ℕ) (F : Type 0) (before now : Option ℕ) (whole : Option (List ℕ)) (exit other : Exit) → exit ≡ other → (other ≡ exits.Memory) ⊎ ((fault : DeviceFault) × (other ≡ exits.Device fault))
+unread_fault : (bytes digest : List ℕ) (F : Type 0) (before now : Option ℕ) (whole : Option (List ℕ)) (exit other : Exit)
+    → exit ≡ other → (other ≡ exits.Memory) ⊎ ((fault : DeviceFault) × (other ≡ exits.Device fault))
     → IsUnread F before now whole (unread exit) → IsNotResumed bytes digest F before now whole (unread exit)
 unread_fault bytes digest F before now whole exit other is (inl e) h = subst (λ (x : Exit). IsNotResumed bytes digest F before now whole (unread x)) (sym (is ∙ e)) (inl (inl refl))
 unread_fault bytes digest F before now whole exit other is (inr d) h =
     let there : IsUnread F before now whole (unread (exits.Device d.0)) = subst (λ (x : Exit). IsUnread F before now whole (unread x)) (is ∙ d.1) h in
     subst (λ (x : Exit). IsNotResumed bytes digest F before now whole (unread x)) (sym (is ∙ d.1)) (inl there)
 
-unread_at : (bytes digest : List ℕ) (F : Type 0) (before now : Option ℕ) (whole rest : Option (List ℕ)) (exit : Exit) → IsRefused whole rest F before now exit → IsNotResumed bytes digest F before now whole (unread exit)
+unread_at : (bytes digest : List ℕ) (F : Type 0) (before now : Option ℕ) (whole rest : Option (List ℕ)) (exit : Exit)
+    → IsRefused whole rest F before now exit → IsNotResumed bytes digest F before now whole (unread exit)
 unread_at bytes digest F before now whole rest exit (inl h) = subst (λ (x : Exit). IsNotResumed bytes digest F before now whole (unread x)) (sym h) (inl (inl refl))
 unread_at bytes digest F before now whole rest exit (inr (inl h)) =
     unread_fault bytes digest F before now whole exit (exit_of_kind h.kind) h.same (system_exit h.kind) (record { rest = rest; exit = exit; refused = inr (inl h); same = refl })
@@ -293,22 +327,27 @@ unread_at bytes digest F before now whole rest exit (inr (inr h)) =
     let there : IsUnread F before now whole (unread exits.NoRecord) = subst (λ (x : Exit). IsUnread F before now whole (unread x)) h.0 read_so in
     subst (λ (x : Exit). IsNotResumed bytes digest F before now whole (unread x)) (sym h.0) (inl there)
 
-pub unread_so : (bytes digest : List ℕ) (F : Type 0) (before now : Option ℕ) (whole rest : Option (List ℕ)) (exit : Exit) (stop : Stop) → stop ≡ unread exit → IsRefused whole rest F before now exit → IsNotResumed bytes digest F before now whole stop
+pub unread_so : (bytes digest : List ℕ) (F : Type 0) (before now : Option ℕ) (whole rest : Option (List ℕ)) (exit : Exit) (stop : StartStop)
+    → stop ≡ unread exit → IsRefused whole rest F before now exit → IsNotResumed bytes digest F before now whole stop
 unread_so bytes digest F before now whole rest exit stop is h =
     subst (λ s. IsNotResumed bytes digest F before now whole s) (sym is) (unread_at bytes digest F before now whole rest exit h)
 
-pub marked_off : (bytes digest : List ℕ) (F : Type 0) (before now : Option ℕ) (whole events : Option (List ℕ)) (head : RecordHead) (reason : Reason) → SaysHead whole events head
+pub marked_off : (bytes digest : List ℕ) (F : Type 0) (before now : Option ℕ) (whole events : Option (List ℕ)) (head : RecordHead) (reason : Reason)
+    → SaysHead whole events head
     → reason_of head.mark ≡ Some reason → IsNotResumed bytes digest F before now whole (NotResumed reason)
 marked_off bytes digest F before now whole events head reason says marked = inr (inl (record { head = head; events = events; says = says; marked = marked }))
 
-stopped_at : (bytes digest : List ℕ) (F : Type 0) (before now : Option ℕ) (whole events : Option (List ℕ)) (head : RecordHead) (stop : Stop) → SaysHead whole events head
+stopped_at : (bytes digest : List ℕ) (F : Type 0) (before now : Option ℕ) (whole events : Option (List ℕ)) (head : RecordHead) (stop : StartStop)
+    → SaysHead whole events head
     → head.mark ≡ Whole → IsNotGoneOn bytes digest (HasStopped F most_asks before now) head events stop → IsNotResumed bytes digest F before now whole stop
 stopped_at bytes digest F before now whole events head (Exits exit) says is_whole h = h
 stopped_at bytes digest F before now whole events head (NotResumed reason) says is_whole h =
     inr (inr (record { head = head; events = events; says = says; is_whole = is_whole; stopped = h }))
 
-pub stopped_behind_so : {A : Type 0} (result : Result A Stop) (bytes digest : List ℕ) (F : Type 0) (before middle now : Option ℕ) (whole events : Option (List ℕ)) (head : RecordHead) → BeforeLaw → SaysHead whole events head
-    → head.mark ≡ Whole → WasAsked 0 before middle → IfErr result (IsNotGoneOn bytes digest (HasStopped F most_asks middle now) head events) → IfErr result (IsNotResumed bytes digest F before now whole)
+pub stopped_behind_so : {A : Type 0} (result : Result A StartStop) (bytes digest : List ℕ) (F : Type 0) (before middle now : Option ℕ)
+    (whole events : Option (List ℕ)) (head : RecordHead) → BeforeLaw → SaysHead whole events head
+    → head.mark ≡ Whole → WasAsked 0 before middle → IfErr result (IsNotGoneOn bytes digest (HasStopped F most_asks middle now) head events)
+    → IfErr result (IsNotResumed bytes digest F before now whole)
 stopped_behind_so (Ok a) bytes digest F before middle now whole events head before_law says is_whole asked h = tt
 stopped_behind_so (Err stop) bytes digest F before middle now whole events head before_law says is_whole asked h =
     stopped_at bytes digest F before now whole events head stop says is_whole
@@ -316,27 +355,32 @@ stopped_behind_so (Err stop) bytes digest F before middle now whole events head 
 
 -- ---- of a file
 
-pub input_not_resumed : {A : Type 0} (result : Result A Stop) (is_input : Bool) (input : Option (List ℕ)) (F : Type 0) (before now : Option ℕ) (bytes digest : List ℕ) → is_input ≡ true
+pub input_not_resumed : {A : Type 0} (result : Result A StartStop) (is_input : Bool) (input : Option (List ℕ)) (F : Type 0) (before now : Option ℕ)
+    (bytes digest : List ℕ) → is_input ≡ true
     → IfErr result (IsNotResumed bytes digest F before now input) → IfErr result (IsFileNotResumed is_input input F before now bytes digest)
 input_not_resumed result true input F before now bytes digest is h = h
 input_not_resumed result false input F before now bytes digest is h = absurd cc
 
-other_file : {A : Type 0} (result : Result A Stop) (input whole : Option (List ℕ)) (F : Type 0) (before now : Option ℕ) (bytes digest : List ℕ) → IfErr result (IsNotResumed bytes digest ⊤ None None whole)
+other_file : {A : Type 0} (result : Result A StartStop) (input whole : Option (List ℕ)) (F : Type 0) (before now : Option ℕ) (bytes digest : List ℕ)
+    → IfErr result (IsNotResumed bytes digest ⊤ None None whole)
     → IfErr result (IsFileNotResumed false input F before now bytes digest)
 other_file (Ok a) input whole F before now bytes digest h = tt
 other_file (Err stop) input whole F before now bytes digest h = inr (whole, h)
 
-pub file_not_resumed : {A : Type 0} (result : Result A Stop) (is_input : Bool) (input whole : Option (List ℕ)) (F : Type 0) (before now : Option ℕ) (bytes digest : List ℕ) → is_input ≡ false
+pub file_not_resumed : {A : Type 0} (result : Result A StartStop) (is_input : Bool) (input whole : Option (List ℕ)) (F : Type 0)
+    (before now : Option ℕ) (bytes digest : List ℕ) → is_input ≡ false
     → IfErr result (IsNotResumed bytes digest ⊤ None None whole) → IfErr result (IsFileNotResumed is_input input F before now bytes digest)
 file_not_resumed result true input whole F before now bytes digest is h = absurd cc
 file_not_resumed result false input whole F before now bytes digest is h = other_file result input whole F before now bytes digest h
 
-pub unopened : (is_input : Bool) (input : Option (List ℕ)) (F : Type 0) (before now : Option ℕ) (bytes digest : List ℕ) (exit : Exit) (stop : Stop) → is_input ≡ false → stop ≡ unread exit → IsSystemFault exit
+pub unopened : (is_input : Bool) (input : Option (List ℕ)) (F : Type 0) (before now : Option ℕ) (bytes digest : List ℕ) (exit : Exit)
+    (stop : StartStop) → is_input ≡ false → stop ≡ unread exit → IsSystemFault exit
     → IsFileNotResumed is_input input F before now bytes digest stop
 unopened true input F before now bytes digest exit stop other is h = absurd cc
 unopened false input F before now bytes digest exit stop other is h = inl (record { exit = exit; fault = h; same = is })
 
-opened_exits : (bytes : List ℕ) (exit other : Exit) → Exits exit ≡ unread other → (other ≡ exits.Memory) ⊎ ((fault : DeviceFault) × (other ≡ exits.Device fault)) → EndsStart bytes exit
+opened_exits : (bytes : List ℕ) (exit other : Exit) → Exits exit ≡ unread other
+    → (other ≡ exits.Memory) ⊎ ((fault : DeviceFault) × (other ≡ exits.Device fault)) → EndsStart bytes exit
 opened_exits bytes exit other is (inl e) =
     let same : Exits exit ≡ Exits exits.Memory = is ∙ ap unread e in
     let memory : exit ≡ exits.Memory = cc in
@@ -346,14 +390,16 @@ opened_exits bytes exit other is (inr d) = let same : Exits exit ≡ NotResumed 
 unopened_exits : (bytes : List ℕ) (exit : Exit) → IsUnopened (Exits exit) → EndsStart bytes exit
 unopened_exits bytes exit h = opened_exits bytes exit (exit_of_kind h.fault.kind) (h.same ∙ ap unread h.fault.same) (system_exit h.fault.kind)
 
-pub file_exits : (is_input : Bool) (input : Option (List ℕ)) (F : Type 0) (before now : Option ℕ) (bytes digest : List ℕ) (exit : Exit) → IsFileNotResumed is_input input F before now bytes digest (Exits exit) → EndsStart bytes exit
+pub file_exits : (is_input : Bool) (input : Option (List ℕ)) (F : Type 0) (before now : Option ℕ) (bytes digest : List ℕ) (exit : Exit)
+    → IsFileNotResumed is_input input F before now bytes digest (Exits exit) → EndsStart bytes exit
 file_exits true input F before now bytes digest exit h = h
 file_exits false input F before now bytes digest exit (inl h) = unopened_exits bytes exit h
 file_exits false input F before now bytes digest exit (inr h) = h.1
 
 -- ---- of the input, which is read on
 
-stops_other : (server server_then : Server) (old new : Standing) (longest : ℕ) (F G : Type 0) (rest : Option (List ℕ)) (lines : ℕ) (outs outs_then : Outputs) (e : RecordError) → (e ≡ resuming.Read → ⊥)
+stops_other : (server server_then : Server) (old new : Standing) (longest : ℕ) (F G : Type 0) (rest : Option (List ℕ)) (lines : ℕ)
+    (outs outs_then : Outputs) (e : RecordError) → (e ≡ resuming.Read → ⊥)
     → RecordStops server server_then old new longest F rest lines outs outs_then e → RecordStops server server_then old new longest G rest lines outs outs_then e
 stops_other server server_then old new longest F G rest lines outs outs_then resuming.NoMemory other h = h
 stops_other server server_then old new longest F G rest lines outs outs_then (resuming.Damaged line) other h = h
@@ -368,7 +414,8 @@ stops_other server server_then old new longest F G rest lines outs outs_then res
 unreadable : (reason : Reason) → is_unreadable reason ≡ false → NotResumed reason ≡ NotResumed Unreadable → ⊥
 unreadable reason readable same = let e : reason ≡ Unreadable = cc in true≢false (sym (ap is_unreadable e) ∙ readable)
 
-events_stop_still : (first : List ℕ) (F G : Type 0) (server : Server) (old : Standing) (number : ℕ) (events : Option (List ℕ)) (reason : Reason) → is_unreadable reason ≡ false
+events_stop_still : (first : List ℕ) (F G : Type 0) (server : Server) (old : Standing) (number : ℕ) (events : Option (List ℕ)) (reason : Reason)
+    → is_unreadable reason ≡ false
     → EventsStop first F server old number events (NotResumed reason) → EventsStop first G server old number events (NotResumed reason)
 events_stop_still first F G server old number events reason readable h =
     let readable_error : h.error ≡ resuming.Read → ⊥ = λ e. unreadable reason readable (h.same ∙ ap untaken e) in
@@ -399,7 +446,8 @@ events_stop_still first F G server old number events reason readable h =
       same = h.same;
     }
 
-stopped_still : (bytes digest : List ℕ) (F G : Type 0) (head : RecordHead) (events : Option (List ℕ)) (reason : Reason) → is_unreadable reason ≡ false → IsStopped bytes digest F head events (NotResumed reason) → IsStopped bytes digest G head events (NotResumed reason)
+stopped_still : (bytes digest : List ℕ) (F G : Type 0) (head : RecordHead) (events : Option (List ℕ)) (reason : Reason)
+    → is_unreadable reason ≡ false → IsStopped bytes digest F head events (NotResumed reason) → IsStopped bytes digest G head events (NotResumed reason)
 stopped_still bytes digest F G head events reason readable s = record {
   reading = s.reading;
   rest = s.rest;
@@ -410,7 +458,8 @@ stopped_still bytes digest F G head events reason readable s = record {
   stops = events_stop_still s.first F G s.server (first_standing head.first) s.reading.number (pending s.reading s.rest) reason readable s.stops;
 }
 
-read_stops_other : (F G : Type 0) (rest : Option (List ℕ)) (lines : ℕ) (stop : SegmentStop) → (stop ≡ segments.Read → ⊥) → ReadStops most_bytes F rest lines stop → ReadStops most_bytes G rest lines stop
+read_stops_other : (F G : Type 0) (rest : Option (List ℕ)) (lines : ℕ) (stop : SegmentStop)
+    → (stop ≡ segments.Read → ⊥) → ReadStops most_bytes F rest lines stop → ReadStops most_bytes G rest lines stop
 read_stops_other F G rest lines segments.NoMemory other h = tt
 read_stops_other F G rest lines (segments.Damaged line) other h = h
 read_stops_other F G rest lines (segments.Cut line) other h = h
@@ -419,22 +468,26 @@ read_stops_other F G rest lines (segments.TooLong line) other h = h
 read_stops_other F G rest lines (segments.NoConfiguration line e) other h = h
 read_stops_other F G rest lines (segments.OtherFrame line key) other h = absurd h
 
-own_stops_other : (digest : List ℕ) (F G : Type 0) (rest : Option (List ℕ)) (lines : ℕ) (stop : SegmentStop) → (stop ≡ segments.Read → ⊥) → OwnStops digest F rest lines stop → OwnStops digest G rest lines stop
+own_stops_other : (digest : List ℕ) (F G : Type 0) (rest : Option (List ℕ)) (lines : ℕ) (stop : SegmentStop)
+    → (stop ≡ segments.Read → ⊥) → OwnStops digest F rest lines stop → OwnStops digest G rest lines stop
 own_stops_other digest F G rest lines stop other (inl h) = inl h
 own_stops_other digest F G rest lines stop other (inr (inl h)) = inr (inl h)
 own_stops_other digest F G rest lines stop other (inr (inr h)) = inr (inr (read_stops_other F G rest lines stop other h))
 
-unheld_still : (F G : Type 0) (head : RecordHead) (events : Option (List ℕ)) (reason : Reason) → is_unreadable reason ≡ false → IsUnheld F head events (NotResumed reason) → IsUnheld G head events (NotResumed reason)
+unheld_still : (F G : Type 0) (head : RecordHead) (events : Option (List ℕ)) (reason : Reason)
+    → is_unreadable reason ≡ false → IsUnheld F head events (NotResumed reason) → IsUnheld G head events (NotResumed reason)
 unheld_still F G head events reason readable h =
     record { why = h.why; stops = own_stops_other head.digest F G events 0 h.why (λ e. unreadable reason readable (h.same ∙ ap unheld e)) h.stops; same = h.same }
 
-not_gone_on_still : (bytes digest : List ℕ) (F G : Type 0) (head : RecordHead) (events : Option (List ℕ)) (reason : Reason) → is_unreadable reason ≡ false → IsNotGoneOn bytes digest F head events (NotResumed reason) → IsNotGoneOn bytes digest G head events (NotResumed reason)
+not_gone_on_still : (bytes digest : List ℕ) (F G : Type 0) (head : RecordHead) (events : Option (List ℕ)) (reason : Reason)
+    → is_unreadable reason ≡ false → IsNotGoneOn bytes digest F head events (NotResumed reason) → IsNotGoneOn bytes digest G head events (NotResumed reason)
 not_gone_on_still bytes digest F G head events reason readable (inl (inl h)) = inl (inl (unheld_still F G head events reason readable h))
 not_gone_on_still bytes digest F G head events reason readable (inl (inr h)) = inl (inr h)
 not_gone_on_still bytes digest F G head events reason readable (inr h) = inr (stopped_still bytes digest F G head events reason readable h)
 
 -- what isn't unreadable is no record
-refused_still : (F G : Type 0) (before now later_now : Option ℕ) (whole rest : Option (List ℕ)) (exit : Exit) (reason : Reason) → is_unreadable reason ≡ false → NotResumed reason ≡ unread exit → IsRefused whole rest F before now exit → IsRefused whole rest G before later_now exit
+refused_still : (F G : Type 0) (before now later_now : Option ℕ) (whole rest : Option (List ℕ)) (exit : Exit) (reason : Reason)
+    → is_unreadable reason ≡ false → NotResumed reason ≡ unread exit → IsRefused whole rest F before now exit → IsRefused whole rest G before later_now exit
 refused_still F G before now later_now whole rest exit reason readable same (inl h) = inl h
 refused_still F G before now later_now whole rest exit reason readable same (inr (inl h)) = absurd (by_exit (system_exit h.kind)) where
   by_exit : (exit_of_kind h.kind ≡ exits.Memory) ⊎ ((fault : DeviceFault) × (exit_of_kind h.kind ≡ exits.Device fault)) → ⊥
@@ -442,7 +495,8 @@ refused_still F G before now later_now whole rest exit reason readable same (inr
   by_exit (inr d) = unreadable reason readable (same ∙ ap unread (h.same ∙ d.1))
 refused_still F G before now later_now whole rest exit reason readable same (inr (inr h)) = inr (inr h)
 
-not_resumed_still : (bytes digest : List ℕ) (F G : Type 0) (before now later_now : Option ℕ) (whole : Option (List ℕ)) (reason : Reason) → is_unreadable reason ≡ false → IsNotResumed bytes digest F before now whole (NotResumed reason)
+not_resumed_still : (bytes digest : List ℕ) (F G : Type 0) (before now later_now : Option ℕ) (whole : Option (List ℕ)) (reason : Reason)
+    → is_unreadable reason ≡ false → IsNotResumed bytes digest F before now whole (NotResumed reason)
     → IsNotResumed bytes digest G before later_now whole (NotResumed reason)
 not_resumed_still bytes digest F G before now later_now whole reason readable (inl h) =
     inl (record { rest = h.rest; exit = h.exit; refused = refused_still F G before now later_now whole h.rest h.exit reason readable h.same h.refused; same = h.same })
@@ -456,7 +510,8 @@ not_resumed_still bytes digest F G before now later_now whole reason readable (i
 }))
 
 -- why it isn't resumed stays so where it is no fault of the reader
-pub still_so : (is_input : Bool) (input : Option (List ℕ)) (F G : Type 0) (before now later_now : Option ℕ) (bytes digest : List ℕ) (reason : Reason) → is_unreadable reason ≡ false
+pub still_so : (is_input : Bool) (input : Option (List ℕ)) (F G : Type 0) (before now later_now : Option ℕ) (bytes digest : List ℕ) (reason : Reason)
+    → is_unreadable reason ≡ false
     → IsFileNotResumed is_input input F before now bytes digest (NotResumed reason) → IsFileNotResumed is_input input G before later_now bytes digest (NotResumed reason)
 still_so true input F G before now later_now bytes digest reason readable h = not_resumed_still bytes digest F G before now later_now input reason readable h
 still_so false input F G before now later_now bytes digest reason readable h = h

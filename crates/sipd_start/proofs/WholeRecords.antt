@@ -10,7 +10,8 @@ use Rattle.sipd_old_record.specs.OldRecord.{SaysHead}
 use Rattle.sipd_start.specs.Begins.{GoesOn, GoesOnFrom}
 use Rattle.sipd_start.proofs.Beginnings.{goes_on_from}
 
-pub went_on_whole : {A E : Type 0} (result : Result A E) (server_of : A → Server) (state_of : A → Standing) (lines_of : A → ℕ) (last_of : A → Option StepOut) (bytes digest : List ℕ) (head : RecordHead) (whole events : Option (List ℕ))
+pub went_on_whole : {A E : Type 0} (result : Result A E) (server_of : A → Server) (state_of : A → Standing) (lines_of : A → ℕ)
+    (last_of : A → Option StepOut) (bytes digest : List ℕ) (head : RecordHead) (whole events : Option (List ℕ))
     → SaysHead whole events head → head.mark ≡ Whole → IfOk result (λ a. GoesOn bytes digest head events (server_of a) (state_of a) (lines_of a) (last_of a))
     → IfOk result (λ a. GoesOnFrom bytes digest whole (server_of a) (state_of a) (lines_of a) (last_of a))
 went_on_whole (Ok a) server_of state_of lines_of last_of bytes digest head whole events says is_whole h =

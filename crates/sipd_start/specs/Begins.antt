@@ -24,8 +24,8 @@ use Rattle.sipd_start.specs.Places.{is_input, reads_input}
 use Rattle.sipd_start.specs.Stops.{EndsStart, IsUnmade, unread, untaken}
 use Rattle.sipd_start.specs.declared.not_resumed.NotResumed.{NotResumed as Reason}
 use Rattle.sipd_start.specs.declared.not_resumed.NotResumed.TheVariants as why
-use Rattle.sipd_start.specs.declared.not_resumed.Stop.{Stop}
-use Rattle.sipd_start.specs.declared.not_resumed.Stop.TheVariants.{NotResumed, Exits}
+use Rattle.sipd_start.specs.declared.not_resumed.StartStop.{StartStop}
+use Rattle.sipd_start.specs.declared.not_resumed.StartStop.TheVariants.{NotResumed, Exits}
 
 -- its configuration is the one that the bytes of a file state, and that is its word
 pub record IsServerOf (bytes : List ℕ) (word : ℕ) (server : Server) : Type 0 where
@@ -97,7 +97,7 @@ pub record GoesOnFrom (bytes digest : List ℕ) (whole : Option (List ℕ)) (ser
 
 -- What is left behind so many lines wasn't taken, by a server in that state, and why; a configuration has so many bytes at most as are read of
 -- one that changes. The record can't be read where its reader is spent.
-pub record EventsStop (first : List ℕ) (spent : Type 0) (server : Server) (old : Standing) (number : ℕ) (events : Option (List ℕ)) (stop : Stop) : Type 0 where
+pub record EventsStop (first : List ℕ) (spent : Type 0) (server : Server) (old : Standing) (number : ℕ) (events : Option (List ℕ)) (stop : StartStop) : Type 0 where
   pub in_force : Server
   pub reached : Standing
   pub written : Written
@@ -110,12 +110,12 @@ pub record EventsStop (first : List ℕ) (spent : Type 0) (server : Server) (old
 
 -- That is why it starts anew. Nothing is begun, where these bytes state a configuration of the server's frame, for want of memory or of a record
 -- alone: whatever configuration was in force last, the server can come under theirs.
-abbrev pub StopsAt : List ℕ → List ℕ → Type 0 → Server → Standing → ℕ → Option (List ℕ) → Stop → Type 0
+abbrev pub StopsAt : List ℕ → List ℕ → Type 0 → Server → Standing → ℕ → Option (List ℕ) → StartStop → Type 0
 StopsAt first bytes spent server old number events (Exits exit) = HaveFrameOf bytes server.config → IsUnmade exit
 StopsAt first bytes spent server old number events (NotResumed reason) = EventsStop first spent server old number events (NotResumed reason)
 
 -- and so it is of a server with the configuration with which the record begins, and with word and first number of its first line
-pub record IsStopped (bytes digest : List ℕ) (spent : Type 0) (head : RecordHead) (events : Option (List ℕ)) (stop : Stop) : Type 0 where
+pub record IsStopped (bytes digest : List ℕ) (spent : Type 0) (head : RecordHead) (events : Option (List ℕ)) (stop : StartStop) : Type 0 where
   pub reading : Reading
   pub rest : Option (List ℕ)
   pub first : List ℕ
@@ -125,13 +125,13 @@ pub record IsStopped (bytes digest : List ℕ) (spent : Type 0) (head : RecordHe
   pub stops : EventsStop first spent server (first_standing head.first) reading.number (pending reading rest) stop
 
 -- why it isn't gone on from a record whose first line says that head
-abbrev pub IsNotGoneOn : List ℕ → List ℕ → Type 0 → RecordHead → Option (List ℕ) → Stop → Type 0
+abbrev pub IsNotGoneOn : List ℕ → List ℕ → Type 0 → RecordHead → Option (List ℕ) → StartStop → Type 0
 IsNotGoneOn bytes digest spent head events (Exits exit) = EndsStart bytes exit
 IsNotGoneOn bytes digest spent head events (NotResumed reason) =
     IsUnbegun spent bytes digest head events (NotResumed reason) ⊎ IsStopped bytes digest spent head events (NotResumed reason)
 
 -- no first line of a record was read, and why
-pub record IsUnread (has_failed : Type 0) (before now : Option ℕ) (whole : Option (List ℕ)) (stop : Stop) : Type 0 where
+pub record IsUnread (has_failed : Type 0) (before now : Option ℕ) (whole : Option (List ℕ)) (stop : StartStop) : Type 0 where
   pub rest : Option (List ℕ)
   pub exit : Exit
   pub refused : IsRefused whole rest has_failed before now exit
@@ -151,7 +151,7 @@ pub record IsMarked (whole : Option (List ℕ)) (reason : Reason) : Type 0 where
   pub marked : reason_of head.mark ≡ Some reason
 
 -- it says that the record is whole, but what stands behind it wasn't taken
-pub record IsWholeAndStopped (bytes digest : List ℕ) (spent : Type 0) (whole : Option (List ℕ)) (stop : Stop) : Type 0 where
+pub record IsWholeAndStopped (bytes digest : List ℕ) (spent : Type 0) (whole : Option (List ℕ)) (stop : StartStop) : Type 0 where
   pub head : RecordHead
   pub events : Option (List ℕ)
   pub says : SaysHead whole events head
@@ -161,21 +161,21 @@ pub record IsWholeAndStopped (bytes digest : List ℕ) (spent : Type 0) (whole :
 -- Why a server starts anew in place of going on from a record that a reader gives: no first line of one is read; or that says that it lacks
 -- events, or that another start went on from it; or what stands behind it isn't taken. Of the reader it is known whether it failed, and how
 -- often it was asked before and by then.
-abbrev pub IsNotResumed : List ℕ → List ℕ → Type 0 → Option ℕ → Option ℕ → Option (List ℕ) → Stop → Type 0
+abbrev pub IsNotResumed : List ℕ → List ℕ → Type 0 → Option ℕ → Option ℕ → Option (List ℕ) → StartStop → Type 0
 IsNotResumed bytes digest has_failed before now whole (Exits exit) = EndsStart bytes exit
 IsNotResumed bytes digest has_failed before now whole (NotResumed reason) =
     IsUnread has_failed before now whole (NotResumed reason) ⊎ IsMarked whole reason
     ⊎ IsWholeAndStopped bytes digest (HasStopped has_failed most_asks before now) whole (NotResumed reason)
 
 -- the file of a record can't be opened
-pub record IsUnopened (stop : Stop) : Type 0 where
+pub record IsUnopened (stop : StartStop) : Type 0 where
   pub exit : Exit
   pub fault : IsSystemFault exit
   pub same : stop ≡ unread exit
 
 -- Why a server starts anew in place of going on from the record of a file, or nothing is begun: where that is the input, what the input had isn't
 -- gone on from; else the file can't be opened, or what it held isn't, of whose reader nothing is known.
-abbrev pub IsFileNotResumed : Bool → Option (List ℕ) → Type 0 → Option ℕ → Option ℕ → List ℕ → List ℕ → Stop → Type 0
+abbrev pub IsFileNotResumed : Bool → Option (List ℕ) → Type 0 → Option ℕ → Option ℕ → List ℕ → List ℕ → StartStop → Type 0
 IsFileNotResumed true input has_failed before now bytes digest stop = IsNotResumed bytes digest has_failed before now input stop
 IsFileNotResumed false input has_failed before now bytes digest stop =
     IsUnopened stop ⊎ ((whole : Option (List ℕ)) × IsNotResumed bytes digest ⊤ None None whole stop)

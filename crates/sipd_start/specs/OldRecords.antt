@@ -11,8 +11,8 @@ use Rattle.sip_segment_config.specs.declared.stop.SegmentStop.{SegmentStop}
 use Rattle.sipd_old_record.specs.Own.{HoldsNone, HoldsOwn, OwnStops, unread}
 use Rattle.sipd_start.specs.Stops.{EndsStart, unheld}
 use Rattle.sipd_start.specs.declared.not_resumed.NotResumed.TheVariants.{OtherConfiguration, OtherFrame}
-use Rattle.sipd_start.specs.declared.not_resumed.Stop.{Stop}
-use Rattle.sipd_start.specs.declared.not_resumed.Stop.TheVariants.{NotResumed, Exits}
+use Rattle.sipd_start.specs.declared.not_resumed.StartStop.{StartStop}
+use Rattle.sipd_start.specs.declared.not_resumed.StartStop.TheVariants.{NotResumed, Exits}
 
 -- some configuration that bytes state is one of the same server to others
 pub record HaveFrameOf (bytes : List ℕ) (other : Config) : Type 0 where
@@ -49,20 +49,20 @@ pub record IsOfOtherFrame (bytes : List ℕ) (head : RecordHead) (events : Optio
   pub other : frame_key_of config own ≡ Some key
 
 -- why a record's first events weren't taken with its own configuration, where it holds that, or with the file's
-abbrev pub IsNotFirst : List ℕ → List ℕ → RecordHead → Option Held → Stop → Type 0
+abbrev pub IsNotFirst : List ℕ → List ℕ → RecordHead → Option Held → StartStop → Type 0
 IsNotFirst bytes digest head own (Exits exit) = EndsStart bytes exit
 IsNotFirst bytes digest head None (NotResumed reason) = (reason ≡ OtherConfiguration) × (head.digest ≢ digest)
 IsNotFirst bytes digest head (Some own) (NotResumed reason) =
     (key : FrameKey) × (config : Config) × (reason ≡ OtherFrame 2 key) × States bytes config × (frame_key_of config own.config ≡ Some key)
 
 -- its own isn't read
-pub record IsUnheld (spent : Type 0) (head : RecordHead) (events : Option (List ℕ)) (stop : Stop) : Type 0 where
+pub record IsUnheld (spent : Type 0) (head : RecordHead) (events : Option (List ℕ)) (stop : StartStop) : Type 0 where
   pub why : SegmentStop
   pub stops : OwnStops head.digest spent events 0 why
   pub same : stop ≡ unheld why
 
 -- Why nothing is taken of what stands there: its own configuration isn't read; or it has none, and isn't the file's; or it is another server's.
-abbrev pub IsUnbegun : Type 0 → List ℕ → List ℕ → RecordHead → Option (List ℕ) → Stop → Type 0
+abbrev pub IsUnbegun : Type 0 → List ℕ → List ℕ → RecordHead → Option (List ℕ) → StartStop → Type 0
 IsUnbegun spent bytes digest head events (Exits exit) = EndsStart bytes exit
 IsUnbegun spent bytes digest head events (NotResumed reason) =
     IsUnheld spent head events (NotResumed reason) ⊎ ((reason ≡ OtherConfiguration) × IsOfAnother digest head events)

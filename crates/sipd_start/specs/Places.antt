@@ -12,7 +12,7 @@ use Rattle.sipd_exit.specs.declared.record_place.RecordPlace.TheVariants.{File, 
 use Rattle.sipd_exit.specs.declared.exit.Exit.{Exit}
 use Rattle.sipd_exit.specs.declared.exit.Exit.TheVariants.{Memory, NewRecord, Recording}
 use Rattle.sipd_start.specs.RecordNames.{name_of, newer, next_number}
-use Rattle.sipd_start.specs.declared.making.Place.{Place}
+use Rattle.sipd_start.specs.declared.making.RecordFiles.{RecordFiles}
 use Rattle.sipd_start.specs.declared.making.NewFile.{NewFile}
 use Rattle.sipd_start.specs.declared.record_folder.FolderFiles.{FolderFiles}
 
@@ -22,7 +22,7 @@ pub record IsNewFile (path part : List ℕ) (file : NewFile) : Type 0 where
   pub part_is : string_bytes file.part ≡ part
 
 -- a record in a file that is named, and the record from which it goes on, where that is named
-pub record IsNamedPlace (path : List ℕ) (resume : Option (List ℕ)) (place : Place) : Type 0 where
+pub record IsNamedPlace (path : List ℕ) (resume : Option (List ℕ)) (place : RecordFiles) : Type 0 where
   pub new_record : IsNewFile path (path ++ codes ".part") place.record
   pub no_copy : place.copy ≡ None
   pub old_is : option_map (λ old. string_bytes old) place.old ≡ resume
@@ -37,7 +37,7 @@ pub record AreFolderFiles (folder : List ℕ) (files : FolderFiles) : Type 0 whe
   pub copy_is : string_bytes files.copy ≡ name_of folder (next_number (newer newest copies) now) (codes "toml")
   pub newest_is : option_map (λ old. string_bytes old) files.newest ≡ option_map (λ n. name_of folder n (codes "record")) newest
 
-pub record IsFolderPlace (folder : List ℕ) (place : Place) : Type 0 where
+pub record IsFolderPlace (folder : List ℕ) (place : RecordFiles) : Type 0 where
   pub files : FolderFiles
   pub are : AreFolderFiles folder files
   pub new_record : IsNewFile (string_bytes files.path) (folder ++ codes "/new.part") place.record
@@ -47,7 +47,7 @@ pub record IsFolderPlace (folder : List ℕ) (place : Place) : Type 0 where
   pub old_is : place.old ≡ files.newest
 
 -- the files of a start whose record is wanted there
-abbrev pub IsPlaceOf : RecordPlace → Place → Type 0
+abbrev pub IsPlaceOf : RecordPlace → RecordFiles → Type 0
 IsPlaceOf (File path resume) place = IsNamedPlace (string_bytes path) (option_map (λ old. string_bytes old) resume) place
 IsPlaceOf (Folder folder) place = IsFolderPlace (string_bytes folder) place
 

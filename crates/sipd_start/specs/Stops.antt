@@ -15,17 +15,17 @@ use Rattle.sipd_exit.specs.declared.exit.Exit.TheVariants as exits
 use Rattle.sipd_old_record.specs.OldRecord.{line_of_file}
 use Rattle.sipd_start.specs.declared.not_resumed.NotResumed.{NotResumed as Reason}
 use Rattle.sipd_start.specs.declared.not_resumed.NotResumed.TheVariants.{Unreadable, NoRecord, CutConfiguration, Damaged, TooLong, NoConfiguration, OtherFrame, Unlawful}
-use Rattle.sipd_start.specs.declared.not_resumed.Stop.{Stop}
-use Rattle.sipd_start.specs.declared.not_resumed.Stop.TheVariants.{NotResumed, Exits}
+use Rattle.sipd_start.specs.declared.not_resumed.StartStop.{StartStop}
+use Rattle.sipd_start.specs.declared.not_resumed.StartStop.TheVariants.{NotResumed, Exits}
 
 -- what it is that a file isn't read as a record: the server starts anew, unless memory ran out
-abbrev pub unread : Exit → Stop
+abbrev pub unread : Exit → StartStop
 unread exits.NoRecord = NotResumed NoRecord
 unread (exits.Device fault) = NotResumed Unreadable
 unread exit = Exits exit
 
 -- what it is that what stands behind the first line isn't taken
-abbrev pub untaken : RecordError → Stop
+abbrev pub untaken : RecordError → StartStop
 untaken resuming.NoMemory = Exits exits.Memory
 untaken (resuming.Damaged line) = NotResumed (Damaged (line_of_file line))
 untaken resuming.Read = NotResumed Unreadable
@@ -37,7 +37,7 @@ untaken (resuming.NoConfiguration line e) = NotResumed (NoConfiguration (line_of
 untaken (resuming.OtherFrame line key) = NotResumed (OtherFrame (line_of_file line) key)
 
 -- what it is that the configuration with which it begins isn't read
-abbrev pub unheld : SegmentStop → Stop
+abbrev pub unheld : SegmentStop → StartStop
 unheld segments.NoMemory = Exits exits.Memory
 unheld (segments.Damaged line) = NotResumed (Damaged (line_of_file line))
 unheld (segments.Cut line) = NotResumed CutConfiguration

@@ -14,10 +14,10 @@ ghost use Rattle.sipd_start.specs.Places;
 ghost use Rattle.sipd_start.specs.Places.{IsPlaceOf};
 ghost use Rattle.sipd_old_record.specs.Readers.{HasStopped, most_asks};
 ghost use Rattle.sipd_start.specs.Stops.{EndsStart, IsUnmade};
-ghost use Rattle.sipd_start.specs.declared.not_resumed.Stop.TheVariants as Ended;
+ghost use Rattle.sipd_start.specs.declared.not_resumed.StartStop.TheVariants as Ended;
 
-use crate::making::{Place, check_free, make_part, name_part, place_of, remove_part};
-use crate::not_resumed::{NotResumed, Stop, unread};
+use crate::making::{RecordFiles, check_free, make_part, name_part, place_of, remove_part};
+use crate::not_resumed::{NotResumed, StartStop, unread};
 use crate::old_lines::{OldBeginning, OldLines};
 use crate::taking::{old_beginning, take_old, tell};
 use rand_core::Rng;
@@ -50,7 +50,7 @@ pub struct Beginning<'a, R> {
     /// The file of its configuration.
     pub stated: &'a Stated,
     /// Where the new record is made.
-    pub place: Place,
+    pub place: RecordFiles,
     pub fault: RecordFault,
 }
 
@@ -90,7 +90,7 @@ impl<'a, R: Files + Clock + AllocGlobal> Beginning<'a, R> {
 
 /// That the record from which a server is to go on isn't a named pipe: that might be waited for without end, before it is read and where it is
 /// marked. What comes through one is the input.
-fn check_old<R: Files>(rt: &R, place: &Place) -> Result<(), Exit>
+fn check_old<R: Files>(rt: &R, place: &RecordFiles) -> Result<(), Exit>
     ensures { IfErr result (λ exit. (exit ≡ PipedRecord) × (Places.reads_input (option_map (λ old. string_bytes old) place.now.old) ≡ false)) }
 {
     let Some(old) = &place.old else {
@@ -257,7 +257,7 @@ fn go_on_alone<'a, T: Timers, P: Rules, R: Files + AllocGlobal, I: TellingReader
     mut engine: Engine<T, P>,
     old: OldLines,
     reader: &mut I,
-) -> Result<GoneOn<'a, T, P, R>, Stop>
+) -> Result<GoneOn<'a, T, P, R>, StartStop>
     ensures resumed { IfOk result (λ gone_on. LeadsTo old.first beginning.now.stated.now.bytes engine.server gone_on.begun.engine.server
         (standing_of engine) old.lines.number (pending old.lines (I.remaining reader.old)) (standing_of gone_on.begun.engine) gone_on.lines gone_on.begun.last) }
     ensures unrecorded { IfOk result (λ gone_on. gone_on.begun.recorder ≡ None) }
@@ -292,7 +292,7 @@ fn go_on_recorded<'a, T: Timers, P: Rules, R: Files + AllocGlobal, I: TellingRea
     mut recorder: Recorder<RecordFile<'a, R>>,
     old: OldLines,
     reader: &mut I,
-) -> Result<GoneOn<'a, T, P, R>, Stop>
+) -> Result<GoneOn<'a, T, P, R>, StartStop>
     ensures resumed { IfOk result (λ gone_on. LeadsTo old.first beginning.now.stated.now.bytes engine.server gone_on.begun.engine.server
         (standing_of engine) old.lines.number (pending old.lines (I.remaining reader.old)) (standing_of gone_on.begun.engine) gone_on.lines gone_on.begun.last) }
     ensures whole { IfOk result (λ gone_on. IfSome gone_on.begun.recorder (λ r. r.has_failed ≡ false)) }
@@ -341,7 +341,7 @@ fn go_on<'a, T: Timers, P: Rules, R: Files + AllocGlobal, I: TellingReader, W: R
     head: &RecordHead,
     reader: &mut I,
     words: &mut W,
-) -> Result<GoneOn<'a, T, P, R>, Stop>
+) -> Result<GoneOn<'a, T, P, R>, StartStop>
     ensures goes_on { IfOk result (λ gone_on. GoesOn beginning.now.stated.now.bytes beginning.now.stated.now.digest head.now
         (I.remaining reader.old) gone_on.begun.engine.server (standing_of gone_on.begun.engine) gone_on.lines gone_on.begun.last) }
     ensures left { W.stream words.new ≡ behind_secret (W.stream words.old) }
@@ -369,7 +369,7 @@ fn begin_from<'a, T: Timers, P: Rules, R: Files + AllocGlobal, I: TellingReader,
     beginning: &Beginning<'a, R>,
     reader: &mut I,
     words: &mut W,
-) -> Result<GoneOn<'a, T, P, R>, Stop>
+) -> Result<GoneOn<'a, T, P, R>, StartStop>
     ensures goes_on { IfOk result (λ gone_on. GoesOnFrom beginning.now.stated.now.bytes beginning.now.stated.now.digest
         (I.remaining reader.old) gone_on.begun.engine.server (standing_of gone_on.begun.engine) gone_on.lines gone_on.begun.last) }
     ensures left { OnOk result (W.stream words.new ≡ behind_secret (W.stream words.old)) }
@@ -386,8 +386,8 @@ fn begin_from<'a, T: Timers, P: Rules, R: Files + AllocGlobal, I: TellingReader,
     };
     match head.mark {
         RecordMark::Whole => go_on(beginning, &head, reader, words),
-        RecordMark::Broken => Err(Stop::NotResumed(NotResumed::Broken)),
-        RecordMark::Left => Err(Stop::NotResumed(NotResumed::Left)),
+        RecordMark::Broken => Err(StartStop::NotResumed(NotResumed::Broken)),
+        RecordMark::Left => Err(StartStop::NotResumed(NotResumed::Left)),
     }
 }
 
@@ -398,7 +398,7 @@ fn begin_again<'a, T: Timers, P: Rules, R: Files + AllocGlobal, I: TellingReader
     old: &str,
     input: &mut I,
     words: &mut W,
-) -> Result<GoneOn<'a, T, P, R>, Stop>
+) -> Result<GoneOn<'a, T, P, R>, StartStop>
     ensures goes_on { IfOk result (λ gone_on. GoesOnFromFile (Places.is_input old.now) (I.remaining input.old) beginning.now.stated.now.bytes
         beginning.now.stated.now.digest (W.stream words.old) gone_on.begun.engine.server (standing_of gone_on.begun.engine) gone_on.begun.last
         (W.stream words.new)) }
@@ -505,11 +505,11 @@ pub fn begin<'a, T: Timers, P: Rules, R: Files + AllocGlobal, I: TellingReader, 
             let _ = writeln!(complaints, "sipd: goes on behind {lines} lines of {name}");
             Ok(begun)
         }
-        Err(Stop::NotResumed(why)) => {
+        Err(StartStop::NotResumed(why)) => {
             say_lost(old, why, complaints);
             pass_rest(old, why, input);
             begin_anew(beginning, words)
         }
-        Err(Stop::Exits(exit)) => Err(exit),
+        Err(StartStop::Exits(exit)) => Err(exit),
     }
 }

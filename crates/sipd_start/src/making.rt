@@ -25,7 +25,7 @@ pub struct NewFile {
 /// The files of a start that records: the new record; a copy of the configuration, in a folder of records; and the record from which
 /// the server goes on, if there is one.
 #[derive(Drop)]
-pub struct Place {
+pub struct RecordFiles {
     pub record: NewFile,
     pub copy: Option<NewFile>,
     pub old: Option<String>,
@@ -40,7 +40,11 @@ fn copy_of<R: AllocGlobal>(rt: &R, text: &str) -> Result<String, Exit>
 }
 
 /// The file of a record that is named, and of the one from which it goes on.
-fn named_place<R: AllocGlobal>(rt: &R, path: &str, resume: &Option<String>) -> Result<Place, Exit>
+fn named_place<R: AllocGlobal>(
+    rt: &R,
+    path: &str,
+    resume: &Option<String>,
+) -> Result<RecordFiles, Exit>
     ensures { IfOk result (Places.IsNamedPlace path.now (option_map (λ old. string_bytes old) resume.now)) }
 {
     let record = NewFile {
@@ -51,7 +55,7 @@ fn named_place<R: AllocGlobal>(rt: &R, path: &str, resume: &Option<String>) -> R
         Some(old) => Some(copy_of(rt, old.as_str())?),
         None => None,
     };
-    Ok(Place {
+    Ok(RecordFiles {
         record,
         copy: None,
         old,
@@ -60,7 +64,7 @@ fn named_place<R: AllocGlobal>(rt: &R, path: &str, resume: &Option<String>) -> R
 
 /// The files of a start in a folder of records. Their parts have the same names at each start, so that what one left that was ended
 /// is taken away by the next.
-fn folder_place<R: Files + Clock + AllocGlobal>(rt: &R, folder: &str) -> Result<Place, Exit>
+fn folder_place<R: Files + Clock + AllocGlobal>(rt: &R, folder: &str) -> Result<RecordFiles, Exit>
     ensures { IfOk result (Places.IsFolderPlace folder.now) }
 {
     let files = made(files_in(rt, folder))?;
@@ -72,7 +76,7 @@ fn folder_place<R: Files + Clock + AllocGlobal>(rt: &R, folder: &str) -> Result<
         path: files.copy,
         part: format!(in rt.alloc(); "{folder}/new.toml.part")?,
     };
-    Ok(Place {
+    Ok(RecordFiles {
         record,
         copy: Some(copy),
         old: files.newest,
@@ -80,7 +84,10 @@ fn folder_place<R: Files + Clock + AllocGlobal>(rt: &R, folder: &str) -> Result<
 }
 
 /// The files of a start.
-pub fn place_of<R: Files + Clock + AllocGlobal>(rt: &R, wanted: &RecordPlace) -> Result<Place, Exit>
+pub fn place_of<R: Files + Clock + AllocGlobal>(
+    rt: &R,
+    wanted: &RecordPlace,
+) -> Result<RecordFiles, Exit>
     ensures { IfOk result (Places.IsPlaceOf wanted.now) }
 {
     match wanted {
@@ -134,7 +141,7 @@ fn made<V: Drop>(outcome: io::Result<V>) -> Result<V, Exit>
 }
 
 /// Refuses a record whose name a file has.
-pub fn check_free<R: Files>(rt: &R, place: &Place) -> Result<(), Exit>
+pub fn check_free<R: Files>(rt: &R, place: &RecordFiles) -> Result<(), Exit>
     ensures { IfErr result IsUnmade }
 {
     if made(fs::exists(rt, place.record.path.as_str()))? {
@@ -155,7 +162,7 @@ fn write_copy<R: Files>(rt: &R, path: &str, bytes: &[u8]) -> io::Result<()> {
 /// A recorder into a new file that has the first line of a record, and not its name yet; one that is there is never written over.
 pub fn make_part<'a, R: Files + AllocGlobal>(
     rt: &'a R,
-    place: &Place,
+    place: &RecordFiles,
     head: &RecordHead,
     stated: &Stated,
     fault: RecordFault,
@@ -196,7 +203,7 @@ fn name_file<R: Files>(rt: &R, file: &NewFile) -> Result<(), Exit>
 }
 
 /// Gives the copy of the configuration its name, and then the record; or none of them.
-fn name_files<R: Files>(rt: &R, place: &Place) -> Result<(), Exit>
+fn name_files<R: Files>(rt: &R, place: &RecordFiles) -> Result<(), Exit>
     ensures { IfErr result IsUnmade }
 {
     let Some(copy) = &place.copy else {
@@ -213,7 +220,7 @@ fn name_files<R: Files>(rt: &R, place: &Place) -> Result<(), Exit>
 /// Gives a record its name once what was written of it is on the disk, unless a file has that name.
 pub fn name_part<R: Files + AllocGlobal>(
     rt: &R,
-    place: &Place,
+    place: &RecordFiles,
     file: &mut RecordFile<'_, R>,
 ) -> Result<(), Exit>
     ensures { IfErr result IsUnmade }
@@ -227,7 +234,7 @@ pub fn name_part<R: Files + AllocGlobal>(
 }
 
 /// Takes away what a start left of files that haven't their names.
-pub fn remove_part<R: Files>(rt: &R, place: &Place) {
+pub fn remove_part<R: Files>(rt: &R, place: &RecordFiles) {
     let _ = fs::remove_file(rt, place.record.part.as_str());
     if let Some(copy) = &place.copy {
         let _ = fs::remove_file(rt, copy.part.as_str());

@@ -1,7 +1,7 @@
 //! Why a server doesn't go on from a record, and the words for it. It starts anew then, or nothing is begun.
 ghost use Rattle.std.specs.Prelude.{◌≡◌};
 ghost use Rattle.sipd_start.specs.Stops;
-ghost use Rattle.sipd_start.specs.declared.not_resumed.Stop.TheVariants.{Exits};
+ghost use Rattle.sipd_start.specs.declared.not_resumed.StartStop.TheVariants.{Exits};
 
 use sip_config::ConfigError;
 use sip_config_change::FrameKey;
@@ -74,40 +74,40 @@ impl fmt::Display for NotResumed {
 
 /// Why a server doesn't go on from a record.
 #[derive(Drop)]
-pub enum Stop {
+pub enum StartStop {
     /// It can't be had from that record, and starts anew.
     NotResumed(NotResumed),
     /// Nothing is begun.
     Exits(Exit),
 }
 
-impl From<Exit> for Stop {
+impl From<Exit> for StartStop {
     ghost from_gives = { λ exit stop. stop ≡ Exits exit };
 
-    fn from(exit: Exit) -> Stop {
-        Stop::Exits(exit)
+    fn from(exit: Exit) -> StartStop {
+        StartStop::Exits(exit)
     }
 }
 
 /// Why a file isn't read as a record.
-pub fn unread(exit: Exit) -> Stop
+pub fn unread(exit: Exit) -> StartStop
     ensures { result ≡ Stops.unread exit }
 {
     match exit {
-        Exit::NoRecord => Stop::NotResumed(NotResumed::NoRecord),
-        Exit::Device(_) => Stop::NotResumed(NotResumed::Unreadable),
-        exit => Stop::Exits(exit),
+        Exit::NoRecord => StartStop::NotResumed(NotResumed::NoRecord),
+        Exit::Device(_) => StartStop::NotResumed(NotResumed::Unreadable),
+        exit => StartStop::Exits(exit),
     }
 }
 
 /// Why what stands behind the first line of a record isn't taken.
-pub fn untaken(e: RecordError) -> Stop
+pub fn untaken(e: RecordError) -> StartStop
     ensures { result ≡ Stops.untaken e }
 {
     let why = match e {
-        RecordError::NoMemory => return Stop::Exits(Exit::Memory),
-        RecordError::Journal => return Stop::Exits(Exit::Recording),
-        RecordError::Write => return Stop::Exits(Exit::Device(DeviceFault::Other)),
+        RecordError::NoMemory => return StartStop::Exits(Exit::Memory),
+        RecordError::Journal => return StartStop::Exits(Exit::Recording),
+        RecordError::Write => return StartStop::Exits(Exit::Device(DeviceFault::Other)),
         RecordError::Read => NotResumed::Unreadable,
         RecordError::Step => NotResumed::Unlawful,
         RecordError::Damaged(line) => NotResumed::Damaged(line_of_file(line)),
@@ -117,15 +117,15 @@ pub fn untaken(e: RecordError) -> Stop
         }
         RecordError::OtherFrame(line, key) => NotResumed::OtherFrame(line_of_file(line), key),
     };
-    Stop::NotResumed(why)
+    StartStop::NotResumed(why)
 }
 
 /// Why the configuration with which a record begins isn't read.
-pub fn unheld(stop: SegmentStop) -> Stop
+pub fn unheld(stop: SegmentStop) -> StartStop
     ensures { result ≡ Stops.unheld stop }
 {
     let why = match stop {
-        SegmentStop::NoMemory => return Stop::Exits(Exit::Memory),
+        SegmentStop::NoMemory => return StartStop::Exits(Exit::Memory),
         SegmentStop::Damaged(line) => NotResumed::Damaged(line_of_file(line)),
         SegmentStop::Cut(_) => NotResumed::CutConfiguration,
         SegmentStop::Read => NotResumed::Unreadable,
@@ -135,5 +135,5 @@ pub fn unheld(stop: SegmentStop) -> Stop
         }
         SegmentStop::OtherFrame(line, key) => NotResumed::OtherFrame(line_of_file(line), key),
     };
-    Stop::NotResumed(why)
+    StartStop::NotResumed(why)
 }

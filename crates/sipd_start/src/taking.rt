@@ -15,9 +15,9 @@ ghost use Rattle.sipd_start.specs.Begins.{IsServerOf, StopsAt, TakesOld};
 ghost use Rattle.sipd_start.specs.OldRecords.{HaveFrameOf, IsBegunBy, IsNotFirst, IsUnbegun};
 ghost use Rattle.sipd_start.specs.Stops.{IsNotUnder};
 ghost use Rattle.sipd_start.specs.declared.not_resumed.NotResumed.TheVariants.{OtherFrame};
-ghost use Rattle.sipd_start.specs.declared.not_resumed.Stop.TheVariants as Ended;
+ghost use Rattle.sipd_start.specs.declared.not_resumed.StartStop.TheVariants as Ended;
 
-use crate::not_resumed::{NotResumed, Stop, unheld, untaken};
+use crate::not_resumed::{NotResumed, StartStop, unheld, untaken};
 use crate::old_lines::{OldBeginning, OldLines};
 use sip_config_change::frame_key;
 use sip_config_change::laws::frame_is_place_and_realm;
@@ -49,13 +49,13 @@ fn new_lines(alloc: Global) -> Result<Lines, Exit>
 }
 
 /// That a record's own configuration is one of the same server to others as that of a file. `OtherFrame` is the only refusal.
-fn check_frame(config: &Config, own: &Config) -> Result<(), Stop>
+fn check_frame(config: &Config, own: &Config) -> Result<(), StartStop>
     ensures same { OnOk result (frame_key_of config.now own.now ≡ None) }
     ensures other { IfErr result (λ stop. (key : FrameKey) × (stop ≡ Ended.NotResumed (OtherFrame 2 key)) × (frame_key_of config.now own.now ≡ Some key)) }
 {
     match frame_key(config, own) {
         None => Ok(()),
-        Some(key) => Err(Stop::NotResumed(NotResumed::OtherFrame(OWN_LINE, key))),
+        Some(key) => Err(StartStop::NotResumed(NotResumed::OtherFrame(OWN_LINE, key))),
     }
 }
 
@@ -76,7 +76,7 @@ fn first_of(
     stated: &Stated,
     head: &RecordHead,
     own: Option<Held>,
-) -> Result<Held, Stop>
+) -> Result<Held, StartStop>
     ensures states { IfNone own (IfOk result (λ first. States first.text first.config)) }
     ensures frame { IfOk result (λ first. HaveFrameOf stated.now.bytes first.config) }
     ensures own { IfSome own (λ held. IfOk result (λ first. (first ≡ held) × HaveFrameOf stated.now.bytes held.config)) }
@@ -94,7 +94,7 @@ fn first_of(
             let text = copy_of(alloc, stated)?;
             Ok(Held { text, config })
         }
-        None => Err(Stop::NotResumed(NotResumed::OtherConfiguration)),
+        None => Err(StartStop::NotResumed(NotResumed::OtherConfiguration)),
     }
 }
 
@@ -105,10 +105,11 @@ pub fn old_beginning<I: TellingReader>(
     stated: &Stated,
     head: &RecordHead,
     reader: &mut I,
-) -> Result<OldBeginning, Stop>
+) -> Result<OldBeginning, StartStop>
     ensures states { IfOk result (λ old. States old.lines.first old.config) }
     ensures frame { IfOk result (λ old. HaveFrameOf stated.now.bytes old.config) }
-    ensures begun { IfOk result (λ old. IsBegunBy stated.now.bytes stated.now.digest head.now (I.remaining reader.old) old.lines.lines (I.remaining reader.new) old.lines.first) }
+    ensures begun { IfOk result (λ old. IsBegunBy stated.now.bytes stated.now.digest head.now (I.remaining reader.old)
+        old.lines.lines (I.remaining reader.new) old.lines.first) }
     ensures asked { IfOk result (λ old. later old.lines.lines.asks (I.asked reader.new) ≡ later most_asks (I.asked reader.old)) }
     ensures refused { IfErr result (IsUnbegun (HasStopped (I.has_failed reader.new) most_asks (I.asked reader.old) (I.asked reader.new)) stated.now.bytes
         stated.now.digest head.now (I.remaining reader.old)) }
@@ -168,7 +169,7 @@ pub fn take_old<T: Timers, P: Rules, I: TellingReader, J: Journal>(
     old: OldLines,
     reader: &mut I,
     journal: &mut J,
-) -> Result<Resumed, Stop>
+) -> Result<Resumed, StartStop>
     ensures taken { IfOk result (λ resumed. TakesOld old.first stated.now.bytes engine.old.server engine.new.server (standing_of engine.old)
         (standing_of engine.new) old.lines.number (pending old.lines (I.remaining reader.old)) resumed.lines resumed.last (J.written journal.old)
         (J.written journal.new)) }

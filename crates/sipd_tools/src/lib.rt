@@ -1,12 +1,12 @@
-//! What the program does with a configuration and without a server: it is checked, shown and asked, a user's table and a report are
+//! What the program does with a configuration and without a server: it is checked, shown and asked, its whole policy is a table, a user's table and a report are
 //! made.
 //!
 //! - Used: `sipd_command`.
-//! - Not here: what is said (`sipd_mistakes`, `sipd_questions`, `sipd_changes`, `sipd_report`), and what a record holds (`sip_segments`).
+//! - Not here: what is said (`sipd_mistakes`, `sipd_questions`, `sipd_matrix`, `sipd_changes`, `sipd_report`), and what a record holds (`sip_segments`).
 //! - Tried: `test_server`, `tests/mistakes.py`, `tests/changes.py`, `tests/serve.py`, `tests/faults.py`.
 #![tactic(auto)]
 
 mod against;
 mod tools;
 
-pub use tools::{check, decide, make_report, make_user};
+pub use tools::{check, decide, make_report, make_user, matrix};

@@ -1,4 +1,4 @@
-//! The commands `check`, `decide`, `report` and `user` carried out: files read, answers printed, and the exit of each.
+//! The commands `check`, `decide`, `matrix`, `report` and `user` carried out: files read, answers printed, and the exit of each.
 ghost use Rattle.std.specs.Prelude.{OnOk};
 ghost use Rattle.sipd_tools.specs.Against.{TellsChange};
 
@@ -6,13 +6,14 @@ use crate::against::config_before;
 use sip_config_types::Config;
 use sip_policy::minute_of;
 use sip_text::Bytes;
-use sipd_arguments::{CheckCall, DecideCall, ReportCall, UserCall, summary_of};
+use sipd_arguments::{CheckCall, DecideCall, MatrixCall, ReportCall, UserCall, summary_of};
 use sipd_changes::{can_be_taken, changes_of, told};
 use sipd_exit::{DeviceFault, Exit, bytes_in, config_of, config_of_bytes, print};
+use sipd_matrix::matrix_text;
 use sipd_mistakes::{Reading, explain_encoding, read_or_tell};
 use sipd_questions::{
-    Digests, Question, QuestionError, added_user, decision_text, digest_warning, password_in, show,
-    user_table,
+    DecideQuestion, QuestionError, UserDigests, added_user, decision_text, digest_warning,
+    operation_asked, password_in, show, user_table,
 };
 use sipd_report::{Form, Query, ReportError, report};
 use std::alloc::Global;
@@ -76,7 +77,7 @@ pub fn decide<R: Files + Clock + AllocGlobal, W: Write>(
         Some(minute) => minute,
         None => minute_of(present(rt)?, config.offset),
     };
-    let question = Question {
+    let question = DecideQuestion {
         user: call.user.as_ref().map(String::as_bytes),
         minute,
         operation: call.method.as_bytes(),
@@ -85,6 +86,24 @@ pub fn decide<R: Files + Clock + AllocGlobal, W: Write>(
     match decision_text(alloc, &config, &question) {
         Ok(text) => print(text.as_slice(), output),
         Err(e) => Err(exit_of_decision(alloc, e, call.method.as_str())?),
+    }
+}
+
+/// Prints which rule decides for whom, of what a method asks for, as a table that is all of it.
+pub fn matrix<R: Files + AllocGlobal, W: Write>(
+    rt: &R,
+    call: &MatrixCall,
+    output: &mut W,
+) -> Result<(), Exit> {
+    let alloc = rt.alloc();
+    let config = config_of(rt, Some(call.config.as_str()))?;
+    let method = match &call.method {
+        Some(method) => method.as_str(),
+        None => "INVITE",
+    };
+    match operation_asked(alloc, method.as_bytes()) {
+        Ok(operation) => print(matrix_text(alloc, &config, &operation)?.as_slice(), output),
+        Err(e) => Err(exit_of_decision(alloc, e, method)?),
     }
 }
 
@@ -136,9 +155,9 @@ fn complain<C: Write>(alloc: Global, warning: &Bytes, complaints: &mut C) -> Res
 fn table_of(alloc: Global, call: &UserCall, password: &[u8]) -> Result<Bytes, QuestionError> {
     let realm = call.realm.as_ref().map(String::as_bytes).unwrap_or(b"");
     let digests = if call.sha256 {
-        Digests::Both
+        UserDigests::Both
     } else {
-        Digests::Md5
+        UserDigests::Md5
     };
     user_table(alloc, call.name.as_bytes(), realm, password, digests)
 }

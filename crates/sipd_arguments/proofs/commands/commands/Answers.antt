@@ -4,7 +4,8 @@ use Rattle.sipd_arguments.proofs.commands.commands.Goals as goal
 
 pub returns : goal.returns
 returns c =
-    IfOk-weaker c.subcommand-6.result _ _ (λ r h. placed _ _ _ _ r
+    IfOk-weaker c.subcommand-7.result _ _ (λ r h. placed _ _ _ _ r
+    (placed _ _ _ _ _
     (placed _ _ _ _ _
     (placed _ _ _ _ _
     (placed _ _ _ _ _
@@ -15,5 +16,6 @@ returns c =
     c.in_ok-replay_command.ensures c.in_ok-subcommand-2.ensures)
     c.in_ok-serve_command.ensures c.in_ok-subcommand-3.ensures)
     c.in_ok-decide_command.ensures c.in_ok-subcommand-4.ensures)
-    c.in_ok-report_command.ensures c.in_ok-subcommand-5.ensures)
-    c.in_ok-user_command.ensures h) c.subcommand-6.ensures
+    c.in_ok-matrix_command.ensures c.in_ok-subcommand-5.ensures)
+    c.in_ok-report_command.ensures c.in_ok-subcommand-6.ensures)
+    c.in_ok-user_command.ensures h) c.subcommand-7.ensures

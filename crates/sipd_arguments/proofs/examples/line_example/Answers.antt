@@ -9,6 +9,7 @@ returns c = record {
   joined = refl;
   serve = refl;
   decide = refl;
+  matrix = refl;
   no_option = refl;
   user = refl;
   no_command = refl;

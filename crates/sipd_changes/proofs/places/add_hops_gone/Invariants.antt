@@ -1,7 +1,7 @@
 use Rattle.std.proofs.Common.{◌≡◌, ◌++◌, take}
 use Rattle.std.specs.List.{flat_map, list_any}
-use Rattle.sipd_changes.specs.declared.change.Move.TheVariants.{Goes}
-use Rattle.sipd_changes.specs.declared.change.Change.TheVariants.{Hop}
+use Rattle.sipd_changes.specs.declared.difference.Move.TheVariants.{Goes}
+use Rattle.sipd_changes.specs.declared.difference.Difference.TheVariants.{Hop}
 use Rattle.sipd_changes.specs.Changes.{unless, is_hop}
 use Rattle.sipd_changes.proofs.places.add_hops_gone.Given as goal
 

@@ -1,7 +1,7 @@
 use Rattle.std.proofs.Common.{◌≡◌, ◌++◌, take}
 use Rattle.std.specs.List.{flat_map, list_any}
-use Rattle.sipd_changes.specs.declared.change.Move.TheVariants.{Goes}
-use Rattle.sipd_changes.specs.declared.change.Change.TheVariants.{Host}
+use Rattle.sipd_changes.specs.declared.difference.Move.TheVariants.{Goes}
+use Rattle.sipd_changes.specs.declared.difference.Difference.TheVariants.{Host}
 use Rattle.sipd_changes.specs.Changes.{unless, is_row}
 use Rattle.sipd_changes.proofs.places.add_rows_gone.Given as goal
 

@@ -1,8 +1,8 @@
 use Rattle.std.proofs.Common.{◌≡◌, ◌++◌, take}
 use Rattle.std.specs.List.{flat_map, list_any}
 use Rattle.sipd_questions.specs.Show.{rule_text}
-use Rattle.sipd_changes.specs.declared.change.Revision.TheVariants.{Goes}
-use Rattle.sipd_changes.specs.declared.change.Change.TheVariants.{Rule}
+use Rattle.sipd_changes.specs.declared.difference.Revision.TheVariants.{Goes}
+use Rattle.sipd_changes.specs.declared.difference.Difference.TheVariants.{Rule}
 use Rattle.sipd_changes.specs.Changes.{unless, is_number}
 use Rattle.sipd_changes.proofs.rules.add_rules_gone.Given as goal
 

@@ -1,7 +1,7 @@
 use Rattle.std.proofs.Common.{◌≡◌, ◌++◌, take}
 use Rattle.std.specs.List.{flat_map, list_any}
 use Rattle.std.specs.Str.{bytes_eq}
-use Rattle.sipd_changes.specs.declared.change.Change.TheVariants.{Joins}
+use Rattle.sipd_changes.specs.declared.difference.Difference.TheVariants.{Joins}
 use Rattle.sipd_changes.specs.Changes.{unless}
 use Rattle.sipd_changes.proofs.users.add_joined.Given as goal
 

@@ -1,7 +1,7 @@
 use Rattle.std.proofs.Common.{◌≡◌, ◌++◌, take}
 use Rattle.std.specs.List.{flat_map}
 use Rattle.sip_policy.specs.User.{is_users_name}
-use Rattle.sipd_changes.specs.declared.change.Change.TheVariants.{UserGoes}
+use Rattle.sipd_changes.specs.declared.difference.Difference.TheVariants.{UserGoes}
 use Rattle.sipd_changes.specs.Changes.{unless}
 use Rattle.sipd_changes.proofs.users.add_users_gone.Given as goal
 

@@ -1,0 +1,57 @@
+ghost use Rattle.std.specs.Prelude.{◌≡◌, ℕ, ◌<◌, true, nat_eq, List, Option, Some, None, count_by};
+ghost use Rattle.sip_uri.specs.declared.aor.Aor.{Aor};
+ghost use Rattle.sip_policy.specs.declared.operation.Operation.{Operation};
+ghost use Rattle.sip_policy.specs.declared.user.User.{User};
+ghost use Rattle.sip_policy.specs.declared.rule.Rule.{Rule};
+ghost use Rattle.sip_policy.specs.User.{is_users_name, is_users_address};
+ghost use Rattle.sip_policy.specs.Decision.{deciding_rule, decision_of};
+ghost use Rattle.sip_matrix.specs.declared.column.Column.{Column};
+ghost use Rattle.sip_matrix.specs.Asker.{ask_alike, is_in_row, is_own, rows_of};
+ghost use Rattle.sip_matrix.specs.Column.{are_asked_alike, is_known};
+ghost use Rattle.sip_matrix.specs.Address.{column_of};
+ghost use Rattle.sip_matrix.specs.Day.{piece_of, pieces_of};
+ghost use Rattle.sip_matrix.specs.Cell.{decision_in, rule_in};
+ghost use Rattle.sip_matrix.specs.Table.{classes_of};
+
+/// Whoever asks for whatever, whoever is called and whenever: the rule that decides, and the decision, are those
+/// of the cell of any row that the asker is of, of any column that is asked about as the address's own, and of the
+/// minute's piece of the day, where the address is the asker's own as it is in the question. So two questions of
+/// one cell are decided alike.
+pub fn cells_decide()
+    ensures rule { (rules : List Rule) (users : List User) (domains : List (List ℕ)) (proven row : Option (List ℕ))
+        (operation : Operation) (aor : Aor) (column : Column) (minute : ℕ)
+        → is_in_row rules users proven row ≡ true
+        → are_asked_alike rules users domains (column_of rules users domains aor) column ≡ true
+        → deciding_rule rules users domains proven operation aor minute
+        ≡ rule_in rules users row operation column (is_own users domains proven aor) (piece_of rules minute) }
+    ensures decision { (rules : List Rule) (users : List User) (domains : List (List ℕ)) (proven row : Option (List ℕ))
+        (operation : Operation) (aor : Aor) (column : Column) (minute : ℕ)
+        → is_in_row rules users proven row ≡ true
+        → are_asked_alike rules users domains (column_of rules users domains aor) column ≡ true
+        → decision_of rules users domains proven operation aor minute
+        ≡ decision_in rules users row operation column (is_own users domains proven aor) (piece_of rules minute) }
+    ensures known { (rules : List Rule) (users : List User) (domains : List (List ℕ)) (aor : Aor) (column : Column)
+        → are_asked_alike rules users domains (column_of rules users domains aor) column ≡ true
+        → is_users_address users domains aor ≡ is_known users domains column }
+{}
+
+/// Each configured user is of exactly one row of the table, each address of record of exactly one class of columns,
+/// and each minute of the day of exactly one piece. So each question has exactly one cell; who is nobody is of
+/// nobody's row.
+pub fn every_question_has_a_cell()
+    ensures row { (rules : List Rule) (users : List User) (name : List ℕ) → is_users_name users name ≡ true
+        → count_by (ask_alike rules users name) (rows_of rules users) ≡ 1 }
+    ensures column { (rules : List Rule) (users : List User) (domains : List (List ℕ)) (aor : Aor)
+        → count_by (are_asked_alike rules users domains (column_of rules users domains aor)) (classes_of rules users domains) ≡ 1 }
+    ensures piece { (rules : List Rule) (minute : ℕ) → minute < 1440
+        → count_by (nat_eq (piece_of rules minute)) (pieces_of rules) ≡ 1 }
+{}
+
+/// A user's own address, as `self` means it, is a configured user's in an own domain; with nobody proven each such address is taken
+/// for the asker's own, and no other. So a cell has a second value for such addresses alone.
+pub fn own_addresses_are_known()
+    ensures user { (users : List User) (domains : List (List ℕ)) (name : List ℕ) (aor : Aor) → is_users_name users name ≡ true
+        → is_own users domains (Some name) aor ≡ true → is_users_address users domains aor ≡ true }
+    ensures nobody { (users : List User) (domains : List (List ℕ)) (aor : Aor)
+        → is_own users domains None aor ≡ is_users_address users domains aor }
+{}

@@ -1,0 +1,22 @@
+//! The whole policy as a table: who asks by what is asked by when, in finitely many cells, in each of which one rule decides.
+//!
+//! - Used: `sipd_matrix`, for the command `matrix`.
+//! - Not here: what a rule decides (`sip_policy`), and the text of the table (`sipd_matrix`).
+//! - Tried: worked examples in `src/examples.rt`, as contracts that compute.
+//!
+//! That no question is missing and none is decided otherwise is said in `laws`.
+#![tactic(auto)]
+
+mod cell;
+mod column;
+pub mod examples;
+pub mod laws;
+mod listing;
+mod pieces;
+mod rows;
+mod table;
+
+pub use cell::rule_in;
+pub use column::Column;
+pub use rows::ask_alike;
+pub use table::{Table, table_of};

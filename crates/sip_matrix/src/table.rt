@@ -1,0 +1,56 @@
+ghost use Rattle.std.specs.Prelude.{◌≡◌, IfOk};
+ghost use Rattle.sip_matrix.specs.Table as Definitions;
+
+use crate::column::Column;
+use crate::listing::{all_columns, classes_among, columns_among};
+use crate::pieces::pieces;
+use crate::rows::rows;
+use sip_policy::{Rule, Users};
+use sip_text::{Bytes, Items};
+use std::alloc::{AllocError, Global};
+
+/// The rows, the columns and the pieces of the day of a policy's table.
+pub struct Table {
+    /// The first user of each row; that of nobody stands before them.
+    pub rows: Items<Bytes>,
+    /// Each column once.
+    pub columns: Items<Column>,
+    /// The classes of columns about which the same is decided, each by its first.
+    pub classes: Items<Column>,
+    /// The first minute of each piece of the day, rising.
+    pub pieces: Items<u16>,
+}
+
+/// Written out, so that it is proved once and not wherever one is dropped.
+impl Drop for Table {
+    fn drop(self) {
+        let Table {
+            rows: _,
+            columns: _,
+            classes: _,
+            pieces: _,
+        } = self;
+    }
+}
+
+/// The table of these rules, users and own domains. `AllocError` is the only refusal.
+pub fn table_of(
+    alloc: Global,
+    rules: &[Rule],
+    users: &Users,
+    domains: &[Bytes],
+) -> Result<Table, AllocError>
+    ensures { IfOk result (λ table. table ≡ Definitions.table_of rules.now users.now domains.now) }
+{
+    let rows = rows(alloc, rules, users)?;
+    let all = all_columns(alloc, rules, users, domains)?;
+    let columns = columns_among(alloc, all.as_slice())?;
+    let classes = classes_among(alloc, rules, users, domains, all.as_slice())?;
+    let pieces = pieces(alloc, rules)?;
+    Ok(Table {
+        rows,
+        columns,
+        classes,
+        pieces,
+    })
+}

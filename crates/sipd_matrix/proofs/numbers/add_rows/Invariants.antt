@@ -1,0 +1,8 @@
+use Rattle.std.proofs.Common.{◌≡◌, ◌++◌, take}
+use Rattle.std.specs.List.{flat_map}
+use Rattle.sipd_matrix.specs.Cells.{numbers_of_row}
+use Rattle.sipd_matrix.proofs.numbers.add_rows.Given as goal
+
+-- the numbers so far are there
+abbrev pub invariant-loop-row : goal.invariant-loop-row
+invariant-loop-row l = l.numbers ≡ l.fn.numbers ++ flat_map (numbers_of_row l.config l.operation l.columns l.class l.piece) (take l.row-index l.rows)

@@ -1,0 +1,3 @@
+pub mod Cells
+pub mod Text
+pub mod Examples

@@ -1,0 +1,12 @@
+use Rattle.std.proofs.Common.{◌+◌, subst, slice_range}
+use Rattle.sipd_report.specs.Lines.{Reading, EndsLine}
+use Rattle.sipd_report.proofs.Ends.{part_ends}
+use Rattle.sipd_report.proofs.lines.LogLines.take_part.Goals as goal
+
+pub returns-in_ok-put_part-in-Some-clause-ends : goal.returns-in_ok-put_part-in-Some-clause-ends
+returns-in_ok-put_part-in-Some-clause-ends c =
+    let lines = c.self.inside in
+    let rest : Reading = record { unread = slice_range lines.buffer.items (lines.start + (c.in-Some.place + 1)) lines.end; asks = lines.asks } in
+    λ ended. subst (λ old. EndsLine old rest c.args.line.now.items c.put_part.new.line.items) c.self.view_is
+    (part_ends lines.buffer.items c.deref.result.now lines.start lines.end lines.asks c.in-Some.place c.args.line.now.items c.put_part.new.line.items
+    c.deref.ensures.value c.in-Some.ensures c.in_ok-put_part-in-Some.ensures.grown)
