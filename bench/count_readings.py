@@ -1,83 +1,109 @@
 #!/usr/bin/env python3
-"""Counts how often a REGISTER, an INVITE and a 200 are read in `sipd replay`: `bench/count_readings.py [PROGRAM]`, at the top.
+"""Counts how often what a REGISTER, an INVITE, a 200 and a BYE say is read in `sipd replay`: `bench/count_readings.py [PROGRAM]`, at
+the top.
 
-The aim is that each message's top Via, its four core fields and each of its URIs are read once. Calls are callgrind's, by
-the names of the program's functions, which the build leaves in it; a function that the compiler put into its callers has
-none, and is told as "in its callers". What a message makes the server read is what a script that ends behind it calls more
-than one that ends in front of it; timers that fire later aren't in it.
+The aim is that each message's top Via, its four core fields and each of its URIs are read once. Calls are counted by breakpoints
+(tests/ran.py) in a program that is built without a proof, in which no function is put into its callers; one that isn't given is built
+as tests/map_runs.py does, in some minutes, or is that of the folder `KEPT`. What a message makes the server read is what a script that
+ends behind it calls more than one that ends in front of it; timers that fire later aren't in it. Behind the table stands which
+functions have a URI of the message read, and how often. It ends with 1 where there is a reader of URIs that it doesn't know.
 """
 
+import collections
 import os
-import re
 import subprocess
 import sys
 import tempfile
 
 import replays
 
-HERE = os.path.dirname(os.path.abspath(__file__))
-PROGRAM = sys.argv[1] if len(sys.argv) > 1 else os.path.join(HERE, "..", "crates", "sipd", "out", "sipd")
-# what reads, and how many of it a message has: a REGISTER, an INVITE, a 200 to that
-READERS = {
-    "via_of": (1, 1, 1),
-    "core_of": (1, 1, 1),
-    # Request-URI, From, To, Contact; of a credential its URI; of a 200 From, To, Contact, Record-Route
-    "parse_uri": (5, 4, 4),
+sys.path.insert(0, os.path.join(os.path.dirname(os.path.abspath(__file__)), "..", "tests"))
+from map_runs import programs  # noqa: E402
+from ran import Counted  # noqa: E402
+
+# The readers of a URI, none of which calls another. Each begins with BEGIN, which nothing else calls.
+URI_READERS, BEGIN = ("parse_uri", "plain_uri_at", "plain_place", "plain_names"), "behind_sip"
+READERS = {"`via_of`": ("via_of",), "`core_of`": ("core_of",), "a URI: " + ", ".join(f"`{name}`" for name in URI_READERS): URI_READERS}
+# How many of these a message has to be read.
+MESSAGES = {
+    # Request-URI, From, To, Contact, and the URI of a credential
+    "a REGISTER, answered 200": (1, 1, 5),
+    "the same, once more": (1, 1, 5),
+    # Request-URI, From, To, Contact, and three bindings
+    "an INVITE to three phones": (1, 1, 7),
+    # To, of which the tag is asked, Contact, Record-Route
+    "its 200": (1, 1, 3),
+    # Request-URI, From, To, Route
+    "the BYE": (1, 1, 4),
 }
-MESSAGES = ("a REGISTER that is answered 200", "an INVITE that is sent to a phone", "its 200")
 
 
 def parts():
-    """Scripts of which each has one message more than the one before it; the first has what goes before."""
+    """Scripts of which each has more than the one before it, and what that is."""
     script = replays.Script()
-    nonce = f"{script.register('help', [f'sip:help@127.0.0.1:{replays.PHONE}']):032x}"
+    first, *others = (f"sip:help@127.0.0.1:{replays.PHONE + place}" for place in range(3))
+    nonce = f"{script.register('help', [first]):032x}"
+    yield script.text(), None
+    for count, name in ((1, "a REGISTER, answered 200"), (2, "the same, once more")):
+        script.time(80_000)
+        yield script.text(), None
+        script.register("help", [first], (nonce, count))
+        yield script.text(), name
     script.time(80_000)
-    yield script.text()
-    script.register("help", [f"sip:help@127.0.0.1:{replays.PHONE}"], (nonce, 1))
-    yield script.text()
+    script.pair("help", others)
+    script.time(80_000)
+    yield script.text(), None
     request = script.invite("k")
-    yield script.text()
+    yield script.text(), "an INVITE to three phones"
     script.answer(200, "k", request)
-    yield script.text()
+    yield script.text(), "its 200"
+    script.in_dialog("ACK", "k", 1, 7)
+    yield script.text(), None
+    script.in_dialog("BYE", "k", 1, 8)
+    yield script.text(), "the BYE"
 
 
-def calls(script, folder):
-    """How often each function is called, by its name."""
-    names, counts, called = {}, {}, None
-    with tempfile.NamedTemporaryFile("w+", dir=folder) as config, tempfile.NamedTemporaryFile("r", dir=folder) as told:
+def last_word(symbol):
+    """The name of a function, without its path and what it is made for."""
+    return symbol.partition("::<")[0].rpartition("::")[2]
+
+
+def calls(program, script, folder):
+    """How often a reader is called, by its caller's name and its own."""
+    names, counts = {BEGIN, *(name for some in READERS.values() for name in some)}, collections.Counter()
+    counted = Counted(program, lambda symbol: symbol.startswith("sip_") and last_word(symbol) in names)
+    with tempfile.NamedTemporaryFile("w", dir=folder) as config, tempfile.TemporaryFile() as given:
         config.write(replays.configuration())
         config.flush()
-        words = ["valgrind", "--tool=callgrind", f"--callgrind-out-file={told.name}", PROGRAM, "replay", "--config", config.name]
-        done = subprocess.run(words, input=script.encode(), capture_output=True)
-        if done.returncode != 0:
-            sys.exit(f"status {done.returncode}: {done.stderr.decode()[-300:]}")
-        for line in told:
-            if found := re.match(r"c?fn=\((\d+)\)(?: (.*))?", line):
-                # a name stands where its number comes first
-                names.setdefault(found[1], found[2])
-                if line.startswith("c"):
-                    called = found[1]
-            elif found := re.match(r"calls=(\d+)", line):
-                counts[called] = counts.get(called, 0) + int(found[1])
-    return {name: counts.get(number, 0) for number, name in names.items() if name}
+        given.write(script.encode())
+        given.seek(0)
+        status = counted.run(["sipd", "replay", "--config", config.name], stdin=given, stdout=subprocess.DEVNULL)
+    if status != 0:
+        sys.exit(f"status {status}")
+    for (caller, symbol), count in counted.calls.items():
+        counts[last_word(caller), last_word(symbol)] += count
+    return counts
 
 
-def is_reader(name, reader):
-    """Whether a function of the program is this one, whatever path stands in front of its name."""
-    return re.search(rf"(?<![A-Za-z_]){reader}(?![A-Za-z_]|::)", name) is not None
+def called(counts, names):
+    return sum(count for (_, name), count in counts.items() if name in names)
 
 
 def main():
-    with tempfile.TemporaryDirectory() as folder:
-        told = [calls(script, folder) for script in parts()]
-    if not any("rattle_alloc" in name for name in told[-1]):
-        sys.exit("the program has no names of functions: it was stripped")
-    print("| Function | " + " | ".join(f"{message} | aim" for message in MESSAGES) + " |\n|---|" + "---|---|" * len(MESSAGES))
-    for reader, aims in READERS.items():
-        sums = [sum(count for name, count in counts.items() if is_reader(name, reader)) for counts in told]
-        known = any(is_reader(name, reader) for name in told[-1])
-        cells = [f"{more - less} | {aim}" if known else f"in its callers | {aim}" for less, more, aim in zip(sums, sums[1:], aims)]
-        print(f"| `{reader}` | {' | '.join(cells)} |")
+    with tempfile.TemporaryDirectory() as folder, programs(sys.argv[1:2], ["sipd"]) as paths:
+        told, before = {}, collections.Counter()
+        for script, name in parts():
+            now = calls(paths["sipd"], script, folder)
+            told[name], before = now - before, now
+    del told[None]
+    print("| What is read | " + " | ".join(f"{message} | aim" for message in MESSAGES) + " |\n|---|" + "---|---|" * len(MESSAGES))
+    for place, (what, names) in enumerate(READERS.items()):
+        print(f"| {what} | " + " | ".join(f"{called(told[message], names)} | {aims[place]}" for message, aims in MESSAGES.items()) + " |")
+    for message in MESSAGES:
+        who = collections.Counter({by: count for (by, name), count in told[message].items() if name in URI_READERS})
+        print(f"{message}: " + ", ".join(f"`{by}` {count}" for by, count in who.most_common()))
+    if called(before, [BEGIN]) != called(before, URI_READERS):
+        sys.exit(f"URIs are begun {called(before, [BEGIN])} times, and those that read them are called {called(before, URI_READERS)} times")
 
 
 if __name__ == "__main__":

@@ -2,13 +2,17 @@
 """Tries what `sipd check --config NEW --against OLD` says, and its status: `tests/changes.py PROGRAM`, after `rt run` in crates/sipd.
 OLD is `examples/office.toml`, NEW that with some texts in place of others, and then the other way round. What is said of which change
 is docs/CONFIGURATION.md's. Then a day on which such changes come while people phone, by real sockets: its record is replayed, and gone on
-from. It prints a line for each change that isn't told so, or does something else, and ends with 1 where there is one."""
+from. And a file with as many users and rules as there can be, which is taken while a phone sends. It takes two minutes, prints a line
+for each change that isn't told so, or does something else, and ends with 1 where there is one."""
 
+import concurrent.futures
 import os
 import re
 import subprocess
 import sys
 import tempfile
+import threading
+import time
 
 import phone
 import serve
@@ -22,6 +26,12 @@ GOES = "goes: calls to it get 404, and its phones stay registered until their in
 AGAIN = "is for other requests now, and older lines of the log mean the one before"
 STAND = "in calls that stand, requests to it get 481"
 CAROL = '[[user]]\nname = "carol"\na1 = "11111111111111111111111111111111"\ngroups = ["sales"]\n\n'
+BEHIND_USERS = "# A hop:"
+RULE_7_ALLOWS = 'target = "@127.0.0.1"\nverdict = "allow"'
+RULE_7_DENIES = 'target = "@127.0.0.1"\nverdict = "deny"'
+ENDLESS = 60  # seconds
+APART = 0.9  # seconds between two files, of which a server that looks once a second never sees one twice
+MOST_USERS, MOST_RULES = 4096, 1024
 RULE_5 = "group staff, send INVITE, 9*@office.local, from 8:00 until 18:00: via gateway"
 BY_GATEWAY = "group staff, send INVITE, 9*@office.local, from 8:00 until 18:00: via trunk"
 FROM_NINE = "group staff, send INVITE, 9*@office.local, from 9:00 until 18:00: via gateway"
@@ -169,61 +179,293 @@ class Day:
         self.tally, self.record = tally, os.path.join(tally.folder, "day")
         self.config = phone.office(tally.folder, phone.free_port())
         self.server, port = phone.started(PROGRAM, self.config, "--reload", "--record", self.record)
+        # what it prints is read as it comes: where nobody reads, the server waits
+        self.log = []
+        self.reader = threading.Thread(target=self.drain, daemon=True)
+        self.reader.start()
         self.alice, self.bob = serve.phones(port)
-        self.carol = phone.Phone("carol", phone.md5("carol:office:tea"), self.alice.server)
-        self.carol.again = False
+        self.carol, self.dave = (phone.Phone(name, phone.md5(f"{name}:office:tea"), self.alice.server) for name in ("carol", "dave"))
+        self.carol.again = self.dave.again = False
+        self.phones = (self.alice, self.bob, self.carol, self.dave)
+
+    def drain(self):
+        for line in self.server.stdout:
+            self.log.append(line.decode())
+
+    def killed(self):
+        """Ends the server; gives its log, and its complaints that weren't waited for."""
+        self.server.kill()
+        self.reader.join()
+        self.server.wait()
+        return "".join(self.log), self.server.stderr.read().decode()
+
+    def text(self):
+        with open(self.config, encoding="utf-8") as file:
+            return file.read()
 
     def under(self, before, now, words):
         """The file with a text in place of another one, once it is in force, which says in these words what changed."""
         serve.rewritten(self.config, lambda text: changed(text, [(before, now)]))
         serve.comes_into_force(self.server, self.config, words)
 
-    def registers(self, name, it, proven):
-        self.tally.expect(f"{it.name} registers, {name}", it.register(), [401, 200] if proven else [401, 401])
+    def expect(self, name, found, wanted):
+        self.tally.expect(name, found, wanted)
 
-    def is_called(self, name, status):
-        """What becomes of a call of alice's to bob, who isn't reached."""
-        self.alice.invite(self.bob.address)
-        self.tally.expect(f"alice calls bob, {name}", self.alice.hear().status, status)
+    def registers(self, name, it, proven):
+        self.expect(f"{it.name} registers, {name}", it.register(), [401, 200] if proven else [401, 401])
+
+    def logs(self, name, wanted):
+        """Whether this becomes the last line of the log, behind its moment and its number."""
+        line = re.compile(rf"\d+ \d+ {re.escape(wanted)}\n")
+        self.expect(f"the log, {name}", serve.until(lambda: self.log and line.fullmatch(self.log[-1]), 5), True)
+
+    def is_called(self, name, status, who=None):
+        """What becomes of a call of alice's to who isn't reached, bob if it isn't said."""
+        target = (who or self.bob).address
+        call, branch = self.alice.invite(target)
+        refused = self.alice.hear()
+        self.expect(f"alice calls {target}, {name}", refused.status, status)
+        self.alice.acknowledge(refused, target, call, 2, branch)
+
+    def talk(self, caller, callee):
+        """A call that is established and hung up."""
+        serve.hung_up(caller, callee, serve.established(caller, callee))
+
+
+def user_block(it):
+    return CAROL.replace("carol", it.name).replace("1" * 32, it.key)
 
 
 def live_day(day):
-    """Users come and go, a password and a rule change, and a call stands over all of it."""
-    alice, bob, carol = day.alice, day.bob, day.carol
-    carol_is = CAROL.replace("1" * 32, carol.key)
-    day.registers("at first", alice, True)
-    day.registers("at first", bob, True)
-    day.registers("unknown", carol, False)
-    stands = serve.established(alice, bob)
-    day.under("# A hop:", carol_is + "# A hop:", "1 user more")
-    day.registers("known", carol, True)
-    serve.hung_up(carol, alice, serve.established(carol, alice))
-    day.under('a1 = "dbcb', 'a1 = "0bcb', "1 user changed")
-    day.registers("with another password", bob, False)
-    day.under('a1 = "0bcb', 'a1 = "dbcb', "1 user changed")
-    day.registers("with his password", bob, True)
-    day.under('target = "@127.0.0.1"\nverdict = "allow"', 'target = "@127.0.0.1"\nverdict = "deny"', "rule 7 changed")
-    day.is_called("where a rule denies it", 403)
-    day.under('target = "@127.0.0.1"\nverdict = "deny"', 'target = "@127.0.0.1"\nverdict = "allow"', "rule 7 changed")
+    """Users come and go, a password, a rule and the time of day change, files come in pieces, without end and not at all, and a call stands
+    over all of it."""
+    day.registers("at first", day.alice, True)
+    day.registers("at first", day.bob, True)
+    day.registers("unknown", day.carol, False)
+    stands = serve.established(day.alice, day.bob)
+    carol_comes(day)
+    password_changes(day)
+    rule_turns_behind_its_challenge(day)
+    half_written(day)
+    dave_goes(day)
+    changes_without_end(day)
+    gone_and_another_realm(day)
     day.under('name = "bob"', 'name = "bert"', "1 user more, 1 user fewer")
     day.is_called("who is gone", 404)
-    serve.hung_up(alice, bob, stands)
+    serve.hung_up(day.alice, day.bob, stands)
+
+
+def carol_comes(day):
+    """Who is new registers and calls."""
+    day.under(BEHIND_USERS, user_block(day.carol) + BEHIND_USERS, "1 user more")
+    day.registers("known", day.carol, True)
+    day.talk(day.carol, day.alice)
+
+
+def password_changes(day):
+    """Another password counts from the next REGISTER on, and so does the old one when it is back."""
+    day.under('a1 = "dbcb', 'a1 = "0bcb', "1 user changed")
+    day.registers("with another password", day.bob, False)
+    day.under('a1 = "0bcb', 'a1 = "dbcb', "1 user changed")
+    day.registers("with his password", day.bob, True)
+
+
+def challenged(day):
+    """An INVITE of alice's to bob without a credential, which is challenged: its Call-ID, and the challenge."""
+    call, target = day.alice.mark(), day.bob.address
+    branch = day.alice.request("INVITE", target, target, call, 1, [day.alice.contact()])
+    challenge = day.alice.hear()
+    day.expect("an INVITE without a credential", challenge.status, 407)
+    day.alice.acknowledge(challenge, target, call, 1, branch)
+    return call, challenge
+
+
+def answers(day, call, challenge):
+    """The same INVITE with the right answer to that challenge; gives its branch."""
+    target = day.bob.address
+    return day.alice.request("INVITE", target, target, call, 2, [day.alice.contact(), day.alice.credential(challenge, "INVITE", target)])
+
+
+def rule_turns_behind_its_challenge(day):
+    """A rule is turned between a challenge and its answer: the answer is judged by the rule as it is when it comes, both ways."""
+    alice, bob = day.alice, day.bob
+    call, challenge = challenged(day)
+    day.under(RULE_7_ALLOWS, RULE_7_DENIES, "rule 7 changed")
+    branch = answers(day, call, challenge)
+    refused = alice.hear()
+    day.expect("challenged where a rule allowed it, answered where it denies it", (refused.status, refused["Warning"]), (403, '399 127.0.0.1 "policy rule 7"'))
+    alice.acknowledge(refused, bob.address, call, 2, branch)
+    day.logs("of the rule that denies it", "INVITE alice bob@127.0.0.1 send 7 deny")
+    day.is_called("where a rule denies it", 403)
+    call, challenge = challenged(day)
+    day.under(RULE_7_DENIES, RULE_7_ALLOWS, "rule 7 changed")
+    branch = answers(day, call, challenge)
+    invite = bob.hear()
+    day.expect("challenged where a rule denied it, answered where it allows it", (invite.method, invite.uri), ("INVITE", f"sip:bob@{bob.at}"))
+    day.logs("of the rule that allows it", "INVITE alice bob@127.0.0.1 send 7 sent 1")
+    bob.answer(invite, 486, "b1")
+    day.expect("bob hears", bob.hear().method, "ACK")
+    refused = alice.hear()
+    day.expect("bob answers", refused.status, 486)
+    alice.acknowledge(refused, bob.address, call, 2, branch)
+
+
+def half_written(day):
+    """A file is written in its place, piece by piece, while people register and phone: none of its fronts comes into force, though nearly
+    each is a configuration, and the whole of it does."""
+    whole = changed(day.text(), [(BEHIND_USERS, user_block(day.dave) + BEHIND_USERS)])
+    pieces = re.split(r"(?=\[\[)", whole)
+    fronts = ["".join(pieces[:count]) for count in range(1, len(pieces))]
+    accepted = [ended("--config", day.tally.written("front.toml", front))[0] == 0 for front in fronts]
+    day.expect("which fronts are configurations", (len(fronts), accepted), (15, [False] + [True] * 14))
+    slowest, last = 0, time.monotonic()
+    with open(day.config, "w", encoding="utf-8") as made:
+        for number, piece in enumerate(pieces):
+            made.write(piece)
+            made.flush()
+            slowest, last = max(slowest, time.monotonic() - last), time.monotonic()
+            if number == 4:
+                day.registers("while the file is half written", day.bob, True)
+            if number == 7:
+                stands = serve.established(day.carol, day.alice)
+            if number == 10:
+                serve.hung_up(day.carol, day.alice, stands)
+            time.sleep(0.2)
+    day.expect("this machine writes a piece in time", slowest < APART, True)
+    # this is all that it says of it
+    serve.comes_into_force(day.server, day.config, "1 user more")
+
+
+def dave_goes(day):
+    """Who goes proves nothing any more and isn't called, and his standing call ends with his own BYE."""
+    day.registers("known", day.dave, True)
+    day.talk(day.bob, day.dave)
+    stands = serve.established(day.dave, day.alice)
+    day.under(user_block(day.dave), "", "1 user fewer")
+    day.registers("gone", day.dave, False)
+    day.is_called("who is gone", 404, day.dave)
+    serve.hung_up(day.dave, day.alice, stands)
+
+
+def changes_without_end(day):
+    """The file is another one each nine tenths of a second, for a minute, beside calls, of which one stands over each change: none of these
+    files comes into force, but one that stood for a second, since this machine was late, and the last one does."""
+    text, calls, moments = day.text(), 0, []
+
+    def put(content):
+        before = time.monotonic()
+        serve.rewritten(day.config, lambda _: content)
+        moments.append((before, time.monotonic()))
+
+    stands = serve.established(day.alice, day.bob)
+    over = time.monotonic() + ENDLESS
+    while time.monotonic() < over:
+        following = time.monotonic() + APART
+        put(f"{text}# {len(moments)}\n")
+        other = serve.established(day.carol, day.alice)
+        serve.hung_up(day.alice, day.bob, stands)
+        while time.monotonic() < following - 0.1:
+            day.talk(day.bob, day.carol)
+            calls += 1
+            time.sleep(0.15)
+        stands = serve.established(day.alice, day.bob)
+        serve.hung_up(day.carol, day.alice, other)
+        calls += 2
+        time.sleep(max(0, following - time.monotonic()))
+    put(changed(text, [("offset = 60", "offset = 120")]))
+    *others, last = serve.says(day.server, " on (offset changed)\n").splitlines(keepends=True)
+    # by a clock of milliseconds
+    late = sum(behind - before > 0.998 for (before, _), (_, behind) in zip(moments, moments[1:]))
+    nothing = serve.in_force(day.config, "nothing differs")
+    day.expect("said of an endless change", (len(others) <= late, [line for line in others if not nothing.fullmatch(line)]), (True, []))
+    day.expect("said of the last one", serve.in_force(day.config, "offset changed").fullmatch(last) is not None, True)
+    day.expect("some files and calls of a minute", (len(moments) > ENDLESS / 2, calls > ENDLESS), (True, True))
+    serve.hung_up(day.alice, day.bob, stands)
+
+
+def gone_and_another_realm(day):
+    """The file is gone for a while, and another realm stands in it: that is said, and what was in force stays."""
+    text = day.text()
+    for name, change, said in (
+        ("where the file is gone", lambda: os.remove(day.config), "the configuration's file is gone; what was in force stays\n"),
+        (
+            "where the realm is another",
+            lambda: day.tally.written(day.config, text.replace('realm = "office"', 'realm = "home"')),
+            f"{day.config} isn't taken: realm can't change while the server runs; what was in force stays\n",
+        ),
+    ):
+        change()
+        day.expect(f"said {name}", serve.says(day.server, "\n"), f"sipd: {said}")
+        day.registers(name, day.carol, True)
+        day.talk(day.carol, day.bob)
+    day.tally.written(day.config, text)
+
+
+def packets_of(printed):
+    """The packets that a replay prints, each with its address."""
+    found, place = set(), 0
+    while place < len(printed):
+        end = printed.index("\n", place)
+        words, place = printed[place:end].split(" "), end + 1
+        if words[0] == "packet":
+            length = int(words[5])
+            found.add((words[2], printed[place : place + length]))
+            place += length + 1
+    return found
 
 
 def try_day(tally):
     """The day's record is replayed without its file, byte for byte what was logged and all that was heard; and is gone on from."""
     day = Day(tally)
     live_day(day)
-    printed, complaints = serve.killed(day.server)
+    printed, complaints = day.killed()
     tally.expect("complaints of the day", complaints, "")
     status, again, complaints = serve.replayed(day.record)
     tally.expect("the day again", (status, complaints, serve.audit_of(again)), (0, "", printed.splitlines()))
-    heard = [data for it in (day.alice, day.bob, day.carol) for data in it.heard]
-    tally.expect("heard and not replayed", [data for data in heard if data.decode() not in again], [])
+    packets = packets_of(again)
+    heard = [(it.at, data.decode()) for it in day.phones for data in it.heard]
+    tally.expect("heard and not replayed", [one for one in heard if one not in packets], [])
     server, _ = phone.started(PROGRAM, day.config, "--record", day.record + "_on", "--resume", day.record)
-    serve.hung_up(day.carol, day.alice, serve.established(day.carol, day.alice))
+    day.talk(day.carol, day.alice)
     _, complaints = serve.killed(server)
     tally.expect("the next start", re.fullmatch(f"sipd: goes on behind \\d+ lines of {day.record}\n", complaints) is not None, True)
+
+
+def greatest(office, count):
+    """The office with so many users, and, behind its own rules, as many as there can be."""
+    users = "".join(f'[[user]]\nname = "user{number}"\na1 = "{phone.md5(str(number))}"\n\n' for number in range(2, count))
+    rules = "".join(
+        f'\n[[rule]]\nid = {1000 + number}\nwho = "user user{number}"\nop = "send INFO"\ntarget = "user{number}@office.local"\nverdict = "deny"\n'
+        for number in range(9, MOST_RULES)
+    )
+    return changed(office, [(BEHIND_USERS, users + BEHIND_USERS)]) + rules
+
+
+def try_greatest(tally):
+    """A file with as many users and rules as there can be comes into force while a phone sends: each request is answered. It gives the
+    greatest number of seconds that one waited for its answer."""
+    config = phone.office(tally.folder, phone.free_port())
+    with open(config, encoding="utf-8") as file:
+        office = file.read()
+    tally.written(config, greatest(office, MOST_USERS - 1))
+    server, port = phone.started(PROGRAM, config, "--reload")
+    alice, _ = serve.phones(port)
+    tally.expect("one of the most users registers", alice.register(), [401, 200])
+    slowest, statuses = 0, []
+    serve.rewritten(config, lambda _: greatest(office, MOST_USERS))
+    with concurrent.futures.ThreadPoolExecutor() as beside:
+        taken = beside.submit(serve.comes_into_force, server, config, "1 user more")
+        while not taken.done():
+            before = time.monotonic()
+            alice.request("REGISTER", "sip:127.0.0.1", alice.address, alice.mark(), 1, [alice.contact()])
+            statuses.append(alice.hear().status)
+            slowest = max(slowest, time.monotonic() - before)
+            time.sleep(0.01)
+        taken.result()
+    printed, complaints = serve.killed(server)
+    tally.expect("answered while the most users and rules are taken", set(statuses), {401})
+    tally.expect("logged and complained of", (len(printed.splitlines()), complaints), (2 + len(statuses), ""))
+    return slowest
 
 
 def main():
@@ -236,6 +478,7 @@ def main():
         try_refusals(tally, office, old)
         try:
             try_day(tally)
+            try_greatest(tally)
         finally:
             for server in phone.SERVERS:
                 server.kill()

@@ -9,6 +9,7 @@ import contextlib
 import hashlib
 import os
 import re
+import shlex
 import shutil
 import socket
 import struct
@@ -710,11 +711,17 @@ def uneven_digests(folder, expect):
 
 
 def decides_before_policy(folder, expect):
-    """decide says 416 of a `sips:` target, and refuses a method in small letters by the one in capitals, or takes it for that."""
+    """decide says 416 of a `sips:` target and 400 of a `sip:` one that is no URI, and refuses a method in small letters by the one in capitals, or takes it for that."""
     asked = ["decide", "--config", office(folder, free_port()), "--user", "alice"]
     for target in ("sips:bob@127.0.0.1", "SIPS:bob@127.0.0.1", "sips:bob@elsewhere.example"):
         _, printed, complaints = ended(*asked, "INVITE", target)
         expect("416" in printed + complaints and not re.search("allow|den(y|ies)", printed), f"{target}: {printed} {complaints}")
+    for method, target, answer in (("INVITE", "sips:@127.0.0.1", "416"), ("INVITE", "SIP:@127.0.0.1", "400"), ("register", "sip:@127.0.0.1", "400")):
+        status, printed, complaints = ended(*asked, method, target)
+        expect(status == 0 and printed.startswith(f"{answer} before any rule"), f"{method} {target}: {status} {printed} {complaints}")
+    for target in ("bob@", "bob", "sip:bob bob@127.0.0.1"):
+        status, printed, complaints = ended(*asked, "INVITE", target)
+        expect(status == 1 and not printed, f"{target}: {status} {printed} {complaints}")
     for method in ("invite", "Invite"):
         _, printed, complaints = ended(*asked, method, "bob@127.0.0.1")
         expect("INVITE" in printed + complaints, f"{method}: {printed} {complaints}")
@@ -753,13 +760,45 @@ def wrong_files(folder, expect):
 
 
 def unit(folder, expect):
-    """The unit removes and overwrites no record, says how much stack is needed, and starts again after every signal."""
+    """The unit removes and overwrites no record, says how much stack is needed, starts again after every signal, and its reload fails where
+    a file is refused, or can't be taken."""
     text = read(os.path.join(phone.TOP, "contrib", "sipd.service")).decode()
     stated = dict(line.split("=", 1) for line in text.splitlines() if re.match(r"\w+=", line))
     expect(not re.search(r"^Exec.*\b(mv|rm|cp|truncate|install)\b", text, re.M), "it moves or removes files")
     expect("--records " in stated["ExecStart"], f"it starts {stated['ExecStart']}")
     expect(stated.get("Restart") == "always", f"Restart={stated.get('Restart')}")
     expect("LimitSTACK" in stated, "it says nothing of the stack")
+    reloads(folder, expect, stated["ExecReload"])
+
+
+def reloads(folder, expect, command):
+    """What the reload of the unit says of files, beside the records of two starts, the later one with another user."""
+    port = free_port()
+    config, records = office(folder, port), new(folder)
+    os.mkdir(records)
+    text = read(config)
+    carol = text + f'\n[[user]]\nname = "carol"\na1 = "{md5("carol:office:tea")}"\n'.encode()
+    for started in (text, carol):
+        write(config, started)
+        with serving(folder, config, "--records", records):
+            alice, _ = phones(port)
+            expect(is_registered(alice), "it doesn't serve")
+            # the later record is newer by a second, whatever the shell compares
+            time.sleep(1.2)
+    words = shlex.split(command.replace("$$", "$"))
+    for there, here in (("/var/lib/sipd/records", records), ("/usr/local/bin/sipd", PROGRAM), ("/etc/sipd.toml", config)):
+        expect(there in words[-1], f"it doesn't name {there}")
+        words[-1] = words[-1].replace(there, here)
+    for name, data, wanted in (
+        ("the file in force", carol, (0, b"nothing differs\n", b"")),
+        ("a good file", text, (0, b"user carol goes: .*\na server that runs can take it\n", b"")),
+        ("a refused one", carol.replace(b"via gateway", b"via nobody"), (2, b"", b"sipd: configuration refused 6\n")),
+        ("one with another realm", carol.replace(b'realm = "office"', b'realm = "home"'), (3, b"realm differs: .*\n.*\n", b"sipd: a server that runs can't take it\n")),
+    ):
+        write(config, data)
+        done = subprocess.run(words, stdin=subprocess.DEVNULL, capture_output=True, timeout=20)
+        good = done.returncode == wanted[0] and re.fullmatch(wanted[1], done.stdout) and done.stderr == wanted[2]
+        expect(good, f"{name}: {done.returncode} {done.stdout.decode()} {done.stderr.decode()}")
 
 
 def address_everywhere(folder, expect):

@@ -3,11 +3,12 @@
 that it stands in its file, this says that it is called: a program that is built without a proof has each function that it calls
 as a symbol of its own, none inlined, and no other function.
 
-What a row of a section or of a change names has to be in `sipd`; what a trial names in `test_server`, or a `#[test]`, where it is of a
-crate. What isn't there has its reason in WITHOUT. A program that isn't given is built, in two to five minutes each; `KEPT` names a
-folder where they are kept, as those of tests/plant_edges.py, and which has to be emptied for a changed tree. It needs `nm`. No gate
-runs this. It ends with 1 where a function isn't there, or a reason is told of one that is."""
+What a row of a section or of a change names has to be in `sipd`; what a trial names in `test_server`, where it is of a crate. What isn't
+there has its reason in WITHOUT. A program that isn't given is built, in two to five minutes each; `KEPT` names a folder where they are
+kept, as those of tests/plant_edges.py, and which has to be emptied for a changed tree. It needs `nm`. No gate runs this. It ends with 1
+where a function isn't there, or a reason is told of one that is."""
 
+import contextlib
 import os
 import re
 import subprocess
@@ -23,6 +24,7 @@ TRIALS = re.compile(r"`(\w+)`: ((?:`\w+`(?:, )?)+)")
 # The functions that no program calls, or `test_server` alone, and why the page names them all the same.
 WITHOUT = {
     "sip_recorded::laws::replay_prints_what_was_served": "a law of what two functions do, which nothing calls",
+    "model_meanings::headline::access_is_the_headline": "a law over histories, which nothing calls",
 }
 
 
@@ -44,12 +46,6 @@ def text(path):
         return it.read()
 
 
-def code_of(crate):
-    """The texts of a crate's code."""
-    found = [os.path.join(folder, name) for folder, _, names in os.walk(f"{TOP}/crates/{crate}/src") for name in names]
-    return [text(path) for path in found if path.endswith(".rt")]
-
-
 def symbol_of(room, path, name):
     """How the symbol of a function reads, and of a method: the type's module is another one than the file's where its methods stand
     apart, and a trait's name stands behind the type's. None where the name is of a constant or a type."""
@@ -63,7 +59,7 @@ def symbol_of(room, path, name):
 
 
 def wanted():
-    """Each function that the page names: its line, its name, how its symbol reads, and which program has it, none of a test."""
+    """Each function that the page names: its line, its name, how its symbol reads, and which program has it."""
     for number, row in rows():
         for name in NAME.findall(row.get("Decided by") or row.get("Go to") or ""):
             room, path = row["Room"].strip("`"), row["File"].strip("`")
@@ -73,11 +69,7 @@ def wanted():
         for crate, listed in TRIALS.findall(row.get("Tests and trials", "")):
             for name in NAME.findall(listed):
                 if crate in USES:
-                    yield number, f"{crate} {name}", rf"{crate}::(?:\w+::)*{name}", None if crate == "test_parts" else "test_server"
-
-
-def is_test(crate, name):
-    return any(re.search(rf"(?m)^#\[test\]\n(?:#\[.*\n)*fn {name}\b", code) for code in code_of(crate))
+                    yield number, f"{crate} {name}", rf"{crate}::(?:\w+::)*{name}", "test_server"
 
 
 def symbols(program):
@@ -90,36 +82,35 @@ def symbols(program):
     return found or sys.exit(f"map_runs: {program} has no symbols")
 
 
-def programs(given):
-    """The symbols of `sipd` and of `test_server`, of the programs that are given, or kept, or built."""
-    found = dict(zip(("sipd", "test_server"), given))
+@contextlib.contextmanager
+def programs(given, names=("sipd", "test_server")):
+    """Where programs are that are built without a proof: those that are given, or kept, or built for this once."""
+    found = dict(zip(names, given))
     with tempfile.TemporaryDirectory(prefix="map_runs-") as folder:
         kept = os.path.abspath(os.environ["KEPT"]) if "KEPT" in os.environ else os.path.join(folder, "programs")
         os.makedirs(kept, exist_ok=True)
-        for name, file in (("sipd", "unchanged"), ("test_server", "test_server")):
-            path = found.setdefault(name, os.path.join(kept, file))
+        for name in names:
+            path = found.setdefault(name, os.path.join(kept, {"sipd": "unchanged"}.get(name, name)))
             if not os.path.exists(path):
                 tree = os.path.join(folder, "tree")
                 wrong = planted(unchanged(), tree, name) or built(toolchain(tempfile.mkdtemp(dir=folder)), tree, path, name)
                 if wrong:
-                    sys.exit(f"map_runs: {name} isn't built: {wrong}")
-        return {name: symbols(path) for name, path in found.items()}
+                    sys.exit(f"{name} isn't built: {wrong}")
+        yield found
 
 
 def main():
-    has = programs(sys.argv[1:])
+    with programs(sys.argv[1:]) as paths:
+        has = {name: symbols(path) for name, path in paths.items()}
     count, faults, excused = 0, 0, set()
     for number, name, symbol, program in wanted():
         count += 1
-        if program is None:
-            found = is_test(*name.split())
-        else:
-            found = any(re.fullmatch(symbol, one) for one in has[program].get(re.search(r"\w+$", symbol)[0], ()))
+        found = any(re.fullmatch(symbol, one) for one in has[program].get(re.search(r"\w+$", symbol)[0], ()))
         if symbol in WITHOUT and not found:
             excused.add(symbol)
         elif not found:
             faults += 1
-            print(f"docs/MAP.md:{number}: {name}: not in {program or 'the tests'}")
+            print(f"docs/MAP.md:{number}: {name}: not in {program}")
     for symbol in sorted(set(WITHOUT) - excused):
         faults += 1
         print(f"{symbol}: a reason why it isn't there is told, and it is, or the page doesn't name it")

@@ -1,7 +1,7 @@
 #!/bin/sh
 # Whether each name in the tables of docs/MAP.md stands where the page says: a room in crates.txt, a file, a function,
-# constant or type in that file, a definition in its module of specs, a stored run, a test or a trial. Proves nothing and takes a
-# second.
+# constant or type in that file, a definition in its module of specs, a stored run, a test or a trial; and whether each function
+# that decides stands in one row alone. Proves nothing and takes a second.
 cd "$(dirname "$0")/.." || exit 2
 exec python3 - <<'PY'
 import os
@@ -88,6 +88,7 @@ def check_trials(number, runs, trials):
 
 
 rows = {kind: 0 for kind in TABLES}
+doors = {}
 kind = None
 for number, line in enumerate(open(PAGE, encoding="utf-8"), 1):
     if not line.startswith("|"):
@@ -119,6 +120,8 @@ for number, line in enumerate(open(PAGE, encoding="utf-8"), 1):
     need(number, names, "no function or constant")
     for name in names:
         check(number, code is not None and stands(code, name), f"{path}: without {name}")
+        first = doors.setdefault((path, name), number)
+        need(number, first == number, f"{path}: {name} stands in line {first}, too")
     found = DEFINITION.findall(of["Definition"])
     whole = "; ".join(f"`{crate} {module}`: {listed}" for crate, module, listed in found)
     need(number, whole == of["Definition"], "a definition that isn't written as `CRATE specs/Module`: `name`")

@@ -1,9 +1,10 @@
 #!/usr/bin/env python3
-"""How much has to be read to know what a definition, or the clauses of a public function, say: `tests/rests_on.py [--list] WHAT ..`,
+"""How much has to be read to know what a definition, or the clauses of a public function, say: `tests/rests_on.py [--list] [--more] WHAT ..`,
 where WHAT is `CRATE specs/Module: name` or the name of a function, as `serve` or `sip_loop::serve`. It follows each name to its
 definition in specs/, to its struct, enum, trait or constant in src/, and on from there, by the `use` lines of each file and by what a
 crate passes on. It prints by crate how many these are and how many lines they have, without blank lines and comments, and the lines of
-comments beside them; --list prints each with its place. It proves nothing and takes a second.
+comments beside them; --list prints each with its place; with --more each WHAT counts only what none before it does. It proves
+nothing and takes a second.
 
 A definition goes from its signature to the next top-level declaration or comment block, and its comments are the block right before
 it and those within. A type with an `impl Model` is its value alone, which is all that a clause sees of it. A trait, which a clause
@@ -395,14 +396,16 @@ def rests_on(root):
     return items, outside, lost
 
 
-def tell(what, listed):
-    """Prints what one of them rests on; whether each name could be followed."""
+def tell(what, listed, told):
+    """Prints what one of them rests on, beside what was told; whether each name could be followed."""
     found = roots(what)
     if len(found) != 1:
         print(f"{what}: {len(found)} of that name" + "".join(f"\n  {item.path}:{item.line}" for item in found))
         return False
     items, outside, lost = rests_on(found[0])
     count, lines, comments = Counter(), Counter(), Counter()
+    items = [item for item in items if item not in told]
+    told.update(items)
     for item in items:
         count[item.crate] += 1
         lines[item.crate] += item.lines
@@ -420,11 +423,12 @@ def tell(what, listed):
 
 
 def main(words):
-    listed, wanted = "--list" in words, [word for word in words if word != "--list"]
+    listed, more, wanted = "--list" in words, "--more" in words, [word for word in words if not word.startswith("--")]
+    told = set()
     if not wanted:
         print(__doc__)
         return 2
-    return 0 if all([tell(what, listed) for what in wanted]) else 1
+    return 0 if all([tell(what, listed, told if more else set()) for what in wanted]) else 1
 
 
 if __name__ == "__main__":

@@ -16,8 +16,8 @@ import time
 import phone
 from phone import Phone, free_port, office, started, tag_of, uri_in
 from served import (
-    PROGRAM, audit_of, drawn, ended, established, first_word, goes_again, hears, hung_up, is_of_event, killed, made_in, marked, phones,
-    replayed, rewritten, says, stopped, until, without_configurations,
+    PROGRAM, Lateness, audit_of, drawn, ended, established, first_word, goes_again, hears, hung_up, is_of_event, killed, made_in, marked, phones,
+    replayed, rewritten, says, stopped, until, without_configurations, without_receiving,
 )
 
 LONGEST = 60  # seconds that a trial may take
@@ -133,6 +133,21 @@ def failed_send(folder):
     over = alice.hear()
     assert over.status == 500 and time.monotonic() - before < 5, over.start
     stopped(server)
+
+
+def failed_receive(folder):
+    """A socket of which the system refuses to receive ends the server as by a fault of the device; where no process may be refused that, this
+    isn't tried."""
+    port = free_port()
+    words, none = [PROGRAM, "serve", "--config", office(folder, port), "--turns", "3"], subprocess.DEVNULL
+    try:
+        server = subprocess.Popen(words, stdin=none, stdout=subprocess.PIPE, stderr=subprocess.PIPE, preexec_fn=without_receiving)
+    except subprocess.SubprocessError:
+        return
+    phone.SERVERS.append(server)
+    printed, complaints = server.communicate(timeout=10)
+    ends = server.returncode, printed.decode(), complaints.decode()
+    assert ends == (4, f"sipd: serving 127.0.0.1:{port}\n", "sipd: device\n"), ends
 
 
 def drawn_anew(folder):
@@ -314,7 +329,8 @@ def restart_with_another(folder):
 
 
 def standby(folder):
-    """A second server reads the record of the first one as it grows, and goes on where that ended, in the middle of a line."""
+    """A second server reads the record of the first one as it grows, and goes on where that ended, in the middle of a line; it serves within
+    a second (and what the machine was late) behind the end of what it reads."""
     config = office(folder, free_port())
     first, second = (os.path.join(folder, "standby_" + name) for name in ("first", "second"))
     server, port = started(PROGRAM, config, "--record", first)
@@ -336,10 +352,15 @@ def standby(folder):
             with open(first, "a") as cut:
                 cut.write("time 18")
             time.sleep(1.5)
+            with Lateness(waiting) as late:
+                before = time.monotonic()
+                tail.kill()
+                line = waiting.stdout.readline().decode()
+                passed = time.monotonic() - before
         finally:
             tail.kill()
-    line = waiting.stdout.readline().decode()
     assert line == f"sipd: serving 127.0.0.1:{port}\n", line
+    assert passed < 1 + late.most, (passed, late.most)
     hung_up(alice, bob, dialog)
     _, complaints = killed(waiting)
     assert re.fullmatch(r"sipd: goes on behind \d+ lines of standard input\n", complaints), complaints
@@ -746,7 +767,7 @@ def told_against(folder):
 
 
 TRIALS = (
-    call, another_address, turns, timer_a, guarded_timer, failed_send, drawn_anew, stop_and_continue, bad_starts, closed_output, record, restart, restart_with_another, standby,
+    call, another_address, turns, timer_a, guarded_timer, failed_send, failed_receive, drawn_anew, stop_and_continue, bad_starts, closed_output, record, restart, restart_with_another, standby,
     no_count_twice, not_resumed, full_device, full_start, lost_record, folder_of_records, clock_behind, small_stack, guard, changed, not_taken, changed_record, told_against,
 )
 

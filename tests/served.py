@@ -1,9 +1,12 @@
 """What the trials of `tests/serve.py` share: the program, phones, how late this machine is, and what is read of records and lines."""
 
+import ctypes
+import errno
 import os
 import re
 import select
 import signal
+import struct
 import subprocess
 import sys
 import threading
@@ -53,6 +56,17 @@ class Lateness:
 def ended(*words):
     done = subprocess.run([PROGRAM, *words], stdin=subprocess.DEVNULL, capture_output=True, timeout=20)
     return done.returncode, done.stdout.decode(), done.stderr.decode()
+
+
+def without_receiving():
+    """Lets the kernel refuse each `recvfrom` of this process and of what it becomes, by a filter of system calls (seccomp)."""
+    number = {"x86_64": 45, "aarch64": 207}[os.uname().machine]
+    steps = ((0x20, 0, 0, 0), (0x15, 0, 1, number), (0x06, 0, 0, 0x50000 | errno.EIO), (0x06, 0, 0, 0x7FFF0000))
+    filtered = ctypes.create_string_buffer(b"".join(struct.pack("HBBI", *step) for step in steps))
+    program = ctypes.create_string_buffer(struct.pack("HP", len(steps), ctypes.addressof(filtered)))
+    for words in ((38, 1, 0), (22, 2, ctypes.addressof(program))):
+        if ctypes.CDLL(None).prctl(*map(ctypes.c_ulong, (*words, 0, 0))) != 0:
+            raise OSError("this kernel takes no such filter")
 
 
 def stopped(server, by=signal.SIGTERM):

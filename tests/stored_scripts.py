@@ -9,8 +9,10 @@ and the sample configuration, in a few lines each that share nothing with the se
 three datagrams below can bring about: no folded line, no dialog, no credential, no binding.
 
 A record is the two REGISTERs of Mufasa, of which the second answers the challenge of the first: with no configuration, with the one
-of `check_sample.toml`, or with that and, between them, one in which Mufasa has another key. Its lines are those of docs/SCRIPTS.md,
-its credential is RFC 2617's.
+of `check_sample.toml`, or with that and, between them, one in which Mufasa has another key. Others change a rule: that which stands first
+for help, the one that allowed the challenge of a REGISTER, or the one by which a call went to a hop, which goes with it. Lines are those of
+docs/SCRIPTS.md, credentials RFC 2617's; which rule decides stands beside each datagram, as docs/SCRIPTS.md lists the rules, and what goes on
+to the hop is made by the words of docs/SPECIFICATION.md on a request that is sent on.
 """
 
 import hashlib
@@ -188,7 +190,7 @@ def via_of(text):
 # ---- what a request is answered
 
 REASONS = {
-    200: "OK", 400: "Bad Request", 401: "Unauthorized", 403: "Forbidden", 404: "Not Found", 407: "Proxy Authentication Required", 416: "Unsupported URI Scheme",
+    100: "Trying", 200: "OK", 400: "Bad Request", 401: "Unauthorized", 403: "Forbidden", 404: "Not Found", 407: "Proxy Authentication Required", 416: "Unsupported URI Scheme",
     480: "Temporarily Unavailable", 481: "Call/Transaction Does Not Exist", 482: "Loop Detected", 483: "Too Many Hops", 503: "Service Unavailable",
 }
 USERS = ["Mufasa", "alice", "help"]
@@ -278,9 +280,13 @@ def response(status, more, fields, number):
     text = f"SIP/2.0 {status} {REASONS[status]}\r\nVia: {top}\r\n" + "".join(f"Via: {via}\r\n" for via in vias[1:])
     for name in ["From", "To", "Call-ID", "CSeq"]:
         for value in values(fields, name)[:1]:
-            tag = f";tag={0:016x}.{number}" if name == "To" and address_of(value) is not None else ""
+            tag = f";tag={0:016x}.{number}" if name == "To" and status != 100 and address_of(value) is not None else ""
             text += f"{name}: {value}{tag}\r\n"
     return (text + (f"{more[0]}: {more[1]}\r\n" if more else "") + "Content-Length: 0\r\n\r\n"), port
+
+
+def packet(at, port, ticket, mark, text):
+    return f"packet {at} {SOURCE[0]}:{port} {ticket} {mark} {len(text)}\n{text}\n"
 
 
 def printed(events):
@@ -299,16 +305,12 @@ def printed(events):
             continue
         status, more, record = judged(method, uri, version, fields)
         answer, port = response(status, more, fields, number)
-
-        def packet(moment, mark):
-            return f"packet {moment} {SOURCE[0]}:{port} {number}/0 {mark} {len(answer)}\n{answer}\n"
-
-        text += packet(at, "first")
+        text += packet(at, port, f"{number}/0", "first", answer)
         if record:
             text += f"audit {at} {number} {record}\n"
         # the last one isn't followed by an event, before which its copies would go
         if method == "INVITE" and number < len(events):
-            text += "".join(packet(at + wait, "again") for wait in COPIES)
+            text += "".join(packet(at + wait, port, f"{number}/0", "again", answer) for wait in COPIES)
     return text
 
 
@@ -378,13 +380,17 @@ def word_of(number):
     return f"{number:032x}"
 
 
-def proving(key):
-    """The REGISTER that answers the challenge of the first one by a user's key."""
-    nonce, cnonce, uri = word_of(1), "0a4f113b", "sip:host.com"
-    digest = md5(f"{key}:{nonce}:00000001:{cnonce}:auth:{md5(f'REGISTER:{uri}')}")
-    second = REGISTER.replace(b"z9hG4bKreg1", b"z9hG4bKreg2").replace(b"CSeq: 1 ", b"CSeq: 2 ")
-    credential = f'username="Mufasa", realm="{REALM}", nonce="{nonce}", uri="{uri}", response="{digest}", qop=auth, nc=00000001, cnonce="{cnonce}"'
-    return with_lines(second, f"Authorization: Digest {credential}\r\n".encode())
+def credential(key, method, uri, count=1):
+    """Mufasa's answer by a key to the challenge of the first datagram, by its count: the first such, the second, .."""
+    nonce, cnonce, times = word_of(1), "0a4f113b", f"{count:08x}"
+    digest = md5(f"{key}:{nonce}:{times}:{cnonce}:auth:{md5(f'{method}:{uri}')}")
+    return f'Digest username="Mufasa", realm="{REALM}", nonce="{nonce}", uri="{uri}", response="{digest}", qop=auth, nc={times}, cnonce="{cnonce}"\r\n'.encode()
+
+
+def proving(key, number=2):
+    """The REGISTER of a number that answers the challenge of the first one by a user's key."""
+    later = REGISTER.replace(b"z9hG4bKreg1", f"z9hG4bKreg{number}".encode()).replace(b"CSeq: 1 ", f"CSeq: {number} ".encode())
+    return with_lines(later, b"Authorization: " + credential(key, "REGISTER", "sip:host.com", number - 1))
 
 
 def sha256(text):
@@ -400,17 +406,99 @@ def held(text):
     return "".join(f"= {line}\n" for line in text.removesuffix("\n").split("\n")) + f"configuration {sha256(text)}\n"
 
 
-def events_recorded(datagrams):
-    return [f"hex {1000 * number} 127.0.0.1:5062 {word_of(number)} {datagram.hex()}\n" for number, datagram in enumerate(datagrams, 1)]
+def recorded(number, datagram, port=5062, at=None):
+    return f"hex {at or 1000 * number} 127.0.0.1:{port} {word_of(number)} {datagram.hex()}\n"
 
 
-def answered(number, datagram, status, more, record):
-    answer, port = response(status, more, read(datagram)[1], number)
-    return f"packet {1000 * number} 127.0.0.1:{port} {number}/0 first {len(answer)}\n{answer}\naudit {1000 * number} {number} REGISTER {record}\n"
+def answered(number, datagram, status, more, record, at=None):
+    """The answer to a datagram, and its line of the log."""
+    at = at or 1000 * number
+    (method, _, _), fields = read(datagram)
+    answer, port = response(status, more, fields, number)
+    return packet(at, port, f"{number}/0", "first", answer) + f"audit {at} {number} {method} {record}\n"
 
 
 def challenged(number, datagram):
     return answered(number, datagram, 401, ("WWW-Authenticate", challenge(word_of(number))), "- Mufasa@host.com register - challenge 401")
+
+
+def denied(number, datagram, rule, record):
+    return answered(number, datagram, 403, ("Warning", f'399 sip.host.com "policy rule {rule}"'), f"{record} {rule} deny")
+
+
+def registered(number, datagram):
+    return answered(number, datagram, 200, ("Contact", "<sip:Mufasa@127.0.0.1:5062>;expires=3600"), "Mufasa Mufasa@host.com register 1 answer 200")
+
+
+def rules_of(configuration):
+    """Its text in front of the rules, and each rule's."""
+    head, *rules = configuration.split("[[rule]]\n")
+    return head, ["[[rule]]\n" + rule for rule in rules]
+
+
+def of_turned_rules(sample):
+    """Each of three MESSAGEs to help under another configuration: rule 4, which allows it, is the first for help, then rule 3, which is for
+    help, too, and denies it, and then rule 4 again, which was put in front of rule 3."""
+    head, (one, two, three, four, *others) = rules_of(sample)
+    three = three.replace("vault@", "help@")
+    record, output = "", ""
+    for number, (rule, rules) in enumerate(((4, None), (3, [three, four]), (4, [four, three])), 1):
+        message = INVITE.replace(b"INVITE", b"MESSAGE").replace(b"Contact: <sip:x@127.0.0.1:5070>\r\n", b"")
+        message = message.replace(b"z9hG4bKinv1", f"z9hG4bKmsg{number}".encode()).replace(b"Call-ID: k1", f"Call-ID: k{number}".encode())
+        record += held("".join([head, one, two, *rules, *others]) if rules else sample) + recorded(number, message, SOURCE[1])
+        if rule == 3:
+            output += denied(number, message, 3, "- help@host.com send")
+        else:
+            # help has no phone
+            output += answered(number, message, 480, None, "- help@host.com send 4 answer 480")
+    return record, output
+
+
+def of_a_rule_turned_behind_its_challenge(sample, key):
+    """A REGISTER that rule 1 allows is challenged, and answered once that denies it, and once more when it allows it again."""
+    head, (one, *others) = rules_of(sample)
+    turned = "".join([head, one.replace("allow", "deny"), *others])
+    datagrams = [REGISTER, proving(key, 2), proving(key, 3)]
+    record = "".join(held(text) + recorded(number, datagram) for number, (text, datagram) in enumerate(zip((sample, turned, sample), datagrams), 1))
+    return record, challenged(1, REGISTER) + denied(2, datagrams[1], 1, "Mufasa Mufasa@host.com register") + registered(3, datagrams[2])
+
+
+def sent_to_hop(number, datagram):
+    """What goes on to a hop of an INVITE: its Request-URI, the way that it came, one hop less, and no credential."""
+    (method, uri, version), fields = read(datagram)
+    top, *vias = values(fields, "Via")
+    text = f"{method} {uri} {version}\r\nVia: SIP/2.0/UDP sip.host.com:5060;branch=z9hG4bK{0:016x}.{number}.1\r\nRecord-Route: <sip:sip.host.com:5060;lr>\r\n"
+    text += "".join(f"Via: {via}\r\n" for via in [received(top)[0], *vias])
+    for name, value in fields:
+        if name not in ("Via", "Proxy-Authorization"):
+            text += f"{name}: {int(value) - 1 if name == 'Max-Forwards' else value}\r\n"
+    return text + "Content-Length: 0\r\n\r\n"
+
+
+def of_a_gone_hop(sample, key):
+    """A call that rule 5 sent to the hop gw, and that nobody answers, goes there again once neither the rule nor the hop is there any more; the
+    next one meets rule 6, by which 911 is nobody. Timer A goes 500 and 1,500 ms behind the first sending."""
+    call = INVITE.replace(b"help@", b"911@")
+    ack = call.replace(b"INVITE", b"ACK").replace(b"To: <sip:911@host.com>", b"To: <sip:911@host.com>;tag=0000000000000000.1")
+
+    def proven(number, count):
+        later = call.replace(b"z9hG4bKinv1", f"z9hG4bKinv{number}".encode()).replace(b"Call-ID: k1", f"Call-ID: k{number}".encode())
+        return with_lines(later, b"Proxy-Authorization: " + credential(key, "INVITE", "sip:911@host.com", count))
+
+    head, (one, two, three, four, _, six) = rules_of(sample)
+    without = "".join([head.replace('[[hop]]\nname = "gw"\naddress = "127.0.0.1:5090"\n', ""), one, two, three, four, six])
+    assert "gw" not in without
+    sent, following = proven(3, 1), proven(4, 2)
+    # the ACK of the challenge, which ends its copies, is the second datagram
+    record = held(sample) + recorded(1, call, SOURCE[1]) + recorded(2, ack, SOURCE[1], 1200) + recorded(3, sent, SOURCE[1])
+    record += held(without) + "time 3500\ntime 4500\n" + recorded(4, following, SOURCE[1], 6000)
+    trying, port = response(100, None, read(sent)[1], 3)
+    goes_on = sent_to_hop(3, sent)
+    output = answered(1, call, 407, ("Proxy-Authenticate", challenge(word_of(1))), "- 911@host.com send - challenge 407")
+    output += packet(3000, port, "3/0", "first", trying) + packet(3000, 5090, "3/1", "first", goes_on)
+    output += "audit 3000 3 INVITE Mufasa 911@host.com send 5 sent 1\n"
+    output += "".join(packet(at, 5090, "3/1", "again", goes_on) for at in (3500, 4500))
+    return record, output + answered(4, following, 404, None, "Mufasa 911@host.com send 6 answer 404", 6000)
 
 
 def of_records():
@@ -421,9 +509,8 @@ def of_records():
     other = sample.replace(key, "3" * 32)
     assert other != sample
     datagrams = [REGISTER, proving(key)]
-    first, second = events_recorded(datagrams)
-    head, refused = first_line(sha256(sample)), challenged(1, REGISTER)
-    taken = answered(2, datagrams[1], 200, ("Contact", "<sip:Mufasa@127.0.0.1:5062>;expires=3600"), "Mufasa Mufasa@host.com register 1 answer 200")
+    first, second = (recorded(number, datagram) for number, datagram in enumerate(datagrams, 1))
+    head, refused, taken = first_line(sha256(sample)), challenged(1, REGISTER), registered(2, datagrams[1])
     named = "replay --config check_sample.toml --record"
     for name, call, record, output in (
         ("replay_of_a_record", named, head + first + second, refused + taken),
@@ -431,6 +518,14 @@ def of_records():
         ("replay_of_a_whole_record", "replay --record", head + held(sample) + first + second, refused + taken),
         # by the other key the credential proves nobody
         ("replay_of_a_changed_record", "replay --record", head + held(sample) + first + held(other) + second, refused + challenged(2, datagrams[1])),
+        *(
+            (name, "replay --record", head + record, output)
+            for name, (record, output) in (
+                ("replay_of_turned_rules", of_turned_rules(sample)),
+                ("replay_of_a_rule_turned_behind_its_challenge", of_a_rule_turned_behind_its_challenge(sample, key)),
+                ("replay_of_a_gone_hop", of_a_gone_hop(sample, key)),
+            )
+        ),
     ):
         yield f"{name}.args", "\n".join([*call.split(" "), f"{name}.record", ""])
         yield f"{name}.record", record
