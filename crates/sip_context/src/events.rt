@@ -97,7 +97,7 @@ fn answered_again(alloc: Global, request: &OpenRequest) -> Result<Items<Packet>,
     let Some(text) = answer_again(request) else {
         return Ok(packets);
     };
-    packets.push(answer_to(alloc, true, request, Bytes::copy(alloc, text)?)?)?;
+    packets.push(answer_to(true, request, Bytes::copy(alloc, text)?))?;
     Ok(packets)
 }
 

@@ -14,41 +14,27 @@ use sip_uri::Addr;
 use std::alloc::{AllocError, Global};
 
 /// The packet of an answer, of which this is the text, to a request that came from an address in the datagram of a number
-/// (RFC 3261 18.2.2). `AllocError` is the only refusal.
-pub fn answer_packet(
-    alloc: Global,
-    again: bool,
-    number: u64,
-    request: &Heard,
-    from: Addr,
-    text: Bytes,
-) -> Result<Packet, AllocError>
-    ensures { IfOk result (λ packet. packet ≡ Spec.answer_packet again number request.now from text) }
+/// (RFC 3261 18.2.2). Takes no memory.
+pub fn answer_packet(again: bool, number: u64, request: &Heard, from: Addr, text: Bytes) -> Packet
+    ensures { result ≡ Spec.answer_packet again number request.now from text }
 {
-    let to = request.reply_to(alloc, from)?;
-    Ok(Packet {
-        to,
+    Packet {
+        to: request.reply_to(from),
         bytes: text,
         ticket: Ticket {
             datagram: number,
             branch: 0,
         },
         again,
-    })
+    }
 }
 
-/// The packet of an answer to an open request, of which this is the text. `AllocError` is the only refusal.
-pub fn answer_to(
-    alloc: Global,
-    again: bool,
-    open_request: &OpenRequest,
-    text: Bytes,
-) -> Result<Packet, AllocError>
-    ensures { IfOk result (λ packet. packet ≡ Spec.answer_to again open_request.now text) }
+/// The packet of an answer to an open request, of which this is the text. Takes no memory.
+pub fn answer_to(again: bool, open_request: &OpenRequest, text: Bytes) -> Packet
+    ensures { result ≡ Spec.answer_to again open_request.now text }
 {
     let request = open_request.request.get();
     answer_packet(
-        alloc,
         again,
         open_request.number,
         request,

@@ -32,6 +32,10 @@ abbrev pub address_by : Option Via → Addr → Addr
 address_by None from = from
 address_by (Some via) from = record from { port = response_port via from }
 
+-- an address with another port, if one is given
+abbrev pub at_port : Option ℕ → Addr → Addr
+at_port port from = record from { port = unwrap_or port from.port }
+
 -- where the responses to a request that came from an address go (RFC 3261 18.2.2, RFC 3581 4): the source itself where no top Via can be read
 abbrev pub response_address : Message → Addr → Addr
 response_address request from = address_by (top_via request) from

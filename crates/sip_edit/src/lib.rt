@@ -31,7 +31,7 @@ pub use branch_id::{BranchId, branch_of_text};
 pub use onward::{hops_left, is_for_realm, onward_uri};
 pub use own_request_text::{ack_text, cancel_text, to_field};
 pub use own_via::{branch_text, kept_without_via, own_via_value, pop_via};
-pub use received_request::{response_address, with_top_via};
+pub use received_request::with_top_via;
 pub use tail::{text_onward, text_to_target};
 pub use tail_text::received_tail;
 pub use top_via::{received_top, received_via_of};

@@ -1,13 +1,13 @@
-ghost use Rattle.std.specs.Prelude.{◌≡◌, Some, codes, is_some, IfOk, option_map};
+ghost use Rattle.std.specs.Prelude.{◌≡◌, Some, codes, is_some, IfOk};
 ghost use Rattle.sip_header.specs.Parameters.{parameter_of};
 ghost use Rattle.sip_message_fields.specs.declared.field_name.FieldName.TheVariants as Name;
 ghost use Rattle.sip_message_fields.specs.Values.{with_first};
-ghost use Rattle.sip_edit.specs.ReceivedRequest.{address_by};
+ghost use Rattle.sip_uri.specs.declared.addr.Addr.{Addr};
+ghost use Rattle.sip_edit.specs.ReceivedRequest.{address_by, at_port};
 
 use sip_header::{Via, one_before_rport, parameter_of};
 use sip_message_fields::FieldName;
 use sip_message_form::View;
-use sip_uri::Addr;
 use std::alloc::{AllocError, Global};
 
 /// A request whose top Via has another value, as `received_via` gives it (RFC 3261 18.2.1). No byte is copied.
@@ -34,28 +34,14 @@ pub(crate) fn asks_for_port(via: &Via<'_>) -> bool
     parameter_of(&via.parameters, b"rport").is_some()
 }
 
-/// Where the responses go to a request with this Via on top, of which it is known whether it asks for its port.
-pub(crate) fn address_asked(via: &Via<'_>, from: Addr, asks: bool) -> Addr
+/// The port to which the responses go to a request with this Via on top, of which it is known whether it asks for its port:
+/// the port of its sent-by, or 5060, or none where it is the source's (RFC 3261 18.2.2; RFC 3581 4).
+pub(crate) fn port_asked(via: &Via<'_>, asks: bool) -> Option<u16>
     requires { asks ≡ is_some (parameter_of (codes "rport") via.now.parameters) }
-    ensures { result ≡ address_by (Some via.now) from }
+    ensures { (from : Addr) → at_port result from ≡ address_by (Some via.now) from }
 {
-    let ip = from.ip;
-    let port = if asks {
-        from.port
-    } else {
-        via.port.unwrap_or(5060)
-    };
-    Addr { ip, port }
-}
-
-/// Where the responses go to a request that came from an address with this Via on top: to the source's address, at its
-/// port if the Via has an `rport`, else at the port of its sent-by, else at 5060 (RFC 3261 18.2.2; RFC 3581 4). Without
-/// a Via that can be read it is the source itself.
-pub fn response_address(via: Option<&Via<'_>>, from: Addr) -> Addr
-    ensures { result ≡ address_by (option_map (λ v. v.now) via.entry) from }
-{
-    match via {
-        Some(via) => address_asked(via, from, asks_for_port(via)),
-        None => from,
+    if asks {
+        return None;
     }
+    Some(via.port.unwrap_or(5060))
 }

@@ -7,10 +7,11 @@ ghost use Rattle.sip_text.specs.Lists.{trimmed};
 ghost use Rattle.sip_header.specs.Parameters.{parameter_of};
 ghost use Rattle.sip_header.specs.Via.{via_of};
 ghost use Rattle.sip_uri.specs.Addresses.{ip_text};
-ghost use Rattle.sip_edit.specs.ReceivedRequest.{address_by};
+ghost use Rattle.sip_uri.specs.declared.addr.Addr.{Addr};
+ghost use Rattle.sip_edit.specs.ReceivedRequest.{address_by, at_port};
 ghost use Rattle.sip_edit.specs.TopVia;
 
-use crate::received_request::{address_asked, asks_for_port};
+use crate::received_request::{asks_for_port, port_asked};
 use sip_header::{Via, one_before_rport, parameter_of};
 use sip_route::is_address;
 use sip_text::{Buffer, Bytes, first_part, same_bytes, same_no_case, without_blanks};
@@ -245,19 +246,19 @@ pub fn received_via_of(
     edited_value(alloc, via, value, from, asks_for_port(via))
 }
 
-/// What `received_via_of` gives, and where the responses go, as `response_address` gives it: an `rport` is looked for once.
-/// `AllocError` is the only refusal.
+/// What `received_via_of` gives, and the port to which the responses go, none where it is the source's (RFC 3261 18.2.2; RFC 3581
+/// 4): an `rport` is looked for once. `AllocError` is the only refusal.
 pub fn received_top(
     alloc: Global,
     via: &Via<'_>,
     value: &[u8],
     from: Addr,
-) -> Result<(Bytes, Addr), AllocError>
+) -> Result<(Bytes, Option<u16>), AllocError>
     requires { via_of value.now ≡ Some via.now }
     ensures value { IfOk result (λ top. top.0 ≡ TopVia.received_via value.now from) }
-    ensures reply_to { IfOk result (λ top. top.1 ≡ address_by (Some via.now) from) }
+    ensures port { IfOk result (λ top. (source : Addr) → at_port top.1 source ≡ address_by (Some via.now) source) }
 {
     let asks = asks_for_port(via);
     let value = edited_value(alloc, via, value, from, asks)?;
-    Ok((value, address_asked(via, from, asks)))
+    Ok((value, port_asked(via, asks)))
 }

@@ -22,7 +22,6 @@ pub fn copy_packets(
         return Ok(());
     };
     let text = Bytes::copy(alloc, text)?;
-    let packet = answer_to(alloc, true, request, text)?;
-    out.push(packet)?;
+    out.push(answer_to(true, request, text))?;
     Ok(())
 }

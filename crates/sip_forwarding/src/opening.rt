@@ -82,7 +82,7 @@ fn try_first(
     }
     let text = trying_text(alloc, server, open_request)?;
     let kept = AnswerText::copy(alloc, text.as_slice())?;
-    out.push(answer_to(alloc, false, open_request, text)?)?;
+    out.push(answer_to(false, open_request, text))?;
     was_tried(now, open_request, kept);
     Ok(())
 }

@@ -83,7 +83,7 @@ pub(crate) fn upward_packet(
     ensures { IfOk result (λ packet. packet ≡ Sendings.answer_to false request.now (text_of up.now.message)) }
 {
     let text = Bytes::copy(alloc, up.message.text())?;
-    answer_to(alloc, false, request, text)
+    Ok(answer_to(false, request, text))
 }
 
 /// Adds what goes to the caller of an open request, as packets in their order. `AllocError` is the only refusal.

@@ -59,7 +59,7 @@ fn make(
         extras,
     )?;
     let kept = AnswerText::copy(alloc, text.as_slice())?;
-    let packet = answer_packet(alloc, false, arrival.number, request, arrival.from, text)?;
+    let packet = answer_packet(false, arrival.number, request, arrival.from, text);
     let answer = LastAnswer { status, text: kept };
     Ok(Made { packet, answer })
 }

@@ -5,5 +5,6 @@ pub mod Refused
 pub mod Retaken
 pub mod Running
 pub mod Segmentwise
+pub mod Stopping
 pub mod UnderRuns
 pub mod Wholly

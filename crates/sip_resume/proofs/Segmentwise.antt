@@ -22,8 +22,8 @@ use Rattle.sip_segment_config.specs.declared.stop.SegmentStop.TheVariants as sto
 use Rattle.sip_config.specs.Stated.{States, StatesNone}
 use Rattle.sip_segment_config.specs.Last.{EndsCut, IsDamagedPart}
 use Rattle.sip_segment_config.specs.Stops.{NextIs}
-use Rattle.sip_segments.specs.Stops.{SegmentStops, StatesOther}
-use Rattle.sip_segments.specs.Takes.{TakesConfiguration}
+use Rattle.sip_resume.specs.Stops.{SegmentStops, StatesOther}
+use Rattle.sip_resume.specs.Takes.{TakesConfiguration}
 use Rattle.sip_resume.specs.Outputs.{Outputs, outputs_of}
 use Rattle.sip_resume.specs.Resumes.{EndsHere}
 use Rattle.sip_resume.specs.RecordErrors.{end_of, record_error_of}

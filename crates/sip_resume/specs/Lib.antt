@@ -2,5 +2,7 @@ pub mod Errors
 pub mod Outputs
 pub mod RecordErrors
 pub mod Resumes
+pub mod Stops
+pub mod Takes
 pub mod Whole
 pub mod Parts

@@ -16,7 +16,7 @@ use Rattle.sip_record.specs.Record.{Notes, NotesSegments}
 use Rattle.sip_config.specs.Stated.{StatesNone}
 use Rattle.sip_segment_config.specs.Last.{EndsCut}
 use Rattle.sip_segment_config.specs.Stops.{NextIs}
-use Rattle.sip_segments.specs.Stops.{StatesOther}
+use Rattle.sip_resume.specs.Stops.{StatesOther}
 use Rattle.sip_resume.specs.Outputs.{Outputs, Shows}
 use Rattle.sip_resume.specs.Resumes.{EndsHere, JournalAt, ResumeStops, Runs, TakesNext, newest_step}
 use Rattle.sip_resume.specs.Whole.{AreStated, KeepsFrame, RecordStops, RunsUnder, config_behind}

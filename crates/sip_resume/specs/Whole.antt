@@ -20,7 +20,7 @@ use Rattle.sip_record.specs.Record.{Notes, NotesSegments}
 use Rattle.sip_config.specs.Stated.{States, StatesNone}
 use Rattle.sip_segment_config.specs.Last.{EndsCut, IsDamagedPart}
 use Rattle.sip_segment_config.specs.Stops.{NextIs}
-use Rattle.sip_segments.specs.Stops.{StatesOther}
+use Rattle.sip_resume.specs.Stops.{StatesOther}
 use Rattle.sip_resume.specs.Outputs.{Outputs, Shows}
 use Rattle.sip_resume.specs.Resumes.{RefusesNext, RunsOut, StopsAmong, TakesUntold, newest_step}
 use Rattle.sip_resume.specs.declared.record_error.RecordError.{RecordError}

@@ -3,8 +3,8 @@
 //!
 //! - Used: `sipd_start`, where `serve` is to go on from a record; `sip_replay`, where a record is replayed. `sip_recorded` says what a
 //!   resumed server has for its record.
-//! - Not here: what writes a record (`sip_record`), how one configuration of it is taken (`sip_segments`), how steps are printed
-//!   (`sip_replay_print`).
+//! - Not here: what writes a record (`sip_record`), what the text of a configuration states
+//!   (`sip_segment_config`), how steps are printed (`sip_replay_print`).
 //! - Tried: `test_serve`, and over sockets `tests/serve.py`.
 //!
 //! ```text
@@ -19,9 +19,11 @@ mod parts;
 mod record_error;
 mod resuming;
 mod segments;
+mod taking;
 mod whole;
 
 pub use record_error::RecordError;
+pub use taking::take_configuration;
 pub use whole::{Resumed, resume_record};
 
 /// Of `sip_engine`.

@@ -1,12 +1,12 @@
 //! One configuration of a record comes into force, and the events behind it are taken (`events`).
-//! How a configuration is taken is in `sip_segments`.
+//! How a configuration is taken is in `taking`.
 ghost use Rattle.std.specs.Prelude.{◌≡◌, ◌≤◌, ℕ, List, Option, true, IfOk, IfErr, IfSome, IfNone, OnErr};
 ghost use Rattle.std.specs.Io.KnownBytes.{Keeps};
 ghost use Rattle.sip_replay_script.specs.Devices.{later};
 ghost use Rattle.sip_replay_script.specs.Lines.{pending, IsSpent};
 ghost use Rattle.sip_replay_script.specs.Recorded.{IsDamagedRecord};
 ghost use Rattle.sip_segment_config.specs.Last.{EndsCut};
-ghost use Rattle.sip_segments.specs.Takes.{TakesConfiguration};
+ghost use Rattle.sip_resume.specs.Takes.{TakesConfiguration};
 ghost use Rattle.sip_run.specs.Due.{standing_of};
 ghost use Rattle.sip_resume.specs.Outputs.{outputs_of};
 ghost use Rattle.sip_resume.specs.RecordErrors;
@@ -16,6 +16,7 @@ ghost use Rattle.sip_resume.specs.declared.record_error.RecordError.TheVariants 
 use crate::events::take_events;
 use crate::parts::Reached;
 use crate::record_error::RecordError;
+use crate::taking::take_configuration;
 use sip_policy::Rules;
 use sip_record::Journal;
 use sip_record::laws::noted_segments_join;
@@ -24,7 +25,6 @@ use sip_replay_script::{Lines, TellingReader};
 use sip_run::engine::Engine;
 use sip_segment_config::SegmentStop;
 use sip_segment_text::laws::segments_join;
-use sip_segments::take_configuration;
 use sip_text::Buffer;
 use sip_timers::Timers;
 use std::alloc::Global;

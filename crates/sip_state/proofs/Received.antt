@@ -10,8 +10,10 @@ use Rattle.sip_header.specs.declared.via.Via.{Via}
 use Rattle.sip_header.specs.Via.{via_of}
 use Rattle.sip_message_form.specs.declared.message.Message.{Message}
 use Rattle.sip_uri.specs.declared.addr.Addr.{Addr}
-use Rattle.sip_edit.specs.ReceivedRequest.{received_fields, address_by, response_address, top_via}
+use Rattle.sip_edit.specs.ReceivedRequest.{at_port, received_fields, address_by, response_address, top_via}
 use Rattle.sip_edit.specs.TopVia.{received_as, received_via}
+use Rattle.sip_state.specs.declared.top_via.TopVia.{TopVia}
+use Rattle.sip_state.specs.TopVia.{IsTopVia}
 
 none_by : (t : Bool) (value : List ℕ) (field : Field) (fields : List Field) → cond t (Some field) (first_named Name.Via fields) ≡ None → (first_named Name.Via fields ≡ None → with_first Name.Via value fields ≡ fields)
     → cond t (record field { value = value } ∷ fields) (field ∷ with_first Name.Via value fields) ≡ field ∷ fields
@@ -46,5 +48,9 @@ pub unread : (value : List ℕ) (from : Addr) → via_of value ≡ None → rece
 unread value from is = ap (λ (o : Option Via). received_as o value from) is
 
 -- and the answers go where it says
-pub answered : (m : Message) (via : Via) (from address : Addr) → top_via m ≡ Some via → address ≡ address_by (Some via) from → address ≡ response_address m from
-answered m via from address read is = is ∙ sym (ap (λ (o : Option Via). address_by o from) read)
+pub answered : (m : Message) (via : Via) (port : Option ℕ) → top_via m ≡ Some via → ((from : Addr) → at_port port from ≡ address_by (Some via) from) →
+    (from : Addr) → at_port port from ≡ response_address m from
+answered m via port read is from = is from ∙ sym (ap (λ (o : Option Via). address_by o from) read)
+
+pub goes_back : (m : Message) (top : TopVia) (from address : Addr) → IsTopVia m top → address ≡ at_port top.port from → address ≡ response_address m from
+goes_back m top from address h is = is ∙ h.port from

@@ -24,7 +24,7 @@ ghost use Rattle.sip_context_places.specs.Given.{address_there};
 use crate::names::{Names, dialog_by, dialog_to, names_dialog, names_in};
 use crate::onward::Onward;
 use crate::server::Server;
-use crate::top_via::{TopVia, received_value, reply_address};
+use crate::top_via::{TopVia, received_value};
 use sip_base::Shared;
 use sip_context_places::laws::kept_routes_are_left;
 use sip_context_places::{Place, RouteFacts, places_in};
@@ -83,14 +83,6 @@ fn unread_via(alloc: Global, message: &KeptParts, from: Addr) -> Result<Value<'s
 {
     let request = message.view(alloc)?;
     Value::of_bytes(alloc, received_value(alloc, &request, from)?)
-}
-
-/// Where the answers to a message go that came from an address.
-fn unread_reply(alloc: Global, message: &KeptParts, from: Addr) -> Result<Addr, AllocError>
-    ensures { IfOk result (λ address. address ≡ response_address message.now from) }
-{
-    let request = message.view(alloc)?;
-    reply_address(alloc, &request, from)
 }
 
 /// Adds the addresses that places have in a table.
@@ -216,14 +208,12 @@ impl Heard {
         unread_via(alloc, &self.message, from)
     }
 
-    /// Where the answers go where the request came from an address (RFC 3261 18.2.2). `AllocError` is the only refusal.
-    pub fn reply_to(&self, alloc: Global, from: Addr) -> Result<Addr, AllocError>
-        ensures { IfOk result (λ address. address ≡ response_address self.now from) }
+    /// Where the answers go where the request came from an address (RFC 3261 18.2.2). Takes no memory.
+    #[tactic(auto, using(crate::proofs::Received::goes_back))]
+    pub fn reply_to(&self, from: Addr) -> Addr
+        ensures { result ≡ response_address self.now from }
     {
-        if self.via.is_from(from) {
-            return Ok(self.via.reply_to);
-        }
-        unread_reply(alloc, &self.message, from)
+        self.via.reply_to(from)
     }
 
     /// Which fields are left once a server's own part of the way is taken off (RFC 3261 16.4), whatever value the top Via

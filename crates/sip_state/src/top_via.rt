@@ -2,11 +2,11 @@
 ghost use Rattle.std.specs.Prelude.{◌≡◌, IfOk, Some, true};
 ghost use Rattle.sip_message_fields.specs.declared.field_name.FieldName.TheVariants as Name;
 ghost use Rattle.sip_message_fields.specs.Values.{with_first};
-ghost use Rattle.sip_edit.specs.ReceivedRequest.{received_fields, response_address, top_via};
+ghost use Rattle.sip_edit.specs.ReceivedRequest.{at_port, received_fields, top_via};
 ghost use Rattle.sip_edit.specs.TopVia.{received_via};
 ghost use Rattle.sip_state.specs.TopVia.{IsTopVia};
 
-use sip_edit::{received_top, received_via_of, response_address};
+use sip_edit::{received_top, received_via_of};
 use sip_header::{Via, via_of};
 use sip_message_fields::FieldName;
 use sip_message_form::View;
@@ -18,10 +18,10 @@ use std::alloc::{AllocError, Global};
 #[derive(Drop)]
 pub(crate) struct TopVia {
     pub(crate) source: Addr,
-    /// The value that it gets; empty where there is no Via.
+    /// The value that it gets.
     pub(crate) value: Bytes,
-    /// Where the answers go.
-    pub(crate) reply_to: Addr,
+    /// The port to which the answers go, none where it is the source's.
+    pub(crate) port: Option<u16>,
 }
 
 /// Whether two addresses are one.
@@ -59,21 +59,6 @@ pub(crate) fn received_value(
     received_text(alloc, value, from)
 }
 
-/// Where the answers to a request go that came from an address (RFC 3261 18.2.2). `AllocError` is the only refusal.
-pub(crate) fn reply_address(
-    alloc: Global,
-    request: &View<'_>,
-    from: Addr,
-) -> Result<Addr, AllocError>
-    ensures { IfOk result (λ address. address ≡ response_address request.now from) }
-{
-    let Some(value) = request.fields().first(&FieldName::Via) else {
-        return Ok(from);
-    };
-    let via = via_of(alloc, value)?;
-    Ok(response_address(via.as_ref(), from))
-}
-
 impl TopVia {
     /// What the top Via of a request that came from an address says, as it was read.
     #[tactic(auto, using(crate::proofs::Received::none_edited, crate::proofs::Received::on_top, crate::proofs::Received::edited, crate::proofs::Received::answered))]
@@ -90,11 +75,11 @@ impl TopVia {
         let Some(value) = request.fields().first(&FieldName::Via) else {
             unreachable!();
         };
-        let (value, reply_to) = received_top(alloc, via, value, from)?;
+        let (value, port) = received_top(alloc, via, value, from)?;
         Ok(TopVia {
             source: from,
             value,
-            reply_to,
+            port,
         })
     }
 
@@ -103,5 +88,14 @@ impl TopVia {
         ensures { result ≡ true → self.now.source ≡ from }
     {
         is_same(self.source, from)
+    }
+
+    /// Where the answers go where the request came from an address. Takes no memory.
+    pub(crate) fn reply_to(&self, from: Addr) -> Addr
+        ensures { result ≡ at_port self.now.port from }
+    {
+        let ip = from.ip;
+        let port = self.port.unwrap_or(from.port);
+        Addr { ip, port }
     }
 }

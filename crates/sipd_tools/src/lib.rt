@@ -2,7 +2,7 @@
 //! made.
 //!
 //! - Used: `sipd_command`.
-//! - Not here: what is said (`sipd_mistakes`, `sipd_questions`, `sipd_matrix`, `sipd_changes`, `sipd_report`), and what a record holds (`sip_segments`).
+//! - Not here: what is said (`sipd_mistakes`, `sipd_questions`, `sipd_matrix`, `sipd_changes`, `sipd_report`), and what a record holds (`sip_segment_config`).
 //! - Tried: `test_server`, `tests/mistakes.py`, `tests/changes.py`, `tests/serve.py`, `tests/faults.py`.
 #![tactic(auto)]
 

@@ -2,8 +2,8 @@ use Rattle.std.proofs.Common.{◌+◌, ap}
 use Rattle.std.proofs.lemmas.Result.{err_from_is_err_and}
 use Rattle.sip_replay_script.specs.Lines.{IsSpent, pending}
 use Rattle.sip_segment_config.specs.Reads.{GivesStated}
-use Rattle.sip_segments.proofs.Stopping.{change_stops, unread_stops}
-use Rattle.sip_segments.proofs.taking.take_configuration.Goals as goal
+use Rattle.sip_resume.proofs.Stopping.{change_stops, unread_stops}
+use Rattle.sip_resume.proofs.taking.take_configuration.Goals as goal
 
 pub returns-in_err-held-clause-refused : goal.returns-in_err-held-clause-refused
 returns-in_err-held-clause-refused g c =

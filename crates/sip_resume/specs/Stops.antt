@@ -4,7 +4,7 @@ use Rattle.sip_config.specs.Stated.{States}
 use Rattle.sip_config_types.specs.declared.config.Config.{Config}
 use Rattle.sip_config_change.specs.declared.key.FrameKey.{FrameKey}
 use Rattle.sip_config_change.specs.Frame.{frame_key_of}
-use Rattle.sip_engine.specs.state.declared.server.Server.{Server}
+use Rattle.sip_run.specs.engine.state.declared.server.Server.{Server}
 use Rattle.sip_segment_config.specs.Stops.{NextIs, ReadStops}
 use Rattle.sip_segment_config.specs.declared.stop.SegmentStop.{SegmentStop}
 use Rattle.sip_segment_config.specs.declared.stop.SegmentStop.TheVariants.{NoMemory, Damaged, Cut, Read, TooLong, NoConfiguration, OtherFrame}

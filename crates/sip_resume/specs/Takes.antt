@@ -1,8 +1,8 @@
 -- A server that takes the next configuration of a record.
 use Rattle.std.specs.Prelude.{◌≡◌, ℕ, List, Option}
 use Rattle.sip_config_types.specs.declared.config.Config.{Config}
-use Rattle.sip_engine.specs.Engine.{Engine}
-use Rattle.sip_engine.specs.model.Run.{under}
+use Rattle.sip_run.specs.engine.Engine.{Engine}
+use Rattle.sip_run.specs.engine.model.Run.{under}
 use Rattle.sip_replay_script.specs.Lines.{Reading}
 use Rattle.sip_segment_text.specs.Configurations.{GivesConfiguration}
 use Rattle.sip_config.specs.Stated.{States}

@@ -4,13 +4,13 @@ use Rattle.std.specs.Prelude.{IfErr, IfSome}
 use Rattle.sip_config.specs.Stated.{States}
 use Rattle.sip_config_types.specs.declared.config.Config.{Config}
 use Rattle.sip_config_change.specs.declared.key.FrameKey.{FrameKey}
-use Rattle.sip_engine.specs.declared.change_error.ChangeError.{ChangeError}
-use Rattle.sip_engine.specs.declared.change_error.ChangeError.TheVariants as changes
-use Rattle.sip_engine.specs.state.declared.server.Server.{Server}
+use Rattle.sip_run.specs.engine.declared.change_error.ChangeError.{ChangeError}
+use Rattle.sip_run.specs.engine.declared.change_error.ChangeError.TheVariants as changes
+use Rattle.sip_run.specs.engine.state.declared.server.Server.{Server}
 use Rattle.sip_segment_config.specs.Stops.{IsNext, ReadStops}
 use Rattle.sip_segment_config.specs.declared.stop.SegmentStop.{SegmentStop}
 use Rattle.sip_segment_config.specs.declared.stop.SegmentStop.TheVariants as stops
-use Rattle.sip_segments.specs.Stops.{ChangeStops, SegmentStops}
+use Rattle.sip_resume.specs.Stops.{ChangeStops, SegmentStops}
 
 -- the key of a refusal is the first that differs
 pub other_key : (result : Result (Unit {0}) ChangeError) (found : Option FrameKey) (key : FrameKey) → result ≡ Err (changes.OtherFrame key) → IfSome found (λ first. result ≡ Err (changes.OtherFrame first))

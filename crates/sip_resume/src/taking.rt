@@ -1,13 +1,13 @@
 ghost use Rattle.std.specs.Prelude.{◌≡◌, ◌≤◌, length, IfOk, IfErr, IfSome, IfNone, OnOk, OnErr};
 ghost use Rattle.sip_replay_script.specs.Devices.{later};
 ghost use Rattle.sip_replay_script.specs.Lines.{pending, IsOver, IsSpent};
-ghost use Rattle.sip_segments.specs.Stops.{ChangeStops, SegmentStops};
-ghost use Rattle.sip_segments.specs.Takes.{ChangesTo, TakesConfiguration};
+ghost use Rattle.sip_resume.specs.Stops.{ChangeStops, SegmentStops};
+ghost use Rattle.sip_resume.specs.Takes.{ChangesTo, TakesConfiguration};
 
 use sip_config_types::Config;
-use sip_engine::{ChangeError, Engine};
 use sip_policy::Rules;
 use sip_replay_script::{Lines, TellingReader};
+use sip_run::engine::{ChangeError, Engine};
 use sip_segment_config::{Held, SegmentStop, read_configuration};
 use sip_text::Buffer;
 use sip_timers::Timers;

@@ -1,7 +1,7 @@
 use Rattle.std.proofs.Common.{arith, refl}
 use Rattle.sip_config_change.specs.Frame.{frame_key_of}
-use Rattle.sip_segments.proofs.Stopping.{other_key}
-use Rattle.sip_segments.proofs.taking.change_to.Goals as goal
+use Rattle.sip_resume.proofs.Stopping.{other_key}
+use Rattle.sip_resume.proofs.taking.change_to.Goals as goal
 
 pub returns-in-Err-OtherFrame-clause-refused : goal.returns-in-Err-OtherFrame-clause-refused
 returns-in-Err-OtherFrame-clause-refused g c = (
