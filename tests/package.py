@@ -212,6 +212,19 @@ def named(root):
     return set(ran("grep", "-rlw", "--exclude=*-", "sipd", os.path.join(root, "etc"))[1].splitlines())
 
 
+def tried_by_hand(root, package):
+    """Installed where OPERATING's commands for a service made its user, its configuration and its records."""
+    done("chroot", root, "useradd", "--system", "--no-create-home", "--shell", "/usr/sbin/nologin", "sipd")
+    done("chroot", root, "install", "-d", "-m", "700", "-o", "sipd", "-g", "sipd", "/var/lib/sipd/records")
+    write(f"{root}/etc/sipd.toml", "version = 2\n", 0o640)
+    before = done("chroot", root, "id", "sipd")
+    status, told = ran("dpkg", f"--root={root}", "-i", package)
+    owner = done("chroot", root, "stat", "-c", "%U %a", "/var/lib/sipd/records")
+    stays = done("chroot", root, "id", "sipd") == before and owner == "sipd 700" and read(f"{root}/etc/sipd.toml") == b"version = 2\n"
+    say("where it was set up by hand it installs, and user, configuration and records stay", status == 0 and stays, told)
+    done("dpkg", f"--root={root}", "--purge", "sipd")
+
+
 def tried_root(root, package):
     """Installed into a folder, and purged."""
     before = traces(root), named(root)
@@ -409,6 +422,8 @@ def main():
             print("left out: nothing is installed, since debootstrap isn't here")
         else:
             base, packages = based(room), versions(clone, proof, room)
+            with copied(base, room, "by_hand") as root:
+                tried_by_hand(root, os.path.join(packages, "1.deb"))
             with copied(base, room, "folder") as root:
                 tried_root(root, os.path.join(packages, "1.deb"))
             goes_apart()
