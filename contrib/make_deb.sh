@@ -107,14 +107,16 @@ needed() {
 }
 
 put_control() {
-    local name
+    local name needs
+    needs=$(needed)
+    [ -n "$needs" ] || refuse "dpkg-shlibdeps doesn't say which libraries the program needs"
     put DEBIAN/control << END
 Package: sipd
 Version: $version
 Architecture: amd64
 Maintainer: $maintainer
 Installed-Size: $(find "$room/deb/usr" -type f -printf '%s\n' | awk '{ k += int(($1 + 1023) / 1024) } END { print k }')
-Depends: $(needed), adduser
+Depends: $needs, adduser
 Section: comm
 Priority: optional
 Description: SIP registrar and proxy of one company
@@ -129,6 +131,7 @@ END
     chmod 755 "$room"/deb/DEBIAN/{postinst,prerm,postrm}
 }
 
+command -v dpkg-shlibdeps > /dev/null || refuse "dpkg-shlibdeps isn't here: apt install dpkg-dev"
 judge
 commit=$(git rev-parse HEAD)
 SOURCE_DATE_EPOCH=$(git log -1 --format=%ct)
