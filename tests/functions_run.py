@@ -10,6 +10,7 @@ said, for the next change of the room. It ends with 1 where a function without a
 doesn't end as it is stored ends it. It takes five minutes, and the builds some minutes each; no gate runs it. It
 needs `nm`, and Linux on x86-64."""
 
+import glob
 import os
 import re
 import socket
@@ -22,7 +23,7 @@ from itertools import chain, count
 import phone
 import seldom
 from double_edits import TOP, USES, below
-from map_runs import code_of, programs
+from map_runs import programs, text
 from ran import Watched
 
 DATA, EXAMPLES = os.path.join(TOP, "crates", "test_server", "data"), os.path.join(TOP, "examples")
@@ -47,12 +48,9 @@ REASONS = {
         "sip_uas::judged_request::JudgedRequest::drop",
     ],
     "for another source than its own, which no step asks for": [
-        "sip_edit::received_request::response_address",
-        "sip_state::heard::unread_reply",
         "sip_state::heard::unread_via",
         "sip_state::top_via::received_text",
         "sip_state::top_via::received_value",
-        "sip_state::top_via::reply_address",
     ],
     "of a request that is answered here, of which no step asks it": [
         "sip_state::heard::put_unread",
@@ -81,6 +79,12 @@ REASONS = {
     "only where a packet can't be sent, over a socket and without a record": ["sip_record::no_journal::NoJournalJournal::failed"],
 }
 WITHOUT = {symbol: reason for reason, some in REASONS.items() for symbol in some}
+
+
+@lru_cache(None)
+def code_of(room):
+    """The texts of a room's modules."""
+    return [text(path) for path in sorted(glob.glob(os.path.join(TOP, "crates", room, "src", "**", "*.rt"), recursive=True))]
 
 
 @lru_cache(None)
