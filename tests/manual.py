@@ -119,6 +119,24 @@ def tried_keys():
         say("its example is a configuration", said(PROGRAM, "check", "--config", file.name).startswith("ok: 1 users, 2 rules"))
 
 
+def tried_version():
+    """The program tells the last change that whoever runs it is told of, and the kit that README names."""
+    date = re.search(r"(?m)^## ([\d-]+)", text(phone.TOP, "CHANGELOG.md"))[1]
+    kit = re.search(r"`rt version` says `([^`]+)`", text(phone.TOP, "README.md"))[1]
+    told = said(PROGRAM, "--version").strip()
+    say("--version tells the head of CHANGELOG, and the kit", told == f"sipd {date}, {kit}", told)
+
+
+def tried_ends():
+    """Each command's help has an example that the completion knows, the exit statuses and a page."""
+    for command in completed(""):
+        if not command.startswith("-") and command != "help":
+            page = said(PROGRAM, "help", command)
+            whole = re.search(rf"(?m)^Example: .*\bsipd {command} .+\nEnds .+\nMore: .+\Z", page.rstrip())
+            named = re.findall(r"docs/\w+\.md", page)
+            say(f"the help of {command} has an example, its ends and a page", bool(whole) and all(os.path.exists(os.path.join(phone.TOP, it)) for it in named), page)
+
+
 def tried_statuses():
     told = [tag[0] for tag in tags(sections(text(MANUAL), "SH")["EXIT STATUS"])]
     ends = text(phone.TOP, "docs", "OPERATING.md").partition("## When it ends")[2].partition("`sipd: device` has")[0]
@@ -141,6 +159,8 @@ def main():
     tried_commands()
     tried_values()
     tried_keys()
+    tried_version()
+    tried_ends()
     tried_statuses()
     tried_setting()
     sys.exit(1 if failures else 0)

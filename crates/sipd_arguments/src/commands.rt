@@ -1,18 +1,22 @@
 //! The command line of the program: its commands, their options and their help, and what a line is complained about.
 //! What a line asks for is read in `matches`.
 ghost use Rattle.std.specs.Prelude.{◌≡◌, false, map, codes, IfOk, string_bytes};
-ghost use Rattle.clap.specs.Words.{app_of, kind_of, rule_of};
+ghost use Rattle.clap.specs.Words.{Shape, app_of, kind_of, rule_of};
 ghost use Rattle.sipd_arguments.specs.CommandLine as Definitions;
 ghost use Rattle.sipd_arguments.specs.CommandLine.{EndsExactly, no_commands};
 ghost use Rattle.sipd_arguments.specs.Commands.{Answers, IsCommand};
 
 use crate::call::Call;
+use crate::endings;
 use crate::matches::{Uncalled, call_of};
 use crate::misuse::Misuse;
 use clap::error::ErrorKind;
 use clap::{Arg, ArgAction, Command, value_parser};
 use sipd_exit::Exit;
 use std::alloc::{AllocError, Global};
+
+/// The date at the head of CHANGELOG, and the kit. Of which commit it is can't stand in its own text: the package's PROOF tells it.
+const VERSION: &str = "2026-11-30, rattle-kit-13f logic dac8208d650f15bf";
 
 /// What is said behind a complaint of this crate's own.
 const MORE: &str = "\n\nFor more information, try '--help'.\n";
@@ -261,13 +265,21 @@ fn user_command<'a>(alloc: Global) -> Result<Command<'a>, AllocError>
         .arg(sha256_argument(alloc))
 }
 
+/// A command whose help ends with a text.
+fn ended<'a>(command: Command<'a>, text: &'a str) -> Command<'a>
+    ensures { (shape : Shape) → IsCommand shape command.entry → IsCommand shape result }
+{
+    command.after_help(text)
+}
+
 /// The program without its commands.
 fn program<'a>(alloc: Global) -> Command<'a>
     ensures { app_of result ≡ no_commands }
 {
     Command::new(alloc, "sipd")
-        .version("0.1.0")
+        .version(VERSION)
         .about("A SIP registrar and proxy")
+        .after_help(endings::PROGRAM)
         .subcommand_required(true)
 }
 
@@ -277,13 +289,13 @@ fn commands<'a>(alloc: Global) -> Result<Command<'a>, AllocError>
     ensures { IfOk result (λ c. app_of c ≡ Definitions.program) }
 {
     program(alloc)
-        .subcommand(check_command(alloc)?)?
-        .subcommand(replay_command(alloc)?)?
-        .subcommand(serve_command(alloc)?)?
-        .subcommand(decide_command(alloc)?)?
-        .subcommand(matrix_command(alloc)?)?
-        .subcommand(report_command(alloc)?)?
-        .subcommand(user_command(alloc)?)
+        .subcommand(ended(check_command(alloc)?, endings::CHECK))?
+        .subcommand(ended(replay_command(alloc)?, endings::REPLAY))?
+        .subcommand(ended(serve_command(alloc)?, endings::SERVE))?
+        .subcommand(ended(decide_command(alloc)?, endings::DECIDE))?
+        .subcommand(ended(matrix_command(alloc)?, endings::MATRIX))?
+        .subcommand(ended(report_command(alloc)?, endings::REPORT))?
+        .subcommand(ended(user_command(alloc)?, endings::USER))
 }
 
 /// Why a command line isn't taken, or the text that it asks for.

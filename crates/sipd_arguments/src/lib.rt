@@ -8,6 +8,7 @@
 
 mod call;
 mod commands;
+mod endings;
 pub mod examples;
 mod matches;
 mod misuse;

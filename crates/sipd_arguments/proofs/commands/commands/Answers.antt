@@ -12,10 +12,10 @@ returns c =
     (placed _ _ _ _ _
     (placed _ _ _ _ _
     c.program.ensures
-    c.in_ok-check_command.ensures c.in_ok-subcommand.ensures)
-    c.in_ok-replay_command.ensures c.in_ok-subcommand-2.ensures)
-    c.in_ok-serve_command.ensures c.in_ok-subcommand-3.ensures)
-    c.in_ok-decide_command.ensures c.in_ok-subcommand-4.ensures)
-    c.in_ok-matrix_command.ensures c.in_ok-subcommand-5.ensures)
-    c.in_ok-report_command.ensures c.in_ok-subcommand-6.ensures)
-    c.in_ok-user_command.ensures h) c.subcommand-7.ensures
+    (c.ended.ensures _ c.in_ok-check_command.ensures) c.in_ok-subcommand.ensures)
+    (c.ended-2.ensures _ c.in_ok-replay_command.ensures) c.in_ok-subcommand-2.ensures)
+    (c.ended-3.ensures _ c.in_ok-serve_command.ensures) c.in_ok-subcommand-3.ensures)
+    (c.ended-4.ensures _ c.in_ok-decide_command.ensures) c.in_ok-subcommand-4.ensures)
+    (c.ended-5.ensures _ c.in_ok-matrix_command.ensures) c.in_ok-subcommand-5.ensures)
+    (c.ended-6.ensures _ c.in_ok-report_command.ensures) c.in_ok-subcommand-6.ensures)
+    (c.ended-7.ensures _ c.in_ok-user_command.ensures) h) c.subcommand-7.ensures

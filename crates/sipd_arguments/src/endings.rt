@@ -1,0 +1,40 @@
+//! What stands at the end of a command's help: how it may be called, how it ends, and which page has more.
+
+pub(crate) const PROGRAM: &str = "\
+Ends with 0 done, 1 usage, 2 configuration, 3 script or record, 4 device, 5 memory.
+More: man sipd, man sipd.toml, docs/OPERATING.md";
+
+pub(crate) const CHECK: &str = "\
+Example: sipd check --config new.toml --against office.toml
+Ends with 0 where it is taken, 1 usage, 2 refused, 3 a server that runs can't take the change, or OLD is damaged, 4 device, 5 memory.
+More: man sipd.toml, docs/CONFIGURATION.md";
+
+pub(crate) const REPLAY: &str = "\
+Example: sipd replay --record /var/lib/sipd/records/1795638404213.record
+Ends with 0 done, 1 usage, 2 configuration, 3 the line from which on it is damaged, or no record, 4 device, 5 memory.
+More: docs/SCRIPTS.md";
+
+pub(crate) const SERVE: &str = "\
+Example: sipd serve --config office.toml --reload --records /var/lib/sipd/records
+Ends by a signal, or with 0 behind its turns, 1 usage, 2 configuration, 4 device, 5 memory or stack.
+More: docs/OPERATING.md";
+
+pub(crate) const DECIDE: &str = "\
+Example: sipd decide --config office.toml --user alice INVITE bob@office.local
+Ends with 0 whatever is decided, 1 usage or no answer, 2 configuration, 4 device, 5 memory.
+More: docs/OPERATING.md";
+
+pub(crate) const MATRIX: &str = "\
+Example: sipd matrix --config office.toml --method register
+Ends with 0 done, 1 usage or no such method, 2 configuration, 4 device, 5 memory.
+More: docs/CONFIGURATION.md";
+
+pub(crate) const REPORT: &str = "\
+Example: journalctl -u sipd -o cat | sipd report --config office.toml --denied
+Ends with 0 done, 1 usage, 2 configuration, 4 device, 5 memory.
+More: docs/OPERATING.md";
+
+pub(crate) const USER: &str = "\
+Example: echo sesame | sipd user carol --config office.toml >> office.toml
+Ends with 0 done, 1 usage or no such table, 2 configuration, 4 device, 5 memory.
+More: docs/OPERATING.md";
