@@ -1,8 +1,9 @@
 -- The first element of each kind: each element has exactly one of its kind among them.
-use Rattle.std.proofs.Common.{◌≡◌, ℕ, ◌+◌, Bool, true, false, ◌||◌, cond, List, [], ◌∷◌, ◌++◌, refl, sym, ap, ap₂, ◌∙◌, true≢false}
+use Rattle.std.proofs.Common.{◌≡◌, ℕ, ◌+◌, Bool, true, false, ◌||◌, cond, List, [], ◌∷◌, ◌++◌, refl, sym, ap, ap₂, ◌∙◌, true≢false, arith}
 use Rattle.std.specs.List.{list_any, count_by}
+use Rattle.std.proofs.lemmas.Bool.{or_left, or_right}
 use Rattle.std.proofs.lemmas.List.Folds.{list_any-append}
-use Rattle.std.proofs.lemmas.List.Sums.{sum_by_push}
+use Rattle.std.proofs.lemmas.List.Sums.{sum_by_push, sum_by-cons}
 use Rattle.sip_matrix.specs.Kinds.{with_kind, with_kinds, kinds_of}
 
 or_false : (b : Bool) → (b || false) ≡ b
@@ -58,3 +59,15 @@ module _ {X : Type 0} (alike : X → X → Bool) (over : (x y z : X) → alike x
   exactly_one x xs e =
       let h : HasOne alike x (kinds_of alike xs) (list_any (alike x) xs) = steps x [] false xs (record { count = refl; among = refl }) in
       h.count ∙ ap (λ (b : Bool). cond b 1 0) e
+
+-- what is counted is there
+pub counted_there : {X : Type 0} (test : X → Bool) (xs : List X) → count_by test xs ≡ 1 → list_any test xs ≡ true
+counted_there test [] e = absurd (omega arith)
+counted_there test (x ∷ xs) e = by (test x) refl (counted_there test xs)
+  where
+    by : (b : Bool) → test x ≡ b → (count_by test xs ≡ 1 → list_any test xs ≡ true) → list_any test (x ∷ xs) ≡ true
+    by true is rest = or_left _ _ is
+    by false is rest =
+        let fewer : 0 + count_by test xs ≡ 1 =
+        sym (ap (λ (b : Bool). cond b 1 0 + count_by test xs) is) ∙ sym (sum_by-cons (λ y. cond (test y) 1 0) x xs) ∙ e in
+        or_right _ _ (rest (omega (arith, fewer)))

@@ -5,3 +5,4 @@ pub mod Minutes
 pub mod Meeting
 pub mod Listed
 pub mod Found
+pub mod Owned

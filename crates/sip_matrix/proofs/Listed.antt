@@ -40,7 +40,7 @@ any_of_map test make one makes (x ∷ xs) e = elim (or_cases (one x) (list_any o
   | inr h ↦ or_right _ _ (any_of_map test make one makes xs h)
 ]
 
-any_in_all : {X Y : Type 0} (test : Y → Bool) (make : X → List Y) (one : X → Bool) → ((x : X) → one x ≡ true → list_any test (make x) ≡ true) → (xs : List X) → list_any one xs ≡ true → list_any test (flat_map make xs) ≡ true
+pub any_in_all : {X Y : Type 0} (test : Y → Bool) (make : X → List Y) (one : X → Bool) → ((x : X) → one x ≡ true → list_any test (make x) ≡ true) → (xs : List X) → list_any one xs ≡ true → list_any test (flat_map make xs) ≡ true
 any_in_all test make one makes [] e = e
 any_in_all test make one makes (x ∷ xs) e = elim (or_cases (one x) (list_any one xs) e) [
   | inl h ↦ list_any-append test (make x) (flat_map make xs) ∙ or_left _ _ (makes x h)
@@ -53,7 +53,7 @@ in_front test xs ys e = list_any-append test xs ys ∙ or_left _ _ e
 behind : {X : Type 0} (test : X → Bool) (xs ys : List X) → list_any test ys ≡ true → list_any test (xs ++ ys) ≡ true
 behind test xs ys e = list_any-append test xs ys ∙ or_right _ _ e
 
-text_itself : (text : List ℕ) → bytes_eq text text ≡ true
+pub text_itself : (text : List ℕ) → bytes_eq text text ≡ true
 text_itself text = nat_list_eq_equiv.refl text
 
 -- ---- columns
@@ -151,7 +151,7 @@ module _ (rules : List Rule) (users : List User) (domains : List (List ℕ)) (ao
     | inr there ↦ in_rules (beginning (longest_front rules aor)) there
   ]
 
-  column_listed : list_any (is_same_column (column_of rules users domains aor)) (all_columns rules users domains) ≡ true
+  pub column_listed : list_any (is_same_column (column_of rules users domains aor)) (all_columns rules users domains) ≡ true
   column_listed = by (counts rules domains aor.host) refl (has_name rules users domains aor) refl
     where
       by : (here : Bool) → counts rules domains aor.host ≡ here → (has : Bool) → has_name rules users domains aor ≡ has

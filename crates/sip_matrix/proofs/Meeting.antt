@@ -31,7 +31,7 @@ met_named users domains proven aor (Prefix prefix domain) = refl
 met_named users domains proven aor SelfTarget = refl
 met_named users domains proven aor Any = refl
 
-met_elsewhere : (users : List User) (domains : List (List ℕ)) (proven : Option (List ℕ)) (aor : Aor) (target : TargetPattern) → names_host aor.host target ≡ false
+pub met_elsewhere : (users : List User) (domains : List (List ℕ)) (proven : Option (List ℕ)) (aor : Aor) (target : TargetPattern) → names_host aor.host target ≡ false
     → matches_target users domains proven aor target ≡ meets (is_own users domains proven aor) Elsewhere target
 met_elsewhere users domains proven aor (Exact user domain) e = and_right _ _ e
 met_elsewhere users domains proven aor (Prefix prefix domain) e = and_right _ _ e
@@ -107,11 +107,11 @@ asked_over rules users domains x y z e =
     (agree_over (λ (column : Column) (rule : Rule). meets false column rule.target) x y z rules both.1)
 
 -- what is the same of two addresses that are the same
-record Same (one other : Aor) : Type 0 where
+pub record Same (one other : Aor) : Type 0 where
   pub user : one.user ≡ other.user
   pub host : (domain : List ℕ) → is_same_text one.host domain ≡ is_same_text other.host domain
 
-same_parts : (one other : Aor) → is_same_address one other ≡ true → Same one other
+pub same_parts : (one other : Aor) → is_same_address one other ≡ true → Same one other
 same_parts one other e =
     let both = and_parts (bytes_eq one.user other.user) (is_same_text one.host other.host) e in
     record {
@@ -119,14 +119,14 @@ same_parts one other e =
       host = λ domain. nat_list_eq_equiv.congr (without_case one.host) (without_case other.host) (without_case domain) both.1;
     }
 
-own_domain_same : (one other : Aor) → Same one other → (domains : List (List ℕ)) → is_own_domain domains one.host ≡ is_own_domain domains other.host
+pub own_domain_same : (one other : Aor) → Same one other → (domains : List (List ℕ)) → is_own_domain domains one.host ≡ is_own_domain domains other.host
 own_domain_same one other same [] = refl
 own_domain_same one other same (d ∷ ds) =
     ap₂ (λ (a b : Bool). a || b)
     (nat_list_eq_equiv.symm (without_case d) (without_case one.host) ∙ same.host d ∙ nat_list_eq_equiv.symm (without_case other.host) (without_case d))
     (own_domain_same one other same ds)
 
-known_same : (users : List User) (domains : List (List ℕ)) (one other : Aor) → Same one other → is_users_address users domains one ≡ is_users_address users domains other
+pub known_same : (users : List User) (domains : List (List ℕ)) (one other : Aor) → Same one other → is_users_address users domains one ≡ is_users_address users domains other
 known_same users domains one other same = ap₂ (λ (a b : Bool). a && b) (own_domain_same one other same domains) (ap (λ (name : List ℕ). is_users_name users name) same.user)
 
 named_same : (one other : Aor) → Same one other → (target : TargetPattern) → meets false (Named one) target ≡ meets false (Named other) target

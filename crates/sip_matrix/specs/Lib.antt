@@ -5,4 +5,5 @@ pub mod Address
 pub mod Day
 pub mod Cell
 pub mod Table
+pub mod Own
 pub mod Examples

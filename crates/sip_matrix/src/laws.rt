@@ -11,7 +11,8 @@ ghost use Rattle.sip_matrix.specs.Column.{are_asked_alike, is_known};
 ghost use Rattle.sip_matrix.specs.Address.{column_of};
 ghost use Rattle.sip_matrix.specs.Day.{piece_of, pieces_of};
 ghost use Rattle.sip_matrix.specs.Cell.{decision_in, rule_in};
-ghost use Rattle.sip_matrix.specs.Table.{classes_of};
+ghost use Rattle.sip_matrix.specs.Own.{has_own, AsksForOwn};
+ghost use Rattle.sip_matrix.specs.Table.{classes_of, columns_of};
 
 /// Whoever asks for whatever, whoever is called and whenever: the rule that decides, and the decision, are those
 /// of the cell of any row that the asker is of, of any column that is asked about as the address's own, and of the
@@ -54,4 +55,13 @@ pub fn own_addresses_are_known()
         → is_own users domains (Some name) aor ≡ true → is_users_address users domains aor ≡ true }
     ensures nobody { (users : List User) (domains : List (List ℕ)) (aor : Aor)
         → is_own users domains None aor ≡ is_users_address users domains aor }
+{}
+
+/// Users of a row may ask for addresses of their own in a class exactly where a cell has a value for these: some user of the row has one that is
+/// asked about as the class.
+pub fn own_values_are_asked()
+    ensures asked { (rules : List Rule) (users : List User) (domains : List (List ℕ)) (class : Column) (row : List ℕ)
+        → AsksForOwn rules users domains class row → has_own rules users domains (columns_of rules users domains) class row ≡ true }
+    ensures only { (rules : List Rule) (users : List User) (domains : List (List ℕ)) (class : Column) (row : List ℕ)
+        → has_own rules users domains (columns_of rules users domains) class row ≡ true → AsksForOwn rules users domains class row }
 {}
