@@ -246,3 +246,8 @@ four_parts text a b c d t1 t2 t3 t4 h1 h2 h3 h4 =
 pub five_parts : (text a b c d e t1 t2 t3 t4 t5 : List ℕ) → t1 ≡ text ++ a → t2 ≡ t1 ++ b → t3 ≡ t2 ++ c → t4 ≡ t3 ++ d → t5 ≡ t4 ++ e → t5 ≡ text ++ (a ++ b ++ c ++ d ++ e)
 five_parts text a b c d e t1 t2 t3 t4 t5 h1 h2 h3 h4 h5 =
     h5 ∙ ap (λ l. l ++ e) (four_parts text a b c d t1 t2 t3 t4 h1 h2 h3 h4) ∙ append_assoc text (a ++ b ++ c ++ d) e
+
+-- a date, and behind a mark a time of day
+pub behind_date : (text date clock t1 t2 : List ℕ) (mark : ℕ) → t1 ≡ text ++ date → t2 ≡ t1 ++ mark ∷ clock → t2 ≡ text ++ (date ++ (mark ∷ []) ++ clock)
+behind_date text date clock t1 t2 mark h1 h2 =
+    h2 ∙ ap (λ l. l ++ mark ∷ clock) h1 ∙ append_assoc text date (mark ∷ clock) ∙ ap (λ l. text ++ l) (sym (append_assoc date (mark ∷ []) clock))

@@ -1,5 +1,5 @@
 -- What a row says of a record.
-use Rattle.std.specs.Prelude.{ℕ, ℤ, List, ◌++◌, codes, decimal, Option, Some, None}
+use Rattle.std.specs.Prelude.{ℕ, ℤ, List, [], ◌++◌, codes, decimal, Option, Some, None}
 use Rattle.sip_audit.specs.Lines.{who_text, target_text, operation_text}
 use Rattle.sip_audit.specs.declared.record.Record.{Record}
 use Rattle.sip_audit.specs.declared.record.Outcome.{Outcome}
@@ -45,4 +45,29 @@ cells_of form offset r = record {
   rule = ruling_text (ruling_of r.outcome);
   outcome = outcome_words r.outcome;
   minute = minute_text r.minute;
+}
+
+-- ---- inside
+
+-- no text in any cell
+abbrev pub no_cells : Cells
+no_cells = record { time = []; number = []; method = []; user = []; target = []; operation = []; rule = []; outcome = []; minute = [] }
+
+-- cells with what was asked added
+abbrev pub with_request : Form → ℤ → Record → Cells → Cells
+with_request form offset r c = record c {
+  time = c.time ++ time_text form offset r.at;
+  number = c.number ++ decimal r.number;
+  method = c.method ++ r.method;
+  user = c.user ++ who_text r.who;
+}
+
+-- cells with what became of it added
+abbrev pub with_decision : Record → Cells → Cells
+with_decision r c = record c {
+  target = c.target ++ target_text r.target;
+  operation = c.operation ++ operation_text r.operation;
+  rule = c.rule ++ ruling_text (ruling_of r.outcome);
+  outcome = c.outcome ++ outcome_words r.outcome;
+  minute = c.minute ++ minute_text r.minute;
 }

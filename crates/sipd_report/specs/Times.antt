@@ -1,5 +1,5 @@
 -- Moments as the office's clock shows them.
-use Rattle.std.specs.Prelude.{ℕ, ◌+◌, ◌-◌, ◌*◌, ◌/◌, ◌%◌, nat_lt, if◌then◌else◌, ℤ, pos, int_lt, nat_abs, List, ◌∷◌, ◌++◌, codes, decimal}
+use Rattle.std.specs.Prelude.{ℕ, ◌+◌, ◌-◌, ◌*◌, ◌/◌, ◌%◌, nat_lt, if◌then◌else◌, ℤ, pos, int_lt, nat_abs, List, [], ◌∷◌, ◌++◌, codes, decimal}
 use Rattle.std.specs.Str.{byte}
 use Rattle.sipd_report.specs.declared.calendar.Date.{Date}
 use Rattle.sipd_report.specs.declared.query.Form.{Form}
@@ -32,10 +32,15 @@ abbrev pub shown_seconds : ℕ → ℤ → ℕ
 shown_seconds at offset =
     if int_lt offset (pos 0) then at / 1000 - 60 * nat_abs offset else at / 1000 + 60 * nat_abs offset
 
+-- date and time of day with a mark between them, at seconds since 1970 began
+abbrev pub dated_text : ℕ → ℕ → List ℕ
+dated_text mark seconds = date_text (date_of (seconds / 86400)) ++ (mark ∷ []) ++ clock_text (seconds % 86400)
+
 -- date and time of day; for programs as ISO 8601 has them, with the offset
+abbrev pub moment_text : Form → ℤ → ℕ → List ℕ
+moment_text Table offset seconds = dated_text (byte " ") seconds
+moment_text Csv offset seconds = dated_text (byte "T") seconds ++ offset_text offset
+
+-- a moment as such a clock shows it
 abbrev pub time_text : Form → ℤ → ℕ → List ℕ
-time_text Table offset at =
-    let seconds = shown_seconds at offset in date_text (date_of (seconds / 86400)) ++ codes " " ++ clock_text (seconds % 86400)
-time_text Csv offset at =
-    let seconds = shown_seconds at offset in
-    date_text (date_of (seconds / 86400)) ++ codes "T" ++ clock_text (seconds % 86400) ++ offset_text offset
+time_text form offset at = moment_text form offset (shown_seconds at offset)

@@ -2,6 +2,7 @@
 ghost use Rattle.std.specs.Prelude.{◌≡◌, ◌++◌, ◌-◌, replicate, OnOk, IfOk};
 ghost use Rattle.std.specs.List.{flat_map, list_any};
 ghost use Rattle.sipd_report.specs.Cells as Definitions;
+ghost use Rattle.sipd_report.specs.Rows.{no_cells};
 
 use crate::query::Form;
 use sip_text::Bytes;
@@ -34,6 +35,25 @@ impl Drop for Cells {
             outcome: _,
             minute: _,
         } = self;
+    }
+}
+
+impl Cells {
+    /// No text in any cell. Takes no memory.
+    pub(crate) fn new(alloc: Global) -> Cells
+        ensures { result ≡ no_cells }
+    {
+        Cells {
+            time: Bytes::new(alloc),
+            number: Bytes::new(alloc),
+            method: Bytes::new(alloc),
+            user: Bytes::new(alloc),
+            target: Bytes::new(alloc),
+            operation: Bytes::new(alloc),
+            rule: Bytes::new(alloc),
+            outcome: Bytes::new(alloc),
+            minute: Bytes::new(alloc),
+        }
     }
 }
 
@@ -99,57 +119,71 @@ fn push_field(row: &mut Bytes, text: &[u8]) -> Result<(), AllocError>
 }
 
 /// Adds a cell that others follow.
-fn push_cell(row: &mut Bytes, form: Form, width: usize, text: &Bytes) -> Result<(), AllocError>
+fn push_cell(row: &mut Bytes, form: Form, width: usize, text: &[u8]) -> Result<(), AllocError>
     ensures { OnOk result (row.new ≡ row.old ++ Definitions.cell_text form width text.now) }
 {
     match form {
         Form::Table => {
-            push_padded(row, width, text.as_slice())?;
+            push_padded(row, width, text)?;
             row.extend(b"  ")
         }
         Form::Csv => {
-            push_field(row, text.as_slice())?;
+            push_field(row, text)?;
             row.push(b',')
         }
     }
 }
 
 /// Adds the last cell, and the row's end.
-fn push_last_cell(row: &mut Bytes, form: Form, text: &Bytes) -> Result<(), AllocError>
+fn push_last_cell(row: &mut Bytes, form: Form, text: &[u8]) -> Result<(), AllocError>
     ensures { OnOk result (row.new ≡ row.old ++ Definitions.last_cell_text form text.now) }
 {
     match form {
         Form::Table => {
-            row.extend(text.as_slice())?;
+            row.extend(text)?;
             row.push(b'\n')
         }
         Form::Csv => {
-            push_field(row, text.as_slice())?;
+            push_field(row, text)?;
             row.extend(b"\r\n")
         }
     }
 }
 
 /// Adds the cells of what asked.
-fn push_request(row: &mut Bytes, form: Form, cells: &Cells) -> Result<(), AllocError>
-    ensures { OnOk result (row.new ≡ row.old ++ Definitions.cell_text form 19 «cells».now.time ++ Definitions.cell_text form 8 «cells».now.number
-        ++ Definitions.cell_text form 9 «cells».now.method ++ Definitions.cell_text form 16 «cells».now.user) }
+fn push_request(
+    row: &mut Bytes,
+    form: Form,
+    time: &[u8],
+    number: &[u8],
+    method: &[u8],
+    user: &[u8],
+) -> Result<(), AllocError>
+    ensures { OnOk result (row.new ≡ row.old ++ Definitions.cell_text form 19 time.now ++ Definitions.cell_text form 8 number.now
+        ++ Definitions.cell_text form 9 method.now ++ Definitions.cell_text form 16 user.now) }
 {
-    push_cell(row, form, 19, &cells.time)?;
-    push_cell(row, form, 8, &cells.number)?;
-    push_cell(row, form, 9, &cells.method)?;
-    push_cell(row, form, 16, &cells.user)
+    push_cell(row, form, 19, time)?;
+    push_cell(row, form, 8, number)?;
+    push_cell(row, form, 9, method)?;
+    push_cell(row, form, 16, user)
 }
 
 /// Adds the cells of what it asked for, and what became of it.
-fn push_decision(row: &mut Bytes, form: Form, cells: &Cells) -> Result<(), AllocError>
-    ensures { OnOk result (row.new ≡ row.old ++ Definitions.cell_text form 32 «cells».now.target ++ Definitions.cell_text form 9 «cells».now.operation
-        ++ Definitions.cell_text form 6 «cells».now.rule ++ Definitions.cell_text form 14 «cells».now.outcome) }
+fn push_decision(
+    row: &mut Bytes,
+    form: Form,
+    target: &[u8],
+    operation: &[u8],
+    rule: &[u8],
+    outcome: &[u8],
+) -> Result<(), AllocError>
+    ensures { OnOk result (row.new ≡ row.old ++ Definitions.cell_text form 32 target.now ++ Definitions.cell_text form 9 operation.now
+        ++ Definitions.cell_text form 6 rule.now ++ Definitions.cell_text form 14 outcome.now) }
 {
-    push_cell(row, form, 32, &cells.target)?;
-    push_cell(row, form, 9, &cells.operation)?;
-    push_cell(row, form, 6, &cells.rule)?;
-    push_cell(row, form, 14, &cells.outcome)
+    push_cell(row, form, 32, target)?;
+    push_cell(row, form, 9, operation)?;
+    push_cell(row, form, 6, rule)?;
+    push_cell(row, form, 14, outcome)
 }
 
 /// A row.
@@ -157,25 +191,33 @@ pub(crate) fn row_text(alloc: Global, form: Form, cells: &Cells) -> Result<Bytes
     ensures { IfOk result (λ row. row ≡ Definitions.row_text form «cells».now) }
 {
     let mut row = Bytes::with_room(alloc, 160)?;
-    push_request(&mut row, form, cells)?;
-    push_decision(&mut row, form, cells)?;
-    push_last_cell(&mut row, form, &cells.minute)?;
+    push_request(
+        &mut row,
+        form,
+        cells.time.as_slice(),
+        cells.number.as_slice(),
+        cells.method.as_slice(),
+        cells.user.as_slice(),
+    )?;
+    push_decision(
+        &mut row,
+        form,
+        cells.target.as_slice(),
+        cells.operation.as_slice(),
+        cells.rule.as_slice(),
+        cells.outcome.as_slice(),
+    )?;
+    push_last_cell(&mut row, form, cells.minute.as_slice())?;
     Ok(row)
 }
 
-/// The names of the columns.
-pub(crate) fn column_names(alloc: Global) -> Result<Cells, AllocError>
-    ensures { IfOk result (λ names. names ≡ Definitions.column_names) }
+/// The row with the names of the columns.
+pub(crate) fn heading(alloc: Global, form: Form) -> Result<Bytes, AllocError>
+    ensures { IfOk result (λ row. row ≡ Definitions.row_text form Definitions.column_names) }
 {
-    Ok(Cells {
-        time: Bytes::copy(alloc, b"time")?,
-        number: Bytes::copy(alloc, b"number")?,
-        method: Bytes::copy(alloc, b"method")?,
-        user: Bytes::copy(alloc, b"user")?,
-        target: Bytes::copy(alloc, b"target")?,
-        operation: Bytes::copy(alloc, b"operation")?,
-        rule: Bytes::copy(alloc, b"rule")?,
-        outcome: Bytes::copy(alloc, b"outcome")?,
-        minute: Bytes::copy(alloc, b"minute")?,
-    })
+    let mut row = Bytes::with_room(alloc, 160)?;
+    push_request(&mut row, form, b"time", b"number", b"method", b"user")?;
+    push_decision(&mut row, form, b"target", b"operation", b"rule", b"outcome")?;
+    push_last_cell(&mut row, form, b"minute")?;
+    Ok(row)
 }

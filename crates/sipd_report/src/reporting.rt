@@ -7,10 +7,11 @@ ghost use Rattle.sipd_report.specs.Cells;
 ghost use Rattle.sipd_report.specs.Lines.{IsOver};
 ghost use Rattle.sipd_report.specs.Refusals.{IsAsked, IsRefused, LineStops, TextStops};
 ghost use Rattle.sipd_report.specs.Report.{Reports, ending_text as ending_text_of};
+ghost use Rattle.sipd_report.specs.Rows.{cells_of};
 ghost use Rattle.sipd_report.specs.Steps as Definitions;
 ghost use Rattle.sipd_report.specs.Steps.{TakesLine};
 
-use crate::cells::{column_names, row_text};
+use crate::cells::{heading, row_text};
 use crate::ending::ending_text;
 use crate::entry::entry_of;
 use crate::error::ReportError;
@@ -57,15 +58,7 @@ pub fn report<I: TellingReader, W: TellingWriter>(
     Ok(tally.none)
 }
 
-/// The row with the names of the columns.
-fn heading(alloc: Global, form: Form) -> Result<Bytes, AllocError>
-    ensures { IfOk result (λ row. row ≡ Cells.row_text form Cells.column_names) }
-{
-    let names = column_names(alloc)?;
-    row_text(alloc, form, &names)
-}
-
-/// Writes that row.
+/// Writes the row with the names of the columns.
 fn begin<W: TellingWriter>(alloc: Global, form: Form, output: &mut W) -> Result<(), ReportError>
     ensures written { OnOk result (Appends (W.contents output.old) (W.contents output.new) (Cells.row_text form Cells.column_names)) }
     ensures stopped { IfErr result (TextStops (W.contents output.old) (W.contents output.new) (Cells.row_text form Cells.column_names)
@@ -128,6 +121,14 @@ fn take_line<W: TellingWriter>(
     }
 }
 
+/// The row of a record.
+fn record_row(alloc: Global, query: &Query<'_>, record: &Record) -> Result<Bytes, AllocError>
+    ensures { IfOk result (λ row. row ≡ Cells.row_text query.now.form (cells_of query.now.form query.now.offset «record».now)) }
+{
+    let cells = cells_of(alloc, query.form, query.offset, record)?;
+    row_text(alloc, query.form, &cells)
+}
+
 /// Counts a record and writes its row, if it is asked for.
 fn take_record<W: TellingWriter>(
     alloc: Global,
@@ -145,8 +146,7 @@ fn take_record<W: TellingWriter>(
         return Ok(());
     }
     tally.add_record(alloc, record)?;
-    let cells = cells_of(alloc, query.form, query.offset, record)?;
-    write(output, &row_text(alloc, query.form, &cells)?)
+    write(output, &record_row(alloc, query, record)?)
 }
 
 /// Writes what stands behind the rows, and hands all on.

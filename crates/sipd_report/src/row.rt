@@ -1,77 +1,92 @@
-ghost use Rattle.std.specs.Prelude.{◌≡◌, ◌++◌, decimal, IfOk};
+ghost use Rattle.std.specs.Prelude.{◌≡◌, ◌++◌, decimal, IfOk, OnOk};
 ghost use Rattle.sipd_report.specs.Rows as Definitions;
 
 use crate::cells::Cells;
 use crate::query::{Form, ruling_of};
-use crate::target::target_text;
-use crate::times::{push_minutes, time_text};
+use crate::target::put_target;
+use crate::times::{push_minutes, put_time};
 use sip_audit::{Outcome, Record, operation_word, who_word};
 use sip_text::Bytes;
 use std::alloc::{AllocError, Global};
 
-fn decimal_text(alloc: Global, number: u64) -> Result<Bytes, AllocError>
-    ensures { IfOk result (λ text. text ≡ decimal number) }
-{
-    let mut text = Bytes::new(alloc);
-    text.push_decimal(number)?;
-    Ok(text)
-}
-
-/// The rule that decided, `-` for none.
-pub(crate) fn ruling_text(alloc: Global, ruling: Option<u32>) -> Result<Bytes, AllocError>
-    ensures { IfOk result (λ text. text ≡ Definitions.ruling_text ruling) }
+/// Adds the rule that decided, `-` for none.
+pub(crate) fn put_ruling(text: &mut Bytes, ruling: Option<u32>) -> Result<(), AllocError>
+    ensures { OnOk result (text.new ≡ text.old ++ Definitions.ruling_text ruling) }
 {
     match ruling {
-        Some(rule) => decimal_text(alloc, u64::from(rule)),
-        None => Bytes::copy(alloc, b"-"),
+        Some(rule) => text.push_decimal(u64::from(rule)),
+        None => text.push(b'-'),
     }
 }
 
-/// A word and a number.
-fn counted(alloc: Global, word: &[u8], number: u64) -> Result<Bytes, AllocError>
-    ensures { IfOk result (λ text. text ≡ word.now ++ decimal number) }
+/// Adds a word and a number.
+fn put_counted(text: &mut Bytes, word: &[u8], number: u64) -> Result<(), AllocError>
+    ensures { OnOk result (text.new ≡ text.old ++ (word.now ++ decimal number)) }
 {
-    let mut text = Bytes::copy(alloc, word)?;
-    text.push_decimal(number)?;
-    Ok(text)
+    text.extend(word)?;
+    text.push_decimal(number)
 }
 
-fn outcome_words(alloc: Global, outcome: Outcome) -> Result<Bytes, AllocError>
-    ensures { IfOk result (λ text. text ≡ Definitions.outcome_words outcome) }
+fn put_outcome(text: &mut Bytes, outcome: Outcome) -> Result<(), AllocError>
+    ensures { OnOk result (text.new ≡ text.old ++ Definitions.outcome_words outcome) }
 {
     match outcome {
-        Outcome::Challenge { status } => counted(alloc, b"challenge ", u64::from(status)),
-        Outcome::Deny { rule: _ } => Bytes::copy(alloc, b"deny"),
-        Outcome::Sent { rule: _, targets } => counted(alloc, b"sent ", u64::from(targets)),
-        Outcome::Answer { rule: _, status } => counted(alloc, b"answer ", u64::from(status)),
+        Outcome::Challenge { status } => put_counted(text, b"challenge ", u64::from(status)),
+        Outcome::Deny { rule: _ } => text.extend(b"deny"),
+        Outcome::Sent { rule: _, targets } => put_counted(text, b"sent ", u64::from(targets)),
+        Outcome::Answer { rule: _, status } => put_counted(text, b"answer ", u64::from(status)),
     }
 }
 
-/// What became of a request, without the number of its targets.
-pub(crate) fn outcome_kind(alloc: Global, outcome: Outcome) -> Result<Bytes, AllocError>
-    ensures { IfOk result (λ text. text ≡ Definitions.outcome_kind outcome) }
+/// Adds what became of a request, without the number of its targets.
+pub(crate) fn put_outcome_kind(text: &mut Bytes, outcome: Outcome) -> Result<(), AllocError>
+    ensures { OnOk result (text.new ≡ text.old ++ Definitions.outcome_kind outcome) }
 {
     match outcome {
-        Outcome::Challenge { status } => counted(alloc, b"challenge ", u64::from(status)),
-        Outcome::Deny { rule: _ } => Bytes::copy(alloc, b"deny"),
+        Outcome::Challenge { status } => put_counted(text, b"challenge ", u64::from(status)),
+        Outcome::Deny { rule: _ } => text.extend(b"deny"),
         Outcome::Sent {
             rule: _,
             targets: _,
-        } => Bytes::copy(alloc, b"sent"),
-        Outcome::Answer { rule: _, status } => counted(alloc, b"answer ", u64::from(status)),
+        } => text.extend(b"sent"),
+        Outcome::Answer { rule: _, status } => put_counted(text, b"answer ", u64::from(status)),
     }
 }
 
-/// The minute of the day at which a rule with a window decided, else `-`.
-fn minute_text(alloc: Global, minute: Option<u16>) -> Result<Bytes, AllocError>
-    ensures { IfOk result (λ text. text ≡ Definitions.minute_text minute) }
+/// Adds the minute of the day at which a rule with a window decided, else `-`.
+fn put_minute(text: &mut Bytes, minute: Option<u16>) -> Result<(), AllocError>
+    ensures { OnOk result (text.new ≡ text.old ++ Definitions.minute_text minute) }
 {
-    let Some(minute) = minute else {
-        return Bytes::copy(alloc, b"-");
-    };
-    let mut text = Bytes::new(alloc);
-    push_minutes(&mut text, u64::from(minute))?;
-    Ok(text)
+    match minute {
+        Some(minute) => push_minutes(text, u64::from(minute)),
+        None => text.push(b'-'),
+    }
+}
+
+/// Adds to the cells who asked, when and how.
+fn put_request(
+    cells: &mut Cells,
+    form: Form,
+    offset: i16,
+    record: &Record,
+) -> Result<(), AllocError>
+    ensures { OnOk result (cells.new ≡ Definitions.with_request form offset «record».now cells.old) }
+{
+    put_time(&mut cells.time, form, offset, record.at)?;
+    cells.number.push_decimal(record.number)?;
+    cells.method.extend(record.method.as_slice())?;
+    cells.user.extend(who_word(&record.who))
+}
+
+/// Adds to the cells what was asked for, and what became of it.
+fn put_decision(cells: &mut Cells, record: &Record) -> Result<(), AllocError>
+    ensures { OnOk result (cells.new ≡ Definitions.with_decision «record».now cells.old) }
+{
+    put_target(&mut cells.target, &record.target)?;
+    cells.operation.extend(operation_word(record.operation))?;
+    put_ruling(&mut cells.rule, ruling_of(record.outcome))?;
+    put_outcome(&mut cells.outcome, record.outcome)?;
+    put_minute(&mut cells.minute, record.minute)
 }
 
 /// The cells of a record.
@@ -83,15 +98,8 @@ pub(crate) fn cells_of(
 ) -> Result<Cells, AllocError>
     ensures { IfOk result (λ cells. cells ≡ Definitions.cells_of form offset «record».now) }
 {
-    Ok(Cells {
-        time: time_text(alloc, form, offset, record.at)?,
-        number: decimal_text(alloc, record.number)?,
-        method: Bytes::copy(alloc, record.method.as_slice())?,
-        user: Bytes::copy(alloc, who_word(&record.who))?,
-        target: target_text(alloc, &record.target)?,
-        operation: Bytes::copy(alloc, operation_word(record.operation))?,
-        rule: ruling_text(alloc, ruling_of(record.outcome))?,
-        outcome: outcome_words(alloc, record.outcome)?,
-        minute: minute_text(alloc, record.minute)?,
-    })
+    let mut cells = Cells::new(alloc);
+    put_request(&mut cells, form, offset, record)?;
+    put_decision(&mut cells, record)?;
+    Ok(cells)
 }

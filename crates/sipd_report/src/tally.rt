@@ -1,12 +1,15 @@
 //! What a report counts, line by line: users, rules, outcomes, and the lines that are no audit lines. `ending` writes it.
 ghost use Rattle.std.specs.Prelude.{◌≡◌, ◌++◌, map, OnOk};
 ghost use Rattle.sipd_report.specs.Report.{numbered_text, shown_byte};
+ghost use Rattle.sipd_report.specs.Entries;
+ghost use Rattle.sipd_report.specs.Rows;
 ghost use Rattle.sipd_report.specs.Steps as Definitions;
+ghost use Rattle.sipd_report.specs.Totals.{one_more};
 
 use crate::query::ruling_of;
-use crate::row::{outcome_kind, ruling_text};
+use crate::row::{put_outcome_kind, put_ruling};
 use crate::totals::Totals;
-use sip_audit::{Record, who_word};
+use sip_audit::{Outcome, Record, who_word};
 use sip_text::Bytes;
 use std::alloc::{AllocError, Global};
 
@@ -95,14 +98,30 @@ impl Tally {
     pub(crate) fn add_record(&mut self, alloc: Global, record: &Record) -> Result<(), AllocError>
         ensures { OnOk result (self.new ≡ Definitions.with_record «record».now self.old) }
     {
-        let rule = ruling_text(alloc, ruling_of(record.outcome))?;
-        let outcome = outcome_kind(alloc, record.outcome)?;
         self.users.add(alloc, who_word(&record.who))?;
-        self.rules.add(alloc, rule.as_slice())?;
-        self.outcomes.add(alloc, outcome.as_slice())?;
+        add_ruling(alloc, &mut self.rules, record.outcome)?;
+        add_outcome(alloc, &mut self.outcomes, record.outcome)?;
         self.asked = self.asked.saturating_add(1);
         Ok(())
     }
+}
+
+/// One more of the rule that decided.
+fn add_ruling(alloc: Global, rules: &mut Totals, outcome: Outcome) -> Result<(), AllocError>
+    ensures { OnOk result (rules.new ≡ one_more rules.old (Rows.ruling_text (Entries.ruling_of outcome))) }
+{
+    let mut text = Bytes::new(alloc);
+    put_ruling(&mut text, ruling_of(outcome))?;
+    rules.add(alloc, text.as_slice())
+}
+
+/// One more of what became of a request.
+fn add_outcome(alloc: Global, outcomes: &mut Totals, outcome: Outcome) -> Result<(), AllocError>
+    ensures { OnOk result (outcomes.new ≡ one_more outcomes.old (Rows.outcome_kind outcome)) }
+{
+    let mut text = Bytes::new(alloc);
+    put_outcome_kind(&mut text, outcome)?;
+    outcomes.add(alloc, text.as_slice())
 }
 
 /// Adds a line that is no audit line as it is shown.

@@ -1,11 +1,11 @@
-ghost use Rattle.std.specs.Prelude.{◌≡◌, ◌<◌, ◌++◌, IfOk, OnOk};
+ghost use Rattle.std.specs.Prelude.{◌≡◌, ◌<◌, ◌++◌, OnOk};
 ghost use Rattle.std.specs.List.{flat_map};
 ghost use Rattle.sip_audit.specs.Lines as Definitions;
 ghost use Rattle.sip_audit.specs.Names.{is_name_byte as is_name_byte_of};
 
 use sip_text::Bytes;
 use sip_uri::Aor;
-use std::alloc::{AllocError, Global};
+use std::alloc::AllocError;
 
 /// A hexadecimal digit, letters in upper case.
 fn upper_digit(value: u8) -> u8
@@ -45,13 +45,11 @@ fn push_user(text: &mut Bytes, user: &[u8]) -> Result<(), AllocError>
     Ok(())
 }
 
-/// An address of record as an audit line has it.
-pub(crate) fn target_text(alloc: Global, target: &Aor) -> Result<Bytes, AllocError>
-    ensures { IfOk result (λ text. text ≡ Definitions.target_text target.now) }
+/// Adds an address of record as an audit line has it.
+pub(crate) fn put_target(text: &mut Bytes, target: &Aor) -> Result<(), AllocError>
+    ensures { OnOk result (text.new ≡ text.old ++ Definitions.target_text target.now) }
 {
-    let mut text = Bytes::with_room(alloc, 32)?;
-    push_user(&mut text, target.user.as_slice())?;
+    push_user(text, target.user.as_slice())?;
     text.push(b'@')?;
-    text.extend(target.host.as_slice())?;
-    Ok(text)
+    text.extend(target.host.as_slice())
 }

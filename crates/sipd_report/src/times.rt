@@ -1,11 +1,11 @@
 //! How a report writes a moment: date and time of day on a clock that is so many minutes ahead of UTC.
-ghost use Rattle.std.specs.Prelude.{◌≡◌, ◌<◌, ◌^◌, ◌++◌, ◌∷◌, OnOk, IfOk};
+ghost use Rattle.std.specs.Prelude.{◌≡◌, ◌<◌, ◌^◌, ◌++◌, ◌∷◌, OnOk};
 ghost use Rattle.sipd_report.specs.Times as Definitions;
 
 use crate::calendar::{Date, date_of};
 use crate::query::Form;
 use sip_text::Bytes;
-use std::alloc::{AllocError, Global};
+use std::alloc::AllocError;
 
 /// A day, in seconds.
 const DAY: u64 = 86_400;
@@ -44,6 +44,14 @@ fn push_clock(text: &mut Bytes, second: u64) -> Result<(), AllocError>
     push_behind(text, b':', second % 60)
 }
 
+/// Adds a mark, and the time of day.
+fn push_clock_behind(text: &mut Bytes, mark: u8, second: u64) -> Result<(), AllocError>
+    ensures { OnOk result (text.new ≡ text.old ++ mark ∷ Definitions.clock_text second) }
+{
+    text.push(mark)?;
+    push_clock(text, second)
+}
+
 /// Adds hours and minutes.
 pub(crate) fn push_minutes(text: &mut Bytes, minutes: u64) -> Result<(), AllocError>
     ensures { OnOk result (text.new ≡ text.old ++ Definitions.minutes_text minutes) }
@@ -74,28 +82,33 @@ fn shown_seconds(at: u64, offset: i16) -> u64
     }
 }
 
-/// The text of a moment, in milliseconds since 1970 began in UTC.
-pub(crate) fn time_text(
-    alloc: Global,
-    form: Form,
-    offset: i16,
-    at: u64,
-) -> Result<Bytes, AllocError>
-    ensures { IfOk result (λ text. text ≡ Definitions.time_text form offset at) }
+/// Adds date and time of day with a mark between them, at seconds since 1970 began.
+#[tactic(auto, using(crate::proofs::Ends::behind_date))]
+fn push_dated(text: &mut Bytes, mark: u8, seconds: u64) -> Result<(), AllocError>
+    requires { seconds < 2 ^ 60 }
+    ensures { OnOk result (text.new ≡ text.old ++ Definitions.dated_text mark seconds) }
 {
-    let seconds = shown_seconds(at, offset);
-    let mut text = Bytes::with_room(alloc, 25)?;
-    push_date(&mut text, date_of(seconds / DAY))?;
+    push_date(text, date_of(seconds / DAY))?;
+    push_clock_behind(text, mark, seconds % DAY)
+}
+
+/// Adds such seconds as a form has them.
+fn push_moment(text: &mut Bytes, form: Form, offset: i16, seconds: u64) -> Result<(), AllocError>
+    requires { seconds < 2 ^ 60 }
+    ensures { OnOk result (text.new ≡ text.old ++ Definitions.moment_text form offset seconds) }
+{
     match form {
-        Form::Table => {
-            text.push(b' ')?;
-            push_clock(&mut text, seconds % DAY)?;
-        }
+        Form::Table => push_dated(text, b' ', seconds),
         Form::Csv => {
-            text.push(b'T')?;
-            push_clock(&mut text, seconds % DAY)?;
-            push_offset(&mut text, offset)?;
+            push_dated(text, b'T', seconds)?;
+            push_offset(text, offset)
         }
     }
-    Ok(text)
+}
+
+/// Adds a moment, in milliseconds since 1970 began in UTC.
+pub(crate) fn put_time(text: &mut Bytes, form: Form, offset: i16, at: u64) -> Result<(), AllocError>
+    ensures { OnOk result (text.new ≡ text.old ++ Definitions.time_text form offset at) }
+{
+    push_moment(text, form, offset, shown_seconds(at, offset))
 }
