@@ -804,7 +804,7 @@ def reloads(folder, expect, command):
 def address_everywhere(folder, expect):
     """The `sed` of OPERATING gives the server its address and leaves the gateway another."""
     text = read(os.path.join(phone.TOP, "docs", "OPERATING.md")).decode()
-    found = re.search(r"^ {4}(sed .*office\.toml > office\.toml)$", text, re.M)
+    found = re.search(r"^ {4}(sed .* examples/office\.toml > office\.toml)$", text, re.M)
     assert found, "it has none"
     there = os.path.join(folder, "moved")
     shutil.copytree(os.path.join(phone.TOP, "examples"), os.path.join(there, "examples"))
