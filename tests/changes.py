@@ -158,7 +158,9 @@ def try_refusals(tally, office, old):
     bad = tally.written("bad.toml", office.replace("via gateway", "via nobody", 1))
     none = os.path.join(tally.folder, "nowhere.toml")
     refused = "sipd: configuration refused 6"
-    tally.expect("NEW is refused", ended("--config", bad, "--against", old), (2, [], [refused]))
+    status, said, complaints = ended("--config", bad, "--against", old)
+    is_told = any("[[hop]]" in line for line in complaints[:-1])
+    tally.expect("NEW is refused", (status, said, is_told, complaints[-1]), (2, [], True, refused))
     tally.expect("OLD is refused", ended("--config", old, "--against", bad), (2, [], ["sipd: of --against", refused]))
     tally.expect("no OLD", ended("--config", old, "--against", none), (4, [], ["sipd: of --against", "sipd: no file", "sipd: device"]))
     read, write = os.pipe()

@@ -76,7 +76,7 @@ def code_of(place):
 
 
 def check_trials(number, runs, trials):
-    """Whether stored runs have files, and a crate or a file has the functions that try."""
+    """Whether stored runs have files, and a crate or a file has the functions that try; a crate may have a row of that name."""
     for name in NAME.findall(runs):
         check(number, any(file.rpartition(".")[0] == name for file in os.listdir(RUNS)), f"{RUNS}: without {name}")
     found = TRIALS.findall(trials)
@@ -84,7 +84,9 @@ def check_trials(number, runs, trials):
     need(number, runs or trials, "nothing that tries it")
     for of, listed in found:
         for name in NAME.findall(listed):
-            check(number, re.search(r"(?m)^(?:pub(?:\(\w+\))? )?(?:fn|def) " + name + r"\b", code_of(of)), f"{of}: without {name}")
+            is_row = of in ROOMS and f'"{name}"' in code_of(of)
+            is_there = is_row or re.search(r"(?m)^(?:pub(?:\(\w+\))? )?(?:fn|def) " + name + r"\b", code_of(of))
+            check(number, is_there, f"{of}: without {name}")
 
 
 rows = {kind: 0 for kind in TABLES}

@@ -416,15 +416,18 @@ def not_resumed(folder):
         (config, config, "it is no record"),
         (config, damaged, f"its line {first + 2} begins no event and no configuration"),
         (config, turned, "its line 2 begins no event and no configuration"),
-        (config, missing, "it can't be read"),
-        (config, folder, "it can't be read"),
+        (config, missing, None),
+        (config, folder, None),
         (config, os.devnull, "it is no record"),
         (config, broken, "its writing failed: it lacks events"),
         (config, left, "another start went on from it"),
     )):
         server, _ = started(PROGRAM, by, "--record", os.path.join(folder, f"anew{number}"), "--resume", old)
         _, complaints = killed(server)
-        assert complaints == f"sipd: {old} isn't resumed: {why}; bindings, dialogs, open calls and nonces are lost: phones are found again when they register\n", complaints
+        wanted = f"sipd: {old} isn't resumed: {why}; bindings, dialogs, open calls and nonces are lost: phones are found again when they register\n"
+        if not why:
+            wanted = f"sipd: starts anew, since {old} isn't there or can't be read; what it holds, if anything, is lost: phones are found when they register\n"
+        assert complaints == wanted, complaints
     _, whole, _ = replayed(good)
     assert replayed(left) == (0, whole, "")
     assert replayed(broken) == (0, whole, f"sipd: the writing of {broken} failed: it lacks what came behind\n")

@@ -1,5 +1,6 @@
 -- The CANCELs of an open request: how many copies of those that say one thing may still be sent, and what its changes make of that.
-use Rattle.std.proofs.Common.{◌≡◌, inl, inr, ℕ, ◌+◌, ◌*◌, ◌≤◌, Bool, true, false, not, ◌&&◌, ◌||◌, ◌==◌, cond, List, [], ◌∷◌, ◌++◌, map, filter, Option, refl, sym, ap, subst, ◌∙◌, arith, sum_by, count_by}
+use Rattle.std.proofs.Common.{◌≡◌, inl, inr, ℕ, ◌+◌, ◌*◌, ◌≤◌, Bool, true, false, not, ◌&&◌, ◌||◌, ◌==◌, cond, List, [], ◌∷◌, ◌++◌, map, filter, Option, refl, sym, ap}
+use Rattle.std.proofs.Common.{subst, ◌∙◌, arith, sum_by, count_by}
 use Rattle.std.specs.List.{AllByRecursion, flat_map}
 use Rattle.std.proofs.lemmas.List.Sums.{sum_by-cons}
 use Rattle.sip_uri.specs.declared.addr.Addr.{Addr}
@@ -66,7 +67,14 @@ low_itself n = omega arith
 
 -- a branch that stays
 pub sends_the_same : (x : Branch) → SendsNoMore x x
-sends_the_same x = record { kind = refl; number_is = refl; goes = λ g. refl; fewer = λ is. low_itself (other_copies_left x.phase x.again); near = λ is h. h; early = λ is h. h }
+sends_the_same x = record {
+  kind = refl;
+  number_is = refl;
+  goes = λ g. refl;
+  fewer = λ is. low_itself (other_copies_left x.phase x.again);
+  near = λ is h. h;
+  early = λ is h. h;
+}
 
 -- no more copies
 copies_less : (s t u v : Bool) (m n : ℕ) → u ≡ s → v ≡ t → (s ≡ true → m ≤ n) → cond {A = ℕ} (u && v) m 0 ≤ cond {A = ℕ} (s && t) n 0
@@ -80,7 +88,8 @@ copies_less false t false v m n e f h = omega arith
 
 pub no_more_copies : (g : Asks) (x y : Branch) → SendsNoMore x y → copies_of g y ≤ copies_of g x
 no_more_copies g x y h =
-    copies_less x.is_cancel (g x.number x.uri x.address) y.is_cancel (g y.number y.uri y.address) (other_copies_left y.phase y.again) (other_copies_left x.phase x.again) h.kind (h.goes g) h.fewer
+    copies_less x.is_cancel (g x.number x.uri x.address) y.is_cancel (g y.number y.uri y.address) (other_copies_left y.phase y.again) (other_copies_left x.phase x.again)
+    h.kind (h.goes g) h.fewer
 
 -- no more places
 place_less : (u v c d e f : Bool) → v ≡ u → d ≡ c → (c ≡ false → f ≡ true → e ≡ true) → cond {A = ℕ} (v && (d || f)) 1 0 ≤ cond {A = ℕ} (u && (c || e)) 1 0
@@ -94,7 +103,8 @@ place_less true true false false true true same kind h = omega arith
 place_less true true false false false true same kind h = let is = h refl refl in absurd (cc)
 
 no_more_places : (n : ℕ) (x y : Branch) → SendsNoMore x y → cond {A = ℕ} (is_place n y) 1 0 ≤ cond {A = ℕ} (is_place n x) 1 0
-no_more_places n x y h = place_less (x.number == n) (y.number == n) x.is_cancel y.is_cancel (is_early x.phase) (is_early y.phase) (ap (λ (m : ℕ). m == n) h.number_is) h.kind h.early
+no_more_places n x y h = place_less (x.number == n) (y.number == n) x.is_cancel y.is_cancel (is_early x.phase) (is_early y.phase) (ap (λ (m : ℕ). m == n) h.number_is)
+    h.kind h.early
 
 -- ---- all branches
 
@@ -105,29 +115,47 @@ mapped_left g f (b ∷ bs) each =
     omega (arith, left_cons g (f b) (map f bs), left_cons g b bs, no_more_copies g b (f b) (each b (inl refl)), mapped_left g f bs (λ x there. each x (inr there)))
 
 -- nor more places
-pub mapped_places : (n : ℕ) (f : Branch → Branch) (bs : List Branch) → ((x : Branch) → IsIn x bs → SendsNoMore x (f x)) → count_by (is_place n) (map f bs) ≤ count_by (is_place n) bs
+pub mapped_places : (n : ℕ) (f : Branch → Branch) (bs : List Branch) → ((x : Branch) → IsIn x bs → SendsNoMore x (f x))
+    → count_by (is_place n) (map f bs) ≤ count_by (is_place n) bs
 mapped_places n f [] each = omega arith
 mapped_places n f (b ∷ bs) each =
-    omega (arith, count_cons (is_place n) (f b) (map f bs), count_cons (is_place n) b bs, no_more_places n b (f b) (each b (inl refl)), mapped_places n f bs (λ x there. each x (inr there)))
+    omega (
+      arith,
+      count_cons (is_place n) (f b) (map f bs),
+      count_cons (is_place n) b bs,
+      no_more_places n b (f b) (each b (inl refl)),
+      mapped_places n f bs (λ x there. each x (inr there)),
+    )
 
 -- each stays steady
-pub mapped_each : (f : Branch → Branch) (bs : List Branch) → ((x : Branch) → IsIn x bs → SendsNoMore x (f x)) → AllByRecursion IsSteady bs → AllByRecursion IsSteady (map f bs)
+pub mapped_each : (f : Branch → Branch) (bs : List Branch) → ((x : Branch) → IsIn x bs → SendsNoMore x (f x)) → AllByRecursion IsSteady bs
+    → AllByRecursion IsSteady (map f bs)
 mapped_each f [] each all = tt
 mapped_each f (b ∷ bs) each all =
-    let own = each b (inl refl) in
-    ((subst (λ (n : ℕ). 1 ≤ n) (sym own.number_is) all.0.0, λ is. own.near (sym own.kind ∙ is) (all.0.1 (sym own.kind ∙ is))), mapped_each f bs (λ x there. each x (inr there)) all.1)
+    let own = each b (inl refl) in (
+      (subst (λ (n : ℕ). 1 ≤ n) (sym own.number_is) all.0.0, λ is. own.near (sym own.kind ∙ is) (all.0.1 (sym own.kind ∙ is))),
+      mapped_each f bs (λ x there. each x (inr there)) all.1,
+    )
 
 -- where one has one copy less, all have
-pub mapped_one_less : (g : Asks) (f : Branch → Branch) (b : Branch) (n : ℕ) (bs : List Branch) → ((x : Branch) → IsIn x bs → SendsNoMore x (f x)) → IsIn b bs → copies_of g (f b) + n ≤ copies_of g b → copies_left g (map f bs) + n ≤ copies_left g bs
+pub mapped_one_less : (g : Asks) (f : Branch → Branch) (b : Branch) (n : ℕ) (bs : List Branch) → ((x : Branch) → IsIn x bs → SendsNoMore x (f x)) → IsIn b bs
+    → copies_of g (f b) + n ≤ copies_of g b → copies_left g (map f bs) + n ≤ copies_left g bs
 mapped_one_less g f b n [] each there leaves_one_less = absurd there
 mapped_one_less g f b n (x ∷ xs) each (inl is) leaves_one_less =
     let own : copies_of g (f x) + n ≤ copies_of g x = subst (λ (y : Branch). copies_of g (f y) + n ≤ copies_of g y) (sym is) leaves_one_less in
     omega (arith, left_cons g (f x) (map f xs), left_cons g x xs, own, mapped_left g f xs (λ y there. each y (inr there)))
 mapped_one_less g f b n (x ∷ xs) each (inr there) leaves_one_less =
-    omega (arith, left_cons g (f x) (map f xs), left_cons g x xs, no_more_copies g x (f x) (each x (inl refl)), mapped_one_less g f b n xs (λ y later. each y (inr later)) there leaves_one_less)
+    omega (
+      arith,
+      left_cons g (f x) (map f xs),
+      left_cons g x xs,
+      no_more_copies g x (f x) (each x (inl refl)),
+      mapped_one_less g f b n xs (λ y later. each y (inr later)) there leaves_one_less,
+    )
 
 -- two ways of looking for the same
-pub left_alike : (g h : Asks) (bs : List Branch) → ((number : ℕ) (uri : List ℕ) (address : Option Addr) → g number uri address ≡ h number uri address) → copies_left g bs ≡ copies_left h bs
+pub left_alike : (g h : Asks) (bs : List Branch) → ((number : ℕ) (uri : List ℕ) (address : Option Addr) → g number uri address ≡ h number uri address)
+    → copies_left g bs ≡ copies_left h bs
 left_alike g h [] same = refl
 left_alike g h (b ∷ bs) same =
     let own : copies_of g b ≡ copies_of h b = ap (λ (t : Bool). cond {A = ℕ} (b.is_cancel && t) (other_copies_left b.phase b.again) 0) (same b.number b.uri b.address) in
@@ -145,11 +173,13 @@ cancel_place : (n : ℕ) (b : Branch) → b.number ≡ n → b.is_cancel ≡ tru
 cancel_place n b is cancel = place_passes (b.number == n) b.is_cancel (is_early b.phase) (same_number b.number n is) cancel
 
 -- a branch that is the same as one of the list is that
-pub alone : (bs : List Branch) (b : Branch) → AreApart bs → ((n : ℕ) → count_by (is_place n) bs ≤ 1) → IsIn b bs → (x : Branch) → IsIn x bs → is_same_branch x b ≡ true → x ≡ b
+pub alone : (bs : List Branch) (b : Branch) → AreApart bs → ((n : ℕ) → count_by (is_place n) bs ≤ 1) → IsIn b bs → (x : Branch) → IsIn x bs → is_same_branch x b ≡ true
+    → x ≡ b
 alone bs b apart places there x here same = by_kind x.is_cancel refl where
   both : (t : Bool) → x.is_cancel ≡ t → cond t b.is_cancel (not b.is_cancel) ≡ true
   both t is =
-      let two = both_pass (x.number == b.number) (cond x.is_cancel b.is_cancel (not b.is_cancel)) same in sym (ap (λ (s : Bool). cond s b.is_cancel (not b.is_cancel)) is) ∙ two.1
+      let two = both_pass (x.number == b.number) (cond x.is_cancel b.is_cancel (not b.is_cancel)) same in
+      sym (ap (λ (s : Bool). cond s b.is_cancel (not b.is_cancel)) is) ∙ two.1
 
   number : x.number ≡ b.number
   number = number_is x.number b.number (both_pass (x.number == b.number) (cond x.is_cancel b.is_cancel (not b.is_cancel)) same).0
@@ -167,7 +197,8 @@ pub record LeavesNoMore (b : Branch) (phase : Phase) : Type 0 where
   pub early : b.is_cancel ≡ false → is_early phase ≡ true → is_early b.phase ≡ true
 
 -- so is each branch, if the branch in this phase stands there alone
-pub phased_no_more : (bs : List Branch) (b : Branch) (to : Option (List ℕ)) (phase : Phase) → ((x : Branch) → IsIn x bs → is_same_branch x b ≡ true → x ≡ b) → LeavesNoMore b phase
+pub phased_no_more : (bs : List Branch) (b : Branch) (to : Option (List ℕ)) (phase : Phase) → ((x : Branch) → IsIn x bs → is_same_branch x b ≡ true → x ≡ b)
+    → LeavesNoMore b phase
     → (x : Branch) → IsIn x bs → SendsNoMore x (cond (is_same_branch x b) (turned (record b { final_to = to }) phase x) x)
 phased_no_more bs b to phase one leaves x here = by_test (is_same_branch x b) refl where
   own : SendsNoMore b (turned (record b { final_to = to }) phase b)
@@ -239,7 +270,8 @@ ready_early (Done due status) is = absurd (cc)
 ready_early Ended is = absurd (cc)
 
 -- a CANCEL takes the place of its branch
-held_place : (u c w r e : Bool) → (not c && w && r) ≡ true → (r ≡ true → e ≡ true) → cond {A = ℕ} (u && (c || false)) 1 0 + cond {A = ℕ} (u && true) 1 0 ≤ cond {A = ℕ} (u && (c || e)) 1 0
+held_place : (u c w r e : Bool) → (not c && w && r) ≡ true → (r ≡ true → e ≡ true) → cond {A = ℕ} (u && (c || false)) 1 0 + cond {A = ℕ} (u && true) 1 0 ≤ cond {A = ℕ}
+    (u && (c || e)) 1 0
 held_place u true w r e is h = absurd (cc)
 held_place u false false r e is h = absurd (cc)
 held_place u false true false e is h = absurd (cc)
@@ -266,7 +298,8 @@ cancels_places n now (b ∷ bs) = by_test (is_cancellable b) refl (cancels_place
 -- all stay steady
 pub cancels_each : AreCopyLaws → (now : ℕ) (bs : List Branch) → AllByRecursion IsSteady bs → AllByRecursion IsSteady (flat_map (with_cancel now) bs)
 cancels_each laws now [] all = tt
-cancels_each laws now (b ∷ bs) all = all_joined IsSteady (with_cancel now b) (flat_map (with_cancel now) bs) (by_test (is_cancellable b)) (cancels_each laws now bs all.1) where
-  by_test : (t : Bool) → AllByRecursion IsSteady (cond t (held_branch now b ∷ cancel_branch now b ∷ []) (b ∷ []))
-  by_test true = ((all.0.0, λ is. tt), ((all.0.0, λ is. laws.timely_first now), tt))
-  by_test false = (all.0, tt)
+cancels_each laws now (b ∷ bs) all = all_joined IsSteady (with_cancel now b) (flat_map (with_cancel now) bs) (by_test (is_cancellable b))
+    (cancels_each laws now bs all.1) where
+      by_test : (t : Bool) → AllByRecursion IsSteady (cond t (held_branch now b ∷ cancel_branch now b ∷ []) (b ∷ []))
+      by_test true = ((all.0.0, λ is. tt), ((all.0.0, λ is. laws.timely_first now), tt))
+      by_test false = (all.0, tt)

@@ -14,7 +14,10 @@ use Rattle.sip_model.specs.state.declared.open_request.Upward.{Upward}
 use Rattle.sip_model.specs.state.declared.proxy_state.ProxyState.{ProxyState}
 use Rattle.sip_model.specs.state.State.{is_invite, is_answering, is_final, is_success, is_decline, is_provisional}
 use Rattle.sip_model.specs.context_model.Sending.{branch_packets}
-use Rattle.sip_model.specs.context_model.Branches.{Change, is_same_branch, phased, with_phase, with_final, marked_branch, marked, given_up, best_upward, is_cancellable, new_cancels, with_cancels, after_upward, upward_list, settled, invite_heard, other_heard, heard, relayed_provisional, relayed_success, linger, final_of, told_to, acked_to, with_answer, acks_of, further, target_responded, cancel_responded, responded, target_overdue, branch_overdue}
+use Rattle.sip_model.specs.context_model.Branches.{Change, is_same_branch, phased, with_phase, with_final, marked_branch, marked, given_up, best_upward, is_cancellable}
+use Rattle.sip_model.specs.context_model.Branches.{new_cancels, with_cancels, after_upward, upward_list, settled, invite_heard, other_heard, heard, relayed_provisional}
+use Rattle.sip_model.specs.context_model.Branches.{relayed_success, linger, final_of, told_to, acked_to, with_answer, acks_of, further, target_responded}
+use Rattle.sip_model.specs.context_model.Branches.{cancel_responded, responded, target_overdue, branch_overdue}
 use Rattle.sip_model.specs.steps_model.Effect.{change_packets, upward_packets}
 use Rattle.sip_model.specs.steps_model.Step.{Act, IsOverdue, OfSide, OfBranch, is_failed}
 use Rattle.sip_model.specs.Parts.{IsChangeAt, ByResponse, ByDeadline, ByFault, ByCancel}
@@ -24,7 +27,8 @@ use Rattle.model_bounds.proofs.SendingLists.{IsIn, in_list, all_before, all_behi
 use Rattle.model_bounds.proofs.SendingBranches.{AreApart, Succeeds}
 use Rattle.model_bounds.proofs.SendingTimes.{AreCopyLaws, IsNearEnd}
 use Rattle.model_bounds.proofs.SendingChanges.{change_succeeds}
-use Rattle.model_bounds.proofs.CancelBranches.{Asks, copies_left, is_early, is_place, IsSteady, SendsNoMore, sends_the_same, mapped_left, mapped_places, mapped_each, left_alike, alone, LeavesNoMore, phased_no_more, wanted_no_more, cancels_left, cancels_places, cancels_each}
+use Rattle.model_bounds.proofs.CancelBranches.{Asks, copies_left, is_early, is_place, IsSteady, SendsNoMore, sends_the_same, mapped_left, mapped_places, mapped_each}
+use Rattle.model_bounds.proofs.CancelBranches.{left_alike, alone, LeavesNoMore, phased_no_more, wanted_no_more, cancels_left, cancels_places, cancels_each}
 use Rattle.model_bounds.proofs.CancelTexts.{IsNoCancel, upward_no, asks, first_cancels}
 
 -- ---- an open request
@@ -40,7 +44,8 @@ pub record IsFine (r : OpenRequest) : Type 0 where
 -- one becomes another, which sends its CANCELs no more often
 pub record IsLess (r x : OpenRequest) : Type 0 where
   pub number_is : x.number ≡ r.number
-  pub asks_same : (test : Packet → Bool) (server : Server) (number : ℕ) (uri : List ℕ) (address : Option Addr) → asks test server x number uri address ≡ asks test server r number uri address
+  pub asks_same : (test : Packet → Bool) (server : Server) (number : ℕ) (uri : List ℕ) (address : Option Addr)
+      → asks test server x number uri address ≡ asks test server r number uri address
   pub fewer : (g : Asks) → copies_left g x.branches ≤ copies_left g r.branches
   pub places : (n : ℕ) → count_by (is_place n) x.branches ≤ count_by (is_place n) r.branches
   pub each : AllByRecursion IsSteady x.branches
@@ -50,7 +55,8 @@ pub same_less : (r : OpenRequest) → AllByRecursion IsSteady r.branches → IsL
 same_less r all = record { number_is = refl; asks_same = λ test server number uri address. refl; fewer = λ g. omega arith; places = λ n. omega arith; each = all }
 
 -- one whose branches send no more CANCELs
-pub mapped_less : (r : OpenRequest) (f : Branch → Branch) → ((x : Branch) → IsIn x r.branches → SendsNoMore x (f x)) → AllByRecursion IsSteady r.branches → IsLess r (record r { branches = map f r.branches })
+pub mapped_less : (r : OpenRequest) (f : Branch → Branch) → ((x : Branch) → IsIn x r.branches → SendsNoMore x (f x)) → AllByRecursion IsSteady r.branches
+    → IsLess r (record r { branches = map f r.branches })
 mapped_less r f each all = record {
   number_is = refl;
   asks_same = λ test server number uri address. refl;
@@ -72,7 +78,13 @@ less_both r x y h later = record {
 -- one of which an answer went to the caller
 upward_less : (now : ℕ) (o : Option Upward) (x : OpenRequest) → AllByRecursion IsSteady x.branches → IsLess x (after_upward now o x)
 upward_less now None x all = same_less x all
-upward_less now (Some u) x all = record { number_is = refl; asks_same = λ test server number uri address. refl; fewer = λ g. omega arith; places = λ n. omega arith; each = all }
+upward_less now (Some u) x all = record {
+  number_is = refl;
+  asks_same = λ test server number uri address. refl;
+  fewer = λ g. omega arith;
+  places = λ n. omega arith;
+  each = all;
+}
 
 -- ---- phases
 
@@ -117,7 +129,8 @@ ended_leaves : (b : Branch) → LeavesNoMore b Ended
 ended_leaves b = record { fewer = λ is. omega arith; near = λ is h. tt; early = λ is h. absurd (cc) }
 
 -- a request with a branch in such a phase
-phased_less : (r : OpenRequest) (b : Branch) (to : Option (List ℕ)) (phase : Phase) → IsFine r → IsIn b r.branches → LeavesNoMore b phase → IsLess r (with_phase (record b { final_to = to }) phase r)
+phased_less : (r : OpenRequest) (b : Branch) (to : Option (List ℕ)) (phase : Phase) → IsFine r → IsIn b r.branches → LeavesNoMore b phase
+    → IsLess r (with_phase (record b { final_to = to }) phase r)
 phased_less r b to phase fine there leaves =
     mapped_less r (phased (record b { final_to = to }) phase) (phased_no_more r.branches b to phase (alone r.branches b fine.apart fine.places there) leaves) fine.each
 
@@ -142,14 +155,16 @@ marked_less r all = mapped_less r marked_branch (λ x there. marked_no_more x) a
 -- What a change makes of an open request: ten more copies of a CANCEL are left for each that it sends, and none else.
 pub record IsCounted (test : Packet → Bool) (server : Server) (r : OpenRequest) (change : Change) : Type 0 where
   pub number_is : change.request.number ≡ r.number
-  pub fewer : copies_left (asks test server change.request) change.request.branches ≤ copies_left (asks test server r) r.branches + 10 * count_by test (change_packets change)
+  pub fewer : copies_left (asks test server change.request) change.request.branches ≤ copies_left (asks test server r) r.branches + 10 * count_by test
+      (change_packets change)
   pub places : (n : ℕ) → count_by (is_place n) change.request.branches ≤ count_by (is_place n) r.branches
   pub each : AllByRecursion IsSteady change.request.branches
   pub answer : IsNoCancel change.request.answer
 
 module _ (laws : AreCopyLaws) (test : Packet → Bool) (server : Server) where
   -- a request in between settles
-  pub settled_counted : (now : ℕ) (acks : List Packet) (relayed : Option Upward) (r x : OpenRequest) → IsLess r x → IsNoCancel x.answer → AllByRecursion IsHonest (settled server now acks relayed x).upward
+  pub settled_counted : (now : ℕ) (acks : List Packet) (relayed : Option Upward) (r x : OpenRequest) → IsLess r x → IsNoCancel x.answer
+      → AllByRecursion IsHonest (settled server now acks relayed x).upward
       → IsCounted test server r (settled server now acks relayed x)
   settled_counted now acks relayed r x h no_cancel honest = record {
     number_is = less.number_is;
@@ -159,11 +174,13 @@ module _ (laws : AreCopyLaws) (test : Packet → Bool) (server : Server) where
       left_alike (asks test server after) (asks test server r) after.branches (less.asks_same test server),
       less.fewer (asks test server r),
       first_cancels test server now after (filter is_cancellable after.branches),
-      count_joined test (acks ++ upward_packets (with_cancels now after) (upward_list relayed ++ upward_list best)) (flat_map (branch_packets server false after) (new_cancels now after)),
+      count_joined test (acks ++ upward_packets (with_cancels now after) (upward_list relayed ++ upward_list best))
+          (flat_map (branch_packets server false after) (new_cancels now after)),
     );
     places = λ n. let own = less.places n in let more = cancels_places n now after.branches in omega (arith, own, more);
     each = cancels_each laws now after.branches less.each;
-    answer = upward_no now best told (all_behind IsHonest (upward_list relayed) (upward_list best) honest) (upward_no now relayed x (all_before IsHonest (upward_list relayed) (upward_list best) honest) no_cancel);
+    answer = upward_no now best told (all_behind IsHonest (upward_list relayed) (upward_list best) honest)
+        (upward_no now relayed x (all_before IsHonest (upward_list relayed) (upward_list best) honest) no_cancel);
   } where
     told : OpenRequest
     told = after_upward now relayed x
@@ -178,19 +195,25 @@ module _ (laws : AreCopyLaws) (test : Packet → Bool) (server : Server) where
     less = let front : IsLess x told = upward_less now relayed x h.each in less_both r x after h (less_both x told after front (upward_less now best told front.each))
 
   -- a response to a CANCEL
-  cancel_counted : (now : ℕ) (r : OpenRequest) (b : Branch) (status : ℕ) (m : Message) → IsFine r → IsIn b r.branches → b.is_cancel ≡ true → AllByRecursion IsHonest (cancel_responded server now r b status m).upward
+  cancel_counted : (now : ℕ) (r : OpenRequest) (b : Branch) (status : ℕ) (m : Message) → IsFine r → IsIn b r.branches → b.is_cancel ≡ true
+      → AllByRecursion IsHonest (cancel_responded server now r b status m).upward
       → IsCounted test server r (cancel_responded server now r b status m)
   cancel_counted now r b status m fine there cancel honest = by_tests (is_provisional status) (is_final b.phase) honest where
     by_tests : (s t : Bool)
-        → AllByRecursion IsHonest (cond s (settled server now [] None (with_phase b (other_heard b.phase) r)) (cond t (settled server now [] None r) (settled server now [] None (with_phase b (Done (now + 5000) status) r)))).upward
-        → IsCounted test server r (cond s (settled server now [] None (with_phase b (other_heard b.phase) r)) (cond t (settled server now [] None r) (settled server now [] None (with_phase b (Done (now + 5000) status) r))))
-    by_tests true t own = settled_counted now [] None r (with_phase b (other_heard b.phase) r) (phased_less r b b.final_to (other_heard b.phase) fine there (other_leaves laws b cancel)) fine.answer own
+        → AllByRecursion IsHonest (cond s (settled server now [] None (with_phase b (other_heard b.phase) r))
+        (cond t (settled server now [] None r) (settled server now [] None (with_phase b (Done (now + 5000) status) r)))).upward
+        → IsCounted test server r (cond s (settled server now [] None (with_phase b (other_heard b.phase) r))
+        (cond t (settled server now [] None r) (settled server now [] None (with_phase b (Done (now + 5000) status) r))))
+    by_tests true t own = settled_counted now [] None r (with_phase b (other_heard b.phase) r)
+        (phased_less r b b.final_to (other_heard b.phase) fine there (other_leaves laws b cancel)) fine.answer own
     by_tests false true own = settled_counted now [] None r r (same_less r fine.each) fine.answer own
     by_tests false false own =
-        settled_counted now [] None r (with_phase b (Done (now + 5000) status) r) (phased_less r b b.final_to (Done (now + 5000) status) fine there (done_leaves b (now + 5000) status)) fine.answer own
+        settled_counted now [] None r (with_phase b (Done (now + 5000) status) r) (phased_less r b b.final_to (Done (now + 5000) status) fine there
+        (done_leaves b (now + 5000) status)) fine.answer own
 
   -- the first final answer of a branch to a target
-  answer_less : (now : ℕ) (r : OpenRequest) (b : Branch) (status : ℕ) (m : Message) → IsFine r → IsIn b r.branches → IsLess r (with_answer r b now status m) × IsNoCancel (with_answer r b now status m).answer
+  answer_less : (now : ℕ) (r : OpenRequest) (b : Branch) (status : ℕ) (m : Message) → IsFine r → IsIn b r.branches
+      → IsLess r (with_answer r b now status m) × IsNoCancel (with_answer r b now status m).answer
   answer_less now r b status m fine there = by_test (is_invite r && (is_success status || is_decline status)) where
     before : OpenRequest
     before = with_final (final_of status m) (with_phase (told_to r b status m) (Done (now + linger r) status) r)
@@ -206,13 +229,15 @@ module _ (laws : AreCopyLaws) (test : Packet → Bool) (server : Server) where
     by_test false = (less, fine.answer)
 
   -- a response to the request to a target
-  target_counted : (now : ℕ) (r : OpenRequest) (b : Branch) (status : ℕ) (m : Message) → IsFine r → IsIn b r.branches → b.is_cancel ≡ false → AllByRecursion IsHonest (target_responded server now r b status m).upward
+  target_counted : (now : ℕ) (r : OpenRequest) (b : Branch) (status : ℕ) (m : Message) → IsFine r → IsIn b r.branches → b.is_cancel ≡ false
+      → AllByRecursion IsHonest (target_responded server now r b status m).upward
       → IsCounted test server r (target_responded server now r b status m)
   target_counted now r b status m fine there target honest = by_tests (is_provisional status) (is_final b.phase) honest where
     chosen : (s t : Bool) → Change
     chosen s t =
         cond s (settled server now [] (relayed_provisional r b status m) (with_phase b (heard r now status b.phase) r))
-        (cond t (settled server now [] (further r b b.phase status m) r) (settled server now (acks_of server r b status m) (relayed_success r b status m) (with_answer r b now status m)))
+        (cond t (settled server now [] (further r b b.phase status m) r) (settled server now (acks_of server r b status m) (relayed_success r b status m)
+        (with_answer r b now status m)))
 
     by_tests : (s t : Bool) → AllByRecursion IsHonest (chosen s t).upward → IsCounted test server r (chosen s t)
     by_tests true t own =
@@ -224,7 +249,8 @@ module _ (laws : AreCopyLaws) (test : Packet → Bool) (server : Server) where
         settled_counted now (acks_of server r b status m) (relayed_success r b status m) r (with_answer r b now status m) less.0 less.1 own
 
   -- a response
-  response_counted : (now : ℕ) (r : OpenRequest) (b : Branch) (status : ℕ) (m : Message) → IsFine r → IsIn b r.branches → AllByRecursion IsHonest (responded server now r b status m).upward
+  response_counted : (now : ℕ) (r : OpenRequest) (b : Branch) (status : ℕ) (m : Message) → IsFine r → IsIn b r.branches
+      → AllByRecursion IsHonest (responded server now r b status m).upward
       → IsCounted test server r (responded server now r b status m)
   response_counted now r b status m fine there honest = by_kind b.is_cancel refl honest where
     by_kind : (t : Bool) → b.is_cancel ≡ t → AllByRecursion IsHonest (cond t (cancel_responded server now r b status m) (target_responded server now r b status m)).upward
@@ -233,12 +259,19 @@ module _ (laws : AreCopyLaws) (test : Packet → Bool) (server : Server) where
     by_kind false is own = target_counted now r b status m fine there is own
 
   -- the deadline of a branch
-  overdue_less : (r : OpenRequest) (b : Branch) (phase : Phase) → IsFine r → IsIn b r.branches → IsLess r (target_overdue r b phase) × IsNoCancel (target_overdue r b phase).answer
+  overdue_less : (r : OpenRequest) (b : Branch) (phase : Phase) → IsFine r → IsIn b r.branches
+      → IsLess r (target_overdue r b phase) × IsNoCancel (target_overdue r b phase).answer
   overdue_less r b (Unheard due) fine there = (given_up_less r b 408 fine there, fine.answer)
   overdue_less r b (Heard due) fine there = by_test (is_invite r) where
-    by_test : (t : Bool) → IsLess r (cond t (record r { branches = map (λ (x : Branch). cond (is_same_branch x b) (record x { wants_cancel = true }) x) r.branches }) (given_up b 408 r))
-        × IsNoCancel (cond t (record r { branches = map (λ (x : Branch). cond (is_same_branch x b) (record x { wants_cancel = true }) x) r.branches }) (given_up b 408 r)).answer
-    by_test true = (mapped_less r (λ (x : Branch). cond (is_same_branch x b) (record x { wants_cancel = true }) x) (λ x here. wanted_no_more (is_same_branch x b) x) fine.each, fine.answer)
+    by_test : (t : Bool) → IsLess r (cond t (record r { branches = map (λ (x : Branch). cond (is_same_branch x b) (record x { wants_cancel = true }) x) r.branches })
+        (given_up b 408 r))
+        × IsNoCancel (cond t (record r { branches = map (λ (x : Branch). cond (is_same_branch x b) (record x { wants_cancel = true }) x) r.branches })
+        (given_up b 408 r)).answer
+    by_test true = (
+      mapped_less r (λ (x : Branch). cond (is_same_branch x b) (record x { wants_cancel = true }) x) (λ x here. wanted_no_more (is_same_branch x b) x)
+          fine.each,
+      fine.answer,
+    )
     by_test false = (given_up_less r b 408 fine there, fine.answer)
   overdue_less r b (Cancelled due) fine there = (given_up_less r b 487 fine there, fine.answer)
   overdue_less r b (Done due status) fine there = (phased_less r b b.final_to Ended fine there (ended_leaves b), fine.answer)
@@ -246,34 +279,42 @@ module _ (laws : AreCopyLaws) (test : Packet → Bool) (server : Server) where
 
   branch_less : (r : OpenRequest) (b : Branch) → IsFine r → IsIn b r.branches → IsLess r (branch_overdue r b) × IsNoCancel (branch_overdue r b).answer
   branch_less r b fine there = by_kind b.is_cancel where
-    by_kind : (t : Bool) → IsLess r (cond t (with_phase b Ended r) (target_overdue r b b.phase)) × IsNoCancel (cond t (with_phase b Ended r) (target_overdue r b b.phase)).answer
+    by_kind : (t : Bool) → IsLess r (cond t (with_phase b Ended r) (target_overdue r b b.phase))
+        × IsNoCancel (cond t (with_phase b Ended r) (target_overdue r b b.phase)).answer
     by_kind true = (phased_less r b b.final_to Ended fine there (ended_leaves b), fine.answer)
     by_kind false = overdue_less r b b.phase fine there
 
   -- a deadline
-  deadline_counted : (now : ℕ) (r : OpenRequest) (change : Change) → IsFine r → IsOverdue server now r change → AllByRecursion IsHonest change.upward → IsCounted test server r change
+  deadline_counted : (now : ℕ) (r : OpenRequest) (change : Change) → IsFine r → IsOverdue server now r change → AllByRecursion IsHonest change.upward
+      → IsCounted test server r change
   deadline_counted now r _ fine (OfSide is) honest =
       settled_counted now [] None r (record r { side = Closed })
-      (record { number_is = refl; asks_same = λ test server number uri address. refl; fewer = λ g. omega arith; places = λ n. omega arith; each = fine.each }) fine.answer honest
+      (record { number_is = refl; asks_same = λ test server number uri address. refl; fewer = λ g. omega arith; places = λ n. omega arith; each = fine.each }) fine.answer
+      honest
   deadline_counted now r _ fine (OfBranch b there is) honest =
       let less = branch_less r b fine (in_list r.branches b there) in settled_counted now [] None r (branch_overdue r b) less.0 less.1 honest
 
   -- the caller's CANCEL
-  caller_counted : (now : ℕ) (r : OpenRequest) (t : Bool) → IsFine r → AllByRecursion IsHonest (settled server now [] None (cond t (marked r) r)).upward → IsCounted test server r (settled server now [] None (cond t (marked r) r))
+  caller_counted : (now : ℕ) (r : OpenRequest) (t : Bool) → IsFine r → AllByRecursion IsHonest (settled server now [] None (cond t (marked r) r)).upward
+      → IsCounted test server r (settled server now [] None (cond t (marked r) r))
   caller_counted now r true fine honest = settled_counted now [] None r (marked r) (marked_less r fine.each) fine.answer honest
   caller_counted now r false fine honest = settled_counted now [] None r r (same_less r fine.each) fine.answer honest
 
   -- any change
-  change_counted : (state : ProxyState) (act : Act) (now : ℕ) (r : OpenRequest) (change : Change) (again : List Packet) → IsChangeAt server state act now r change again → IsFine r → AllByRecursion IsHonest change.upward
+  change_counted : (state : ProxyState) (act : Act) (now : ℕ) (r : OpenRequest) (change : Change) (again : List Packet) → IsChangeAt server state act now r change again
+      → IsFine r → AllByRecursion IsHonest change.upward
       → IsCounted test server r change
-  change_counted state act now r _ _ (ByResponse a bytes m status reason b said start for there) fine honest = response_counted now r b status m fine (in_list r.branches b there) honest
+  change_counted state act now r _ _ (ByResponse a bytes m status reason b said start for there) fine honest =
+      response_counted now r b status m fine (in_list r.branches b there) honest
   change_counted state act now r change _ (ByDeadline _ passes) fine honest = deadline_counted now r change fine passes honest
   change_counted state act now r _ _ (ByFault at ticket b is number found) fine honest =
       settled_counted now [] None r (given_up b 503 r) (given_up_less r b 503 fine (found_in (is_failed ticket.branch) r.branches b found).0) fine.answer honest
-  change_counted state act now r _ _ (ByCancel a bytes m short key said is key_is found) fine honest = caller_counted now r (is_invite r && is_answering r.side) fine honest
+  change_counted state act now r _ _ (ByCancel a bytes m short key said is key_is found) fine honest =
+      caller_counted now r (is_invite r && is_answering r.side) fine honest
 
   -- Whatever changes a request, it stays fine, and ten more copies of a CANCEL are left for each that is sent with it.
-  pub change_leaves : (state : ProxyState) (act : Act) (now : ℕ) (r : OpenRequest) (change : Change) (again : List Packet) → IsChangeAt server state act now r change again → IsFine r
+  pub change_leaves : (state : ProxyState) (act : Act) (now : ℕ) (r : OpenRequest) (change : Change) (again : List Packet)
+      → IsChangeAt server state act now r change again → IsFine r
       → IsCounted test server r change × IsFine change.request
   change_leaves state act now r change again is fine =
       let sound : IsSound r change = change_sound server state act now r change again is fine.keeps in

@@ -38,7 +38,8 @@ same_test p own = record {
   branches q same = (four (is_same_addr q.to p.to) (bytes_eq q.bytes p.bytes) (q.ticket.datagram == p.ticket.datagram) (q.ticket.branch == p.ticket.branch) same).1
 
 -- What holds after a history of what it handed out, and of the copies that may still be sent: eleven for each first sending.
-record Holds (p : Packet) (server : Server) (history : List Link) (next : ℕ) (requests : List OpenRequest) (laws : AreCopyLaws) (is_test : IsTest (says_same p)) : Type 0 where
+record Holds (p : Packet) (server : Server) (history : List Link) (next : ℕ) (requests : List OpenRequest) (laws : AreCopyLaws) (is_test : IsTest (says_same p)) : Type
+    0 where
   stands : Stands next requests
   few : handed_out p history + total laws (says_same p) is_test server requests ≤ 11 * first_sendings p history
 
@@ -49,18 +50,23 @@ module _ (laws : AreCopyLaws) (parts : PartsLaw) (server : Server) (first : ℕ)
       subst (λ (s : ProxyState). Holds p server [] s.next s.requests laws is_test) (sym chain)
       (record { stands = record { numbered = record { differ = λ n. omega arith; are_below = λ n high. refl }; fine = tt }; few = omega arith })
   chain_holds (link ∷ history) last chain =
-      let made : HasParts (under server link.config) link.before link.act link.out link.after = parts (under server link.config) link.before link.act link.out link.after chain.1 in
+      let made : HasParts (under server link.config) link.before link.act link.out link.after =
+      parts (under server link.config) link.before link.act link.out link.after chain.1 in
       let before : Holds p server history link.before.next link.before.requests laws is_test = chain_holds history link.before chain.2 in
-      let well : IsWell laws (says_same p) is_test (under server link.config) (next_after link.before link.act) link.before.requests link.after.requests (originals link.out.packets) (retransmissions link.out.packets) =
-      parts_well laws (says_same p) is_test (under server link.config) link.before link.act link.after.moment link.before.requests link.after.requests (originals link.out.packets) (retransmissions link.out.packets) made.none_passed made.parts before.stands in
+      let well : IsWell laws (says_same p) is_test (under server link.config) (next_after link.before link.act) link.before.requests link.after.requests
+      (originals link.out.packets) (retransmissions link.out.packets) =
+      parts_well laws (says_same p) is_test (under server link.config) link.before link.act link.after.moment link.before.requests link.after.requests
+      (originals link.out.packets) (retransmissions link.out.packets) made.none_passed made.parts before.stands in
       let few = before.few in
-      let fewer : total laws (says_same p) is_test server link.after.requests + count_by (says_same p) (retransmissions link.out.packets) ≤ total laws (says_same p) is_test server link.before.requests + 10 * count_by (says_same p) (originals link.out.packets) = well.fewer in
+      let fewer : total laws (says_same p) is_test server link.after.requests + count_by (says_same p) (retransmissions link.out.packets) ≤ total laws (says_same p)
+      is_test server link.before.requests + 10 * count_by (says_same p) (originals link.out.packets) = well.fewer in
       subst (λ (s : ProxyState). Holds p server (link ∷ history) s.next s.requests laws is_test) (sym chain.0) (record {
         stands = subst (λ (n : ℕ). Stands n link.after.requests) (sym made.is_next) well.stands;
         few = omega (arith, few, fewer, count_parts (says_same p) (λ (q : Packet). q.again) link.out.packets);
       })
 
 -- The law.
-pub chain_eleven : AreCopyLaws → PartsLaw → (server : Server) (first : ℕ) (history : List Link) (last : ProxyState) → IsChain server (first_state first) history last → GoOutElevenTimes history
+pub chain_eleven : AreCopyLaws → PartsLaw → (server : Server) (first : ℕ) (history : List Link) (last : ProxyState) → IsChain server (first_state first) history last
+    → GoOutElevenTimes history
 chain_eleven laws parts server first history last chain p own =
     let few = (chain_holds laws parts server first p (same_test p own) history last chain).few in omega (arith, few)

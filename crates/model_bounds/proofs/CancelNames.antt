@@ -1,5 +1,6 @@
 -- The CANCELs that a change of an open request sends are those of its branches, each once.
-use Rattle.std.proofs.Common.{◌≡◌, ◌⊎◌, inl, inr, ℕ, ◌+◌, ◌≤◌, Bool, true, false, not, ◌&&◌, ◌||◌, ◌==◌, cond, List, [], ◌∷◌, ◌++◌, map, filter, Contains, Option, Some, None, refl, sym, ap, ap₂, subst, ◌∙◌, arith, count_by}
+use Rattle.std.proofs.Common.{◌≡◌, ◌⊎◌, inl, inr, ℕ, ◌+◌, ◌≤◌, Bool, true, false, not, ◌&&◌, ◌||◌, ◌==◌, cond, List, [], ◌∷◌, ◌++◌, map, filter, Contains, Option, Some}
+use Rattle.std.proofs.Common.{None, refl, sym, ap, ap₂, subst, ◌∙◌, arith, count_by}
 use Rattle.std.specs.Option.{option_map_or}
 use Rattle.std.specs.List.{AllByRecursion, flat_map}
 use Rattle.sip_uri.specs.declared.addr.Addr.{Addr}
@@ -20,7 +21,10 @@ use Rattle.sip_model.specs.state.declared.open_request.Upward.{Upward}
 use Rattle.sip_model.specs.state.declared.proxy_state.ProxyState.{ProxyState}
 use Rattle.sip_model.specs.state.State.{first_resend, is_invite, is_final, is_answering, is_success, is_failure, is_decline, is_provisional}
 use Rattle.sip_model.specs.context_model.Sending.{request_of, to_branch, branch_packets, ack_packets, answer_to}
-use Rattle.sip_model.specs.context_model.Branches.{Change, is_same_branch, turned, phased, with_phase, with_final, marked_branch, marked, given_up, after_upward, upward_list, best_upward, is_cancellable, cancel_branch, held_branch, with_cancel, with_cancels, settled, heard, relayed_provisional, further, linger, final_of, acks_of, told_to, relayed_success, with_answer, target_responded, cancel_responded, responded, target_overdue, branch_overdue, other_heard}
+use Rattle.sip_model.specs.context_model.Branches.{Change, is_same_branch, turned, phased, with_phase, with_final, marked_branch, marked, given_up, after_upward}
+use Rattle.sip_model.specs.context_model.Branches.{upward_list, best_upward, is_cancellable, cancel_branch, held_branch, with_cancel, with_cancels, settled, heard}
+use Rattle.sip_model.specs.context_model.Branches.{relayed_provisional, further, linger, final_of, acks_of, told_to, relayed_success, with_answer, target_responded}
+use Rattle.sip_model.specs.context_model.Branches.{cancel_responded, responded, target_overdue, branch_overdue, other_heard}
 use Rattle.sip_model.specs.steps_model.Effect.{change_packets, upward_packets}
 use Rattle.sip_model.specs.steps_model.Step.{Act, IsOverdue, OfSide, OfBranch, originals}
 use Rattle.sip_model.specs.Run.{Link, under}
@@ -54,13 +58,15 @@ module _ (server : Server) (history : List Link) where
   others_named (p ∷ ps) all = Another [] p ps all.0 (others_named ps all.1)
 
   -- packets behind others
-  pub joined_named : (ns ms : List BranchName) (ps qs : List Packet) → AreCancelsOf server history ns ps → AreCancelsOf server history ms qs → AreCancelsOf server history (ns ++ ms) (ps ++ qs)
+  pub joined_named : (ns ms : List BranchName) (ps qs : List Packet) → AreCancelsOf server history ns ps → AreCancelsOf server history ms qs
+      → AreCancelsOf server history (ns ++ ms) (ps ++ qs)
   joined_named _ ms _ qs NoMore back = back
   joined_named _ ms _ qs (Another names p packets other rest) back = Another (names ++ ms) p (packets ++ qs) other (joined_named names ms packets qs rest back)
   joined_named _ ms _ qs (OneMore name names p packets is rest) back = OneMore name (names ++ ms) p (packets ++ qs) is (joined_named names ms packets qs rest back)
 
 -- in a longer history
-pub later_named : (server : Server) (link : Link) (history : List Link) (names : List BranchName) (packets : List Packet) → AreCancelsOf server history names packets → AreCancelsOf server (link ∷ history) names packets
+pub later_named : (server : Server) (link : Link) (history : List Link) (names : List BranchName) (packets : List Packet) → AreCancelsOf server history names packets
+    → AreCancelsOf server (link ∷ history) names packets
 later_named server link history _ _ NoMore = NoMore
 later_named server link history _ _ (Another names p packets other rest) = Another names p packets other (later_named server link history names packets rest)
 later_named server link history _ _ (OneMore name names p packets is rest) =
@@ -81,7 +87,8 @@ later_named server link history _ _ (OneMore name names p packets is rest) =
     (later_named server link history names packets rest)
 
 -- said of the server under another configuration
-pub named_back : (server : Server) (config : Config) (history : List Link) (names : List BranchName) (packets : List Packet) → AreCancelsOf (under server config) history names packets → AreCancelsOf server history names packets
+pub named_back : (server : Server) (config : Config) (history : List Link) (names : List BranchName) (packets : List Packet)
+    → AreCancelsOf (under server config) history names packets → AreCancelsOf server history names packets
 named_back server config history _ _ NoMore = NoMore
 named_back server config history _ _ (Another names p packets other rest) = Another names p packets other (named_back server config history names packets rest)
 named_back server config history _ _ (OneMore name names p packets is rest) =
@@ -152,14 +159,24 @@ keeps_itself : (r : OpenRequest) → Keeps r r
 keeps_itself r = record { same = refl; branches = kept_same r.branches }
 
 keeps_phase : (b : Branch) (phase : Phase) (r : OpenRequest) → Keeps r (with_phase b phase r)
-keeps_phase b phase r = record { same = refl; branches = kept_map (phased b phase) (λ x. edited_either (is_same_branch x b) x (turned b phase x) (refl, refl)) r.branches }
+keeps_phase b phase r = record {
+  same = refl;
+  branches = kept_map (phased b phase) (λ x. edited_either (is_same_branch x b) x (turned b phase x) (refl, refl)) r.branches;
+}
 
 keeps_given_up : (b : Branch) (status : ℕ) (r : OpenRequest) → Keeps r (given_up b status r)
 keeps_given_up b status r = record { same = refl; branches = (keeps_phase b Ended r).branches }
 
-keeps_wanting : (b : Branch) (r : OpenRequest) → Keeps r (record r { branches = map (λ (x : Branch). cond (is_same_branch x b) (record x { wants_cancel = true }) x) r.branches })
+keeps_wanting : (b : Branch) (r : OpenRequest) → Keeps r (record r {
+  branches = map (λ (x : Branch). cond (is_same_branch x b) (record x { wants_cancel = true }) x)
+      r.branches;
+})
 keeps_wanting b r =
-    record { same = refl; branches = kept_map (λ (x : Branch). cond (is_same_branch x b) (record x { wants_cancel = true }) x) (λ x. edited_either (is_same_branch x b) x (record x { wants_cancel = true }) (refl, refl)) r.branches }
+    record {
+      same = refl;
+      branches = kept_map (λ (x : Branch). cond (is_same_branch x b) (record x { wants_cancel = true }) x)
+          (λ x. edited_either (is_same_branch x b) x (record x { wants_cancel = true }) (refl, refl)) r.branches;
+    }
 
 marked_kept : (x : Branch) → IsKeptBranch x (marked_branch x)
 marked_kept x = by_test (x.is_cancel || is_final x.phase) where
@@ -168,7 +185,11 @@ marked_kept x = by_test (x.is_cancel || is_final x.phase) where
   by_test false = (refl, refl)
 
 keeps_marked : (r s : OpenRequest) → Keeps r s → Keeps r (marked s)
-keeps_marked r s h = record { same = h.same; branches = kept_both r.branches s.branches (map marked_branch s.branches) h.branches (kept_map marked_branch marked_kept s.branches) }
+keeps_marked r s h = record {
+  same = h.same;
+  branches = kept_both r.branches s.branches (map marked_branch s.branches) h.branches
+      (kept_map marked_branch marked_kept s.branches);
+}
 
 -- ---- a change is settled
 
@@ -206,7 +227,8 @@ module _ (server : Server) (now : ℕ) (r : OpenRequest) where
     same = record { same = refl; branches = (keeps_phase (told_to r b status m) (Done (now + linger r) status) r).branches }
 
     by_test : (t : Bool)
-        → Keeps r (cond t (marked (with_final (final_of status m) (with_phase (told_to r b status m) (Done (now + linger r) status) r))) (with_final (final_of status m) (with_phase (told_to r b status m) (Done (now + linger r) status) r)))
+        → Keeps r (cond t (marked (with_final (final_of status m) (with_phase (told_to r b status m) (Done (now + linger r) status) r)))
+        (with_final (final_of status m) (with_phase (told_to r b status m) (Done (now + linger r) status) r)))
     by_test true = keeps_marked r (with_final (final_of status m) (with_phase (told_to r b status m) (Done (now + linger r) status) r)) same
     by_test false = same
 
@@ -214,7 +236,8 @@ module _ (server : Server) (now : ℕ) (r : OpenRequest) where
   target_settles b status m = by_tests (is_provisional status) (is_final b.phase) where
     by_tests : (s t : Bool)
         → IsSettled server now r (cond s (settled server now [] (relayed_provisional r b status m) (with_phase b (heard r now status b.phase) r))
-        (cond t (settled server now [] (further r b b.phase status m) r) (settled server now (acks_of server r b status m) (relayed_success r b status m) (with_answer r b now status m))))
+        (cond t (settled server now [] (further r b b.phase status m) r) (settled server now (acks_of server r b status m) (relayed_success r b status m)
+        (with_answer r b now status m))))
     by_tests true t = settles (relayed_provisional r b status m) (with_phase b (heard r now status b.phase) r) (keeps_phase b (heard r now status b.phase) r)
     by_tests false true = settles (further r b b.phase status m) r (keeps_itself r)
     by_tests false false =
@@ -230,7 +253,8 @@ module _ (server : Server) (now : ℕ) (r : OpenRequest) where
   cancel_settles : (b : Branch) (status : ℕ) (m : Message) → IsSettled server now r (cancel_responded server now r b status m)
   cancel_settles b status m = by_tests (is_provisional status) (is_final b.phase) where
     by_tests : (s t : Bool)
-        → IsSettled server now r (cond s (settled server now [] None (with_phase b (other_heard b.phase) r)) (cond t (settled server now [] None r) (settled server now [] None (with_phase b (Done (now + 5000) status) r))))
+        → IsSettled server now r (cond s (settled server now [] None (with_phase b (other_heard b.phase) r))
+        (cond t (settled server now [] None r) (settled server now [] None (with_phase b (Done (now + 5000) status) r))))
     by_tests true t = settles None (with_phase b (other_heard b.phase) r) (keeps_phase b (other_heard b.phase) r)
     by_tests false true = settles None r (keeps_itself r)
     by_tests false false = settles None (with_phase b (Done (now + 5000) status) r) (keeps_phase b (Done (now + 5000) status) r)
@@ -245,7 +269,8 @@ module _ (server : Server) (now : ℕ) (r : OpenRequest) where
   overdue_keeps : (b : Branch) (phase : Phase) → Keeps r (target_overdue r b phase)
   overdue_keeps b (Unheard due) = keeps_given_up b 408 r
   overdue_keeps b (Heard due) = by_test (is_invite r) where
-    by_test : (t : Bool) → Keeps r (cond t (record r { branches = map (λ (x : Branch). cond (is_same_branch x b) (record x { wants_cancel = true }) x) r.branches }) (given_up b 408 r))
+    by_test : (t : Bool) → Keeps r (cond t (record r { branches = map (λ (x : Branch). cond (is_same_branch x b) (record x { wants_cancel = true }) x) r.branches })
+        (given_up b 408 r))
     by_test true = keeps_wanting b r
     by_test false = keeps_given_up b 408 r
   overdue_keeps b (Cancelled due) = keeps_given_up b 487 r
@@ -268,7 +293,8 @@ module _ (server : Server) (now : ℕ) (r : OpenRequest) where
   caller_settles false = settles None r (keeps_itself r)
 
   -- any change
-  pub change_settles : (state : ProxyState) (act : Act) (change : Change) (again : List Packet) → IsChangeAt server state act now r change again → IsSettled server now r change
+  pub change_settles : (state : ProxyState) (act : Act) (change : Change) (again : List Packet) → IsChangeAt server state act now r change again
+      → IsSettled server now r change
   change_settles state act _ _ (ByResponse a bytes m status reason b said start for there) = response_settles b status m
   change_settles state act change _ (ByDeadline _ passes) = deadline_settles change passes
   change_settles state act _ _ (ByFault at ticket b is number found) = settles None (given_up b 503 r) (keeps_given_up b 503 r)
@@ -303,7 +329,8 @@ with_cancels_count n now (x ∷ xs) = by_test (is_cancellable x) refl (with_canc
   target false w u e = refl
 
   by_test : (t : Bool) → is_cancellable x ≡ t → count_by (cancels n) (flat_map (with_cancel now) xs) ≡ count_by (cancels n) xs + count_by (cancelled_now n) xs
-      → count_by (cancels n) (cond t (held_branch now x ∷ cancel_branch now x ∷ []) (x ∷ []) ++ flat_map (with_cancel now) xs) ≡ count_by (cancels n) (x ∷ xs) + count_by (cancelled_now n) (x ∷ xs)
+      → count_by (cancels n) (cond t (held_branch now x ∷ cancel_branch now x ∷ []) (x ∷ []) ++ flat_map (with_cancel now) xs)
+      ≡ count_by (cancels n) (x ∷ xs) + count_by (cancelled_now n) (x ∷ xs)
   by_test true is rest =
       let kind : x.is_cancel ≡ false = target x.is_cancel x.wants_cancel _ is in
       let held : cond {A = ℕ} (cancels n (held_branch now x)) 1 0 ≡ 0 = none_at (cancels n (held_branch now x)) (by_branch x.is_cancel (x.number == n) kind) in
@@ -327,7 +354,8 @@ with_cancels_count n now (x ∷ xs) = by_test (is_cancellable x) refl (with_canc
 -- ---- their packets
 
 -- what is made of a value, if there is one
-one_or_none : (o : Option Addr) (f : Addr → Packet) → (option_map_or (λ address. f address ∷ []) o [] ≡ []) ⊎ ((p : Packet) × (option_map_or (λ address. f address ∷ []) o [] ≡ p ∷ []))
+one_or_none : (o : Option Addr) (f : Addr → Packet) → (option_map_or (λ address. f address ∷ []) o [] ≡ [])
+    ⊎ ((p : Packet) × (option_map_or (λ address. f address ∷ []) o [] ≡ p ∷ []))
 one_or_none None f = inl refl
 one_or_none (Some address) f = inr (f address, refl)
 
@@ -338,61 +366,70 @@ pub record IsNamed (server : Server) (history : List Link) (r : OpenRequest) (xs
   pub few : (n : ℕ) → count_by (is_named (r.number, n)) names ≤ count_by (cancelled_now n) xs
   pub own : (d n : ℕ) → (r.number == d) ≡ false → count_by (is_named (d, n)) names ≡ 0
 
-module _ (server : Server) (history : List Link) (link : Link) (there : Contains history link) (r : OpenRequest) (is_open : Contains link.before.requests r) (after : OpenRequest) (same : bare after ≡ bare r) (now : ℕ) where
+module _ (server : Server) (history : List Link) (link : Link) (there : Contains history link) (r : OpenRequest) (is_open : Contains link.before.requests r)
+    (after : OpenRequest) (same : bare after ≡ bare r) (now : ℕ) where
   -- what goes
   abbrev going : List Branch → List Packet
   going xs = flat_map (branch_packets server false after) (map (cancel_branch now) (filter is_cancellable xs))
 
   -- one behind the others
-  named_more : (b x : Branch) (xs : List Branch) (packets : List Packet) → IsKeptBranch b x → is_cancellable x ≡ true → Contains r.branches b → ((p : Packet) → IsIn p (to_branch r b 0 false (cancel_of (request_of server r b))) → Contains (originals link.out.packets) p)
+  named_more : (b x : Branch) (xs : List Branch) (packets : List Packet) → IsKeptBranch b x → is_cancellable x ≡ true → Contains r.branches b
+      → ((p : Packet) → IsIn p (to_branch r b 0 false (cancel_of (request_of server r b))) → Contains (originals link.out.packets) p)
       → IsNamed server history r xs packets → IsNamed server history r (x ∷ xs) (to_branch r b 0 false (cancel_of (request_of server r b)) ++ packets)
-  named_more b x xs packets kept ready inside sent rest = by_packets (one_or_none b.address (λ address. record { to = address; bytes = text_of (cancel_of (request_of server r b)); ticket = record { datagram = r.number; branch = 0 }; again = false })) where
-    number : x.number ≡ b.number
-    number = ap (λ (y : Branch). y.number) kept.0
+  named_more b x xs packets kept ready inside sent rest = by_packets (one_or_none b.address
+      (λ address. record { to = address; bytes = text_of (cancel_of (request_of server r b)); ticket = record { datagram = r.number; branch = 0 }; again = false })) where
+        number : x.number ≡ b.number
+        number = ap (λ (y : Branch). y.number) kept.0
 
-    target : (c w u : Bool) → (not c && w && u) ≡ true → c ≡ false
-    target true w u e = absurd (cc)
-    target false w u e = refl
+        target : (c w u : Bool) → (not c && w && u) ≡ true → c ≡ false
+        target true w u e = absurd (cc)
+        target false w u e = refl
 
-    by_packets : (to_branch r b 0 false (cancel_of (request_of server r b)) ≡ []) ⊎ ((p : Packet) × (to_branch r b 0 false (cancel_of (request_of server r b)) ≡ p ∷ []))
-        → IsNamed server history r (x ∷ xs) (to_branch r b 0 false (cancel_of (request_of server r b)) ++ packets)
-    by_packets (inl none) =
-        record {
-          names = rest.names;
-          are_all = subst (λ (ps : List Packet). AreCancelsOf server history rest.names (ps ++ packets)) (sym none) rest.are_all;
-          few = λ n. let own = rest.few n in omega (arith, own, count_cons (cancelled_now n) x xs);
-          own = rest.own;
-        }
-    by_packets (inr (p, one)) =
-        record {
-          names = (r.number, b.number) ∷ rest.names;
-          are_all =
-              subst (λ (ps : List Packet). AreCancelsOf server history ((r.number, b.number) ∷ rest.names) (ps ++ packets)) (sym one)
-              (OneMore (r.number, b.number) rest.names p packets (record {
-                link = link;
-                request = r;
-                branch = b;
-                is_there = there;
-                is_sent = sent p (subst (IsIn p) (sym one) (inl refl));
-                is_open = is_open;
-                is_inside = inside;
-                is_target = sym kept.1 ∙ target x.is_cancel x.wants_cancel _ ready;
-                is_request = refl;
-                is_branch = refl;
-                is_its = subst (λ (ps : List Packet). Contains ps p) (sym one) (contains_first p []);
-              }) rest.are_all);
-          few = λ n.
-              let own = rest.few n in
-              let one_now : cond {A = ℕ} (is_named (r.number, n) (r.number, b.number)) 1 0 ≡ cond (cancelled_now n x) 1 0 =
-              ap₂ (λ (s t : Bool). cond {A = ℕ} (s && t) 1 0) (same_number r.number r.number refl ∙ sym ready) (ap (λ (k : ℕ). k == n) (sym number)) in
-              omega (arith, own, one_now, count_cons (is_named (r.number, n)) (r.number, b.number) rest.names, count_cons (cancelled_now n) x xs);
-          own = λ d n other.
-              let before = rest.own d n other in
-              omega (arith, before, count_cons (is_named (d, n)) (r.number, b.number) rest.names, none_at (is_named (d, n) (r.number, b.number)) (by_branch (r.number == d) (b.number == n) other));
-        }
+        by_packets : (to_branch r b 0 false (cancel_of (request_of server r b)) ≡ []) ⊎ ((p : Packet) × (to_branch r b 0 false (cancel_of (request_of server r b)) ≡ p ∷ []))
+            → IsNamed server history r (x ∷ xs) (to_branch r b 0 false (cancel_of (request_of server r b)) ++ packets)
+        by_packets (inl none) =
+            record {
+              names = rest.names;
+              are_all = subst (λ (ps : List Packet). AreCancelsOf server history rest.names (ps ++ packets)) (sym none) rest.are_all;
+              few = λ n. let own = rest.few n in omega (arith, own, count_cons (cancelled_now n) x xs);
+              own = rest.own;
+            }
+        by_packets (inr (p, one)) =
+            record {
+              names = (r.number, b.number) ∷ rest.names;
+              are_all =
+                  subst (λ (ps : List Packet). AreCancelsOf server history ((r.number, b.number) ∷ rest.names) (ps ++ packets)) (sym one)
+                  (OneMore (r.number, b.number) rest.names p packets (record {
+                    link = link;
+                    request = r;
+                    branch = b;
+                    is_there = there;
+                    is_sent = sent p (subst (IsIn p) (sym one) (inl refl));
+                    is_open = is_open;
+                    is_inside = inside;
+                    is_target = sym kept.1 ∙ target x.is_cancel x.wants_cancel _ ready;
+                    is_request = refl;
+                    is_branch = refl;
+                    is_its = subst (λ (ps : List Packet). Contains ps p) (sym one) (contains_first p []);
+                  }) rest.are_all);
+              few = λ n.
+                  let own = rest.few n in
+                  let one_now : cond {A = ℕ} (is_named (r.number, n) (r.number, b.number)) 1 0 ≡ cond (cancelled_now n x) 1 0 =
+                  ap₂ (λ (s t : Bool). cond {A = ℕ} (s && t) 1 0) (same_number r.number r.number refl ∙ sym ready) (ap (λ (k : ℕ). k == n) (sym number)) in
+                  omega (arith, own, one_now, count_cons (is_named (r.number, n)) (r.number, b.number) rest.names, count_cons (cancelled_now n) x xs);
+              own = λ d n other.
+                  let before = rest.own d n other in
+                  omega (
+                    arith,
+                    before,
+                    count_cons (is_named (d, n)) (r.number, b.number) rest.names,
+                    none_at (is_named (d, n) (r.number, b.number)) (by_branch (r.number == d) (b.number == n) other),
+                  );
+            }
 
   -- all that go
-  pub cancels_named : (bs xs : List Branch) → AreKept bs xs → ((b : Branch) → IsIn b bs → Contains r.branches b) → ((p : Packet) → IsIn p (going xs) → Contains (originals link.out.packets) p) → IsNamed server history r xs (going xs)
+  pub cancels_named : (bs xs : List Branch) → AreKept bs xs → ((b : Branch) → IsIn b bs → Contains r.branches b)
+      → ((p : Packet) → IsIn p (going xs) → Contains (originals link.out.packets) p) → IsNamed server history r xs (going xs)
   cancels_named [] [] kept inside sent = record { names = []; are_all = NoMore; few = λ n. omega arith; own = λ d n other. refl }
   cancels_named [] (x ∷ xs) kept inside sent = absurd kept
   cancels_named (b ∷ bs) [] kept inside sent = absurd kept
@@ -409,9 +446,11 @@ module _ (server : Server) (history : List Link) (link : Link) (there : Contains
     in_back [] qs p at = at
     in_back (y ∷ ys) qs p at = inr (in_back ys qs p at)
 
-    by_test : (t : Bool) → is_cancellable x ≡ t → ((p : Packet) → IsIn p (flat_map (branch_packets server false after) (map (cancel_branch now) (cond t (x ∷ filter is_cancellable xs) (filter is_cancellable xs)))) → Contains (originals link.out.packets) p)
+    by_test : (t : Bool) → is_cancellable x ≡ t → ((p : Packet) → IsIn p (flat_map (branch_packets server false after)
+        (map (cancel_branch now) (cond t (x ∷ filter is_cancellable xs) (filter is_cancellable xs)))) → Contains (originals link.out.packets) p)
         → (((p : Packet) → IsIn p (going xs) → Contains (originals link.out.packets) p) → IsNamed server history r xs (going xs))
-        → IsNamed server history r (x ∷ xs) (flat_map (branch_packets server false after) (map (cancel_branch now) (cond t (x ∷ filter is_cancellable xs) (filter is_cancellable xs))))
+        → IsNamed server history r (x ∷ xs) (flat_map (branch_packets server false after)
+        (map (cancel_branch now) (cond t (x ∷ filter is_cancellable xs) (filter is_cancellable xs))))
     by_test true is went rest =
         subst (λ (ps : List Packet). IsNamed server history r (x ∷ xs) (ps ++ going xs)) (sym its)
         (named_more b x xs (going xs) kept.0 is (inside b (inl refl))
@@ -431,7 +470,11 @@ module _ (server : Server) (history : List Link) (link : Link) (there : Contains
 -- answers are no CANCELs
 pub ups_other : (r : OpenRequest) (us : List Upward) → AllByRecursion IsHonest us → AllByRecursion IsOther (upward_packets r us)
 ups_other r [] all = tt
-ups_other r (u ∷ us) all = (by_text ((answer_to false r (text_of u.message)).ticket.branch == 0) (begins_cancel (text_of u.message)) (answer_begins u.status u.message all.0.is_of), ups_other r us all.1)
+ups_other r (u ∷ us) all = (
+  by_text ((answer_to false r (text_of u.message)).ticket.branch == 0) (begins_cancel (text_of u.message))
+      (answer_begins u.status u.message all.0.is_of),
+  ups_other r us all.1,
+)
 
 -- What a change sends has names: of branches of its request, and as many CANCELs are among the branches after it more.
 pub record IsNamedChange (server : Server) (history : List Link) (r : OpenRequest) (change : Change) : Type 0 where
@@ -440,7 +483,8 @@ pub record IsNamedChange (server : Server) (history : List Link) (r : OpenReques
   pub few : (n : ℕ) → count_by (cancels n) r.branches + count_by (is_named (r.number, n)) names ≤ count_by (cancels n) change.request.branches
   pub own : (d n : ℕ) → (r.number == d) ≡ false → count_by (is_named (d, n)) names ≡ 0
 
-module _ (server : Server) (history : List Link) (link : Link) (there : Contains history link) (r : OpenRequest) (is_open : Contains link.before.requests r) (now : ℕ) where
+module _ (server : Server) (history : List Link) (link : Link) (there : Contains history link) (r : OpenRequest) (is_open : Contains link.before.requests r)
+    (now : ℕ) where
   -- an answer leaves the branches, and what the request is from its first moment
   told_branches : (o : Option Upward) (q : OpenRequest) → (after_upward now o q).branches ≡ q.branches
   told_branches None q = refl
@@ -450,13 +494,17 @@ module _ (server : Server) (history : List Link) (link : Link) (there : Contains
   told_bare None q = refl
   told_bare (Some u) q = refl
 
-  settled_named : (acks : List Packet) (relayed : Option Upward) (s : OpenRequest) → AllByRecursion IsOther acks → Keeps r s → AllByRecursion IsHonest (settled server now acks relayed s).upward
-      → ((p : Packet) → IsIn p (settled server now acks relayed s).cancels → Contains (originals link.out.packets) p) → IsNamedChange server history r (settled server now acks relayed s)
+  settled_named : (acks : List Packet) (relayed : Option Upward) (s : OpenRequest) → AllByRecursion IsOther acks → Keeps r s
+      → AllByRecursion IsHonest (settled server now acks relayed s).upward
+      → ((p : Packet) → IsIn p (settled server now acks relayed s).cancels → Contains (originals link.out.packets) p)
+      → IsNamedChange server history r (settled server now acks relayed s)
   settled_named acks relayed s others keeps honest sent = record {
     names = named.names;
     are_all =
-        joined_named server history [] named.names (acks ++ upward_packets (with_cancels now after) ups) (flat_map (branch_packets server false after) (map (cancel_branch now) (filter is_cancellable after.branches)))
-        (others_named server history (acks ++ upward_packets (with_cancels now after) ups) (all_joined IsOther acks (upward_packets (with_cancels now after) ups) others (ups_other (with_cancels now after) ups honest)))
+        joined_named server history [] named.names (acks ++ upward_packets (with_cancels now after) ups)
+        (flat_map (branch_packets server false after) (map (cancel_branch now) (filter is_cancellable after.branches)))
+        (others_named server history (acks ++ upward_packets (with_cancels now after) ups)
+        (all_joined IsOther acks (upward_packets (with_cancels now after) ups) others (ups_other (with_cancels now after) ups honest)))
         named.are_all;
     few = λ n.
         let few = named.few n in
@@ -480,10 +528,12 @@ module _ (server : Server) (history : List Link) (link : Link) (there : Contains
 
     named : IsNamed server history r after.branches (flat_map (branch_packets server false after) (map (cancel_branch now) (filter is_cancellable after.branches)))
     named =
-        cancels_named server history link there r is_open after (told_bare (best_upward server told) told ∙ told_bare relayed s ∙ keeps.same) now r.branches after.branches kept (λ b at. contains_of r.branches b at) sent
+        cancels_named server history link there r is_open after (told_bare (best_upward server told) told ∙ told_bare relayed s ∙ keeps.same) now r.branches
+        after.branches kept (λ b at. contains_of r.branches b at) sent
 
   -- any change
-  pub change_named : (change : Change) → IsSettled server now r change → AllByRecursion IsHonest change.upward → ((p : Packet) → IsIn p change.cancels → Contains (originals link.out.packets) p) → IsNamedChange server history r change
+  pub change_named : (change : Change) → IsSettled server now r change → AllByRecursion IsHonest change.upward
+      → ((p : Packet) → IsIn p change.cancels → Contains (originals link.out.packets) p) → IsNamedChange server history r change
   change_named change h honest sent =
       subst (IsNamedChange server history r) (sym h.is_change)
       (settled_named h.acks h.relayed h.between h.others h.keeps (subst (λ (c : Change). AllByRecursion IsHonest c.upward) h.is_change honest)

@@ -1,5 +1,6 @@
 -- Over every history each branch is sent its CANCEL for the first time once.
-use Rattle.std.proofs.Common.{◌≡◌, inl, inr, ℕ, ◌+◌, ◌≤◌, Bool, true, false, ◌&&◌, ◌||◌, ◌==◌, cond, List, [], ◌∷◌, ◌++◌, map, filter, flat_map, Contains, Option, Some, None, refl, sym, ap, subst, ◌∙◌, arith, count_by, bytes_eq, codes, true≢false}
+use Rattle.std.proofs.Common.{◌≡◌, inl, inr, ℕ, ◌+◌, ◌≤◌, Bool, true, false, ◌&&◌, ◌||◌, ◌==◌, cond, List, [], ◌∷◌, ◌++◌, map, filter, flat_map, Contains, Option, Some}
+use Rattle.std.proofs.Common.{None, refl, sym, ap, subst, ◌∙◌, arith, count_by, bytes_eq, codes, true≢false}
 use Rattle.std.proofs.lemmas.Slice.Eq.{bytes_eq-Decides}
 use Rattle.std.specs.List.{AllByRecursion}
 use Rattle.sip_uri.specs.declared.addr.Addr.{Addr}
@@ -19,7 +20,8 @@ use Rattle.sip_model.specs.state.declared.proxy_state.ProxyState.{ProxyState}
 use Rattle.sip_model.specs.state.State.{first_state, is_invite}
 use Rattle.sip_model.specs.state.Arrival.{Arrival}
 use Rattle.sip_model.specs.context_model.Sending.{answer_packet, branch_packets, made_answer, onward_as, sent_of, to_branch}
-use Rattle.sip_model.specs.context_model.Branches.{Change, after_upward, best_upward, is_cancellable, cancel_branch, is_same_branch, acknowledged, acknowledged_side, was_refused}
+use Rattle.sip_model.specs.context_model.Branches.{Change, after_upward, best_upward, is_cancellable, cancel_branch, is_same_branch, acknowledged, acknowledged_side}
+use Rattle.sip_model.specs.context_model.Branches.{was_refused}
 use Rattle.sip_model.specs.context_model.Opening.{forking, opening, tried, trying, is_tried}
 use Rattle.sip_model.specs.context_model.Retransmission.{IsResent, OfAnswer, OfRequest, branch_next, resent_branch}
 use Rattle.sip_model.specs.steps_model.Effect.{replaced, change_packets, upward_packets, ack_packet, method_of}
@@ -27,13 +29,15 @@ use Rattle.sip_model.specs.steps_model.Step.{Act, Given, Passing, NoneBefore, or
 use Rattle.sip_model.specs.Order.{is_numbered, AreNumbered}
 use Rattle.sip_model.specs.Run.{Link, IsChain, under}
 use Rattle.sip_model.specs.Lives.{sent_first}
-use Rattle.sip_model.specs.Parts.{AreBegun, IsOpening, Answered, Sent, IsChangeAt, IsPart, Stays, Passes, Copies, TurnsAway, Opens, Changes, Resends, Acknowledges, AreParts, One, Two, HasParts, made_text, next_after}
+use Rattle.sip_model.specs.Parts.{AreBegun, IsOpening, Answered, Sent, IsChangeAt, IsPart, Stays, Passes, Copies, TurnsAway, Opens, Changes, Resends, Acknowledges}
+use Rattle.sip_model.specs.Parts.{AreParts, One, Two, HasParts, made_text, next_after}
 use Rattle.model_bounds.specs.Cancels.{begins_cancel, BranchName, is_named, is_own_cancel, AreCancelsOf, NoMore, HasOneCancelEach}
 use Rattle.model_bounds.proofs.FinalsHistory.{PartsLaw}
 use Rattle.model_bounds.proofs.FinalsKept.{made_status}
 use Rattle.model_bounds.proofs.FinalsLists.{contains_first, all_replaced}
 use Rattle.model_bounds.proofs.FinalsChanges.{IsSound, change_sound, settled_sound}
-use Rattle.model_bounds.proofs.SendingLists.{IsIn, in_list, contains_of, all_in, all_joined, all_weaker, counts_in, count_cons, count_joined, number_is, same_number, other_number}
+use Rattle.model_bounds.proofs.SendingLists.{IsIn, in_list, contains_of, all_in, all_joined, all_weaker, counts_in, count_cons, count_joined, number_is, same_number}
+use Rattle.model_bounds.proofs.SendingLists.{other_number}
 use Rattle.model_bounds.proofs.SendingTimes.{AreCopyLaws}
 use Rattle.model_bounds.proofs.SendingSteps.{said_next}
 use Rattle.model_bounds.proofs.SendingOpenings.{opening_number}
@@ -42,7 +46,8 @@ use Rattle.model_bounds.proofs.CancelTexts.{IsTest, answer_begins}
 use Rattle.model_bounds.proofs.CancelChanges.{IsFine, IsCounted, change_leaves}
 use Rattle.model_bounds.proofs.CancelOpenings.{tried_well, begun_each, unsent_kept}
 use Rattle.model_bounds.proofs.CancelParts.{Stands, IsWell, part_well, parts_well}
-use Rattle.model_bounds.proofs.CancelNames.{IsOther, by_branch, others_named, joined_named, later_named, named_back, cancels, IsNamedChange, change_settles, change_named, ups_other}
+use Rattle.model_bounds.proofs.CancelNames.{IsOther, by_branch, others_named, joined_named, later_named, named_back, cancels, IsNamedChange, change_settles, change_named}
+use Rattle.model_bounds.proofs.CancelNames.{ups_other}
 
 -- ---- lists
 
@@ -71,22 +76,29 @@ own_test = record { either = λ p again. refl; begins = λ p is. (both p is).1; 
 -- ---- what is sent beside changes
 
 -- an ACK that goes onward begins with its method
-onward_other : (server : Server) (number : ℕ) (m : Message) (from : Addr) (uri : List ℕ) (target : ℕ) → bytes_eq (method_of m.start) (codes "ACK") ≡ true → begins_cancel (text_of (onward_as server number m from uri target)) ≡ false
-onward_other server number m from uri target e = by_start m.start (onward_as server number m from uri target).fields (onward_as server number m from uri target).body e where
-  by_start : (s : Start) (fields : List Field) (body : List ℕ) → bytes_eq (method_of s) (codes "ACK") ≡ true → begins_cancel (text_of (record { start = with_uri uri s; fields = fields; body = body })) ≡ false
-  by_start (Request method old version) fields body is =
-      subst (λ (name : List ℕ). begins_cancel (text_of (record { start = Request name uri version; fields = fields; body = body })) ≡ false) (sym ((bytes_eq-Decides method (codes "ACK")).0 is)) refl
-  by_start (Status code reason) fields body is = absurd (cc)
+onward_other : (server : Server) (number : ℕ) (m : Message) (from : Addr) (uri : List ℕ) (target : ℕ) → bytes_eq (method_of m.start) (codes "ACK") ≡ true
+    → begins_cancel (text_of (onward_as server number m from uri target)) ≡ false
+onward_other server number m from uri target e = by_start m.start (onward_as server number m from uri target).fields (onward_as server number m from uri target).body
+    e where
+      by_start : (s : Start) (fields : List Field) (body : List ℕ) → bytes_eq (method_of s) (codes "ACK") ≡ true
+          → begins_cancel (text_of (record { start = with_uri uri s; fields = fields; body = body })) ≡ false
+      by_start (Request method old version) fields body is =
+          subst (λ (name : List ℕ). begins_cancel (text_of (record { start = Request name uri version; fields = fields; body = body })) ≡ false)
+          (sym ((bytes_eq-Decides method (codes "ACK")).0 is)) refl
+      by_start (Status code reason) fields body is = absurd (cc)
 
 -- requests to targets have branches on their tickets
-requests_other : (server : Server) (r : OpenRequest) (now number : ℕ) (bs : List Branch) → 1 ≤ number → AreBegun now number bs → AllByRecursion IsOther (flat_map (branch_packets server false r) bs)
+requests_other : (server : Server) (r : OpenRequest) (now number : ℕ) (bs : List Branch) → 1 ≤ number → AreBegun now number bs
+    → AllByRecursion IsOther (flat_map (branch_packets server false r) bs)
 requests_other server r now number [] high begun = tt
 requests_other server r now number (b ∷ bs) high begun =
-    all_joined IsOther (branch_packets server false r b) (flat_map (branch_packets server false r) bs) (by_address b.address b.is_cancel begun.0.is_target) (requests_other server r now (number + 1) bs (omega (arith, high)) begun.1) where
+    all_joined IsOther (branch_packets server false r b) (flat_map (branch_packets server false r) bs) (by_address b.address b.is_cancel begun.0.is_target)
+    (requests_other server r now (number + 1) bs (omega (arith, high)) begun.1) where
       apart : (b.number == 0) ≡ false
       apart = let numbered = begun.0.is_numbered in other_number b.number 0 (λ none. absurd (omega (arith, numbered, none, high)))
 
-      by_address : (o : Option Addr) (t : Bool) → t ≡ false → AllByRecursion IsOther (to_branch r (record b { address = o }) (cond t 0 b.number) false (sent_of server r b))
+      by_address : (o : Option Addr) (t : Bool) → t ≡ false → AllByRecursion IsOther (to_branch r (record b { address = o }) (cond t 0 b.number) false
+          (sent_of server r b))
       by_address None t e = tt
       by_address (Some address) true e = absurd (cc)
       by_address (Some address) false e = (by_branch (b.number == 0) (begins_cancel (text_of (sent_of server r b))) apart, tt)
@@ -102,10 +114,13 @@ opening_other server a m _ _ (Answered status extras final) = (answered, tt) whe
   answered : is_own_cancel (answer_packet false a.number m a.from (made_text server a m status extras)) ≡ false
   answered = answer_begins status (made_answer server a.number m a.from status extras) (record { reason = _; start_is = refl })
 opening_other server a m _ _ (Sent first others begun) =
-    all_joined IsOther (upward_packets fork (trying server fork) ++ change_packets (opening server a.now fork)) (flat_map (branch_packets server false fork) (first ∷ others))
+    all_joined IsOther (upward_packets fork (trying server fork) ++ change_packets (opening server a.now fork))
+    (flat_map (branch_packets server false fork) (first ∷ others))
     (all_joined IsOther (upward_packets fork (trying server fork)) (change_packets (opening server a.now fork)) (hundred (is_tried fork))
-    (all_joined IsOther (upward_packets (opening server a.now fork).request (opening server a.now fork).upward) (opening server a.now fork).cancels (ups_other (opening server a.now fork).request (opening server a.now fork).upward sound.honest)
-    (subst (λ (bs : List Branch). AllByRecursion IsOther (flat_map (branch_packets server false after) (map (cancel_branch a.now) bs))) (sym (ap (filter is_cancellable) branches ∙ none_wanted a.now 1 (first ∷ others) begun)) tt)))
+    (all_joined IsOther (upward_packets (opening server a.now fork).request (opening server a.now fork).upward) (opening server a.now fork).cancels
+    (ups_other (opening server a.now fork).request (opening server a.now fork).upward sound.honest)
+    (subst (λ (bs : List Branch). AllByRecursion IsOther (flat_map (branch_packets server false after) (map (cancel_branch a.now) bs)))
+    (sym (ap (filter is_cancellable) branches ∙ none_wanted a.now 1 (first ∷ others) begun)) tt)))
     (requests_other server fork a.now 1 (first ∷ others) (omega arith) begun) where
       fork : OpenRequest
       fork = forking a m (first ∷ others)
@@ -116,7 +131,11 @@ opening_other server a m _ _ (Sent first others begun) =
       after : OpenRequest
       after = after_upward a.now (best_upward server start) start
 
-      hundred : (t : Bool) → AllByRecursion IsOther (upward_packets fork (cond t (record { status = 100; message = made_answer server fork.number fork.request fork.source 100 []; target = None } ∷ []) []))
+      hundred : (t : Bool) → AllByRecursion IsOther (upward_packets fork (cond t (record {
+        status = 100;
+        message = made_answer server fork.number fork.request fork.source 100 [];
+        target = None;
+      } ∷ []) []))
       hundred true = (answer_begins 100 (made_answer server fork.number fork.request fork.source 100 []) (made_status server fork 100), tt)
       hundred false = tt
 
@@ -124,7 +143,8 @@ opening_other server a m _ _ (Sent first others begun) =
       told None q = refl
       told (Some u) q = refl
 
-      tried_same : (t : Bool) → (tried a.now (cond t (record { status = 100; message = made_answer server fork.number fork.request fork.source 100 []; target = None } ∷ []) []) fork).branches ≡ first ∷ others
+      tried_same : (t : Bool) → (tried a.now (cond t (record { status = 100; message = made_answer server fork.number fork.request fork.source 100 []; target = None }
+          ∷ []) []) fork).branches ≡ first ∷ others
       tried_same true = refl
       tried_same false = refl
 
@@ -132,7 +152,8 @@ opening_other server a m _ _ (Sent first others begun) =
       branches = told (best_upward server start) start ∙ tried_same (is_tried fork)
 
       sound : IsSound fork (opening server a.now fork)
-      sound = settled_sound server a.now [] None fork (tried a.now (trying server fork) fork) tt tt (tried_well server a.now fork (begun_each a.now 1 (first ∷ others) (omega arith) begun) tt (unsent_kept (first ∷ others))).like
+      sound = settled_sound server a.now [] None fork (tried a.now (trying server fork) fork) tt tt
+          (tried_well server a.now fork (begun_each a.now 1 (first ∷ others) (omega arith) begun) tt (unsent_kept (first ∷ others))).like
 
 -- ---- what holds of the names
 
@@ -143,11 +164,13 @@ record HasNames (names : List BranchName) (next : ℕ) (requests : List OpenRequ
   used : AllByRecursion (λ (r : OpenRequest). (n : ℕ) → count_by (is_named (r.number, n)) names ≤ count_by (cancels n) r.branches) requests
 
 -- in another order
-names_alike : (a b : List BranchName) (next : ℕ) (requests : List OpenRequest) → ((name : BranchName) → count_by (is_named name) a ≡ count_by (is_named name) b) → HasNames a next requests → HasNames b next requests
+names_alike : (a b : List BranchName) (next : ℕ) (requests : List OpenRequest) → ((name : BranchName) → count_by (is_named name) a ≡ count_by (is_named name) b)
+    → HasNames a next requests → HasNames b next requests
 names_alike a b next requests same h = record {
   differ = λ d n. let own = h.differ d n in let alike = same (d, n) in omega (arith, own, alike);
   below = λ d n high. sym (same (d, n)) ∙ h.below d n high;
-  used = all_weaker (λ (r : OpenRequest). (n : ℕ) → count_by (is_named (r.number, n)) a ≤ count_by (cancels n) r.branches) (λ (r : OpenRequest). (n : ℕ) → count_by (is_named (r.number, n)) b ≤ count_by (cancels n) r.branches) requests
+  used = all_weaker (λ (r : OpenRequest). (n : ℕ) → count_by (is_named (r.number, n)) a ≤ count_by (cancels n) r.branches) (λ (r : OpenRequest). (n : ℕ)
+      → count_by (is_named (r.number, n)) b ≤ count_by (cancels n) r.branches) requests
       (λ r own n. let few = own n in let alike = same (r.number, n) in omega (arith, few, alike)) h.used;
 }
 
@@ -156,12 +179,14 @@ names_later : (names : List BranchName) (next later : ℕ) (requests : List Open
 names_later names next later requests high h = record { differ = h.differ; below = λ d n above. h.below d n (omega (arith, high, above)); used = h.used }
 
 -- where a request replaces the one of its number, and has as many CANCELs
-names_replaced : (names : List BranchName) (next : ℕ) (requests : List OpenRequest) (r new : OpenRequest) → IsIn r requests → new.number ≡ r.number → ((n : ℕ) → count_by (cancels n) new.branches ≡ count_by (cancels n) r.branches)
+names_replaced : (names : List BranchName) (next : ℕ) (requests : List OpenRequest) (r new : OpenRequest) → IsIn r requests → new.number ≡ r.number
+    → ((n : ℕ) → count_by (cancels n) new.branches ≡ count_by (cancels n) r.branches)
     → AreNumbered next requests → HasNames names next requests → HasNames names next (replaced new requests)
 names_replaced names next requests r new there same counts numbered h = record {
   differ = h.differ;
   below = h.below;
-  used = all_replaced (λ (x : OpenRequest). (n : ℕ) → count_by (is_named (x.number, n)) names ≤ count_by (cancels n) x.branches) (λ (x : OpenRequest). (n : ℕ) → count_by (is_named (x.number, n)) names ≤ count_by (cancels n) x.branches) new requests (numbered.differ new.number)
+  used = all_replaced (λ (x : OpenRequest). (n : ℕ) → count_by (is_named (x.number, n)) names ≤ count_by (cancels n) x.branches) (λ (x : OpenRequest). (n : ℕ)
+      → count_by (is_named (x.number, n)) names ≤ count_by (cancels n) x.branches) new requests (numbered.differ new.number)
       (λ x other own. own)
       (λ n. let own = all_in (λ (x : OpenRequest). (k : ℕ) → count_by (is_named (x.number, k)) names ≤ count_by (cancels k) x.branches) requests r h.used there n in
       let alike = counts n in
@@ -172,7 +197,13 @@ names_replaced names next requests r new there same counts numbered h = record {
 -- a CANCEL has its place
 cancel_places : (n : ℕ) (bs : List Branch) → count_by (cancels n) bs ≤ count_by (is_place n) bs
 cancel_places n [] = omega arith
-cancel_places n (b ∷ bs) = omega (arith, count_cons (cancels n) b bs, count_cons (is_place n) b bs, less b.is_cancel (b.number == n) (is_early b.phase), cancel_places n bs) where
+cancel_places n (b ∷ bs) = omega (
+  arith,
+  count_cons (cancels n) b bs,
+  count_cons (is_place n) b bs,
+  less b.is_cancel (b.number == n) (is_early b.phase),
+  cancel_places n bs,
+) where
   less : (c u e : Bool) → cond {A = ℕ} (c && u) 1 0 ≤ cond {A = ℕ} (u && (c || e)) 1 0
   less true true e = omega arith
   less true false e = omega arith
@@ -191,7 +222,8 @@ module _ (laws : AreCopyLaws) (server : Server) (link : Link) (past : List Link)
     holds : HasNames (names ++ old) next after
 
   -- one without CANCELs
-  silent : (old : List BranchName) (next : ℕ) (after : List OpenRequest) (firsts : List Packet) → AllByRecursion IsOther firsts → HasNames old next after → Goes old next after firsts
+  silent : (old : List BranchName) (next : ℕ) (after : List OpenRequest) (firsts : List Packet) → AllByRecursion IsOther firsts → HasNames old next after
+      → Goes old next after firsts
   silent old next after firsts others h = record { names = []; are_all = others_named server history firsts others; holds = h }
 
   -- what holds of an open request by its names
@@ -199,8 +231,10 @@ module _ (laws : AreCopyLaws) (server : Server) (link : Link) (past : List Link)
   Used names x = (n : ℕ) → count_by (is_named (x.number, n)) names ≤ count_by (cancels n) x.branches
 
   -- a change of an open request
-  change_goes : (old : List BranchName) (now next : ℕ) (requests : List OpenRequest) (r : OpenRequest) (change : Change) (again : List Packet) → Contains link.before.requests r → IsIn r requests
-      → IsChangeAt server link.before link.act now r change again → ((p : Packet) → IsIn p change.cancels → Contains (originals link.out.packets) p) → Stands next requests → HasNames old next requests
+  change_goes : (old : List BranchName) (now next : ℕ) (requests : List OpenRequest) (r : OpenRequest) (change : Change) (again : List Packet)
+      → Contains link.before.requests r → IsIn r requests
+      → IsChangeAt server link.before link.act now r change again → ((p : Packet) → IsIn p change.cancels → Contains (originals link.out.packets) p)
+      → Stands next requests → HasNames old next requests
       → Goes old next (replaced change.request requests) (change_packets change)
   change_goes old now next requests r change again is_open there is sent stands h = record {
     names = named.names;
@@ -208,7 +242,8 @@ module _ (laws : AreCopyLaws) (server : Server) (link : Link) (past : List Link)
     holds = record {
       differ = λ d n. by_number d n (r.number == d) refl;
       below = λ d n high. later d n high;
-      used = all_replaced (Used old) (Used (named.names ++ old)) change.request requests (stands.numbered.differ change.request.number) (λ x other own n. lifts x n other (own n)) (λ n. new_used n) h.used;
+      used = all_replaced (Used old) (Used (named.names ++ old)) change.request requests (stands.numbered.differ change.request.number)
+          (λ x other own n. lifts x n other (own n)) (λ n. new_used n) h.used;
     };
   } where
     fine : IsFine r
@@ -221,7 +256,8 @@ module _ (laws : AreCopyLaws) (server : Server) (link : Link) (past : List Link)
     sound = change_sound server link.before link.act now r change again is fine.keeps
 
     named : IsNamedChange server history r change
-    named = change_named server history link (contains_first link past) r is_open now change (change_settles server now r link.before link.act change again is) sound.honest sent
+    named = change_named server history link (contains_first link past) r is_open now change (change_settles server now r link.before link.act change again is)
+        sound.honest sent
 
     joined : (d n : ℕ) → count_by (is_named (d, n)) (named.names ++ old) ≡ count_by (is_named (d, n)) named.names + count_by (is_named (d, n)) old
     joined d n = count_joined (is_named (d, n)) named.names old
@@ -247,7 +283,8 @@ module _ (laws : AreCopyLaws) (server : Server) (link : Link) (past : List Link)
     lifts : (x : OpenRequest) (n : ℕ) → (x.number == change.request.number) ≡ false → count_by (is_named (x.number, n)) old ≤ count_by (cancels n) x.branches
         → count_by (is_named (x.number, n)) (named.names ++ old) ≤ count_by (cancels n) x.branches
     lifts x n other own =
-        let apart : (r.number == x.number) ≡ false = other_number r.number x.number (λ same. true≢false (sym (same_number x.number change.request.number (sym same ∙ sym leaves.0.number_is)) ∙ other)) in
+        let apart : (r.number == x.number) ≡ false = other_number r.number x.number (λ same.
+        true≢false (sym (same_number x.number change.request.number (sym same ∙ sym leaves.0.number_is)) ∙ other)) in
         let alike = other_names x.number n apart in
         omega (arith, own, alike)
 
@@ -271,7 +308,8 @@ module _ (laws : AreCopyLaws) (server : Server) (link : Link) (past : List Link)
       by_test false other = other_names d n other ∙ h.below d n high
 
   -- what goes again, and an ACK, leave the CANCELs
-  resent_counts : (now : ℕ) (r later : OpenRequest) (again : List Packet) → IsResent server now r again later → (later.number ≡ r.number) × ((n : ℕ) → count_by (cancels n) later.branches ≡ count_by (cancels n) r.branches)
+  resent_counts : (now : ℕ) (r later : OpenRequest) (again : List Packet) → IsResent server now r again later
+      → (later.number ≡ r.number) × ((n : ℕ) → count_by (cancels n) later.branches ≡ count_by (cancels n) r.branches)
   resent_counts now r _ _ (OfAnswer due) = (refl, λ n. refl)
   resent_counts now r _ _ (OfRequest b inside due) = (refl, λ n. mapped n r.branches) where
     mapped : (n : ℕ) (bs : List Branch) → count_by (cancels n) (map (resent_branch b (branch_next r b)) bs) ≡ count_by (cancels n) bs
@@ -283,10 +321,12 @@ module _ (laws : AreCopyLaws) (server : Server) (link : Link) (past : List Link)
           omega (arith, rest, count_cons (cancels n) x xs, count_cons (cancels n) (record x { again = branch_next r b }) (map (resent_branch b (branch_next r b)) xs))
       by_test false rest = omega (arith, rest, count_cons (cancels n) x xs, count_cons (cancels n) x (map (resent_branch b (branch_next r b)) xs))
 
-  acknowledged_counts : (now : ℕ) (r : OpenRequest) → ((acknowledged now r).number ≡ r.number) × ((n : ℕ) → count_by (cancels n) (acknowledged now r).branches ≡ count_by (cancels n) r.branches)
+  acknowledged_counts : (now : ℕ) (r : OpenRequest) → ((acknowledged now r).number ≡ r.number)
+      × ((n : ℕ) → count_by (cancels n) (acknowledged now r).branches ≡ count_by (cancels n) r.branches)
   acknowledged_counts now r = by_test (is_invite r && was_refused r.answer) where
     by_test : (t : Bool)
-        → ((cond t (record r { side = acknowledged_side now r.side }) r).number ≡ r.number) × ((n : ℕ) → count_by (cancels n) (cond t (record r { side = acknowledged_side now r.side }) r).branches ≡ count_by (cancels n) r.branches)
+        → ((cond t (record r { side = acknowledged_side now r.side }) r).number ≡ r.number)
+        × ((n : ℕ) → count_by (cancels n) (cond t (record r { side = acknowledged_side now r.side }) r).branches ≡ count_by (cancels n) r.branches)
     by_test true = (refl, λ n. refl)
     by_test false = (refl, λ n. refl)
 
@@ -303,8 +343,10 @@ module _ (laws : AreCopyLaws) (server : Server) (link : Link) (past : List Link)
     by_act (Passing at) = omega arith
 
   -- a part of a step
-  part_goes : (old : List BranchName) (now : ℕ) (after : List OpenRequest) (firsts again : List Packet) → IsPart server link.before link.act now link.before.requests after firsts again
-      → ((p : Packet) → IsIn p firsts → Contains (originals link.out.packets) p) → Stands link.before.next link.before.requests → HasNames old link.before.next link.before.requests → Goes old next after firsts
+  part_goes : (old : List BranchName) (now : ℕ) (after : List OpenRequest) (firsts again : List Packet)
+      → IsPart server link.before link.act now link.before.requests after firsts again
+      → ((p : Packet) → IsIn p firsts → Contains (originals link.out.packets) p) → Stands link.before.next link.before.requests
+      → HasNames old link.before.next link.before.requests → Goes old next after firsts
   part_goes old now after firsts again part sent stands h = by_part part where
     moved : HasNames old (next_after link.before link.act) link.before.requests
     moved = names_later old link.before.next (next_after link.before link.act) link.before.requests next_high h
@@ -312,17 +354,22 @@ module _ (laws : AreCopyLaws) (server : Server) (link : Link) (past : List Link)
     numbered : AreNumbered (next_after link.before link.act) link.before.requests
     numbered = record { differ = stands.numbered.differ; are_below = λ n high. stands.numbered.are_below n (omega (arith, high, next_high)) }
 
-    told : (rs : List OpenRequest) (ps : List Packet) → after ≡ rs → firsts ≡ ps → Goes old (next_after link.before link.act) rs ps → Goes old (next_after link.before link.act) after firsts
-    told rs ps e p goes = subst (λ (os : List OpenRequest). Goes old (next_after link.before link.act) os firsts) (sym e) (subst (λ (qs : List Packet). Goes old (next_after link.before link.act) rs qs) (sym p) goes)
+    told : (rs : List OpenRequest) (ps : List Packet) → after ≡ rs → firsts ≡ ps → Goes old (next_after link.before link.act) rs ps
+        → Goes old (next_after link.before link.act) after firsts
+    told rs ps e p goes = subst (λ (os : List OpenRequest). Goes old (next_after link.before link.act) os firsts) (sym e)
+        (subst (λ (qs : List Packet). Goes old (next_after link.before link.act) rs qs) (sym p) goes)
 
     by_part : IsPart server link.before link.act now link.before.requests after firsts again → Goes old (next_after link.before link.act) after firsts
     by_part (Stays e p q) = told link.before.requests [] e p (silent old (next_after link.before link.act) link.before.requests [] tt moved)
     by_part (Passes a m address within ack e p q) =
         told link.before.requests (ack_packet server a m address ∷ []) e p
-        (silent old (next_after link.before link.act) link.before.requests (ack_packet server a m address ∷ []) (onward_other server a.number m a.from (onward_uri server.config.own m) 1 ack, tt) moved)
-    by_part (Copies a bytes m short key r said no_ack key_is found e p q) = told link.before.requests [] e p (silent old (next_after link.before link.act) link.before.requests [] tt moved)
+        (silent old (next_after link.before link.act) link.before.requests (ack_packet server a m address ∷ [])
+        (onward_other server a.number m a.from (onward_uri server.config.own m) 1 ack, tt) moved)
+    by_part (Copies a bytes m short key r said no_ack key_is found e p q) = told link.before.requests [] e p
+        (silent old (next_after link.before link.act) link.before.requests [] tt moved)
     by_part (TurnsAway a bytes m short r said key_is no_ack opening full e q) =
-        told link.before.requests firsts e refl (silent old (next_after link.before link.act) link.before.requests firsts (opening_other server a m r firsts opening) moved)
+        told link.before.requests firsts e refl (silent old (next_after link.before link.act) link.before.requests firsts (opening_other server a m r firsts opening)
+        moved)
     by_part (Opens a bytes m short r said key_is no_ack at opening room new e q) =
         let step = said_next link.before link.act a bytes m short said in
         let number : r.number ≡ link.before.next = opening_number server a m r firsts opening ∙ step.1 in
@@ -335,7 +382,8 @@ module _ (laws : AreCopyLaws) (server : Server) (link : Link) (past : List Link)
     by_part (Changes r change there is e p) =
         told (replaced change.request link.before.requests) (change_packets change) e p
         (change_goes old now (next_after link.before link.act) link.before.requests r change again there (in_list link.before.requests r there) is
-        (λ x at. sent x (subst (IsIn x) (sym p) (in_back (change.acks ++ upward_packets change.request change.upward) change.cancels x at))) (record { numbered = numbered; fine = stands.fine }) moved)
+        (λ x at. sent x (subst (IsIn x) (sym p) (in_back (change.acks ++ upward_packets change.request change.upward) change.cancels x at)))
+        (record { numbered = numbered; fine = stands.fine }) moved)
     by_part (Resends r later there goes e p) =
         let same = resent_counts now r later again goes in
         told (replaced later link.before.requests) [] e p
@@ -345,11 +393,14 @@ module _ (laws : AreCopyLaws) (server : Server) (link : Link) (past : List Link)
         let same = acknowledged_counts now r in
         told (replaced (acknowledged now r) link.before.requests) [] e p
         (silent old (next_after link.before link.act) (replaced (acknowledged now r) link.before.requests) [] tt
-        (names_replaced old (next_after link.before link.act) link.before.requests r (acknowledged now r) (in_list link.before.requests r there) same.0 same.1 numbered moved))
+        (names_replaced old (next_after link.before link.act) link.before.requests r (acknowledged now r) (in_list link.before.requests r there) same.0 same.1 numbered
+        moved))
 
   -- a step
-  parts_goes : (old : List BranchName) (now : ℕ) (after : List OpenRequest) (firsts again : List Packet) → NoneBefore now link.before.requests → AreParts server link.before link.act now link.before.requests after firsts again
-      → ((p : Packet) → IsIn p firsts → Contains (originals link.out.packets) p) → Stands link.before.next link.before.requests → HasNames old link.before.next link.before.requests → Goes old next after firsts
+  parts_goes : (old : List BranchName) (now : ℕ) (after : List OpenRequest) (firsts again : List Packet) → NoneBefore now link.before.requests
+      → AreParts server link.before link.act now link.before.requests after firsts again
+      → ((p : Packet) → IsIn p firsts → Contains (originals link.out.packets) p) → Stands link.before.next link.before.requests
+      → HasNames old link.before.next link.before.requests → Goes old next after firsts
   parts_goes old now after firsts again none (One part) sent stands h = part_goes old now after firsts again part sent stands h
   parts_goes old now after firsts again none (Two middle earlier r change part was_there there is e p q) sent stands h =
       let front : Goes old (next_after link.before link.act) middle earlier =
@@ -358,7 +409,8 @@ module _ (laws : AreCopyLaws) (server : Server) (link : Link) (past : List Link)
       part_well laws is_own_cancel own_test server link.before link.act now link.before.requests middle earlier [] none part stands in
       let back : Goes (front.names ++ old) (next_after link.before link.act) (replaced change.request middle) (change_packets change) =
       change_goes (front.names ++ old) now (next_after link.before link.act) middle r change [] was_there (in_list middle r there) is
-      (λ x at. sent x (subst (IsIn x) (sym p) (in_back earlier (change_packets change) x (in_back (change.acks ++ upward_packets change.request change.upward) change.cancels x at)))) well.stands front.holds in
+      (λ x at. sent x (subst (IsIn x) (sym p) (in_back earlier (change_packets change) x
+      (in_back (change.acks ++ upward_packets change.request change.upward) change.cancels x at)))) well.stands front.holds in
       subst (λ (os : List OpenRequest). Goes old (next_after link.before link.act) os firsts) (sym e)
       (subst (λ (ps : List Packet). Goes old (next_after link.before link.act) (replaced change.request middle) ps) (sym p) (record {
         names = front.names ++ back.names;
@@ -392,23 +444,29 @@ module _ (laws : AreCopyLaws) (parts : PartsLaw) (server : Server) (first : ℕ)
         has_names = record { differ = λ d n. omega arith; below = λ d n high. refl; used = tt };
       })
   chain_holds (link ∷ history) last chain =
-      let made : HasParts (under server link.config) link.before link.act link.out link.after = parts (under server link.config) link.before link.act link.out link.after chain.1 in
+      let made : HasParts (under server link.config) link.before link.act link.out link.after =
+      parts (under server link.config) link.before link.act link.out link.after chain.1 in
       let before : Holds server history link.before.next link.before.requests = chain_holds history link.before chain.2 in
-      let well : IsWell laws is_own_cancel own_test (under server link.config) (next_after link.before link.act) link.before.requests link.after.requests (originals link.out.packets) (retransmissions link.out.packets) =
-      parts_well laws is_own_cancel own_test (under server link.config) link.before link.act link.after.moment link.before.requests link.after.requests (originals link.out.packets) (retransmissions link.out.packets) made.none_passed made.parts before.stands in
+      let well : IsWell laws is_own_cancel own_test (under server link.config) (next_after link.before link.act) link.before.requests link.after.requests
+      (originals link.out.packets) (retransmissions link.out.packets) =
+      parts_well laws is_own_cancel own_test (under server link.config) link.before link.act link.after.moment link.before.requests link.after.requests
+      (originals link.out.packets) (retransmissions link.out.packets) made.none_passed made.parts before.stands in
       let goes : Goes laws (under server link.config) link history before.names (next_after link.before link.act) link.after.requests (originals link.out.packets) =
-      parts_goes laws (under server link.config) link history before.names link.after.moment link.after.requests (originals link.out.packets) (retransmissions link.out.packets) made.none_passed made.parts
+      parts_goes laws (under server link.config) link history before.names link.after.moment link.after.requests (originals link.out.packets)
+      (retransmissions link.out.packets) made.none_passed made.parts
       (λ p at. contains_of (originals link.out.packets) p at) before.stands before.has_names in
       subst (λ (s : ProxyState). Holds server (link ∷ history) s.next s.requests) (sym chain.0) (record {
         stands = subst (λ (n : ℕ). Stands n link.after.requests) (sym made.is_next) well.stands;
         names = goes.names ++ before.names;
         are_all = joined_named server (link ∷ history) goes.names before.names (originals link.out.packets) (sent_first history)
-            (named_back server link.config (link ∷ history) goes.names (originals link.out.packets) goes.are_all) (later_named server link history before.names (sent_first history) before.are_all);
+            (named_back server link.config (link ∷ history) goes.names (originals link.out.packets) goes.are_all)
+            (later_named server link history before.names (sent_first history) before.are_all);
         has_names = subst (λ (n : ℕ). HasNames (goes.names ++ before.names) n link.after.requests) (sym made.is_next) goes.holds;
       })
 
 -- The law.
-pub chain_once : AreCopyLaws → PartsLaw → (server : Server) (first : ℕ) (history : List Link) (last : ProxyState) → IsChain server (first_state first) history last → HasOneCancelEach server history
+pub chain_once : AreCopyLaws → PartsLaw → (server : Server) (first : ℕ) (history : List Link) (last : ProxyState) → IsChain server (first_state first) history last
+    → HasOneCancelEach server history
 chain_once laws parts server first history last chain =
     let own : Holds server history last.next last.requests = chain_holds laws parts server first history last chain in
     record { names = own.names; are_all = own.are_all; differ = λ name. own.has_names.differ name.0 name.1 }

@@ -1,5 +1,6 @@
 -- A request as it is opened: no CANCEL is sent for it yet, but with its best answer.
-use Rattle.std.proofs.Common.{◌≡◌, ℕ, ◌+◌, ◌*◌, ◌≤◌, ◌<◌, Bool, true, false, not, ◌&&◌, ◌||◌, ◌==◌, cond, List, [], ◌∷◌, ◌++◌, map, filter, Some, None, is_some, refl, arith, count_by}
+use Rattle.std.proofs.Common.{◌≡◌, ℕ, ◌+◌, ◌*◌, ◌≤◌, ◌<◌, Bool, true, false, not, ◌&&◌, ◌||◌, ◌==◌, cond, List, [], ◌∷◌, ◌++◌, map, filter, Some, None, is_some, refl}
+use Rattle.std.proofs.Common.{arith, count_by}
 use Rattle.std.specs.List.{AllByRecursion, flat_map}
 use Rattle.sip_message_form.specs.declared.message.Message.{Message}
 use Rattle.sip_edit_response.specs.Reasons.{reason_of}
@@ -28,7 +29,8 @@ use Rattle.model_bounds.proofs.CancelChanges.{IsFine, IsLess, same_less, IsCount
 -- ---- branches that are first sent
 
 -- what only branches of one number pass, none of a later number passes
-begun_none : (p : Branch → Bool) (n : ℕ) → ((b : Branch) → p b ≡ true → b.number ≡ n) → (now number : ℕ) (bs : List Branch) → n < number → AreBegun now number bs → count_by p bs ≡ 0
+begun_none : (p : Branch → Bool) (n : ℕ) → ((b : Branch) → p b ≡ true → b.number ≡ n) → (now number : ℕ) (bs : List Branch) → n < number → AreBegun now number bs
+    → count_by p bs ≡ 0
 begun_none p n own now number [] low h = refl
 begun_none p n own now number (b ∷ bs) low h = by_test (p b) refl (begun_none p n own now (number + 1) bs (omega (arith, low)) h.1) where
   by_test : (t : Bool) → p b ≡ t → count_by p bs ≡ 0 → count_by p (b ∷ bs) ≡ 0
@@ -56,7 +58,12 @@ target_number n b is = number_is b.number n (both_pass (not b.is_cancel) (b.numb
 -- none is a CANCEL
 begun_left : (g : Asks) (now number : ℕ) (bs : List Branch) → AreBegun now number bs → copies_left g bs ≡ 0
 begun_left g now number [] h = refl
-begun_left g now number (b ∷ bs) h = omega (arith, left_cons g b bs, none (g b.number b.uri b.address) b.is_cancel (other_copies_left b.phase b.again) h.0.is_target, begun_left g now (number + 1) bs h.1) where
+begun_left g now number (b ∷ bs) h = omega (
+  arith,
+  left_cons g b bs,
+  none (g b.number b.uri b.address) b.is_cancel (other_copies_left b.phase b.again) h.0.is_target,
+  begun_left g now (number + 1) bs h.1,
+) where
   none : (s t : Bool) (n : ℕ) → t ≡ false → cond {A = ℕ} (t && s) n 0 ≡ 0
   none s true n is = absurd (cc)
   none s false n is = refl
@@ -85,7 +92,8 @@ pub record IsTried (r x : OpenRequest) : Type 0 where
   pub like : IsLike r x
   pub succeeds : Succeeds r x
 
-pub tried_well : (server : Server) (now : ℕ) (r : OpenRequest) → AllByRecursion IsSteady r.branches → IsNoCancel r.answer → AllByRecursion IsKept r.finals → IsTried r (tried now (trying server r) r)
+pub tried_well : (server : Server) (now : ℕ) (r : OpenRequest) → AllByRecursion IsSteady r.branches → IsNoCancel r.answer → AllByRecursion IsKept r.finals
+    → IsTried r (tried now (trying server r) r)
 tried_well server now r each no_cancel keeps = by_test (is_tried r) where
   hundred : Upward
   hundred = record { status = 100; message = made_answer server r.number r.request r.source 100 []; target = None }
@@ -93,14 +101,20 @@ tried_well server now r each no_cancel keeps = by_test (is_tried r) where
   honest : IsHonest hundred
   honest = record { low = omega arith; is_of = made_status server r 100 }
 
-  by_test : (t : Bool) → IsTried r (tried now (cond t (record { status = 100; message = made_answer server r.number r.request r.source 100 []; target = None } ∷ []) []) r)
+  by_test : (t : Bool) → IsTried r (tried now (cond t (record { status = 100; message = made_answer server r.number r.request r.source 100 []; target = None } ∷ []) [])
+      r)
   by_test true = record {
     less = record { number_is = refl; asks_same = λ test server number uri address. refl; fewer = λ g. omega arith; places = λ n. omega arith; each = each };
     answer = upward_no now (Some hundred) r (honest, tt) no_cancel;
     like = record { number_is = refl; key_is = refl; keeps = keeps };
     succeeds = succeeds_alike r (answered now hundred r) refl refl refl;
   }
-  by_test false = record { less = same_less r each; answer = no_cancel; like = record { number_is = refl; key_is = refl; keeps = keeps }; succeeds = succeeds_alike r r refl refl refl }
+  by_test false = record {
+    less = same_less r each;
+    answer = no_cancel;
+    like = record { number_is = refl; key_is = refl; keeps = keeps };
+    succeeds = succeeds_alike r r refl refl refl;
+  }
 
 -- ---- an opening
 
@@ -111,11 +125,17 @@ pub record IsOpenedWell (test : Packet → Bool) (server : Server) (r : OpenRequ
 
 module _ (laws : AreCopyLaws) (test : Packet → Bool) (server : Server) where
   -- one that is answered at once
-  answered_well : (a : Arrival) (m : Message) (status : ℕ) (text : List ℕ) (firsts : List Packet) → IsNoCancel (closing a m status text).answer → IsOpenedWell test server (closing a m status text) firsts
-  answered_well a m status text firsts no_cancel = record { fewer = omega arith; fine = record { apart = λ n. omega arith; places = λ n. omega arith; each = tt; answer = no_cancel; keeps = tt } }
+  answered_well : (a : Arrival) (m : Message) (status : ℕ) (text : List ℕ) (firsts : List Packet) → IsNoCancel (closing a m status text).answer
+      → IsOpenedWell test server (closing a m status text) firsts
+  answered_well a m status text firsts no_cancel = record {
+    fewer = omega arith;
+    fine =
+        record { apart = λ n. omega arith; places = λ n. omega arith; each = tt; answer = no_cancel; keeps = tt };
+  }
 
   -- one that is sent to its branches
-  sent_well : (a : Arrival) (m : Message) (bs : List Branch) → AreBegun a.now 1 bs → IsOpenedWell test server (opening server a.now (forking a m bs)).request (opening_packets server a.now (forking a m bs))
+  sent_well : (a : Arrival) (m : Message) (bs : List Branch) → AreBegun a.now 1 bs → IsOpenedWell test server (opening server a.now (forking a m bs)).request
+      (opening_packets server a.now (forking a m bs))
   sent_well a m bs begun = record {
     fewer = omega (
       arith,
@@ -125,7 +145,8 @@ module _ (laws : AreCopyLaws) (test : Packet → Bool) (server : Server) where
       count_joined test (upward_packets fork (trying server fork)) (change_packets (opening server a.now fork)),
     );
     fine = record {
-      apart = λ n. let same = (settled_succeeds server a.now [] None fork (tried a.now (trying server fork) fork) well.succeeds).no_more n in let one = begun_one (is_target n) n (target_number n) a.now 1 bs begun in omega (arith, same, one);
+      apart = λ n. let same = (settled_succeeds server a.now [] None fork (tried a.now (trying server fork) fork) well.succeeds).no_more n in
+          let one = begun_one (is_target n) n (target_number n) a.now 1 bs begun in omega (arith, same, one);
       places = λ n. let less = change_counted.places n in let one = begun_one (is_place n) n (place_number n) a.now 1 bs begun in omega (arith, less, one);
       each = change_counted.each;
       answer = change_counted.answer;
@@ -147,5 +168,6 @@ module _ (laws : AreCopyLaws) (test : Packet → Bool) (server : Server) where
   -- either
   pub opening_well : (a : Arrival) (m : Message) (r : OpenRequest) (firsts : List Packet) → IsOpening server a m r firsts → IsOpenedWell test server r firsts
   opening_well a m _ _ (Answered status extras final) =
-      answered_well a m status (made_text server a m status extras) _ (answer_begins status (made_answer server a.number m a.from status extras) (record { reason = reason_of status; start_is = refl }))
+      answered_well a m status (made_text server a m status extras) _ (answer_begins status (made_answer server a.number m a.from status extras)
+      (record { reason = reason_of status; start_is = refl }))
   opening_well a m _ _ (Sent first others begun) = sent_well a m (first ∷ others) begun

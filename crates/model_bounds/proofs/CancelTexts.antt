@@ -1,5 +1,6 @@
 -- What is no CANCEL of this server: answers and ACKs, by how they begin, and requests to targets, by their tickets.
-use Rattle.std.proofs.Common.{◌≡◌, ℕ, ◌≤◌, Bool, true, false, not, ◌&&◌, cond, List, [], ◌∷◌, ◌++◌, Option, Some, None, refl, ap, arith, count_by, codes, decimal, length, map}
+use Rattle.std.proofs.Common.{◌≡◌, ℕ, ◌≤◌, Bool, true, false, not, ◌&&◌, cond, List, [], ◌∷◌, ◌++◌, Option, Some, None, refl, ap, arith, count_by, codes, decimal, length}
+use Rattle.std.proofs.Common.{map}
 use Rattle.std.specs.Option.{option_map_or}
 use Rattle.std.specs.List.{AllByRecursion, flat_map}
 use Rattle.sip_uri.specs.declared.addr.Addr.{Addr}
@@ -55,7 +56,8 @@ one_fails test p e = omega (arith, count_cons test p [], none_at (test p) e)
 -- an answer of a status
 pub answer_begins : (status : ℕ) (m : Message) → HasStatus status m → begins_cancel (text_of m) ≡ false
 answer_begins status m h =
-    ap (λ (start : Start). begins_cancel (start_text start ++ codes "\r\n" ++ flat_map field_text m.fields ++ codes "Content-Length: " ++ decimal (length m.body) ++ codes "\r\n\r\n" ++ m.body)) h.start_is
+    ap (λ (start : Start). begins_cancel (start_text start ++ codes "\r\n" ++ flat_map field_text m.fields ++ codes "Content-Length: " ++ decimal (length m.body)
+    ++ codes "\r\n\r\n" ++ m.body)) h.start_is
 
 -- the text of the last answer, which is kept for copies, is no CANCEL
 abbrev pub IsNoCancel : Option LastAnswer → Type 0
@@ -83,7 +85,8 @@ answers_none test is r (Some a) h = by_test (is_lasting r.side && not (is_invite
 
 -- ---- ACKs
 
-ack_none : (test : Packet → Bool) → IsTest test → (server : Server) (again : Bool) (r : OpenRequest) (b : Branch) (to : Option (List ℕ)) → count_by test (ack_packets server again r b to) ≡ 0
+ack_none : (test : Packet → Bool) → IsTest test → (server : Server) (again : Bool) (r : OpenRequest) (b : Branch) (to : Option (List ℕ))
+    → count_by test (ack_packets server again r b to) ≡ 0
 ack_none test is server again r b to = by_address b.address (request_of server r b) where
   by_address : (o : Option Addr) (m : Message) → count_by test (to_branch r (record b { address = o }) 0 again (ack_with to m)) ≡ 0
   by_address None m = refl
@@ -110,7 +113,8 @@ acked_none test is server r b status = by_test (is_failure status) b.phase where
 
 -- ---- requests to targets
 
-pub target_none : (test : Packet → Bool) → IsTest test → (server : Server) (r : OpenRequest) (b : Branch) → b.is_cancel ≡ false → 1 ≤ b.number → count_by test (branch_packets server true r b) ≡ 0
+pub target_none : (test : Packet → Bool) → IsTest test → (server : Server) (r : OpenRequest) (b : Branch) → b.is_cancel ≡ false → 1 ≤ b.number
+    → count_by test (branch_packets server true r b) ≡ 0
 target_none test is server r b target high = by_address b.address b.is_cancel target where
   by_address : (o : Option Addr) (t : Bool) → t ≡ false → count_by test (to_branch r (record b { address = o }) (cond t 0 b.number) true (sent_of server r b)) ≡ 0
   by_address None t e = refl
@@ -127,7 +131,8 @@ asks test server r number uri address =
     option_map_or (λ to. test (record {
       to = to;
       bytes = text_of
-          (cancel_of (cond (begins_dialog r) (with_record_route server.config.own (onward_as server r.number r.request r.source uri number)) (onward_as server r.number r.request r.source uri number)));
+          (cancel_of (cond (begins_dialog r) (with_record_route server.config.own (onward_as server r.number r.request r.source uri number))
+          (onward_as server r.number r.request r.source uri number)));
       ticket = record { datagram = r.number; branch = 0 };
       again = false;
     })) address false
@@ -136,10 +141,19 @@ asks test server r number uri address =
 first_cancel : (test : Packet → Bool) (server : Server) (now : ℕ) (r : OpenRequest) (b : Branch)
     → count_by test (branch_packets server false r (cancel_branch now b)) ≡ cond {A = ℕ} (asks test server r b.number b.uri b.address) 1 0
 first_cancel test server now r b = by_address b.address where
-  by_address : (o : Option Addr) → count_by test (to_branch r (record b { address = o }) 0 false (cancel_of (request_of server r b))) ≡ cond {A = ℕ} (asks test server r b.number b.uri o) 1 0
+  by_address : (o : Option Addr) → count_by test (to_branch r (record b { address = o }) 0 false (cancel_of (request_of server r b)))
+      ≡ cond {A = ℕ} (asks test server r b.number b.uri o) 1 0
   by_address None = refl
   by_address (Some to) =
-      omega (arith, count_cons test (record { to = to; bytes = text_of (cancel_of (request_of server r b)); ticket = record { datagram = r.number; branch = 0 }; again = false }) [])
+      omega (
+        arith,
+        count_cons test (record {
+          to = to;
+          bytes = text_of (cancel_of (request_of server r b));
+          ticket = record { datagram = r.number; branch = 0 };
+          again = false;
+        }) [],
+      )
 
 -- all that are
 pub first_cancels : (test : Packet → Bool) (server : Server) (now : ℕ) (r : OpenRequest) (bs : List Branch)
@@ -159,7 +173,8 @@ pub cancel_copy : (test : Packet → Bool) → IsTest test → (server : Server)
     → count_by test (branch_packets server true r b) ≡ cond {A = ℕ} (asks test server r b.number b.uri b.address) 1 0
 cancel_copy test is server r b cancel = by_address b.address b.is_cancel cancel where
   by_address : (o : Option Addr) (t : Bool) → t ≡ true
-      → count_by test (to_branch r (record b { address = o }) (cond t 0 b.number) true (cond t (cancel_of (request_of server r b)) (request_of server r b))) ≡ cond {A = ℕ} (asks test server r b.number b.uri o) 1 0
+      → count_by test (to_branch r (record b { address = o }) (cond t 0 b.number) true (cond t (cancel_of (request_of server r b)) (request_of server r b)))
+      ≡ cond {A = ℕ} (asks test server r b.number b.uri o) 1 0
   by_address None t e = refl
   by_address (Some to) false e = absurd (cc)
   by_address (Some to) true e =

@@ -1,5 +1,6 @@
 -- What a change makes of an waits request that is in time: it is so after it.
-use Rattle.std.proofs.Common.{◌≡◌, ℕ, ◌+◌, ◌≤◌, Bool, true, false, not, ◌&&◌, ◌||◌, cond, ◌==◌, List, [], ◌∷◌, ◌++◌, map, flat_map, Option, Some, None, refl, sym, subst, arith}
+use Rattle.std.proofs.Common.{◌≡◌, ℕ, ◌+◌, ◌≤◌, Bool, true, false, not, ◌&&◌, ◌||◌, cond, ◌==◌, List, [], ◌∷◌, ◌++◌, map, flat_map, Option, Some, None, refl, sym, subst}
+use Rattle.std.proofs.Common.{arith}
 use Rattle.std.specs.List.{AllByRecursion}
 use Rattle.sip_message_form.specs.declared.message.Message.{Message}
 use Rattle.sip_event.specs.declared.packet.Packet.{Packet}
@@ -13,9 +14,13 @@ use Rattle.sip_model.specs.state.declared.open_request.OpenRequest.{OpenRequest}
 use Rattle.sip_model.specs.state.declared.open_request.Upward.{Upward}
 use Rattle.sip_best.specs.declared.final_answer.Final.{Final}
 use Rattle.sip_model.specs.state.State.{is_invite, is_final, is_answering, is_success, is_decline, is_provisional, phase_deadline, side_deadline}
-use Rattle.sip_model.specs.context_model.Branches.{is_same_branch, turned, phased, with_phase, with_final, marked_branch, marked, given_up, best_upward, is_ready, is_cancellable, held_branch, cancel_branch, with_cancel, after_upward, settled, heard, other_heard, relayed_provisional, relayed_success, further, linger, final_of, told_to, with_answer, acks_of, target_responded, cancel_responded, responded, target_overdue, branch_overdue, overdue, side_overdue, send_failed, cancelled}
+use Rattle.sip_model.specs.context_model.Branches.{is_same_branch, turned, phased, with_phase, with_final, marked_branch, marked, given_up, best_upward, is_ready}
+use Rattle.sip_model.specs.context_model.Branches.{is_cancellable, held_branch, cancel_branch, with_cancel, after_upward, settled, heard, other_heard}
+use Rattle.sip_model.specs.context_model.Branches.{relayed_provisional, relayed_success, further, linger, final_of, told_to, with_answer, acks_of, target_responded}
+use Rattle.sip_model.specs.context_model.Branches.{cancel_responded, responded, target_overdue, branch_overdue, overdue, side_overdue, send_failed, cancelled}
 use Rattle.model_bounds.proofs.EndingLists.{all_map}
-use Rattle.model_bounds.proofs.EndingTimes.{waiting_time, phase_time, side_time, IsBy, IsFrom, IsOnTime, IsInTime, still_waits, cancel_waits, ready_in_time, other_heard_ends, other_heard_from, heard_ends, heard_from}
+use Rattle.model_bounds.proofs.EndingTimes.{waiting_time, phase_time, side_time, IsBy, IsFrom, IsOnTime, IsInTime, still_waits, cancel_waits, ready_in_time}
+use Rattle.model_bounds.proofs.EndingTimes.{other_heard_ends, other_heard_from, heard_ends, heard_from}
 
 -- ---- in the midst of a change
 
@@ -23,7 +28,8 @@ use Rattle.model_bounds.proofs.EndingTimes.{waiting_time, phase_time, side_time,
 abbrev pub IsOpenAt : Bool → ℕ → ℕ → Branch → Type 0
 IsOpenAt invite origin now b = IsOnTime invite origin b × IsFrom now (phase_deadline b.phase)
 
--- An waits request in the midst of a change at a moment: it is in time, none of its branches' deadlines is before the moment, and while it owes its final answer the moment is in the time of
+-- An waits request in the midst of a change at a moment: it is in time, none of its branches' deadlines is before the moment, and while it owes its final answer the
+-- moment is in the time of
 -- a branch to a target.
 pub record IsChanging (origin now : ℕ) (r x : OpenRequest) : Type 0 where
   pub key_is : x.key ≡ r.key
@@ -43,8 +49,10 @@ pub record HasChanged (origin : ℕ) (r x : OpenRequest) : Type 0 where
 -- ---- what follows every event
 
 -- a side that closes with a final answer is in time
-closing_by : (invite : Bool) (origin now : ℕ) (side : Side) (t : Bool) → (is_answering side ≡ true → now ≤ origin + waiting_time invite) → IsBy (origin + side_time invite side) (side_deadline side)
-    → IsBy (origin + side_time invite (cond (is_answering side && t) (Closing (now + 32000)) side)) (side_deadline (cond (is_answering side && t) (Closing (now + 32000)) side))
+closing_by : (invite : Bool) (origin now : ℕ) (side : Side) (t : Bool) → (is_answering side ≡ true → now ≤ origin + waiting_time invite)
+    → IsBy (origin + side_time invite side) (side_deadline side)
+    → IsBy (origin + side_time invite (cond (is_answering side && t) (Closing (now + 32000)) side))
+    (side_deadline (cond (is_answering side && t) (Closing (now + 32000)) side))
 closing_by true origin now Answering true owes by = let early = owes refl in omega arith
 closing_by false origin now Answering true owes by = let early = owes refl in omega arith
 closing_by invite origin now Answering false owes by = tt
@@ -60,7 +68,8 @@ closing_owes (Acknowledged until) t due e = e
 closing_owes Closed t due e = e
 
 -- an answer that goes up
-pub upward_changing : (origin now : ℕ) (r : OpenRequest) (o : Option Upward) (x : OpenRequest) → IsChanging origin now r x → IsChanging origin now r (after_upward now o x)
+pub upward_changing : (origin now : ℕ) (r : OpenRequest) (o : Option Upward) (x : OpenRequest) → IsChanging origin now r x
+    → IsChanging origin now r (after_upward now o x)
 upward_changing origin now r None x h = h
 upward_changing origin now r (Some u) x h = record {
   key_is = h.key_is;
@@ -72,7 +81,8 @@ upward_changing origin now r (Some u) x h = record {
 }
 
 -- a branch that is sent a CANCEL is one of an INVITE, and to a target, and the moment isn't past Timer C
-can_cancel : (invite cancel wants : Bool) (origin now : ℕ) (phase : Phase) → (not cancel && wants && is_ready phase) ≡ true → IsBy (origin + phase_time invite cancel phase) (phase_deadline phase)
+can_cancel : (invite cancel wants : Bool) (origin now : ℕ) (phase : Phase) → (not cancel && wants && is_ready phase) ≡ true
+    → IsBy (origin + phase_time invite cancel phase) (phase_deadline phase)
     → (invite ≡ false → (cancel ≡ false) × (wants ≡ false)) → IsFrom now (phase_deadline phase) → (invite ≡ true) × (cancel ≡ false) × (now ≤ origin + 185000)
 can_cancel true false true origin now phase e by plain from = (refl, refl, ready_in_time origin now phase e by from)
 can_cancel false false true origin now phase e by plain from = absurd (cc ((plain refl).1))
@@ -80,7 +90,8 @@ can_cancel invite false false origin now phase e by plain from = absurd (cc)
 can_cancel invite true wants origin now phase e by plain from = absurd (cc)
 
 -- it is held in time
-held_by : (invite cancel : Bool) (origin now : ℕ) → invite ≡ true → cancel ≡ false → now ≤ origin + 185000 → now + 32000 ≤ origin + phase_time invite cancel (Cancelled (now + 32000))
+held_by : (invite cancel : Bool) (origin now : ℕ) → invite ≡ true → cancel ≡ false → now ≤ origin + 185000
+    → now + 32000 ≤ origin + phase_time invite cancel (Cancelled (now + 32000))
 held_by true false origin now i c early = omega arith
 held_by true true origin now i c early = absurd (cc)
 held_by false cancel origin now i c early = absurd (cc)
@@ -98,7 +109,8 @@ cancel_on_time invite origin now b e h =
     record { ends = (let early = can.2 in let by : now + 32000 ≤ origin + 217000 = omega arith in by); cancels_nothing = λ other. absurd (cc (can.0, other)) }
 
 -- branches, and right behind each the CANCEL that it is sent
-cancels_on_time : (invite : Bool) (origin now : ℕ) (bs : List Branch) → AllByRecursion (IsOpenAt invite origin now) bs → AllByRecursion (IsOnTime invite origin) (flat_map (with_cancel now) bs)
+cancels_on_time : (invite : Bool) (origin now : ℕ) (bs : List Branch) → AllByRecursion (IsOpenAt invite origin now) bs
+    → AllByRecursion (IsOnTime invite origin) (flat_map (with_cancel now) bs)
 cancels_on_time invite origin now [] all = tt
 cancels_on_time invite origin now (b ∷ bs) all = by_test (is_cancellable b) refl (cancels_on_time invite origin now bs all.1) where
   by_test : (t : Bool) → is_cancellable b ≡ t → AllByRecursion (IsOnTime invite origin) (flat_map (with_cancel now) bs)
@@ -132,7 +144,8 @@ both_cancel false true false e = absurd (cc)
 both_cancel false false t e = refl
 
 -- a request whose branches change, each in time
-branches_changing : (origin now : ℕ) (r x : OpenRequest) (f : Branch → Branch) → ((b : Branch) → IsOpenAt (is_invite r) origin now b → IsOpenAt (is_invite r) origin now (f b)) → IsChanging origin now r x
+branches_changing : (origin now : ℕ) (r x : OpenRequest) (f : Branch → Branch) → ((b : Branch) → IsOpenAt (is_invite r) origin now b
+    → IsOpenAt (is_invite r) origin now (f b)) → IsChanging origin now r x
     → IsChanging origin now r (record x { branches = map f x.branches })
 branches_changing origin now r x f each h = record {
   key_is = h.key_is;
@@ -144,13 +157,19 @@ branches_changing origin now r x f each h = record {
 }
 
 -- a branch in another phase, which is in time
-phase_changing : (origin now : ℕ) (r x : OpenRequest) (b : Branch) (phase : Phase) → IsBy (origin + phase_time (is_invite r) b.is_cancel phase) (phase_deadline phase) → IsFrom now (phase_deadline phase) → IsChanging origin now r x
+phase_changing : (origin now : ℕ) (r x : OpenRequest) (b : Branch) (phase : Phase) → IsBy (origin + phase_time (is_invite r) b.is_cancel phase) (phase_deadline phase)
+    → IsFrom now (phase_deadline phase) → IsChanging origin now r x
     → IsChanging origin now r (with_phase b phase x)
 phase_changing origin now r x b phase by from h = branches_changing origin now r x (phased b phase) (λ y on. by_test y on (is_same_branch y b) refl) h where
   by_test : (y : Branch) → IsOpenAt (is_invite r) origin now y → (t : Bool) → is_same_branch y b ≡ t → IsOpenAt (is_invite r) origin now (cond t (turned b phase y) y)
   by_test y on true same =
-      let cancel : y.is_cancel ≡ b.is_cancel = both_cancel y.is_cancel b.is_cancel (y.number == b.number) same in
-      (record { ends = subst (λ (c : Bool). IsBy (origin + phase_time (is_invite r) c phase) (phase_deadline phase)) (sym cancel) by; cancels_nothing = on.0.cancels_nothing }, from)
+      let cancel : y.is_cancel ≡ b.is_cancel = both_cancel y.is_cancel b.is_cancel (y.number == b.number) same in (
+        record {
+          ends = subst (λ (c : Bool). IsBy (origin + phase_time (is_invite r) c phase) (phase_deadline phase)) (sym cancel) by;
+          cancels_nothing = on.0.cancels_nothing;
+        },
+        from,
+      )
   by_test y on false same = on
 
 -- a branch ends
@@ -164,10 +183,12 @@ final_changing origin now r x f h =
 
 -- a branch is given up
 given_changing : (origin now : ℕ) (r x : OpenRequest) (b : Branch) (status : ℕ) → IsChanging origin now r x → IsChanging origin now r (given_up b status x)
-given_changing origin now r x b status h = final_changing origin now r (with_phase b Ended x) (record { status = status; message = None }) (ended_changing origin now r x b h)
+given_changing origin now r x b status h = final_changing origin now r (with_phase b Ended x) (record { status = status; message = None })
+    (ended_changing origin now r x b h)
 
 -- a branch of an INVITE that is to be cancelled
-wanted_on_time : (invite : Bool) (origin now : ℕ) (b : Branch) → invite ≡ true → IsOpenAt invite origin now b → IsOpenAt invite origin now (record b { wants_cancel = true })
+wanted_on_time : (invite : Bool) (origin now : ℕ) (b : Branch) → invite ≡ true → IsOpenAt invite origin now b
+    → IsOpenAt invite origin now (record b { wants_cancel = true })
 wanted_on_time invite origin now b is h = (record { ends = h.0.ends; cancels_nothing = λ other. absurd (cc (is, other)) }, h.1)
 
 -- the branches of an INVITE that have no final answer are to be cancelled
@@ -180,10 +201,11 @@ marked_changing origin now r x is h = branches_changing origin now r x marked_br
 -- one branch of an INVITE is to be cancelled
 wanting_changing : (origin now : ℕ) (r x : OpenRequest) (b : Branch) → is_invite r ≡ true → IsChanging origin now r x
     → IsChanging origin now r (record x { branches = map (λ (y : Branch). cond (is_same_branch y b) (record y { wants_cancel = true }) y) x.branches })
-wanting_changing origin now r x b is h = branches_changing origin now r x (λ (y : Branch). cond (is_same_branch y b) (record y { wants_cancel = true }) y) (λ y on. by_test y on (is_same_branch y b)) h where
-  by_test : (y : Branch) → IsOpenAt (is_invite r) origin now y → (t : Bool) → IsOpenAt (is_invite r) origin now (cond t (record y { wants_cancel = true }) y)
-  by_test y on true = wanted_on_time (is_invite r) origin now y is on
-  by_test y on false = on
+wanting_changing origin now r x b is h = branches_changing origin now r x (λ (y : Branch). cond (is_same_branch y b) (record y { wants_cancel = true }) y)
+    (λ y on. by_test y on (is_same_branch y b)) h where
+      by_test : (y : Branch) → IsOpenAt (is_invite r) origin now y → (t : Bool) → IsOpenAt (is_invite r) origin now (cond t (record y { wants_cancel = true }) y)
+      by_test y on true = wanted_on_time (is_invite r) origin now y is on
+      by_test y on false = on
 
 -- of two tests that both pass the first does
 first_passes : (s t : Bool) → (s && t) ≡ true → s ≡ true
@@ -193,7 +215,8 @@ first_passes false t e = absurd (cc)
 -- ---- a response
 
 -- a branch with a final answer lingers in time
-lingers_by : (invite : Bool) (origin now status : ℕ) → now ≤ origin + waiting_time invite → now + cond invite 32000 5000 ≤ origin + phase_time invite false (Done (now + cond invite 32000 5000) status)
+lingers_by : (invite : Bool) (origin now status : ℕ) → now ≤ origin + waiting_time invite
+    → now + cond invite 32000 5000 ≤ origin + phase_time invite false (Done (now + cond invite 32000 5000) status)
 lingers_by true origin now status early = omega arith
 lingers_by false origin now status early = omega arith
 
@@ -203,16 +226,20 @@ lingers_from true now = omega arith
 lingers_from false now = omega arith
 
 -- what of a branch that goes to a target
-of_target : (invite cancel : Bool) (origin : ℕ) (phase : Phase) → cancel ≡ false → IsBy (origin + phase_time invite cancel phase) (phase_deadline phase) → IsBy (origin + phase_time invite false phase) (phase_deadline phase)
+of_target : (invite cancel : Bool) (origin : ℕ) (phase : Phase) → cancel ≡ false → IsBy (origin + phase_time invite cancel phase) (phase_deadline phase)
+    → IsBy (origin + phase_time invite false phase) (phase_deadline phase)
 of_target invite cancel origin phase is by = subst (λ (c : Bool). IsBy (origin + phase_time invite c phase) (phase_deadline phase)) is by
 
 -- and back
-to_target : (invite cancel : Bool) (origin : ℕ) (phase : Phase) → cancel ≡ false → IsBy (origin + phase_time invite false phase) (phase_deadline phase) → IsBy (origin + phase_time invite cancel phase) (phase_deadline phase)
+to_target : (invite cancel : Bool) (origin : ℕ) (phase : Phase) → cancel ≡ false → IsBy (origin + phase_time invite false phase) (phase_deadline phase)
+    → IsBy (origin + phase_time invite cancel phase) (phase_deadline phase)
 to_target invite cancel origin phase is by = subst (λ (c : Bool). IsBy (origin + phase_time invite c phase) (phase_deadline phase)) (sym is) by
 
 -- a response to the request of a branch
-target_changed : (server : Server) (origin now : ℕ) (r : OpenRequest) (b : Branch) (status : ℕ) (m : Message) → IsChanging origin now r r → IsOpenAt (is_invite r) origin now b → b.is_cancel ≡ false
-    → (is_provisional status ≡ true → is_invite r ≡ true → (status == 100) ≡ false → now ≤ origin) → HasChanged origin r (target_responded server now r b status m).request
+target_changed : (server : Server) (origin now : ℕ) (r : OpenRequest) (b : Branch) (status : ℕ) (m : Message) → IsChanging origin now r r
+    → IsOpenAt (is_invite r) origin now b → b.is_cancel ≡ false
+    → (is_provisional status ≡ true → is_invite r ≡ true → (status == 100) ≡ false → now ≤ origin)
+    → HasChanged origin r (target_responded server now r b status m).request
 target_changed server origin now r b status m h on target recent = by_status (is_provisional status) refl (is_final b.phase) refl where
   ends : IsBy (origin + phase_time (is_invite r) false b.phase) (phase_deadline b.phase)
   ends = of_target (is_invite r) b.is_cancel origin b.phase target on.0.ends
@@ -229,32 +256,39 @@ target_changed server origin now r b status m h on target recent = by_status (is
   answered_changing : is_final b.phase ≡ false → IsChanging origin now r answered
   answered_changing waits =
       final_changing origin now r (with_phase told done r) (final_of status m)
-      (phase_changing origin now r r told done (to_target (is_invite r) b.is_cancel origin done target (lingers_by (is_invite r) origin now status (still_waits (is_invite r) origin now b.phase waits ends on.1)))
+      (phase_changing origin now r r told done (to_target (is_invite r) b.is_cancel origin done target
+      (lingers_by (is_invite r) origin now status (still_waits (is_invite r) origin now b.phase waits ends on.1)))
       (lingers_from (is_invite r) now) h)
 
-  ended_search : is_final b.phase ≡ false → (t : Bool) → (is_invite r && (is_success status || is_decline status)) ≡ t → IsChanging origin now r (cond t (marked answered) answered)
+  ended_search : is_final b.phase ≡ false → (t : Bool) → (is_invite r && (is_success status || is_decline status)) ≡ t
+      → IsChanging origin now r (cond t (marked answered) answered)
   ended_search waits true is = marked_changing origin now r answered (first_passes (is_invite r) (is_success status || is_decline status) is) (answered_changing waits)
   ended_search waits false is = answered_changing waits
 
   by_status : (p : Bool) → is_provisional status ≡ p → (f : Bool) → is_final b.phase ≡ f
       → HasChanged origin r (cond p (settled server now [] (relayed_provisional r b status m) (with_phase b (heard r now status b.phase) r))
-      (cond f (settled server now [] (further r b b.phase status m) r) (settled server now (acks_of server r b status m) (relayed_success r b status m) (with_answer r b now status m)))).request
+      (cond f (settled server now [] (further r b b.phase status m) r) (settled server now (acks_of server r b status m) (relayed_success r b status m)
+      (with_answer r b now status m)))).request
   by_status true is f final =
       settled_changed server origin now [] (relayed_provisional r b status m) r (with_phase b (heard r now status b.phase) r)
-      (phase_changing origin now r r b (heard r now status b.phase) (to_target (is_invite r) b.is_cancel origin (heard r now status b.phase) target (heard_ends (is_invite r) origin now status b.phase (recent is) ends))
+      (phase_changing origin now r r b (heard r now status b.phase) (to_target (is_invite r) b.is_cancel origin (heard r now status b.phase) target
+      (heard_ends (is_invite r) origin now status b.phase (recent is) ends))
       (heard_from (is_invite r) now status b.phase on.1) h)
   by_status false is true final = settled_changed server origin now [] (further r b b.phase status m) r r h
   by_status false is false waits =
-      settled_changed server origin now (acks_of server r b status m) (relayed_success r b status m) r (with_answer r b now status m) (ended_search waits (is_invite r && (is_success status || is_decline status)) refl)
+      settled_changed server origin now (acks_of server r b status m) (relayed_success r b status m) r (with_answer r b now status m)
+      (ended_search waits (is_invite r && (is_success status || is_decline status)) refl)
 
 -- a response to a CANCEL
-cancel_changed : (server : Server) (origin now : ℕ) (r : OpenRequest) (b : Branch) (status : ℕ) (m : Message) → IsChanging origin now r r → IsOpenAt (is_invite r) origin now b → b.is_cancel ≡ true
+cancel_changed : (server : Server) (origin now : ℕ) (r : OpenRequest) (b : Branch) (status : ℕ) (m : Message) → IsChanging origin now r r
+    → IsOpenAt (is_invite r) origin now b → b.is_cancel ≡ true
     → HasChanged origin r (cancel_responded server now r b status m).request
 cancel_changed server origin now r b status m h on cancel = by_status (is_provisional status) (is_final b.phase) refl where
   ends : IsBy (origin + phase_time (is_invite r) true b.phase) (phase_deadline b.phase)
   ends = subst (λ (c : Bool). IsBy (origin + phase_time (is_invite r) c b.phase) (phase_deadline b.phase)) cancel on.0.ends
 
-  as_cancel : (phase : Phase) → IsBy (origin + phase_time (is_invite r) true phase) (phase_deadline phase) → IsBy (origin + phase_time (is_invite r) b.is_cancel phase) (phase_deadline phase)
+  as_cancel : (phase : Phase) → IsBy (origin + phase_time (is_invite r) true phase) (phase_deadline phase)
+      → IsBy (origin + phase_time (is_invite r) b.is_cancel phase) (phase_deadline phase)
   as_cancel phase by = subst (λ (c : Bool). IsBy (origin + phase_time (is_invite r) c phase) (phase_deadline phase)) (sym cancel) by
 
   done_by : is_final b.phase ≡ false → now + 5000 ≤ origin + phase_time (is_invite r) true (Done (now + 5000) status)
@@ -264,17 +298,22 @@ cancel_changed server origin now r b status m h on cancel = by_status (is_provis
   done_from = omega arith
 
   by_status : (p f : Bool) → is_final b.phase ≡ f
-      → HasChanged origin r (cond p (settled server now [] None (with_phase b (other_heard b.phase) r)) (cond f (settled server now [] None r) (settled server now [] None (with_phase b (Done (now + 5000) status) r)))).request
+      → HasChanged origin r (cond p (settled server now [] None (with_phase b (other_heard b.phase) r))
+      (cond f (settled server now [] None r) (settled server now [] None (with_phase b (Done (now + 5000) status) r)))).request
   by_status true f final =
       settled_changed server origin now [] None r (with_phase b (other_heard b.phase) r)
-      (phase_changing origin now r r b (other_heard b.phase) (as_cancel (other_heard b.phase) (other_heard_ends (is_invite r) true origin b.phase (λ e. refl) ends)) (other_heard_from now b.phase on.1) h)
+      (phase_changing origin now r r b (other_heard b.phase) (as_cancel (other_heard b.phase) (other_heard_ends (is_invite r) true origin b.phase (λ e. refl) ends))
+      (other_heard_from now b.phase on.1) h)
   by_status false true final = settled_changed server origin now [] None r r h
   by_status false false waits =
-      settled_changed server origin now [] None r (with_phase b (Done (now + 5000) status) r) (phase_changing origin now r r b (Done (now + 5000) status) (as_cancel (Done (now + 5000) status) (done_by waits)) done_from h)
+      settled_changed server origin now [] None r (with_phase b (Done (now + 5000) status) r)
+      (phase_changing origin now r r b (Done (now + 5000) status) (as_cancel (Done (now + 5000) status) (done_by waits)) done_from h)
 
 -- a response
-pub response_changed : (server : Server) (origin now : ℕ) (r : OpenRequest) (b : Branch) (status : ℕ) (m : Message) → IsChanging origin now r r → IsOpenAt (is_invite r) origin now b
-    → (b.is_cancel ≡ false → is_provisional status ≡ true → is_invite r ≡ true → (status == 100) ≡ false → now ≤ origin) → HasChanged origin r (responded server now r b status m).request
+pub response_changed : (server : Server) (origin now : ℕ) (r : OpenRequest) (b : Branch) (status : ℕ) (m : Message) → IsChanging origin now r r
+    → IsOpenAt (is_invite r) origin now b
+    → (b.is_cancel ≡ false → is_provisional status ≡ true → is_invite r ≡ true → (status == 100) ≡ false → now ≤ origin)
+    → HasChanged origin r (responded server now r b status m).request
 response_changed server origin now r b status m h on recent = by_cancel b.is_cancel refl where
   by_cancel : (t : Bool) → b.is_cancel ≡ t → HasChanged origin r (cond t (cancel_responded server now r b status m) (target_responded server now r b status m)).request
   by_cancel true is = cancel_changed server origin now r b status m h on is
@@ -286,7 +325,8 @@ response_changed server origin now r b status m h on recent = by_cancel b.is_can
 target_overdue_changing : (origin now : ℕ) (r : OpenRequest) (b : Branch) (phase : Phase) → IsChanging origin now r r → IsChanging origin now r (target_overdue r b phase)
 target_overdue_changing origin now r b (Unheard due) h = given_changing origin now r r b 408 h
 target_overdue_changing origin now r b (Heard due) h = by_method (is_invite r) refl where
-  by_method : (t : Bool) → is_invite r ≡ t → IsChanging origin now r (cond t (record r { branches = map (λ (x : Branch). cond (is_same_branch x b) (record x { wants_cancel = true }) x) r.branches }) (given_up b 408 r))
+  by_method : (t : Bool) → is_invite r ≡ t → IsChanging origin now r (cond t (record r
+      { branches = map (λ (x : Branch). cond (is_same_branch x b) (record x { wants_cancel = true }) x) r.branches }) (given_up b 408 r))
   by_method true is = wanting_changing origin now r r b is h
   by_method false is = given_changing origin now r r b 408 h
 target_overdue_changing origin now r b (Cancelled due) h = given_changing origin now r r b 487 h
@@ -307,12 +347,14 @@ side_changed server origin now r h =
     (record { key_is = refl; number_is = refl; arrival_is = refl; branches = h.branches; side = tt; owes = λ e. absurd (cc) })
 
 -- a send that failed
-pub failed_changed : (server : Server) (origin now : ℕ) (r : OpenRequest) (b : Branch) → IsChanging origin now r r → HasChanged origin r (send_failed server now r b).request
+pub failed_changed : (server : Server) (origin now : ℕ) (r : OpenRequest) (b : Branch) → IsChanging origin now r r
+    → HasChanged origin r (send_failed server now r b).request
 failed_changed server origin now r b h = settled_changed server origin now [] None r (given_up b 503 r) (given_changing origin now r r b 503 h)
 
 -- a CANCEL of the caller's
 pub cancelled_changed : (server : Server) (origin now : ℕ) (r : OpenRequest) → IsChanging origin now r r → HasChanged origin r (cancelled server now r).request
-cancelled_changed server origin now r h = settled_changed server origin now [] None r (cond (is_invite r && is_answering r.side) (marked r) r) (by_test (is_invite r && is_answering r.side) refl) where
-  by_test : (t : Bool) → (is_invite r && is_answering r.side) ≡ t → IsChanging origin now r (cond t (marked r) r)
-  by_test true is = marked_changing origin now r r (first_passes (is_invite r) (is_answering r.side) is) h
-  by_test false is = h
+cancelled_changed server origin now r h = settled_changed server origin now [] None r (cond (is_invite r && is_answering r.side) (marked r) r)
+    (by_test (is_invite r && is_answering r.side) refl) where
+      by_test : (t : Bool) → (is_invite r && is_answering r.side) ≡ t → IsChanging origin now r (cond t (marked r) r)
+      by_test true is = marked_changing origin now r r (first_passes (is_invite r) (is_answering r.side) is) h
+      by_test false is = h

@@ -64,7 +64,8 @@ module _ {X Y : Type 0} (P : Y → Type 0) where
   pub each_of_filter_map : (f : X → Option Y) (xs : List X) → AllByRecursion P (filter_map f xs) → AllByRecursion (λ x. IfSome (f x) P) xs
   each_of_filter_map f [] all = tt
   each_of_filter_map f (x ∷ xs) all = by_first (f x) (λ rest. each_of_filter_map f xs rest) all where
-    by_first : (o : Option Y) → (AllByRecursion P (filter_map f xs) → AllByRecursion (λ y. IfSome (f y) P) xs) → AllByRecursion P (cons_option o (filter_map f xs)) → IfSome o P × AllByRecursion (λ y. IfSome (f y) P) xs
+    by_first : (o : Option Y) → (AllByRecursion P (filter_map f xs) → AllByRecursion (λ y. IfSome (f y) P) xs) → AllByRecursion P (cons_option o (filter_map f xs))
+        → IfSome o P × AllByRecursion (λ y. IfSome (f y) P) xs
     by_first None rest there = (tt, rest there)
     by_first (Some y) rest there = (there.0, rest there.1)
 

@@ -1,5 +1,6 @@
 -- What the parts of a step make of the open requests: each is in time as before.
-use Rattle.std.proofs.Common.{◌≡◌, ℕ, ◌+◌, ◌≤◌, max, Bool, true, false, not, ◌&&◌, cond, ◌==◌, List, [], ◌∷◌, map, filter, Contains, Some, None, refl, sym, ap, subst, ◌∙◌, arith, is_some, codes}
+use Rattle.std.proofs.Common.{◌≡◌, ℕ, ◌+◌, ◌≤◌, max, Bool, true, false, not, ◌&&◌, cond, ◌==◌, List, [], ◌∷◌, map, filter, Contains, Some, None, refl, sym, ap, subst}
+use Rattle.std.proofs.Common.{◌∙◌, arith, is_some, codes}
 use Rattle.std.specs.List.{AllByRecursion, list_all}
 use Rattle.std.specs.Str.{bytes_eq}
 use Rattle.std.proofs.Math.Nat.{le-max_left, le-max_right, max-le}
@@ -25,11 +26,13 @@ use Rattle.sip_model.specs.verdict_model.Verdict.{responding}
 use Rattle.sip_model.specs.steps_model.Step.{Act, IsOverdue, OfSide, OfBranch}
 use Rattle.sip_model.specs.Run.{Link}
 use Rattle.sip_model.specs.Access.{IsSaidAt}
-use Rattle.sip_model.specs.Parts.{IsBegun, AreBegun, IsOpening, Answered, Sent, IsChangeAt, ByResponse, ByDeadline, ByFault, ByCancel, IsPart, Stays, Passes, Copies, TurnsAway, Opens, Changes, Resends, Acknowledges, AreParts, One, Two}
+use Rattle.sip_model.specs.Parts.{IsBegun, AreBegun, IsOpening, Answered, Sent, IsChangeAt, ByResponse, ByDeadline, ByFault, ByCancel, IsPart, Stays, Passes, Copies}
+use Rattle.sip_model.specs.Parts.{TurnsAway, Opens, Changes, Resends, Acknowledges, AreParts, One, Two}
 use Rattle.model_bounds.specs.Endings.{heard_last}
 use Rattle.model_bounds.proofs.EndingLists.{all_append, all_in, all_map, all_both, all_weaker, all_replaced}
 use Rattle.model_bounds.proofs.EndingTimes.{waiting_time, phase_time, side_time, IsBy, IsFrom, IsOnTime, IsInTime, still_waits}
-use Rattle.model_bounds.proofs.EndingChanges.{IsOpenAt, IsChanging, HasChanged, upward_changing, settled_changed, response_changed, overdue_changed, side_changed, failed_changed, cancelled_changed}
+use Rattle.model_bounds.proofs.EndingChanges.{IsOpenAt, IsChanging, HasChanged, upward_changing, settled_changed, response_changed, overdue_changed, side_changed}
+use Rattle.model_bounds.proofs.EndingChanges.{failed_changed, cancelled_changed}
 
 -- ---- the moment from which the time of a request counts
 
@@ -48,7 +51,8 @@ from_arrival false arrived heard = omega arith
 
 -- nor earlier where the last provisional response isn't
 pub origin_later : (t : Bool) (arrived earlier later : ℕ) → earlier ≤ later → cond t (max arrived earlier) arrived ≤ cond t (max arrived later) arrived
-origin_later true arrived earlier later le = let most : later ≤ max arrived later = le-max_right arrived later in max-le (le-max_left arrived later) (omega (arith, le, most))
+origin_later true arrived earlier later le = let most : later ≤ max arrived later = le-max_right arrived later in
+    max-le (le-max_left arrived later) (omega (arith, le, most))
 origin_later false arrived earlier later le = omega arith
 
 -- an open request is in time, by a history
@@ -66,23 +70,35 @@ changed_ending server history r x h =
 -- ---- before a change
 
 -- where not all branches to targets have a final answer, one waits for it
-one_waits : (invite : Bool) (origin now : ℕ) (bs : List Branch) → AllByRecursion (IsOpenAt invite origin now) bs → list_all (λ (b : Branch). is_final b.phase) (filter (λ (b : Branch). not b.is_cancel) bs) ≡ false
+one_waits : (invite : Bool) (origin now : ℕ) (bs : List Branch) → AllByRecursion (IsOpenAt invite origin now) bs
+    → list_all (λ (b : Branch). is_final b.phase) (filter (λ (b : Branch). not b.is_cancel) bs) ≡ false
     → now ≤ origin + waiting_time invite
 one_waits invite origin now [] all e = absurd (cc)
 one_waits invite origin now (b ∷ bs) all e = by_branch b.is_cancel refl (is_final b.phase) refl (λ rest. one_waits invite origin now bs all.1 rest) e where
-  by_branch : (c : Bool) → b.is_cancel ≡ c → (f : Bool) → is_final b.phase ≡ f → (list_all (λ (x : Branch). is_final x.phase) (filter (λ (x : Branch). not x.is_cancel) bs) ≡ false → now ≤ origin + waiting_time invite)
-      → list_all (λ (x : Branch). is_final x.phase) (cond (not c) (b ∷ filter (λ (x : Branch). not x.is_cancel) bs) (filter (λ (x : Branch). not x.is_cancel) bs)) ≡ false → now ≤ origin + waiting_time invite
+  by_branch : (c : Bool) → b.is_cancel ≡ c → (f : Bool) → is_final b.phase ≡ f → (list_all (λ (x : Branch). is_final x.phase)
+      (filter (λ (x : Branch). not x.is_cancel) bs) ≡ false → now ≤ origin + waiting_time invite)
+      → list_all (λ (x : Branch). is_final x.phase) (cond (not c) (b ∷ filter (λ (x : Branch). not x.is_cancel) bs) (filter (λ (x : Branch). not x.is_cancel) bs)) ≡ false
+      → now ≤ origin + waiting_time invite
   by_branch true is f final rest waits = rest waits
   by_branch false is false final rest waits =
       still_waits invite origin now b.phase final (subst (λ (c : Bool). IsBy (origin + phase_time invite c b.phase) (phase_deadline b.phase)) is all.0.0.ends) all.0.1
-  by_branch false is true final rest waits = rest (sym (ap (λ (t : Bool). t && list_all (λ (x : Branch). is_final x.phase) (filter (λ (x : Branch). not x.is_cancel) bs)) final) ∙ waits)
+  by_branch false is true final rest waits = rest (sym (ap (λ (t : Bool). t && list_all (λ (x : Branch). is_final x.phase) (filter (λ (x : Branch). not x.is_cancel) bs))
+      final) ∙ waits)
 
 -- an open request that is in time may change at a moment that isn't behind one of its deadlines
 pub may_change : (origin now : ℕ) (r : OpenRequest) → IsInTime (is_invite r) origin r → AllByRecursion (λ (b : Branch). IsFrom now (phase_deadline b.phase)) r.branches
     → (is_answering r.side ≡ true → all_final r ≡ false) → IsChanging origin now r r
 may_change origin now r h from waits =
-    let branches : AllByRecursion (IsOpenAt (is_invite r) origin now) r.branches = all_both (IsOnTime (is_invite r) origin) (λ (b : Branch). IsFrom now (phase_deadline b.phase)) r.branches h.branches from in
-    record { key_is = refl; number_is = refl; arrival_is = refl; branches = branches; side = h.side; owes = λ answering. one_waits (is_invite r) origin now r.branches branches (waits answering) }
+    let branches : AllByRecursion (IsOpenAt (is_invite r) origin now) r.branches = all_both (IsOnTime (is_invite r) origin)
+    (λ (b : Branch). IsFrom now (phase_deadline b.phase)) r.branches h.branches from in
+    record {
+      key_is = refl;
+      number_is = refl;
+      arrival_is = refl;
+      branches = branches;
+      side = h.side;
+      owes = λ answering. one_waits (is_invite r) origin now r.branches branches (waits answering);
+    }
 
 -- ---- a request is opened
 
@@ -91,7 +107,8 @@ begun_open : (invite : Bool) (origin now number : ℕ) → now ≤ origin → (b
 begun_open invite origin now number le [] begun = tt
 begun_open invite origin now number le (b ∷ bs) begun =
     let first : IsBegun now number b = begun.0 in
-    let ends : IsBy (origin + phase_time invite false (cond (is_some b.address) (Unheard (now + 32000)) Ended)) (phase_deadline (cond (is_some b.address) (Unheard (now + 32000)) Ended)) = by_address (is_some b.address) in
+    let ends : IsBy (origin + phase_time invite false (cond (is_some b.address) (Unheard (now + 32000)) Ended))
+    (phase_deadline (cond (is_some b.address) (Unheard (now + 32000)) Ended)) = by_address (is_some b.address) in
     let from : IsFrom now (phase_deadline (cond (is_some b.address) (Unheard (now + 32000)) Ended)) = from_address (is_some b.address) in (
       (
         record {
@@ -126,7 +143,8 @@ closing_at true origin now le = omega arith
 closing_at false origin now le = omega arith
 
 -- a request is in time as it is opened
-opening_ending : (server : Server) (history : List Link) (a : Arrival) (m : Message) (r : OpenRequest) (firsts : List Packet) → IsOpening server a m r firsts → IsEnding server history r
+opening_ending : (server : Server) (history : List Link) (a : Arrival) (m : Message) (r : OpenRequest) (firsts : List Packet) → IsOpening server a m r firsts
+    → IsEnding server history r
 opening_ending server history a m r _ (Answered status extras final) =
     record { branches = tt; side = closing_at _ _ a.now (from_arrival _ a.now (heard_last server a.number history)) }
 opening_ending server history a m r _ (Sent first others begun) =
@@ -149,16 +167,20 @@ opening_ending server history a m r _ (Sent first others begun) =
 -- a response of 101 to 199 that a step is taken for came no later than the moment from which the time of its INVITE counts
 abbrev pub IsRecent : Server → List Link → ProxyState → Act → ℕ → Type 0
 IsRecent server history state act now =
-    (a : Arrival) (bytes : List ℕ) (m : Message) (status : ℕ) (reason : List ℕ) (r : OpenRequest) (b : Branch) → IsSaidAt state act a bytes m false → m.start ≡ Status status reason
-    → responding server state.requests m.fields ≡ Some (r, b) → b.is_cancel ≡ false → is_provisional status ≡ true → is_invite r ≡ true → (status == 100) ≡ false → now ≤ origin_of server history r
+    (a : Arrival) (bytes : List ℕ) (m : Message) (status : ℕ) (reason : List ℕ) (r : OpenRequest) (b : Branch) → IsSaidAt state act a bytes m false
+    → m.start ≡ Status status reason
+    → responding server state.requests m.fields ≡ Some (r, b) → b.is_cancel ≡ false → is_provisional status ≡ true → is_invite r ≡ true → (status == 100) ≡ false
+    → now ≤ origin_of server history r
 
 -- a deadline that passes leaves the request in time
-overdue_ending : (server : Server) (origin now : ℕ) (r : OpenRequest) (change : Change) → IsChanging origin now r r → IsOverdue server now r change → HasChanged origin r change.request
+overdue_ending : (server : Server) (origin now : ℕ) (r : OpenRequest) (change : Change) → IsChanging origin now r r → IsOverdue server now r change
+    → HasChanged origin r change.request
 overdue_ending server origin now r _ h (OfSide is) = side_changed server origin now r h
 overdue_ending server origin now r _ h (OfBranch b there is) = overdue_changed server origin now r b h
 
 -- so does each change
-change_changed : (server : Server) (history : List Link) (state : ProxyState) (act : Act) (now : ℕ) (r : OpenRequest) (change : Change) (again : List Packet) → IsRecent server history state act now
+change_changed : (server : Server) (history : List Link) (state : ProxyState) (act : Act) (now : ℕ) (r : OpenRequest) (change : Change) (again : List Packet)
+    → IsRecent server history state act now
     → IsChanging (origin_of server history r) now r r → IsChangeAt server state act now r change again → HasChanged (origin_of server history r) r change.request
 change_changed server history state act now r _ _ recent h (ByResponse a bytes m status reason b said start is_for there) =
     response_changed server (origin_of server history r) now r b status m h
@@ -166,22 +188,29 @@ change_changed server history state act now r _ _ recent h (ByResponse a bytes m
     (λ target provisional invite other. recent a bytes m status reason r b said start is_for target provisional invite other)
 change_changed server history state act now r _ _ recent h (ByDeadline change overdue) = overdue_ending server (origin_of server history r) now r change h overdue
 change_changed server history state act now r _ _ recent h (ByFault at ticket b is_act is_number found) = failed_changed server (origin_of server history r) now r b h
-change_changed server history state act now r _ _ recent h (ByCancel a bytes m short key said is_cancel is_key found) = cancelled_changed server (origin_of server history r) now r h
+change_changed server history state act now r _ _ recent h (ByCancel a bytes m short key said is_cancel is_key found) =
+    cancelled_changed server (origin_of server history r) now r h
 
 -- ---- what goes again, and an ACK
 
 -- what goes again leaves the phases
 resent_on_time : (invite : Bool) (origin : ℕ) (b : Branch) (bs : List Branch) (again : _) → AllByRecursion (IsOnTime invite origin) bs
     → AllByRecursion (IsOnTime invite origin) (map (λ (x : Branch). cond (is_same_branch x b) (record x { again = again }) x) bs)
-resent_on_time invite origin b bs again all = all_map (IsOnTime invite origin) (IsOnTime invite origin) (λ (x : Branch). cond (is_same_branch x b) (record x { again = again }) x) (λ x on. by_test x on (is_same_branch x b)) bs all where
-  by_test : (x : Branch) → IsOnTime invite origin x → (t : Bool) → IsOnTime invite origin (cond t (record x { again = again }) x)
-  by_test x on true = record { ends = on.ends; cancels_nothing = on.cancels_nothing }
-  by_test x on false = on
+resent_on_time invite origin b bs again all = all_map (IsOnTime invite origin) (IsOnTime invite origin)
+    (λ (x : Branch). cond (is_same_branch x b) (record x { again = again }) x) (λ x on. by_test x on (is_same_branch x b)) bs all where
+      by_test : (x : Branch) → IsOnTime invite origin x → (t : Bool) → IsOnTime invite origin (cond t (record x { again = again }) x)
+      by_test x on true = record { ends = on.ends; cancels_nothing = on.cancels_nothing }
+      by_test x on false = on
 
 -- so a request of which something goes again is in time as before
-resent_ending : (server : Server) (history : List Link) (now : ℕ) (r : OpenRequest) (packets : List Packet) (later : OpenRequest) → IsResent server now r packets later → IsEnding server history r → IsEnding server history later
+resent_ending : (server : Server) (history : List Link) (now : ℕ) (r : OpenRequest) (packets : List Packet) (later : OpenRequest) → IsResent server now r packets later
+    → IsEnding server history r → IsEnding server history later
 resent_ending server history now r _ _ (OfAnswer is) h = record { branches = h.branches; side = h.side }
-resent_ending server history now r _ _ (OfRequest b there is) h = record { branches = resent_on_time (is_invite r) (origin_of server history r) b r.branches (branch_next r b) h.branches; side = h.side }
+resent_ending server history now r _ _ (OfRequest b there is) h = record {
+  branches =
+      resent_on_time (is_invite r) (origin_of server history r) b r.branches (branch_next r b) h.branches;
+  side = h.side;
+}
 
 -- an ACK leaves the answering side in time
 acknowledged_by : (origin now : ℕ) (side : Side) → IsBy (origin + side_time true side) (side_deadline side) → IsFrom now (side_deadline side)
@@ -192,14 +221,16 @@ acknowledged_by origin now (Acknowledged due) by from = by
 acknowledged_by origin now Closed by from = tt
 
 -- and so the request
-acknowledged_ending : (server : Server) (history : List Link) (now : ℕ) (r : OpenRequest) → IsEnding server history r → IsFrom now (side_deadline r.side) → IsEnding server history (acknowledged now r)
+acknowledged_ending : (server : Server) (history : List Link) (now : ℕ) (r : OpenRequest) → IsEnding server history r → IsFrom now (side_deadline r.side)
+    → IsEnding server history (acknowledged now r)
 acknowledged_ending server history now r h from = by_test (is_invite r) refl (was_refused r.answer) h.side where
   by_test : (i : Bool) → is_invite r ≡ i → (t : Bool) → IsBy (origin_of server history r + side_time (is_invite r) r.side) (side_deadline r.side)
       → IsEnding server history (cond (i && t) (record r { side = acknowledged_side now r.side }) r)
   by_test true is true by = record {
     branches = h.branches;
     side = subst (λ (i : Bool). IsBy (origin_of server history r + side_time i (acknowledged_side now r.side)) (side_deadline (acknowledged_side now r.side))) (sym is)
-        (acknowledged_by (origin_of server history r) now r.side (subst (λ (i : Bool). IsBy (origin_of server history r + side_time i r.side) (side_deadline r.side)) is by) from);
+        (acknowledged_by (origin_of server history r) now r.side (subst (λ (i : Bool). IsBy (origin_of server history r + side_time i r.side) (side_deadline r.side)) is
+        by) from);
   }
   by_test true is false by = h
   by_test false is t by = h
@@ -214,7 +245,8 @@ pub record IsReady (server : Server) (history : List Link) (now : ℕ) (r : Open
 -- it is in time
 ready_ending : (server : Server) (history : List Link) (now : ℕ) (r : OpenRequest) → IsReady server history now r → IsEnding server history r
 ready_ending server history now r h = record {
-  branches = all_weaker (IsOpenAt (is_invite r) (origin_of server history r) now) (IsOnTime (is_invite r) (origin_of server history r)) (λ b on. on.0) r.branches h.changing.branches;
+  branches = all_weaker (IsOpenAt (is_invite r) (origin_of server history r) now) (IsOnTime (is_invite r) (origin_of server history r)) (λ b on. on.0) r.branches
+      h.changing.branches;
   side = h.changing.side;
 }
 
@@ -229,28 +261,36 @@ module _ (server : Server) (history : List Link) (state : ProxyState) (act : Act
   all_ending = all_weaker (IsReady server history now) (IsEnding server history) (ready_ending server history now) requests ready
 
   -- so a part leaves them
-  part_ending : (after : List OpenRequest) (firsts again : List Packet) → IsPart server state act now requests after firsts again → AllByRecursion (IsEnding server history) after
+  part_ending : (after : List OpenRequest) (firsts again : List Packet) → IsPart server state act now requests after firsts again
+      → AllByRecursion (IsEnding server history) after
   part_ending after firsts again (Stays e f g) = subst (AllByRecursion (IsEnding server history)) (sym e) all_ending
   part_ending after firsts again (Passes a m address within ack e f g) = subst (AllByRecursion (IsEnding server history)) (sym e) all_ending
   part_ending after firsts again (Copies a bytes m short key r said method is_key found e f g) = subst (AllByRecursion (IsEnding server history)) (sym e) all_ending
   part_ending after firsts again (TurnsAway a bytes m short r said key no_ack opens full e g) = subst (AllByRecursion (IsEnding server history)) (sym e) all_ending
   part_ending after firsts again (Opens a bytes m short r said key no_ack at opens room new e g) =
-      subst (AllByRecursion (IsEnding server history)) (sym e) (all_append (IsEnding server history) requests (r ∷ []) all_ending (opening_ending server history a m r firsts opens, tt))
+      subst (AllByRecursion (IsEnding server history)) (sym e) (all_append (IsEnding server history) requests (r ∷ []) all_ending
+      (opening_ending server history a m r firsts opens, tt))
   part_ending after firsts again (Changes r change there is e f) =
-      let changed : HasChanged (origin_of server history r) r change.request = change_changed server history state act now r change again recent (ready_there r there).changing is in
-      subst (AllByRecursion (IsEnding server history)) (sym e) (all_replaced (IsEnding server history) change.request (changed_ending server history r change.request changed) requests all_ending)
+      let changed : HasChanged (origin_of server history r) r change.request = change_changed server history state act now r change again recent
+      (ready_there r there).changing is in
+      subst (AllByRecursion (IsEnding server history)) (sym e) (all_replaced (IsEnding server history) change.request
+      (changed_ending server history r change.request changed) requests all_ending)
   part_ending after firsts again (Resends r later there goes e f) =
       subst (AllByRecursion (IsEnding server history)) (sym e)
-      (all_replaced (IsEnding server history) later (resent_ending server history now r again later goes (ready_ending server history now r (ready_there r there))) requests all_ending)
+      (all_replaced (IsEnding server history) later (resent_ending server history now r again later goes (ready_ending server history now r (ready_there r there)))
+      requests all_ending)
   part_ending after firsts again (Acknowledges r there e f g) =
       let before : IsReady server history now r = ready_there r there in
       subst (AllByRecursion (IsEnding server history)) (sym e)
-      (all_replaced (IsEnding server history) (acknowledged now r) (acknowledged_ending server history now r (ready_ending server history now r before) before.side_from) requests all_ending)
+      (all_replaced (IsEnding server history) (acknowledged now r) (acknowledged_ending server history now r (ready_ending server history now r before) before.side_from)
+      requests all_ending)
 
   -- and one part or two do
-  pub parts_ending : (after : List OpenRequest) (firsts again : List Packet) → AreParts server state act now requests after firsts again → AllByRecursion (IsEnding server history) after
+  pub parts_ending : (after : List OpenRequest) (firsts again : List Packet) → AreParts server state act now requests after firsts again
+      → AllByRecursion (IsEnding server history) after
   parts_ending after firsts again (One part) = part_ending after firsts again part
   parts_ending after firsts again (Two middle earlier r change part there here is e f g) =
-      let changed : HasChanged (origin_of server history r) r change.request = change_changed server history state act now r change [] recent (ready_there r there).changing is in
+      let changed : HasChanged (origin_of server history r) r change.request = change_changed server history state act now r change [] recent
+      (ready_there r there).changing is in
       subst (AllByRecursion (IsEnding server history)) (sym e)
       (all_replaced (IsEnding server history) change.request (changed_ending server history r change.request changed) middle (part_ending middle earlier [] part))

@@ -63,7 +63,10 @@ later_by earlier later time le (Some due) h = omega arith
 
 -- so is a branch
 branch_later : (invite : Bool) (earlier later : ℕ) → earlier ≤ later → (b : Branch) → IsOnTime invite earlier b → IsOnTime invite later b
-branch_later invite earlier later le b h = record { ends = later_by earlier later (phase_time invite b.is_cancel b.phase) le (phase_deadline b.phase) h.ends; cancels_nothing = h.cancels_nothing }
+branch_later invite earlier later le b h = record {
+  ends = later_by earlier later (phase_time invite b.is_cancel b.phase) le (phase_deadline b.phase) h.ends;
+  cancels_nothing = h.cancels_nothing;
+}
 
 -- and a request
 pub request_later : (invite : Bool) (earlier later : ℕ) → earlier ≤ later → (r : OpenRequest) → IsInTime invite earlier r → IsInTime invite later r
@@ -110,18 +113,21 @@ longer_by origin shorter longer le None h = tt
 longer_by origin shorter longer le (Some due) h = omega arith
 
 -- each deadline of a request that is in time
-pub deadlines_in_time : (invite : Bool) (origin : ℕ) (r : OpenRequest) → IsInTime invite origin r → AllByRecursion (λ (due : ℕ). due ≤ origin + whole_time invite) (deadlines_of r)
+pub deadlines_in_time : (invite : Bool) (origin : ℕ) (r : OpenRequest) → IsInTime invite origin r
+    → AllByRecursion (λ (due : ℕ). due ≤ origin + whole_time invite) (deadlines_of r)
 deadlines_in_time invite origin r h =
     all_append (λ (due : ℕ). due ≤ origin + whole_time invite) _ _
     (all_option _ (side_deadline r.side) (longer_by origin (side_time invite r.side) (whole_time invite) (side_within invite r.side) (side_deadline r.side) h.side))
     (all_filter_map _ (λ (b : Branch). phase_deadline b.phase) r.branches
     (all_weaker (IsOnTime invite origin) (λ (b : Branch). IfSome (phase_deadline b.phase) (λ due. due ≤ origin + whole_time invite))
-    (λ b on. longer_by origin (phase_time invite b.is_cancel b.phase) (whole_time invite) (phase_within invite b.is_cancel b.phase (λ e. (on.cancels_nothing e).0)) (phase_deadline b.phase) on.ends) r.branches h.branches))
+    (λ b on. longer_by origin (phase_time invite b.is_cancel b.phase) (whole_time invite) (phase_within invite b.is_cancel b.phase (λ e. (on.cancels_nothing e).0))
+    (phase_deadline b.phase) on.ends) r.branches h.branches))
 
 -- ---- a moment before a deadline
 
 -- a branch to a target without a final answer, whose deadline isn't before a moment: the moment is in its time
-pub still_waits : (invite : Bool) (origin now : ℕ) (phase : Phase) → is_final phase ≡ false → IsBy (origin + phase_time invite false phase) (phase_deadline phase) → IsFrom now (phase_deadline phase)
+pub still_waits : (invite : Bool) (origin now : ℕ) (phase : Phase) → is_final phase ≡ false → IsBy (origin + phase_time invite false phase) (phase_deadline phase)
+    → IsFrom now (phase_deadline phase)
     → now ≤ origin + waiting_time invite
 still_waits true origin now (Unheard due) waits by from = omega arith
 still_waits true origin now (Heard due) waits by from = omega arith
@@ -133,7 +139,8 @@ still_waits false origin now (Heard due) waits by from = omega arith
 still_waits false origin now (Cancelled due) waits by from = omega arith
 
 -- a CANCEL without one
-pub cancel_waits : (invite : Bool) (origin now : ℕ) (phase : Phase) → is_final phase ≡ false → IsBy (origin + phase_time invite true phase) (phase_deadline phase) → IsFrom now (phase_deadline phase)
+pub cancel_waits : (invite : Bool) (origin now : ℕ) (phase : Phase) → is_final phase ≡ false → IsBy (origin + phase_time invite true phase) (phase_deadline phase)
+    → IsFrom now (phase_deadline phase)
     → now ≤ origin + 217000
 cancel_waits invite origin now (Unheard due) waits by from = omega arith
 cancel_waits invite origin now (Heard due) waits by from = omega arith
@@ -142,7 +149,8 @@ cancel_waits invite origin now (Done due status) waits by from = absurd (cc)
 cancel_waits invite origin now Ended waits by from = absurd (cc)
 
 -- an INVITE's branch that is ready for a CANCEL
-pub ready_in_time : (origin now : ℕ) (phase : Phase) → is_ready phase ≡ true → IsBy (origin + phase_time true false phase) (phase_deadline phase) → IsFrom now (phase_deadline phase) → now ≤ origin + 185000
+pub ready_in_time : (origin now : ℕ) (phase : Phase) → is_ready phase ≡ true → IsBy (origin + phase_time true false phase) (phase_deadline phase)
+    → IsFrom now (phase_deadline phase) → now ≤ origin + 185000
 ready_in_time origin now (Unheard due) ready by from = absurd (cc)
 ready_in_time origin now (Heard due) ready by from = omega arith
 ready_in_time origin now (Cancelled due) ready by from = absurd (cc)
@@ -152,7 +160,8 @@ ready_in_time origin now Ended ready by from = absurd (cc)
 -- ---- what is heard
 
 -- a provisional response to a request that is no INVITE, or to a CANCEL, leaves the deadline, which is in time as before
-pub other_heard_ends : (invite cancel : Bool) (origin : ℕ) (phase : Phase) → (invite ≡ true → cancel ≡ true) → IsBy (origin + phase_time invite cancel phase) (phase_deadline phase)
+pub other_heard_ends : (invite cancel : Bool) (origin : ℕ) (phase : Phase) → (invite ≡ true → cancel ≡ true)
+    → IsBy (origin + phase_time invite cancel phase) (phase_deadline phase)
     → IsBy (origin + phase_time invite cancel (other_heard phase)) (phase_deadline (other_heard phase))
 other_heard_ends true true origin (Unheard due) only by = omega arith
 other_heard_ends true false origin (Unheard due) only by = absurd (cc (only refl))
@@ -183,7 +192,8 @@ either_from true now due from = from
 either_from false now due from = omega arith
 
 -- a provisional response to an INVITE, which came no later than the moment from which its time counts, or is a 100
-pub invite_heard_ends : (origin now status : ℕ) (phase : Phase) → ((status == 100) ≡ false → now ≤ origin) → IsBy (origin + phase_time true false phase) (phase_deadline phase)
+pub invite_heard_ends : (origin now status : ℕ) (phase : Phase) → ((status == 100) ≡ false → now ≤ origin)
+    → IsBy (origin + phase_time true false phase) (phase_deadline phase)
     → IsBy (origin + phase_time true false (invite_heard now status phase)) (phase_deadline (invite_heard now status phase))
 invite_heard_ends origin now status (Unheard due) recent by = either_heard (status == 100) origin now (due + 153000) recent (omega arith)
 invite_heard_ends origin now status (Heard due) recent by = either_heard (status == 100) origin now due recent by
@@ -200,12 +210,15 @@ invite_heard_from now status (Done due first) from = from
 invite_heard_from now status Ended from = from
 
 -- either way
-pub heard_ends : (invite : Bool) (origin now status : ℕ) (phase : Phase) → (invite ≡ true → (status == 100) ≡ false → now ≤ origin) → IsBy (origin + phase_time invite false phase) (phase_deadline phase)
-    → IsBy (origin + phase_time invite false (cond invite (invite_heard now status phase) (other_heard phase))) (phase_deadline (cond invite (invite_heard now status phase) (other_heard phase)))
+pub heard_ends : (invite : Bool) (origin now status : ℕ) (phase : Phase) → (invite ≡ true → (status == 100) ≡ false → now ≤ origin)
+    → IsBy (origin + phase_time invite false phase) (phase_deadline phase)
+    → IsBy (origin + phase_time invite false (cond invite (invite_heard now status phase) (other_heard phase)))
+    (phase_deadline (cond invite (invite_heard now status phase) (other_heard phase)))
 heard_ends true origin now status phase recent by = invite_heard_ends origin now status phase (recent refl) by
 heard_ends false origin now status phase recent by = other_heard_ends false false origin phase (λ e. absurd (cc)) by
 
 -- and not before the moment
-pub heard_from : (invite : Bool) (now status : ℕ) (phase : Phase) → IsFrom now (phase_deadline phase) → IsFrom now (phase_deadline (cond invite (invite_heard now status phase) (other_heard phase)))
+pub heard_from : (invite : Bool) (now status : ℕ) (phase : Phase) → IsFrom now (phase_deadline phase)
+    → IsFrom now (phase_deadline (cond invite (invite_heard now status phase) (other_heard phase)))
 heard_from true now status phase from = invite_heard_from now status phase from
 heard_from false now status phase from = other_heard_from now phase from

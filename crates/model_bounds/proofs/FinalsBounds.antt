@@ -1,5 +1,6 @@
 -- What goes again by time leaves one less, and a request as it is opened leaves no more than ten.
-use Rattle.std.proofs.Common.{◌≡◌, inl, inr, ℕ, ◌+◌, ◌<◌, ◌≤◌, Bool, true, false, ◌&&◌, cond, List, [], ◌∷◌, ◌++◌, Option, Some, None, refl, sym, ap, subst, ◌∙◌, arith, bytes_eq, codes}
+use Rattle.std.proofs.Common.{◌≡◌, inl, inr, ℕ, ◌+◌, ◌<◌, ◌≤◌, Bool, true, false, ◌&&◌, cond, List, [], ◌∷◌, ◌++◌, Option, Some, None, refl, sym, ap, subst, ◌∙◌, arith}
+use Rattle.std.proofs.Common.{bytes_eq, codes}
 use Rattle.std.specs.Option.{option_to_list}
 use Rattle.std.specs.List.{AllByRecursion, filter_map}
 use Rattle.sip_message_form.specs.declared.message.Message.{Message}
@@ -15,7 +16,8 @@ use Rattle.sip_model.specs.state.State.{first_resend, is_invite, side_deadline, 
 use Rattle.sip_model.specs.context_model.Sending.{made_answer, branch_packets}
 use Rattle.sip_model.specs.context_model.Branches.{is_same_branch, is_closing, was_refused}
 use Rattle.sip_model.specs.context_model.Opening.{request_key, closing, forking, is_tried, trying, tried, opening}
-use Rattle.sip_model.specs.context_model.Retransmission.{resend_after, answers_again, answer_next, answer_due, branch_next, resent_branch, with_resend, IsResent, OfAnswer, OfRequest}
+use Rattle.sip_model.specs.context_model.Retransmission.{resend_after, answers_again, answer_next, answer_due, branch_next, resent_branch, with_resend, IsResent}
+use Rattle.sip_model.specs.context_model.Retransmission.{OfAnswer, OfRequest}
 use Rattle.sip_model.specs.steps_model.Effect.{replaced}
 use Rattle.sip_model.specs.steps_model.Step.{NoneBefore}
 use Rattle.sip_model.specs.Parts.{AreBegun, made_text, IsOpening, Answered, Sent}
@@ -42,7 +44,8 @@ own_deadlines P (x ∷ xs) r all (inr later) = own_deadlines P xs r (split_all P
 closes_later : (now until : ℕ) (requests : List OpenRequest) (r : OpenRequest) → NoneBefore now requests → IsIn r requests → r.side ≡ Closing until → now ≤ until
 closes_later now until requests r none there closing =
     let own : AllByRecursion (λ (due : ℕ). now ≤ due) (deadlines_of r) = own_deadlines (λ (due : ℕ). now ≤ due) requests r none there in
-    (subst (λ (side : Side). AllByRecursion (λ (due : ℕ). now ≤ due) (option_to_list (side_deadline side) ++ filter_map (λ (b : Branch). phase_deadline b.phase) r.branches))
+    (subst (λ (side : Side). AllByRecursion (λ (due : ℕ). now ≤ due) (option_to_list (side_deadline side)
+    ++ filter_map (λ (b : Branch). phase_deadline b.phase) r.branches))
     closing own).0
 
 -- ---- what goes again by time
@@ -79,7 +82,8 @@ insisting now r e = by_tests (is_invite r) r.side r.answer refl refl refl e wher
   by_tests false side answer invite is at due = absurd (cc)
 
 -- one less may go then
-one_less_left : TimerLaws → (now : ℕ) (r : OpenRequest) (h : Insists now r) → IsTimed r → now ≤ h.until → copies_left (record r { again = answer_next r }) + 1 ≡ copies_left r
+one_less_left : TimerLaws → (now : ℕ) (r : OpenRequest) (h : Insists now r) → IsTimed r → now ≤ h.until
+    → copies_left (record r { again = answer_next r }) + 1 ≡ copies_left r
 one_less_left laws now r h timed early =
     let due = h.is_due in
     let timely : IsTimely h.until r.again = timed.timely h.until h.closes (ap was_refused h.answers ∙ h.refuses) in
@@ -88,7 +92,8 @@ one_less_left laws now r h timed early =
     (laws.one_less h.until h.answer r.again h.refuses timely (omega arith)))
 
 -- what that leaves
-answer_spent : TimerLaws → (Invite : ℕ → Type 0) (now : ℕ) (r : OpenRequest) (requests : List OpenRequest) (next : ℕ) (went came came_then : ℕ → ℕ) → answer_due r ≡ Some now
+answer_spent : TimerLaws → (Invite : ℕ → Type 0) (now : ℕ) (r : OpenRequest) (requests : List OpenRequest) (next : ℕ) (went came came_then : ℕ → ℕ)
+    → answer_due r ≡ Some now
     → NoneBefore now requests → IsIn r requests
     → ((n : ℕ) → came n ≤ came_then n) → AreSpent Invite requests next went came
     → AreSpent Invite (replaced (record r { again = answer_next r }) requests) next (λ n. finals_in n (answers_again r r.answer) + went n) came_then
@@ -127,7 +132,8 @@ branch_no_more r b h = record {
 
 -- either
 pub resent_spent : TimerLaws
-    → (Invite : ℕ → Type 0) (server : Server) (now : ℕ) (r later : OpenRequest) (again : List Packet) (requests : List OpenRequest) (next : ℕ) (went came came_then : ℕ → ℕ)
+    → (Invite : ℕ → Type 0) (server : Server) (now : ℕ) (r later : OpenRequest) (again : List Packet) (requests : List OpenRequest) (next : ℕ) (went came came_then : ℕ
+    → ℕ)
     → IsResent server now r again later
     → NoneBefore now requests → IsIn r requests → ((n : ℕ) → came n ≤ came_then n) → AreSpent Invite requests next went came
     → AreSpent Invite (replaced later requests) next (λ n. finals_in n again + went n) came_then
@@ -179,7 +185,10 @@ closing_spent laws Invite went came a m status text invites none = record {
 sent_spent : TimerLaws → (Invite : ℕ → Type 0) (went came : ℕ → ℕ) (server : Server) (a : Arrival) (m : Message) (bs : List Branch) → AreBegun a.now 1 bs
     → (bytes_eq (request_key m).method (codes "INVITE") ≡ true → Invite a.number)
     → went a.number ≡ 0 → IsSpent Invite went came (opening server a.now (forking a m bs)).request × ((opening server a.now (forking a m bs)).request.number ≡ a.number)
-sent_spent laws Invite went came server a m bs begun invites none = (spent_no_more Invite went came fork (opening server a.now fork).request all spent, all.number_is) where
+sent_spent laws Invite went came server a m bs begun invites none = (
+  spent_no_more Invite went came fork (opening server a.now fork).request all spent,
+  all.number_is,
+) where
   fork : OpenRequest
   fork = forking a m bs
 
@@ -196,7 +205,8 @@ sent_spent laws Invite went came server a m bs begun invites none = (spent_no_mo
   spent = record { to_invite = λ invite. (invites invite, omega (arith, none)); to_other = λ other. omega (arith, none); timed = timed }
 
   after_hundred : (t : Bool)
-      → IsNoMore fork (tried a.now (cond t (record { status = 100; message = made_answer server fork.number fork.request fork.source 100 []; target = None } ∷ []) []) fork)
+      → IsNoMore fork (tried a.now (cond t (record { status = 100; message = made_answer server fork.number fork.request fork.source 100 []; target = None } ∷ []) [])
+      fork)
   after_hundred true = upward_no_more laws a.now
       (Some (record { status = 100; message = made_answer server fork.number fork.request fork.source 100 []; target = None })) fork fork (inl refl) itself
   after_hundred false = itself
@@ -210,4 +220,5 @@ pub opening_spent : TimerLaws → (Invite : ℕ → Type 0) (went came : ℕ →
     → (bytes_eq (request_key m).method (codes "INVITE") ≡ true → Invite a.number) → went a.number ≡ 0 → IsSpent Invite went came r × (r.number ≡ a.number)
 opening_spent laws Invite went came server a m _ _ (Answered status extras final) invites none =
     (closing_spent laws Invite went came a m status (made_text server a m status extras) invites none, refl)
-opening_spent laws Invite went came server a m _ _ (Sent first others begun) invites none = sent_spent laws Invite went came server a m (first ∷ others) begun invites none
+opening_spent laws Invite went came server a m _ _ (Sent first others begun) invites none =
+    sent_spent laws Invite went came server a m (first ∷ others) begun invites none

@@ -1,5 +1,6 @@
 -- What a change of an open request sends to the caller is of its status, and the rest of it is no answer; and what the request keeps stays so.
-use Rattle.std.proofs.Common.{◌≡◌, ℕ, ◌+◌, ◌≤◌, Bool, true, false, not, ◌&&◌, ◌||◌, cond, ◌==◌, List, [], ◌∷◌, ◌++◌, map, filter, Option, Some, None, refl, subst, arith, flat_map}
+use Rattle.std.proofs.Common.{◌≡◌, ℕ, ◌+◌, ◌≤◌, Bool, true, false, not, ◌&&◌, ◌||◌, cond, ◌==◌, List, [], ◌∷◌, ◌++◌, map, filter, Option, Some, None, refl, subst, arith}
+use Rattle.std.proofs.Common.{flat_map}
 use Rattle.std.specs.Option.{option_map_or}
 use Rattle.std.specs.List.{AllByRecursion}
 use Rattle.sip_uri.specs.declared.addr.Addr.{Addr}
@@ -21,7 +22,10 @@ use Rattle.sip_model.specs.state.declared.open_request.Upward.{Upward}
 use Rattle.sip_model.specs.state.declared.proxy_state.ProxyState.{ProxyState}
 use Rattle.sip_model.specs.state.State.{is_invite, is_answering, is_final, is_success, is_failure, is_decline, is_provisional}
 use Rattle.sip_model.specs.context_model.Sending.{request_of, branch_packets}
-use Rattle.sip_model.specs.context_model.Branches.{Change, is_same_branch, phased, with_phase, with_final, marked_branch, marked, given_up, best_upward, is_cancellable, cancel_branch, after_upward, upward_list, settled, heard, other_heard, relayed_from, relayed_provisional, is_accepted, relayed_success, linger, final_of, told_to, with_answer, acks_of, further, target_responded, cancel_responded, responded, target_overdue, branch_overdue}
+use Rattle.sip_model.specs.context_model.Branches.{Change, is_same_branch, phased, with_phase, with_final, marked_branch, marked, given_up, best_upward, is_cancellable}
+use Rattle.sip_model.specs.context_model.Branches.{cancel_branch, after_upward, upward_list, settled, heard, other_heard, relayed_from, relayed_provisional, is_accepted}
+use Rattle.sip_model.specs.context_model.Branches.{relayed_success, linger, final_of, told_to, with_answer, acks_of, further, target_responded, cancel_responded}
+use Rattle.sip_model.specs.context_model.Branches.{responded, target_overdue, branch_overdue}
 use Rattle.sip_model.specs.steps_model.Step.{Act, IsOverdue, OfSide, OfBranch}
 use Rattle.sip_model.specs.Parts.{IsChangeAt, ByResponse, ByDeadline, ByFault, ByCancel}
 use Rattle.model_bounds.specs.FinalAnswers.{begins_final}
@@ -60,13 +64,15 @@ told_like now (Some u) r x h = record { number_is = h.number_is; key_is = h.key_
 -- the CANCEL of a branch
 cancel_packets : (server : Server) (r : OpenRequest) (b : Branch) (address : Option Addr)
     → AllByRecursion IsNoAnswer
-    (option_map_or (λ to. record { to = to; bytes = text_of (cancel_of (request_of server r b)); ticket = record { datagram = r.number; branch = 0 }; again = false } ∷ [])
+    (option_map_or (λ to. record { to = to; bytes = text_of (cancel_of (request_of server r b)); ticket = record { datagram = r.number; branch = 0 }; again = false }
+    ∷ [])
     address [])
 cancel_packets server r b None = tt
 cancel_packets server r b (Some to) = (cancel_text (request_of server r b), tt)
 
 -- those of all that are sent one
-all_cancels : (server : Server) (now : ℕ) (r : OpenRequest) (bs : List Branch) → AllByRecursion IsNoAnswer (flat_map (branch_packets server false r) (map (cancel_branch now) bs))
+all_cancels : (server : Server) (now : ℕ) (r : OpenRequest) (bs : List Branch) → AllByRecursion IsNoAnswer
+    (flat_map (branch_packets server false r) (map (cancel_branch now) bs))
 all_cancels server now r [] = tt
 all_cancels server now r (b ∷ bs) =
     all_append IsNoAnswer (branch_packets server false r (cancel_branch now b)) (flat_map (branch_packets server false r) (map (cancel_branch now) bs))
@@ -195,7 +201,8 @@ cancel_sound server now r b status m all = by_test (is_provisional status) (is_f
       (same_like r (map (phased b (Done (now + 5000) status)) r.branches) all)
 
 -- a response
-response_sound : (server : Server) (now : ℕ) (r : OpenRequest) (b : Branch) (status : ℕ) (m : Message) → 100 ≤ status → HasStatus status m → AllByRecursion IsKept r.finals
+response_sound : (server : Server) (now : ℕ) (r : OpenRequest) (b : Branch) (status : ℕ) (m : Message) → 100 ≤ status → HasStatus status m
+    → AllByRecursion IsKept r.finals
     → IsSound r (responded server now r b status m)
 response_sound server now r b status m low h all = by_test b.is_cancel where
   by_test : (t : Bool) → IsSound r (cond t (cancel_responded server now r b status m) (target_responded server now r b status m))
@@ -225,7 +232,8 @@ branch_like r b all = by_test b.is_cancel where
 
 -- a deadline
 deadline_sound : (server : Server) (now : ℕ) (r : OpenRequest) (change : Change) → IsOverdue server now r change → AllByRecursion IsKept r.finals → IsSound r change
-deadline_sound server now r _ (OfSide due) all = settled_sound server now [] None r (record r { side = Closed }) tt tt (record { number_is = refl; key_is = refl; keeps = all })
+deadline_sound server now r _ (OfSide due) all = settled_sound server now [] None r (record r { side = Closed }) tt tt
+    (record { number_is = refl; key_is = refl; keeps = all })
 deadline_sound server now r _ (OfBranch b there due) all = settled_sound server now [] None r (branch_overdue r b) tt tt (branch_like r b all)
 
 -- ---- any change

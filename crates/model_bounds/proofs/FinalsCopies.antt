@@ -1,5 +1,6 @@
 -- How often final answers go again: by time no more than is left, and once more for each copy of their request.
-use Rattle.std.proofs.Common.{◌≡◌, ◌⊎◌, inl, inr, ℕ, ◌+◌, ◌≤◌, Bool, true, false, not, ◌&&◌, cond, ◌==◌, List, [], ◌∷◌, ◌++◌, find, Option, Some, None, option_and_then, refl, sym, ap, subst, ◌∙◌, arith, bytes_eq, codes}
+use Rattle.std.proofs.Common.{◌≡◌, ◌⊎◌, inl, inr, ℕ, ◌+◌, ◌≤◌, Bool, true, false, not, ◌&&◌, cond, ◌==◌, List, [], ◌∷◌, ◌++◌, find, Option, Some, None, option_and_then}
+use Rattle.std.proofs.Common.{refl, sym, ap, subst, ◌∙◌, arith, bytes_eq, codes}
 use Rattle.std.specs.Option.{option_map_or}
 use Rattle.std.specs.List.{AllByRecursion}
 use Rattle.std.proofs.lemmas.Bool.Decides.{nat_tests}
@@ -29,7 +30,8 @@ use Rattle.sip_model.specs.Order.{is_numbered, AreNumbered}
 use Rattle.sip_model.specs.Parts.{IsChangeAt, ByResponse, ByDeadline, ByFault, ByCancel}
 use Rattle.model_bounds.specs.FinalAnswers.{begins_final, is_final_to, copied_by, is_copy_at}
 use Rattle.model_bounds.proofs.FinalsText.{ack_text, cancel_text}
-use Rattle.model_bounds.proofs.FinalsLists.{IsIn, each_of, all_append, all_weaker, count_cons, none_at, at_most_one, same_number, are_equal, apart_back, all_replaced, numbered_replaced, numbered_push, numbered_later}
+use Rattle.model_bounds.proofs.FinalsLists.{IsIn, each_of, all_append, all_weaker, count_cons, none_at, at_most_one, same_number, are_equal, apart_back, all_replaced}
+use Rattle.model_bounds.proofs.FinalsLists.{numbered_replaced, numbered_push, numbered_later}
 use Rattle.model_bounds.proofs.FinalsCounts.{finals_in, first_fails, middle_fails, no_answers}
 use Rattle.model_bounds.proofs.FinalsChanges.{IsNoAnswer}
 use Rattle.model_bounds.proofs.FinalsSpent.{TimerLaws, copies_left, IsTimed, IsNoMore, change_no_more, acknowledged_no_more}
@@ -94,15 +96,16 @@ branch_none server n r b some = by_address b.is_cancel b.address where
 
 -- nor is an ACK
 acks_none : (server : Server) (n : ℕ) (r : OpenRequest) (b : Branch) (phase : Phase) → finals_in n (acks_again server r b phase) ≡ 0
-acks_none server n r b (Done due status) = no_answers n (acks_again server r b (Done due status)) (by_test (is_invite r && not b.is_cancel && is_failure status) b.address) where
-  by_test : (t : Bool) (address : Option Addr)
-      → AllByRecursion IsNoAnswer
-      (cond t (option_map_or
-      (λ to. record { to = to; bytes = text_of (ack_with b.final_to (request_of server r b)); ticket = record { datagram = r.number; branch = 0 }; again = true } ∷ [])
-      address []) [])
-  by_test true None = tt
-  by_test true (Some to) = (ack_text b.final_to (request_of server r b), tt)
-  by_test false address = tt
+acks_none server n r b (Done due status) = no_answers n (acks_again server r b (Done due status))
+    (by_test (is_invite r && not b.is_cancel && is_failure status) b.address) where
+      by_test : (t : Bool) (address : Option Addr)
+          → AllByRecursion IsNoAnswer
+          (cond t (option_map_or
+          (λ to. record { to = to; bytes = text_of (ack_with b.final_to (request_of server r b)); ticket = record { datagram = r.number; branch = 0 }; again = true } ∷ [])
+          address []) [])
+      by_test true None = tt
+      by_test true (Some to) = (ack_text b.final_to (request_of server r b), tt)
+      by_test false address = tt
 acks_none server n r b (Unheard due) = refl
 acks_none server n r b (Heard due) = refl
 acks_none server n r b (Cancelled due) = refl
@@ -157,7 +160,8 @@ spent_bounded Invite went came r h = by_test (is_invite r) refl where
   by_test false e = inl (h.to_other e)
 
 -- it stays so while no more goes again than copies come
-spent_with : (Invite : ℕ → Type 0) (went came went_then came_then : ℕ → ℕ) (r : OpenRequest) → GoesWith went came went_then came_then r.number → IsSpent Invite went came r
+spent_with : (Invite : ℕ → Type 0) (went came went_then came_then : ℕ → ℕ) (r : OpenRequest) → GoesWith went came went_then came_then r.number
+    → IsSpent Invite went came r
     → IsSpent Invite went_then came_then r
 spent_with Invite went came went_then came_then r goes h = record {
   to_invite = λ invite. let spent = h.to_invite invite in let less = spent.1 in (spent.0, omega (arith, less, goes));
@@ -214,7 +218,11 @@ spent_weaker Before After requests next went came stays h = record {
   none_later = h.none_later;
   each_one = λ n. bounded n (h.each_one n);
   fit = all_weaker (IsSpent Before went came) (IsSpent After went came) requests
-      (λ r spent. record { to_invite = λ invite. let before = spent.to_invite invite in (stays r.number before.0, before.1); to_other = spent.to_other; timed = spent.timed })
+      (λ r spent. record {
+        to_invite = λ invite. let before = spent.to_invite invite in (stays r.number before.0, before.1);
+        to_other = spent.to_other;
+        timed = spent.timed;
+      })
       h.fit;
 } where
   bounded : (n : ℕ) → IsBounded Before went came n → IsBounded After went came n
@@ -252,13 +260,16 @@ pushed_spent Invite requests next went came r number spent h = record {
 
 -- what a change leaves, where no more goes again than copies come
 pub change_spent : TimerLaws
-    → (Invite : ℕ → Type 0) (server : Server) (state : ProxyState) (act : Act) (now : ℕ) (r : OpenRequest) (change : Change) (again : List Packet) (requests : List OpenRequest)
+    → (Invite : ℕ → Type 0) (server : Server) (state : ProxyState) (act : Act) (now : ℕ) (r : OpenRequest) (change : Change) (again : List Packet)
+    (requests : List OpenRequest)
     (next : ℕ) (went came : ℕ → ℕ)
-    → IsIn r requests → IsChangeAt server state act now r change again → AreSpent Invite requests next went came → AreSpent Invite (replaced change.request requests) next went came
+    → IsIn r requests → IsChangeAt server state act now r change again → AreSpent Invite requests next went came
+    → AreSpent Invite (replaced change.request requests) next went came
 change_spent laws Invite server state act now r change again requests next went came there is h =
     let spent : IsSpent Invite went came r = each_of (IsSpent Invite went came) requests r h.fit there in
     let no_more : IsNoMore r change.request = change_no_more laws server state act now r change again is spent.timed in
-    replaced_spent Invite requests next went came went came change.request (λ n apart. omega arith) h.none_later (spent_no_more Invite went came r change.request no_more spent) h
+    replaced_spent Invite requests next went came went came change.request (λ n apart. omega arith) h.none_later
+    (spent_no_more Invite went came r change.request no_more spent) h
 
 -- what an ACK leaves
 pub acknowledged_spent : TimerLaws → (Invite : ℕ → Type 0) (now : ℕ) (r : OpenRequest) (requests : List OpenRequest) (next : ℕ) (went came : ℕ → ℕ) → IsIn r requests

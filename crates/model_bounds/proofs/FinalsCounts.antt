@@ -1,5 +1,6 @@
 -- How many final answers some packets are to the caller of a number, and how many of them are no 2xx.
-use Rattle.std.proofs.Common.{◌≡◌, ◌⊎◌, inl, inr, ℕ, zero, suc, ◌+◌, ◌≤◌, Bool, true, false, not, ◌&&◌, ◌==◌, List, [], ◌∷◌, ◌++◌, refl, sym, ap, subst, ◌∙◌, arith, count_by, bytes_eq, codes}
+use Rattle.std.proofs.Common.{◌≡◌, ◌⊎◌, inl, inr, ℕ, zero, suc, ◌+◌, ◌≤◌, Bool, true, false, not, ◌&&◌, ◌==◌, List, [], ◌∷◌, ◌++◌, refl, sym, ap, subst, ◌∙◌, arith}
+use Rattle.std.proofs.Common.{count_by, bytes_eq, codes}
 use Rattle.std.specs.List.{AllByRecursion}
 use Rattle.sip_transaction_table.specs.declared.key.Key.{Key}
 use Rattle.sip_message_form.specs.Text.{text_of}
@@ -90,8 +91,14 @@ up_few n r (u ∷ us) all = by_test (is_provisional u.status) refl (up_few n r u
   by_test true is rest =
       let none = none_at (is_final_to n p) (no_answer_to n p (provisional_text u.status u.message all.0.is_of all.0.low is)) in
       omega (arith, count_cons (is_final_to n) p (upward_packets r us), count_cons is_final_answer u us, none, rest)
-  by_test false is rest = omega
-      (arith, count_cons (is_final_to n) p (upward_packets r us), count_cons is_final_answer u us, one_at (is_final_answer u) (ap not is), at_most_one (is_final_to n p), rest)
+  by_test false is rest = omega (
+    arith,
+    count_cons (is_final_to n) p (upward_packets r us),
+    count_cons is_final_answer u us,
+    one_at (is_final_answer u) (ap not is),
+    at_most_one (is_final_to n p),
+    rest,
+  )
 
 -- none to any other number
 up_beside : (n : ℕ) (r : OpenRequest) (us : List Upward) → (r.number == n) ≡ false → finals_in n (upward_packets r us) ≡ 0
@@ -118,7 +125,8 @@ up_others n r us all successes = count_none (is_other_to n) (upward_packets r us
 -- ---- what a change sends
 
 -- its final answers are those that go to the caller
-pub change_finals : (n : ℕ) (r : OpenRequest) (change : Change) → IsSound r change → finals_in n (change_packets change) ≡ finals_in n (upward_packets change.request change.upward)
+pub change_finals : (n : ℕ) (r : OpenRequest) (change : Change) → IsSound r change → finals_in n (change_packets change)
+    ≡ finals_in n (upward_packets change.request change.upward)
 change_finals n r change h =
     let up = upward_packets change.request change.upward in
     omega (
@@ -131,7 +139,8 @@ change_finals n r change h =
     )
 
 -- so are those that are no 2xx
-change_others : (n : ℕ) (r : OpenRequest) (change : Change) → IsSound r change → others_in n (change_packets change) ≡ others_in n (upward_packets change.request change.upward)
+change_others : (n : ℕ) (r : OpenRequest) (change : Change) → IsSound r change → others_in n (change_packets change)
+    ≡ others_in n (upward_packets change.request change.upward)
 change_others n r change h =
     let up = upward_packets change.request change.upward in
     omega (
@@ -168,7 +177,8 @@ fit_same Invite sent other r finals others h = record
     { owes = λ answering. finals ∙ h.owes answering; accepts = λ invite success. others ∙ h.accepts invite success; invites = h.invites; keeps = h.keeps }
 
 -- so does the bound
-pub one_same : (Invite : ℕ → Type 0) (n : ℕ) (sent other : List Packet) → finals_in n other ≡ finals_in n sent → others_in n other ≡ others_in n sent → IsOne Invite n sent
+pub one_same : (Invite : ℕ → Type 0) (n : ℕ) (sent other : List Packet) → finals_in n other ≡ finals_in n sent → others_in n other ≡ others_in n sent
+    → IsOne Invite n sent
     → IsOne Invite n other
 one_same Invite n sent other finals others (inl few) = inl (omega arith)
 one_same Invite n sent other finals others (inr all) = inr (all.0, others ∙ all.1)
@@ -181,7 +191,8 @@ beside_others : (n : ℕ) (packets sent : List Packet) → finals_in n packets �
 beside_others n packets sent none = omega (arith, count_append (is_other_to n) packets sent, others_few n packets)
 
 -- so a request fits
-pub fit_beside : (Invite : ℕ → Type 0) (packets sent : List Packet) (r : OpenRequest) → finals_in r.number packets ≡ 0 → IsFit Invite sent r → IsFit Invite (packets ++ sent) r
+pub fit_beside : (Invite : ℕ → Type 0) (packets sent : List Packet) (r : OpenRequest) → finals_in r.number packets ≡ 0 → IsFit Invite sent r
+    → IsFit Invite (packets ++ sent) r
 fit_beside Invite packets sent r none h = fit_same Invite sent (packets ++ sent) r (beside_finals r.number packets sent none) (beside_others r.number packets sent none) h
 
 -- and the bound stays
@@ -197,7 +208,8 @@ same_invite a b e = ap (λ (k : Key). bytes_eq k.method (codes "INVITE")) e
 -- an INVITE that was one stays one
 stays_invite : (Invite : ℕ → Type 0) (sent : List Packet) (r : OpenRequest) (change : Change) → IsSound r change → IsFit Invite sent r → is_invite change.request ≡ true
     → Invite change.request.number
-stays_invite Invite sent r change sound fit invite = subst Invite (sym sound.is_like.number_is) (fit.invites (sym (same_invite change.request r sound.is_like.key_is) ∙ invite))
+stays_invite Invite sent r change sound fit invite = subst Invite (sym sound.is_like.number_is)
+    (fit.invites (sym (same_invite change.request r sound.is_like.key_is) ∙ invite))
 
 -- both lists together
 both_finals : (n : ℕ) (r : OpenRequest) (change : Change) (sent : List Packet) → IsSound r change
@@ -219,7 +231,8 @@ pub once_left : (Invite : ℕ → Type 0) (sent : List Packet) (r : OpenRequest)
 once_left Invite sent r change h sound fit answering = record {
   one = inl (omega (arith, both_finals r.number r change sent sound, few, h.is_one, none));
   fits = record {
-    owes = λ still. subst (λ (n : ℕ). finals_in n (change_packets change ++ sent) ≡ 0) (sym sound.is_like.number_is) (by_count (count_by is_final_answer change.upward) refl still);
+    owes = λ still. subst (λ (n : ℕ). finals_in n (change_packets change ++ sent) ≡ 0) (sym sound.is_like.number_is)
+        (by_count (count_by is_final_answer change.upward) refl still);
     accepts = λ invite success. subst (λ (n : ℕ). others_in n (change_packets change ++ sent) ≡ 0) (sym sound.is_like.number_is)
         (omega (
           arith,
@@ -241,7 +254,8 @@ once_left Invite sent r change h sound fit answering = record {
   few : finals_in r.number (upward_packets change.request change.upward) ≤ count_by is_final_answer change.upward
   few = up_few r.number change.request change.upward sound.honest
 
-  by_count : (count : ℕ) → count_by is_final_answer change.upward ≡ count → is_answering change.request.side ≡ true → finals_in r.number (change_packets change ++ sent) ≡ 0
+  by_count : (count : ℕ) → count_by is_final_answer change.upward ≡ count → is_answering change.request.side ≡ true
+      → finals_in r.number (change_packets change ++ sent) ≡ 0
   by_count zero e still = omega (arith, both_finals r.number r change sent sound, few, none, e)
   by_count (suc count) e still = let answered = h.is_answered (omega (arith, e)) in absurd (cc)
 

@@ -50,8 +50,10 @@ chain_told later one parts server first [] last chain =
     subst (λ (s : ProxyState). AreTold (λ n. WasInvite n []) s.requests s.next []) (sym chain)
     (record { numbered = record { differ = λ n. omega arith; are_below = λ n high. refl }; none_later = λ n high. refl; each_one = λ n. inl (omega arith); fit = tt })
 chain_told later one parts server first (link ∷ history) last chain =
-    let made : HasParts (under server link.config) link.before link.act link.out link.after = parts (under server link.config) link.before link.act link.out link.after chain.1 in
-    let before = told_weaker (λ n. WasInvite n history) (λ n. WasInvite n (link ∷ history)) link.before.requests link.before.next (sent_first history) (invite_later link history)
+    let made : HasParts (under server link.config) link.before link.act link.out link.after =
+    parts (under server link.config) link.before link.act link.out link.after chain.1 in
+    let before = told_weaker (λ n. WasInvite n history) (λ n. WasInvite n (link ∷ history)) link.before.requests link.before.next (sent_first history)
+    (invite_later link history)
     (chain_told later one parts server first history link.before chain.2) in
     subst (λ (s : ProxyState). AreTold (λ n. WasInvite n (link ∷ history)) s.requests s.next (sent_first (link ∷ history))) (sym chain.0)
     (subst (λ (n : ℕ). AreTold (λ k. WasInvite k (link ∷ history)) link.after.requests n (sent_first (link ∷ history))) (sym made.is_next)
@@ -73,6 +75,7 @@ bound n history (inr all) = inr (
   passes false y final none = absurd (cc)
 
 -- each number of a history is within it
-pub chain_once : LaterLaw → FirstLaw → PartsLaw → (server : Server) (first : ℕ) (history : List Link) (last : ProxyState) → IsChain server (first_state first) history last
+pub chain_once : LaterLaw → FirstLaw → PartsLaw → (server : Server) (first : ℕ) (history : List Link) (last : ProxyState)
+    → IsChain server (first_state first) history last
     → (number : ℕ) → IsAnsweredOnce number history
 chain_once later one parts server first history last chain number = bound number history ((chain_told later one parts server first history last chain).each_one number)

@@ -1,5 +1,6 @@
 -- Lists: what is there, what holds of all, how many pass a test, and what replacing an open request leaves.
-use Rattle.std.proofs.Common.{◌≡◌, ◌⊎◌, inl, inr, ℕ, zero, suc, ◌+◌, ◌<◌, ◌≤◌, Bool, true, false, cond, ◌==◌, List, [], ◌∷◌, ◌++◌, length, filter, find, Contains, Option, Some, None, option_and_then, refl, ap, subst, ◌∙◌, arith, count_by, slice_index_or, nat_le}
+use Rattle.std.proofs.Common.{◌≡◌, ◌⊎◌, inl, inr, ℕ, zero, suc, ◌+◌, ◌<◌, ◌≤◌, Bool, true, false, cond, ◌==◌, List, [], ◌∷◌, ◌++◌, length, filter, find, Contains, Option}
+use Rattle.std.proofs.Common.{Some, None, option_and_then, refl, ap, subst, ◌∙◌, arith, count_by, slice_index_or, nat_le}
 use Rattle.std.specs.List.{AllByRecursion}
 use Rattle.std.proofs.lemmas.Bool.Decides.{nat_tests}
 use Rattle.std.proofs.lemmas.List.Sums.{sum_by-cons, sum_by-append, sum_by_push}
@@ -146,7 +147,8 @@ below_apart a b h = grind (arith, nat_tests)
 -- ---- replacing
 
 -- what holds of all, and follows for those of another number
-pub all_others : (P Q : OpenRequest → Type 0) (k : ℕ) (rs : List OpenRequest) → count_by (is_numbered k) rs ≡ 0 → ((x : OpenRequest) → (x.number == k) ≡ false → P x → Q x)
+pub all_others : (P Q : OpenRequest → Type 0) (k : ℕ) (rs : List OpenRequest) → count_by (is_numbered k) rs ≡ 0
+    → ((x : OpenRequest) → (x.number == k) ≡ false → P x → Q x)
     → AllByRecursion P rs → AllByRecursion Q rs
 all_others P Q k [] none lifts all = tt
 all_others P Q k (x ∷ xs) none lifts all = (by_test (x.number == k) refl, all_others P Q k xs (omega (arith, none, count_cons (is_numbered k) x xs)) lifts all.1) where
@@ -164,7 +166,8 @@ all_replaced P Q new (x ∷ xs) few lifts holds all =
       others : (x.number == new.number) ≡ true → AllByRecursion Q xs
       others is = all_others P Q new.number xs (omega (arith, few, count_cons (is_numbered new.number) x xs, one_at (is_numbered new.number x) is)) lifts all.1
 
-      by_test : (t left : Bool) → (x.number == new.number) ≡ t → AllByRecursion Q (replaced new xs) → AllByRecursion Q (cond t (cond left xs (new ∷ xs)) (x ∷ replaced new xs))
+      by_test : (t left : Bool) → (x.number == new.number) ≡ t → AllByRecursion Q (replaced new xs)
+          → AllByRecursion Q (cond t (cond left xs (new ∷ xs)) (x ∷ replaced new xs))
       by_test true true is rest = others is
       by_test true false is rest = (holds, others is)
       by_test false left is rest = (lifts x is all.0, rest)

@@ -1,5 +1,6 @@
 -- What a request's caller is sent in the step in which its datagram opens it, or turns it away.
-use Rattle.std.proofs.Common.{◌≡◌, inl, ℕ, ◌+◌, ◌≤◌, Bool, true, false, not, ◌&&◌, cond, ◌==◌, List, [], ◌∷◌, ◌++◌, map, filter, is_some, Option, Some, None, option_and_then, refl, sym, ap, ◌∙◌, arith, bytes_eq, codes, flat_map}
+use Rattle.std.proofs.Common.{◌≡◌, inl, ℕ, ◌+◌, ◌≤◌, Bool, true, false, not, ◌&&◌, cond, ◌==◌, List, [], ◌∷◌, ◌++◌, map, filter, is_some, Option, Some, None}
+use Rattle.std.proofs.Common.{option_and_then, refl, sym, ap, ◌∙◌, arith, bytes_eq, codes, flat_map}
 use Rattle.std.specs.Option.{option_map_or, unwrap_or}
 use Rattle.std.specs.List.{AllByRecursion}
 use Rattle.std.proofs.lemmas.Bool.Decides.{nat_tests}
@@ -37,7 +38,8 @@ use Rattle.model_bounds.proofs.FinalsText.{HasStatus, success_text}
 use Rattle.model_bounds.proofs.FinalsLists.{followed, count_cons, count_append, one_at, none_at, at_most_one}
 use Rattle.model_bounds.proofs.FinalsKept.{IsKept, IsHonest, made_kept, made_status}
 use Rattle.model_bounds.proofs.FinalsChanges.{IsLike, IsSound, settled_sound}
-use Rattle.model_bounds.proofs.FinalsCounts.{finals_in, others_in, is_other_to, first_fails, middle_fails, success_no_other, others_few, up_few, change_beside, IsFit, IsOne, fit_same, one_same, IsLeft, once_left}
+use Rattle.model_bounds.proofs.FinalsCounts.{finals_in, others_in, is_other_to, first_fails, middle_fails, success_no_other, others_few, up_few, change_beside, IsFit}
+use Rattle.model_bounds.proofs.FinalsCounts.{IsOne, fit_same, one_same, IsLeft, once_left}
 
 -- ---- an INVITE
 
@@ -125,7 +127,12 @@ tried_none server n r = by_test (is_tried r) where
   honest = record { low = omega arith; is_of = made_status server r 100 }
 
   by_test : (t : Bool) → finals_in n (upward_packets r (cond t (hundred server r ∷ []) [])) ≡ 0
-  by_test true = omega (arith, up_few n r (hundred server r ∷ []) (honest, tt), count_cons is_final_answer (hundred server r) [], none_at (is_final_answer (hundred server r)) refl)
+  by_test true = omega (
+    arith,
+    up_few n r (hundred server r ∷ []) (honest, tt),
+    count_cons is_final_answer (hundred server r) [],
+    none_at (is_final_answer (hundred server r)) refl,
+  )
   by_test false = refl
 
 -- and leaves what is kept
@@ -155,7 +162,8 @@ target_number now k b h some =
       not_zero n h = grind (arith, nat_tests)
 
 -- what goes to targets is no answer
-targets_none : (server : Server) (n now k : ℕ) (r : OpenRequest) (bs : List Branch) → AreBegun now k bs → 1 ≤ k → finals_in n (flat_map (branch_packets server false r) bs) ≡ 0
+targets_none : (server : Server) (n now k : ℕ) (r : OpenRequest) (bs : List Branch) → AreBegun now k bs → 1 ≤ k
+    → finals_in n (flat_map (branch_packets server false r) bs) ≡ 0
 targets_none server n now k r [] begun some = refl
 targets_none server n now k r (b ∷ bs) begun some =
     omega (
@@ -191,7 +199,8 @@ pub record IsOpened (Invite : ℕ → Type 0) (sent : List Packet) (k : ℕ) (r 
 answered_opened : (Invite : ℕ → Type 0) (sent : List Packet) (server : Server) (a : Arrival) (m : Message) (status : ℕ) (extras : List Field)
     → (bytes_eq (request_key m).method (codes "INVITE") ≡ true → Invite a.number)
     → finals_in a.number sent ≡ 0
-    → IsOpened Invite sent a.number (closing a m status (made_text server a m status extras)) (answer_packet false a.number m a.from (made_text server a m status extras) ∷ [])
+    → IsOpened Invite sent a.number (closing a m status (made_text server a m status extras))
+    (answer_packet false a.number m a.from (made_text server a m status extras) ∷ [])
 answered_opened Invite sent server a m status extras invites none = record {
   number_is = refl;
   beside = λ n e. omega (arith, count_cons (is_final_to n) p [], none_at (is_final_to n p) (first_fails (a.number == n) true (begins_final p.bytes) e));
@@ -200,7 +209,8 @@ answered_opened Invite sent server a m status extras invites none = record {
     owes = λ answering. absurd (cc);
     accepts = λ invite success.
         let none_other = none_at (is_other_to a.number p)
-        (success_no_other (is_final_to a.number p) (begins_success p.bytes) (success_text status (made_answer server a.number m a.from status extras) has_status success)) in
+        (success_no_other (is_final_to a.number p) (begins_success p.bytes) (success_text status (made_answer server a.number m a.from status extras) has_status success))
+        in
         omega (arith, count_cons (is_other_to a.number) p sent, none_other, others_few a.number sent, none);
     invites = λ invite. invites invite;
     keeps = tt;
@@ -268,10 +278,20 @@ sent_opened Invite sent server a m bs begun invites none = record {
       )
 
   finals_sent : (n : ℕ) → finals_in n (opening_packets server a.now fork ++ sent) ≡ finals_in n (change_packets change ++ sent)
-  finals_sent n = omega (arith, count_append (is_final_to n) (opening_packets server a.now fork) sent, count_append (is_final_to n) (change_packets change) sent, finals n)
+  finals_sent n = omega (
+    arith,
+    count_append (is_final_to n) (opening_packets server a.now fork) sent,
+    count_append (is_final_to n) (change_packets change) sent,
+    finals n,
+  )
 
   others_sent : (n : ℕ) → others_in n (opening_packets server a.now fork ++ sent) ≡ others_in n (change_packets change ++ sent)
-  others_sent n = omega (arith, count_append (is_other_to n) (opening_packets server a.now fork) sent, count_append (is_other_to n) (change_packets change) sent, others n)
+  others_sent n = omega (
+    arith,
+    count_append (is_other_to n) (opening_packets server a.now fork) sent,
+    count_append (is_other_to n) (change_packets change) sent,
+    others n,
+  )
 
 -- either
 pub opening_opened : (Invite : ℕ → Type 0) (sent : List Packet) (server : Server) (a : Arrival) (m : Message) (r : OpenRequest) (firsts : List Packet)

@@ -1,5 +1,6 @@
 -- What each part of a step leaves of the bound on final answers.
-use Rattle.std.proofs.Common.{◌≡◌, inl, inr, ℕ, ◌+◌, ◌<◌, ◌≤◌, Bool, true, false, ◌&&◌, cond, ◌==◌, List, [], ◌∷◌, ◌++◌, Some, refl, sym, ap, subst, ◌∙◌, arith, count_by, bytes_eq, codes}
+use Rattle.std.proofs.Common.{◌≡◌, inl, inr, ℕ, ◌+◌, ◌<◌, ◌≤◌, Bool, true, false, ◌&&◌, cond, ◌==◌, List, [], ◌∷◌, ◌++◌, Some, refl, sym, ap, subst, ◌∙◌, arith, count_by}
+use Rattle.std.proofs.Common.{bytes_eq, codes}
 use Rattle.std.specs.List.{AllByRecursion}
 use Rattle.sip_message_form.specs.declared.message.Message.{Message}
 use Rattle.sip_transaction_table.specs.Key.{key_of}
@@ -19,12 +20,15 @@ use Rattle.sip_model.specs.steps_model.Effect.{replaced, change_packets, ack_pac
 use Rattle.sip_model.specs.steps_model.Step.{Act, Given, Passing}
 use Rattle.sip_model.specs.Access.{IsSaidAt}
 use Rattle.sip_model.specs.Order.{IsChangeOf, AddsSuccessesAlone, AnswersOnce, AreNumbered}
-use Rattle.sip_model.specs.Parts.{IsChangeAt, ByResponse, ByDeadline, ByFault, ByCancel, IsOpening, IsPart, Stays, Passes, Copies, TurnsAway, Opens, Changes, Resends, Acknowledges, AreParts, One, Two, next_after}
+use Rattle.sip_model.specs.Parts.{IsChangeAt, ByResponse, ByDeadline, ByFault, ByCancel, IsOpening, IsPart, Stays, Passes, Copies, TurnsAway, Opens, Changes, Resends}
+use Rattle.sip_model.specs.Parts.{Acknowledges, AreParts, One, Two, next_after}
 use Rattle.model_bounds.specs.FinalAnswers.{is_final_to}
 use Rattle.model_bounds.proofs.FinalsText.{onward_text}
-use Rattle.model_bounds.proofs.FinalsLists.{IsIn, in_list, contained, found, each_of, all_append, all_weaker, count_append, are_equal, below_apart, apart_back, all_replaced, all_others, numbered_replaced, numbered_push, numbered_later, number_below}
+use Rattle.model_bounds.proofs.FinalsLists.{IsIn, in_list, contained, found, each_of, all_append, all_weaker, count_append, are_equal, below_apart, apart_back}
+use Rattle.model_bounds.proofs.FinalsLists.{all_replaced, all_others, numbered_replaced, numbered_push, numbered_later, number_below}
 use Rattle.model_bounds.proofs.FinalsChanges.{IsSound, change_sound}
-use Rattle.model_bounds.proofs.FinalsCounts.{finals_in, others_in, is_other_to, no_answers, others_few, change_beside, IsFit, IsOne, fit_same, one_same, fit_beside, one_beside, IsLeft, once_left, further_left}
+use Rattle.model_bounds.proofs.FinalsCounts.{finals_in, others_in, is_other_to, no_answers, others_few, change_beside, IsFit, IsOne, fit_same, one_same, fit_beside}
+use Rattle.model_bounds.proofs.FinalsCounts.{one_beside, IsLeft, once_left, further_left}
 use Rattle.model_bounds.proofs.FinalsOpenings.{opened_invite, IsOpened, opening_opened}
 
 -- ---- the laws that changes keep
@@ -64,7 +68,8 @@ told_same Invite requests next sent other finals others h = record {
 }
 
 -- where INVITEs came that did before
-pub told_weaker : (Before After : ℕ → Type 0) (requests : List OpenRequest) (next : ℕ) (sent : List Packet) → ((n : ℕ) → Before n → After n) → AreTold Before requests next sent
+pub told_weaker : (Before After : ℕ → Type 0) (requests : List OpenRequest) (next : ℕ) (sent : List Packet) → ((n : ℕ) → Before n → After n)
+    → AreTold Before requests next sent
     → AreTold After requests next sent
 told_weaker Before After requests next sent stays h = record {
   numbered = h.numbered;
@@ -93,9 +98,15 @@ each_bound Invite packets sent k beside one before n = by_test (k == n) refl whe
   by_test false e = one_beside Invite n packets sent (beside n e) (before n)
 
 -- nothing final to later numbers
-none_to_later : (packets sent : List Packet) (k next : ℕ) → k < next → ((n : ℕ) → (k == n) ≡ false → finals_in n packets ≡ 0) → ((n : ℕ) → next ≤ n → finals_in n sent ≡ 0)
+none_to_later : (packets sent : List Packet) (k next : ℕ) → k < next → ((n : ℕ) → (k == n) ≡ false → finals_in n packets ≡ 0)
+    → ((n : ℕ) → next ≤ n → finals_in n sent ≡ 0)
     → (n : ℕ) → next ≤ n → finals_in n (packets ++ sent) ≡ 0
-none_to_later packets sent k next low beside before n high = omega (arith, count_append (is_final_to n) packets sent, beside n (below_apart k n (omega arith)), before n high)
+none_to_later packets sent k next low beside before n high = omega (
+  arith,
+  count_append (is_final_to n) packets sent,
+  beside n (below_apart k n (omega arith)),
+  before n high,
+)
 
 -- ---- one request
 
@@ -156,7 +167,8 @@ change_left later first Invite sent server now r change false e is sound fit one
 
 -- of all
 change_told : LaterLaw → FirstLaw
-    → (Invite : ℕ → Type 0) (server : Server) (state : ProxyState) (act : Act) (now : ℕ) (r : OpenRequest) (change : Change) (again : List Packet) (requests : List OpenRequest)
+    → (Invite : ℕ → Type 0) (server : Server) (state : ProxyState) (act : Act) (now : ℕ) (r : OpenRequest) (change : Change) (again : List Packet)
+    (requests : List OpenRequest)
     (next : ℕ) (sent : List Packet)
     → IsIn r requests → IsChangeAt server state act now r change again → AreTold Invite requests next sent
     → AreTold Invite (replaced change.request requests) next (change_packets change ++ sent)
@@ -232,7 +244,8 @@ brought Invite sent server state act a bytes m short r firsts comes said key_is 
 
 -- what each part leaves
 part_told : LaterLaw → FirstLaw
-    → (Invite : ℕ → Type 0) (sent : List Packet) (server : Server) (state : ProxyState) (act : Act) (now : ℕ) (requests after : List OpenRequest) (firsts again : List Packet)
+    → (Invite : ℕ → Type 0) (sent : List Packet) (server : Server) (state : ProxyState) (act : Act) (now : ℕ) (requests after : List OpenRequest)
+    (firsts again : List Packet)
     → ComesAs Invite state act
     → IsPart server state act now requests after firsts again → AreTold Invite requests state.next sent → AreTold Invite after (next_after state act) (firsts ++ sent)
 part_told later first Invite sent server state act now requests after firsts again comes part h = by_part part where
@@ -254,7 +267,8 @@ part_told later first Invite sent server state act now requests after firsts aga
   by_part (TurnsAway a bytes m short r said key_is no_ack opening full e q) =
       let opened = brought Invite sent server state act a bytes m short r firsts comes said key_is no_ack opening (h.none_later state.next (omega arith)) in
       let number : next_after state act ≡ state.next + 1 = (said_next state act a bytes m short said).1 in
-      is requests firsts e refl (subst (λ (n : ℕ). AreTold Invite requests n (firsts ++ sent)) (sym number) (turned_told Invite requests state.next firsts sent r opened h))
+      is requests firsts e refl (subst (λ (n : ℕ). AreTold Invite requests n (firsts ++ sent)) (sym number)
+      (turned_told Invite requests state.next firsts sent r opened h))
   by_part (Opens a bytes m short r said key_is no_ack at opening room new e q) =
       let opened = brought Invite sent server state act a bytes m short r firsts comes said key_is no_ack opening (h.none_later state.next (omega arith)) in
       let number : next_after state act ≡ state.next + 1 = (said_next state act a bytes m short said).1 in
@@ -276,7 +290,8 @@ part_told later first Invite sent server state act now requests after firsts aga
 pub parts_told : LaterLaw → FirstLaw
     → (Invite : ℕ → Type 0) (sent : List Packet) (server : Server) (state : ProxyState) (act : Act) (now : ℕ) (after : List OpenRequest) (firsts again : List Packet)
     → ComesAs Invite state act
-    → AreParts server state act now state.requests after firsts again → AreTold Invite state.requests state.next sent → AreTold Invite after (next_after state act) (firsts ++ sent)
+    → AreParts server state act now state.requests after firsts again → AreTold Invite state.requests state.next sent
+    → AreTold Invite after (next_after state act) (firsts ++ sent)
 parts_told later first Invite sent server state act now after firsts again comes
     (One part) h = part_told later first Invite sent server state act now state.requests after firsts again comes part h
 parts_told later first Invite sent server state act now after firsts again comes (Two middle earlier r change part there between is e p q) h =

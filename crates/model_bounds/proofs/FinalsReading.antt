@@ -1,5 +1,6 @@
 -- A response that bytes say has a status from 100 on.
-use Rattle.std.proofs.Common.{◌≡◌, ℕ, ◌≤◌, Bool, true, false, cond, ◌==◌, List, length, Option, Some, None, Ok, Err, Result, option_map, option_and_then, ok_or, refl, ap, subst, ◌∙◌, arith, codes, nat_lt}
+use Rattle.std.proofs.Common.{◌≡◌, ℕ, ◌≤◌, Bool, true, false, cond, ◌==◌, List, length, Option, Some, None, Ok, Err, Result, option_map, option_and_then, ok_or, refl, ap}
+use Rattle.std.proofs.Common.{subst, ◌∙◌, arith, codes, nat_lt}
 use Rattle.std.specs.List.{list_all}
 use Rattle.std.specs.Str.{byte}
 use Rattle.std.proofs.lemmas.Bool.Decides.{nat_tests}
@@ -37,7 +38,8 @@ status_low digits reason phrase code e = by_length (length digits == 3) (list_al
   by_code n true is whole = let same : n ≡ code = cc in subst (λ (k : ℕ). 100 ≤ k) same (code_low n is)
   by_code n false is whole = absurd (cc)
 
-  by_length : (t u : Bool) → cond t (cond u (option_and_then (λ n. cond (is_code n) (Some (Status n reason)) None) (decimal_of digits)) None) None ≡ Some (Status code phrase)
+  by_length : (t u : Bool) → cond t (cond u (option_and_then (λ n. cond (is_code n) (Some (Status n reason)) None) (decimal_of digits)) None) None
+      ≡ Some (Status code phrase)
       → 100 ≤ code
   by_length true true whole =
       let number = followed (decimal_of digits) (λ n. cond (is_code n) (Some (Status n reason)) None) (Status code phrase) whole in

@@ -1,5 +1,6 @@
 -- Over every history final answers go again no more often than copies of their request came, and to an INVITE ten times more.
-use Rattle.std.proofs.Common.{◌≡◌, inl, inr, ℕ, ◌+◌, ◌<◌, ◌≤◌, Bool, true, false, ◌&&◌, cond, ◌==◌, List, [], ◌∷◌, ◌++◌, refl, sym, ap, subst, ◌∙◌, arith, count_by, bytes_eq}
+use Rattle.std.proofs.Common.{◌≡◌, inl, inr, ℕ, ◌+◌, ◌<◌, ◌≤◌, Bool, true, false, ◌&&◌, cond, ◌==◌, List, [], ◌∷◌, ◌++◌, refl, sym, ap, subst, ◌∙◌, arith, count_by}
+use Rattle.std.proofs.Common.{bytes_eq}
 use Rattle.std.proofs.lemmas.Slice.Eq.{bytes_eq-Decides}
 use Rattle.sip_event.specs.declared.packet.Packet.{Packet}
 use Rattle.sip_model.specs.state.declared.server.Server.{Server}
@@ -21,7 +22,8 @@ use Rattle.model_bounds.proofs.FinalsOpenings.{opened_invite}
 use Rattle.model_bounds.proofs.FinalsParts.{said_next, next_low, ComesAs}
 use Rattle.model_bounds.proofs.FinalsHistory.{PartsLaw, invite_later, invite_now}
 use Rattle.model_bounds.proofs.FinalsSpent.{TimerLaws}
-use Rattle.model_bounds.proofs.FinalsCopies.{answer_few, answer_beside, change_silent, copy_counts, AreSpent, spent_on, spent_weaker, pushed_spent, change_spent, acknowledged_spent}
+use Rattle.model_bounds.proofs.FinalsCopies.{answer_few, answer_beside, change_silent, copy_counts, AreSpent, spent_on, spent_weaker, pushed_spent, change_spent}
+use Rattle.model_bounds.proofs.FinalsCopies.{acknowledged_spent}
 use Rattle.model_bounds.proofs.FinalsBounds.{resent_spent, opening_spent}
 
 -- ---- a step
@@ -89,7 +91,8 @@ part_spent laws Invite went came server state act now after firsts again comes n
   by_part (Passes a m address within ack e p q) = is state.requests e (on (empty q))
   by_part (Copies a bytes m short key r said no_ack key_is at_key e p q) =
       is state.requests e
-      (copy_spent Invite went came state act r again (found (has_key key) state.requests r at_key).0 (copy_counts state act a bytes m short key r said no_ack key_is at_key) q h)
+      (copy_spent Invite went came state act r again (found (has_key key) state.requests r at_key).0
+      (copy_counts state act a bytes m short key r said no_ack key_is at_key) q h)
   by_part (TurnsAway a bytes m short r said key_is no_ack opening full e q) = is state.requests e (on (empty q))
   by_part (Opens a bytes m short r said key_is no_ack at opening room new e q) =
       let number : a.number ≡ state.next = (said_next state act a bytes m short said).0 in
@@ -108,11 +111,13 @@ part_spent laws Invite went came server state act now after firsts again comes n
       (on (λ n. change_silent server state act now n r change again change_is)))
   by_part (Resends r later there goes e p) =
       is (replaced later state.requests) e
-      (resent_spent laws Invite server now r later again state.requests (next_after state act) went came (came_then state act came) goes none (in_list state.requests r there)
+      (resent_spent laws Invite server now r later again state.requests (next_after state act) went came (came_then state act came) goes none
+      (in_list state.requests r there)
       (λ n. omega arith) moved)
   by_part (Acknowledges r there e p q) =
       is (replaced (acknowledged now r) state.requests) e
-      (acknowledged_spent laws Invite now r state.requests (next_after state act) (went_then again went) (came_then state act came) (in_list state.requests r there) (on (empty q)))
+      (acknowledged_spent laws Invite now r state.requests (next_after state act) (went_then again went) (came_then state act came) (in_list state.requests r there)
+      (on (empty q)))
 
 -- what the parts of a step leave
 parts_spent : TimerLaws
@@ -126,7 +131,8 @@ parts_spent laws Invite went came server state act now after firsts again comes 
     let one = part_spent laws Invite went came server state act now middle earlier [] comes none part h in
     subst (λ (xs : List OpenRequest). AreSpent Invite xs (next_after state act) (went_then again went) (came_then state act came)) (sym e)
     (subst (λ (ps : List Packet). AreSpent Invite (replaced change.request middle) (next_after state act) (went_then ps went) (came_then state act came)) (sym q)
-    (change_spent laws Invite server state act now r change [] middle (next_after state act) (went_then [] went) (came_then state act came) (in_list middle r between) is one))
+    (change_spent laws Invite server state act now r change [] middle (next_after state act) (went_then [] went) (came_then state act came) (in_list middle r between) is
+    one))
 
 -- ---- histories
 
@@ -137,11 +143,13 @@ chain_spent laws parts server first [] last chain =
     subst (λ (s : ProxyState). AreSpent (λ n. WasInvite n []) s.requests s.next (λ n. 0) (λ n. 0)) (sym chain)
     (record { numbered = record { differ = λ n. omega arith; are_below = λ n high. refl }; none_later = λ n high. refl; each_one = λ n. inl (omega arith); fit = tt })
 chain_spent laws parts server first (link ∷ history) last chain =
-    let made : HasParts (under server link.config) link.before link.act link.out link.after = parts (under server link.config) link.before link.act link.out link.after chain.1 in
+    let made : HasParts (under server link.config) link.before link.act link.out link.after =
+    parts (under server link.config) link.before link.act link.out link.after chain.1 in
     let before = spent_weaker (λ n. WasInvite n history) (λ n. WasInvite n (link ∷ history)) link.before.requests link.before.next (λ n. finals_again n history)
     (λ n. copies_came n history) (invite_later link history)
     (chain_spent laws parts server first history link.before chain.2) in
-    subst (λ (s : ProxyState). AreSpent (λ n. WasInvite n (link ∷ history)) s.requests s.next (λ n. finals_again n (link ∷ history)) (λ n. copies_came n (link ∷ history)))
+    subst (λ (s : ProxyState). AreSpent (λ n. WasInvite n (link ∷ history)) s.requests s.next (λ n. finals_again n (link ∷ history))
+    (λ n. copies_came n (link ∷ history)))
     (sym chain.0)
     (subst (λ (k : ℕ). AreSpent (λ n. WasInvite n (link ∷ history)) link.after.requests k (λ n. finals_again n (link ∷ history)) (λ n. copies_came n (link ∷ history)))
     (sym made.is_next)
@@ -168,7 +176,8 @@ copy_final n p q final copy =
           let target : q.ticket.branch ≡ p.ticket.branch = are_equal q.ticket.branch p.ticket.branch branch in
           (λ i. number i == n && target i == 0 && begins_final (whole i)) ∙ final
 
-      by_tests : (s t u v w x : Bool) → q.again ≡ s → bytes_eq q.bytes p.bytes ≡ t → (q.ticket.datagram == p.ticket.datagram) ≡ w → (q.ticket.branch == p.ticket.branch) ≡ x
+      by_tests : (s t u v w x : Bool) → q.again ≡ s → bytes_eq q.bytes p.bytes ≡ t → (q.ticket.datagram == p.ticket.datagram) ≡ w
+          → (q.ticket.branch == p.ticket.branch) ≡ x
           → (s && t && u && v && w && x) ≡ true
           → (q.again ≡ true) × (is_final_to n q ≡ true)
       by_tests true true true true true true again bytes datagram branch is = (again, same bytes datagram branch)
@@ -196,7 +205,13 @@ copies_few n p final (q ∷ qs) = by_tests (is_copy_of p q) q.again refl refl (c
         rest,
       )
   by_tests true false copy again rest = let goes = (copy_final n p q final copy).0 in absurd (cc)
-  by_tests false true copy again rest = omega (arith, count_cons (is_copy_of p) q qs, none_at (is_copy_of p q) copy, count_cons (is_final_to n) q (retransmissions qs), rest)
+  by_tests false true copy again rest = omega (
+    arith,
+    count_cons (is_copy_of p) q qs,
+    none_at (is_copy_of p q) copy,
+    count_cons (is_final_to n) q (retransmissions qs),
+    rest,
+  )
   by_tests false false copy again rest = omega (arith, count_cons (is_copy_of p) q qs, none_at (is_copy_of p q) copy, rest)
 
 -- over a history

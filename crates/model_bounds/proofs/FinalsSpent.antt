@@ -1,5 +1,6 @@
 -- How often the last answer of an open request may still go again by time: nothing that changes the request leaves more.
-use Rattle.std.proofs.Common.{◌≡◌, ◌⊎◌, inl, inr, ℕ, ◌+◌, ◌≤◌, Bool, true, false, not, ◌&&◌, ◌||◌, cond, ◌==◌, List, [], ◌∷◌, map, Option, Some, None, option_map, refl, sym, ap, subst, ◌∙◌, arith, flat_map, bytes_eq, codes}
+use Rattle.std.proofs.Common.{◌≡◌, ◌⊎◌, inl, inr, ℕ, ◌+◌, ◌≤◌, Bool, true, false, not, ◌&&◌, ◌||◌, cond, ◌==◌, List, [], ◌∷◌, map, Option, Some, None, option_map, refl}
+use Rattle.std.proofs.Common.{sym, ap, subst, ◌∙◌, arith, flat_map, bytes_eq, codes}
 use Rattle.std.specs.List.{AllByRecursion}
 use Rattle.std.proofs.lemmas.Bool.Decides.{nat_tests}
 use Rattle.sip_message_form.specs.declared.message.Message.{Message}
@@ -16,7 +17,11 @@ use Rattle.sip_model.specs.state.declared.open_request.OpenRequest.{OpenRequest}
 use Rattle.sip_model.specs.state.declared.open_request.Upward.{Upward}
 use Rattle.sip_model.specs.state.declared.proxy_state.ProxyState.{ProxyState}
 use Rattle.sip_model.specs.state.State.{first_resend, is_invite, is_answering, is_final, is_success, is_decline, is_provisional}
-use Rattle.sip_model.specs.context_model.Branches.{Change, is_same_branch, turned, phased, with_phase, with_final, marked_branch, marked, given_up, all_final, best_upward, upward_of, is_cancellable, cancel_branch, held_branch, with_cancel, answered, after_upward, settled, heard, other_heard, relayed_from, relayed_provisional, has_success, is_closing, is_accepted, relayed_success, linger, final_of, told_to, with_answer, acks_of, further, target_responded, cancel_responded, responded, target_overdue, branch_overdue, was_refused, acknowledged, acknowledged_side}
+use Rattle.sip_model.specs.context_model.Branches.{Change, is_same_branch, turned, phased, with_phase, with_final, marked_branch, marked, given_up, all_final}
+use Rattle.sip_model.specs.context_model.Branches.{best_upward, upward_of, is_cancellable, cancel_branch, held_branch, with_cancel, answered, after_upward, settled}
+use Rattle.sip_model.specs.context_model.Branches.{heard, other_heard, relayed_from, relayed_provisional, has_success, is_closing, is_accepted, relayed_success, linger}
+use Rattle.sip_model.specs.context_model.Branches.{final_of, told_to, with_answer, acks_of, further, target_responded, cancel_responded, responded, target_overdue}
+use Rattle.sip_model.specs.context_model.Branches.{branch_overdue, was_refused, acknowledged, acknowledged_side}
 use Rattle.sip_best.specs.Best.{best_of}
 use Rattle.sip_best.specs.declared.final_answer.Final.{Final}
 use Rattle.sip_model.specs.context_model.Retransmission.{resend_after}
@@ -81,7 +86,8 @@ kin_no_more r x h kin =
       key_is = kin.key_is;
       fewer = omega arith;
       timed = record {
-        timely = λ until closing refused. subst (IsTimely until) (sym kin.again_is) (h.timely until (sym kin.side_is ∙ closing) (sym (ap was_refused kin.answer_is) ∙ refused));
+        timely = λ until closing refused. subst (IsTimely until) (sym kin.again_is) (h.timely until (sym kin.side_is ∙ closing)
+            (sym (ap was_refused kin.answer_is) ∙ refused));
         targets = kin.targets;
       };
     }
@@ -112,10 +118,6 @@ provisional_stands status provisional refused = grind (arith, nat_tests)
 -- a side that closes now does so in 32,000 ms
 closes_then : (now until : ℕ) → Closing (now + 32000) ≡ Closing until → now + 32000 ≡ until
 closes_then now until e = cc
-
--- a side that owes an answer doesn't close
-owes_open : (side : Side) (until : ℕ) → is_answering side ≡ true → side ≡ Closing until → ⊥
-owes_open side until owes closing = let never : true ≡ false = sym owes ∙ ap is_answering closing in cc
 
 -- what is sent now goes again in time
 answered_timely : TimerLaws → (now : ℕ) (x : OpenRequest) (u : Upward) → MayGo x (Some u) → (until : ℕ) → (answered now u x).side ≡ Closing until
@@ -210,7 +212,14 @@ phase_kin r b phase h = same_kin r (map (phased b phase) r.branches) (phased_tar
 
 -- a branch that is given up
 given_up_kin : (r : OpenRequest) (b : Branch) (status : ℕ) → IsTimed r → IsKin r (given_up b status r)
-given_up_kin r b status h = record { number_is = refl; key_is = refl; side_is = refl; answer_is = refl; again_is = refl; targets = phased_targets b Ended r.branches h.targets }
+given_up_kin r b status h = record {
+  number_is = refl;
+  key_is = refl;
+  side_is = refl;
+  answer_is = refl;
+  again_is = refl;
+  targets = phased_targets b Ended r.branches h.targets;
+}
 
 -- ---- a response
 
@@ -349,7 +358,8 @@ pub change_no_more : TimerLaws → (server : Server) (state : ProxyState) (act :
     → IsChangeAt server state act now r change again → IsTimed r → IsNoMore r change.request
 change_no_more laws server state act now r _ _ (ByResponse a bytes m status reason b said start for there) h = response_no_more laws server now r b status m h
 change_no_more laws server state act now r _ _ (ByDeadline change passes) h = deadline_no_more laws server now r change passes h
-change_no_more laws server state act now r _ _ (ByFault at ticket b is number at_branch) h = kin_settled laws server now [] None r (given_up b 503 r) h tt (given_up_kin r b 503 h)
+change_no_more laws server state act now r _ _ (ByFault at ticket b is number at_branch) h =
+    kin_settled laws server now [] None r (given_up b 503 r) h tt (given_up_kin r b 503 h)
 change_no_more laws server state act now r _ _ (ByCancel a bytes m short key said is key_is at_request) h =
     kin_settled laws server now [] None r (cond (is_invite r && is_answering r.side) (marked r) r) h tt (by_test (is_invite r && is_answering r.side)) where
       by_test : (t : Bool) → IsKin r (cond t (marked r) r)
@@ -367,6 +377,13 @@ acknowledged_no_more laws now r h = by_test (is_invite r && was_refused r.answer
 
   by_test : (t : Bool) → copies_left (cond t (record r { side = acknowledged_side now r.side }) r) ≤ copies_left r
       → IsNoMore r (cond t (record r { side = acknowledged_side now r.side }) r)
-  by_test true fewer = record
-      { number_is = refl; key_is = refl; fewer = fewer; timed = record { timely = λ until closing refused. absurd (not_closing r.side until closing); targets = h.targets } }
+  by_test true fewer = record {
+    number_is = refl;
+    key_is = refl;
+    fewer = fewer;
+    timed = record {
+      timely = λ until closing refused. absurd (not_closing r.side until closing);
+      targets = h.targets;
+    };
+  }
   by_test false fewer = record { number_is = refl; key_is = refl; fewer = fewer; timed = h }

@@ -1,5 +1,6 @@
 -- How what is sent begins: an answer with `SIP/2.0` and its status, a request with its method.
-use Rattle.std.proofs.Common.{◌≡◌, ℕ, ◌+◌, ◌/◌, ◌%◌, ◌≤◌, true, false, List, [], ◌∷◌, ◌++◌, length, refl, sym, ap, subst, ◌∙◌, arith, decimal, codes, append_assoc, flat_map, bytes_eq, Option}
+use Rattle.std.proofs.Common.{◌≡◌, ℕ, ◌+◌, ◌/◌, ◌%◌, ◌≤◌, true, false, List, [], ◌∷◌, ◌++◌, length, refl, sym, ap, subst, ◌∙◌, arith, decimal, codes, append_assoc}
+use Rattle.std.proofs.Common.{flat_map, bytes_eq, Option}
 use Rattle.std.specs.Fmt.{digits}
 use Rattle.std.proofs.lemmas.Fmt.{decimal_step}
 use Rattle.std.proofs.lemmas.Bool.Decides.{nat_tests}
@@ -114,10 +115,11 @@ cancel_text sent = refl
 -- and so does an ACK that goes onward
 pub onward_text : (server : Server) (number : ℕ) (m : Message) (from : Addr) (uri : List ℕ) (target : ℕ) → bytes_eq (method_of m.start) (codes "ACK") ≡ true
     → begins_final (text_of (onward_as server number m from uri target)) ≡ false
-onward_text server number m from uri target e = by_start m.start (onward_as server number m from uri target).fields (onward_as server number m from uri target).body e where
-  by_start : (s : Start) (fields : List Field) (body : List ℕ) → bytes_eq (method_of s) (codes "ACK") ≡ true
-      → begins_final (text_of (record { start = with_uri uri s; fields = fields; body = body })) ≡ false
-  by_start (Request method old version) fields body is =
-      subst (λ (name : List ℕ). begins_final (text_of (record { start = Request name uri version; fields = fields; body = body })) ≡ false)
-      (sym ((bytes_eq-Decides method (codes "ACK")).0 is)) refl
-  by_start (Status code reason) fields body is = absurd (cc)
+onward_text server number m from uri target e = by_start m.start (onward_as server number m from uri target).fields (onward_as server number m from uri target).body
+    e where
+      by_start : (s : Start) (fields : List Field) (body : List ℕ) → bytes_eq (method_of s) (codes "ACK") ≡ true
+          → begins_final (text_of (record { start = with_uri uri s; fields = fields; body = body })) ≡ false
+      by_start (Request method old version) fields body is =
+          subst (λ (name : List ℕ). begins_final (text_of (record { start = Request name uri version; fields = fields; body = body })) ≡ false)
+          (sym ((bytes_eq-Decides method (codes "ACK")).0 is)) refl
+      by_start (Status code reason) fields body is = absurd (cc)

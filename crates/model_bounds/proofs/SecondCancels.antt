@@ -22,18 +22,31 @@ record HasName (server : Server) (history : List Link) (names : List BranchName)
   is_its : IsCancelOf server history name p
   behind : AreCancelsOf server history others rest
 
-first_name : (server : Server) (history : List Link) (names : List BranchName) (packets : List Packet) (p : Packet) (rest : List Packet) → is_own_cancel p ≡ true → packets ≡ p ∷ rest → AreCancelsOf server history names packets
+first_name : (server : Server) (history : List Link) (names : List BranchName) (packets : List Packet) (p : Packet) (rest : List Packet) → is_own_cancel p ≡ true
+    → packets ≡ p ∷ rest → AreCancelsOf server history names packets
     → HasName server history names p rest
 first_name server history _ _ p rest own e NoMore = absurd (cc)
-first_name server history _ _ p rest own e (Another names q packets other behind) = let same : q ≡ p = cc in absurd (true≢false (sym own ∙ ap is_own_cancel (sym same) ∙ other))
+first_name server history _ _ p rest own e (Another names q packets other behind) = let same : q ≡ p = cc in
+    absurd (true≢false (sym own ∙ ap is_own_cancel (sym same) ∙ other))
 first_name server history _ _ p rest own e (OneMore name names q packets is behind) =
     let same : q ≡ p = cc in
     let same_rest : packets ≡ rest = cc in
-    record { name = name; others = names; are = refl; is_its = subst (IsCancelOf server history name) same is; behind = subst (AreCancelsOf server history names) same_rest behind }
+    record {
+      name = name;
+      others = names;
+      are = refl;
+      is_its = subst (IsCancelOf server history name) same is;
+      behind = subst (AreCancelsOf server history names) same_rest behind;
+    }
 
 -- the CANCEL of the target that rings
 the_cancel : Packet
-the_cancel = record { to = record { ip = 127 ∷ 0 ∷ 0 ∷ 1 ∷ []; port = 5082 }; bytes = text_of (cancel_of (request_of sample one_rings first_ringing)); ticket = record { datagram = 4; branch = 0 }; again = false }
+the_cancel = record {
+  to = record { ip = 127 ∷ 0 ∷ 0 ∷ 1 ∷ []; port = 5082 };
+  bytes = text_of (cancel_of (request_of sample one_rings first_ringing));
+  ticket = record { datagram = 4; branch = 0 };
+  again = false;
+}
 
 is_own : is_own_cancel the_cancel ≡ true
 unfolding the_cancel
@@ -47,11 +60,14 @@ sent_twice = refl
 -- whatever is the CANCEL of a branch here is that of the one branch
 named_so : (name : BranchName) (p : Packet) → IsCancelOf sample second_cancel name p → is_named (4, 1) name ≡ true
 named_so name p is =
-    let open_then : is.link.before.requests ≡ one_rings ∷ [] = all_in (λ (l : Link). l.before.requests ≡ one_rings ∷ []) second_cancel is.link (refl, (refl, tt)) (in_list second_cancel is.link is.is_there) in
+    let open_then : is.link.before.requests ≡ one_rings ∷ [] = all_in (λ (l : Link). l.before.requests ≡ one_rings ∷ []) second_cancel is.link (refl, (refl, tt))
+    (in_list second_cancel is.link is.is_there) in
     let request : is.request ≡ one_rings =
-    all_in (λ (x : OpenRequest). x ≡ one_rings) (one_rings ∷ []) is.request (refl, tt) (in_list (one_rings ∷ []) is.request (subst (λ (rs : List OpenRequest). Contains rs is.request) open_then is.is_open)) in
+    all_in (λ (x : OpenRequest). x ≡ one_rings) (one_rings ∷ []) is.request (refl, tt)
+    (in_list (one_rings ∷ []) is.request (subst (λ (rs : List OpenRequest). Contains rs is.request) open_then is.is_open)) in
     let branch : is.branch ≡ first_ringing =
-    all_in (λ (x : Branch). x ≡ first_ringing) (first_ringing ∷ []) is.branch (refl, tt) (in_list (first_ringing ∷ []) is.branch (subst (λ (x : OpenRequest). Contains x.branches is.branch) request is.is_inside)) in
+    all_in (λ (x : Branch). x ≡ first_ringing) (first_ringing ∷ []) is.branch (refl, tt)
+    (in_list (first_ringing ∷ []) is.branch (subst (λ (x : OpenRequest). Contains x.branches is.branch) request is.is_inside)) in
     let number : name.0 ≡ 4 = sym is.is_request ∙ ap (λ (x : OpenRequest). x.number) request in
     let target : name.1 ≡ 1 = sym is.is_branch ∙ ap (λ (x : Branch). x.number) branch in
     ap₂ (λ (s t : Bool). s && t) (same_number name.0 4 number) (same_number name.1 1 target)
@@ -59,8 +75,10 @@ named_so name p is =
 -- so the same name is given twice
 pub second_refused : HasOneCancelEach sample second_cancel → ⊥
 second_refused has =
-    let first : HasName sample second_cancel has.names the_cancel (the_cancel ∷ []) = first_name sample second_cancel has.names (sent_first second_cancel) the_cancel (the_cancel ∷ []) is_own sent_twice has.are_all in
-    let second : HasName sample second_cancel first.others the_cancel [] = first_name sample second_cancel first.others (the_cancel ∷ []) the_cancel [] is_own refl first.behind in
+    let first : HasName sample second_cancel has.names the_cancel (the_cancel ∷ []) =
+    first_name sample second_cancel has.names (sent_first second_cancel) the_cancel (the_cancel ∷ []) is_own sent_twice has.are_all in
+    let second : HasName sample second_cancel first.others the_cancel [] = first_name sample second_cancel first.others (the_cancel ∷ []) the_cancel [] is_own refl
+    first.behind in
     let names : has.names ≡ first.name ∷ second.name ∷ second.others = first.are ∙ ap (λ (ns : List BranchName). first.name ∷ ns) second.are in
     let few = subst (λ (ns : List BranchName). count_by (is_named (4, 1)) ns ≤ 1) names (has.differ (4, 1)) in
     absurd (omega (

@@ -1,5 +1,6 @@
 -- What the changes of an open request make of its branches to targets: each is one of before, in a phase that follows, and goes again when it did.
-use Rattle.std.proofs.Common.{◌≡◌, ◌⊎◌, inl, inr, ℕ, ◌+◌, ◌≤◌, Bool, true, false, not, ◌&&◌, ◌||◌, ◌==◌, cond, List, [], ◌∷◌, ◌++◌, map, Option, Some, None, refl, sym, ap, subst, ◌∙◌, arith, count_by}
+use Rattle.std.proofs.Common.{◌≡◌, ◌⊎◌, inl, inr, ℕ, ◌+◌, ◌≤◌, Bool, true, false, not, ◌&&◌, ◌||◌, ◌==◌, cond, List, [], ◌∷◌, ◌++◌, map, Option, Some, None, refl, sym}
+use Rattle.std.proofs.Common.{ap, subst, ◌∙◌, arith, count_by}
 use Rattle.std.specs.List.{AllByRecursion, flat_map}
 use Rattle.sip_transaction_table.specs.declared.key.Key.{Key}
 use Rattle.sip_model.specs.state.declared.branch.Phase.{Phase}
@@ -8,7 +9,8 @@ use Rattle.sip_model.specs.state.declared.branch.Branch.{Branch}
 use Rattle.sip_model.specs.state.declared.open_request.OpenRequest.{OpenRequest}
 use Rattle.sip_model.specs.state.declared.open_request.Upward.{Upward}
 use Rattle.sip_model.specs.state.State.{is_invite, is_final, is_ended}
-use Rattle.sip_model.specs.context_model.Branches.{is_same_branch, turned, with_phase, marked, after_upward, is_ready, is_cancellable, cancel_branch, held_branch, with_cancel, with_cancels, invite_heard, other_heard, heard}
+use Rattle.sip_model.specs.context_model.Branches.{is_same_branch, turned, with_phase, marked, after_upward, is_ready, is_cancellable, cancel_branch, held_branch}
+use Rattle.sip_model.specs.context_model.Branches.{with_cancel, with_cancels, invite_heard, other_heard, heard}
 use Rattle.model_bounds.proofs.SendingLists.{IsIn, all_of, all_mapped, all_in, all_weaker, all_joined, count_cons, only_one, number_is, same_number, both_pass}
 
 -- whether a branch is the one to the target of a number
@@ -136,7 +138,8 @@ succeeds_alike r later number key same = record {
   number_is = number;
   key_is = key;
   no_more = λ n. ap (count_by (is_target n)) same;
-  follow = subst (λ bs. AllByRecursion (FollowsIf (is_invite r) r.branches) bs) (sym same) (all_of (FollowsIf (is_invite r) r.branches) r.branches (λ b there. stays (is_invite r) r.branches b there));
+  follow = subst (λ bs. AllByRecursion (FollowsIf (is_invite r) r.branches) bs) (sym same)
+      (all_of (FollowsIf (is_invite r) r.branches) r.branches (λ b there. stays (is_invite r) r.branches b there));
 }
 
 -- both are INVITEs or neither is
@@ -153,7 +156,8 @@ succeeds_both first second third h later = record {
 } where
   joined : (b : Branch) → Follows (is_invite second) second.branches b → Follows (is_invite first) first.branches b
   joined b own =
-      let earlier : Follows (is_invite first) first.branches own.before = all_in (FollowsIf (is_invite first) first.branches) second.branches own.before h.follow own.there own.is_target in
+      let earlier : Follows (is_invite first) first.branches own.before = all_in (FollowsIf (is_invite first) first.branches) second.branches own.before h.follow
+      own.there own.is_target in
       record {
         before = earlier.before;
         there = earlier.there;
@@ -197,10 +201,11 @@ mapped_succeeds r f keeps = record {
 
 -- branches that are one have the same number and kind
 pub same_branch : (x b : Branch) → is_same_branch x b ≡ true → x.is_cancel ≡ false → (x.number ≡ b.number) × (b.is_cancel ≡ false)
-same_branch x b same target = let both = both_pass (x.number == b.number) (cond x.is_cancel b.is_cancel (not b.is_cancel)) same in (number_is x.number b.number both.0, by_test b.is_cancel (rw target at both.1)) where
-  by_test : (t : Bool) → not t ≡ true → t ≡ false
-  by_test true e = cc
-  by_test false e = refl
+same_branch x b same target = let both = both_pass (x.number == b.number) (cond x.is_cancel b.is_cancel (not b.is_cancel)) same in
+    (number_is x.number b.number both.0, by_test b.is_cancel (rw target at both.1)) where
+      by_test : (t : Bool) → not t ≡ true → t ≡ false
+      by_test true e = cc
+      by_test false e = refl
 
 -- a branch to a target passes its own test
 pub is_own : (b : Branch) → b.is_cancel ≡ false → is_target b.number b ≡ true
@@ -213,7 +218,8 @@ same_is branches x b apart here there same target =
     only_one (is_target b.number) branches x b (apart b.number) here there (subst (λ (n : ℕ). is_target n x ≡ true) both.0 (is_own x target)) (is_own b both.1)
 
 -- A request with a branch in another phase follows, where that phase does of a branch to a target. Its ACK may be told apart.
-pub phased_succeeds : (r : OpenRequest) (b : Branch) (to : Option (List ℕ)) (phase : Phase) → AreApart r.branches → IsIn b r.branches → (b.is_cancel ≡ false → IsAfter (is_invite r) b.phase phase)
+pub phased_succeeds : (r : OpenRequest) (b : Branch) (to : Option (List ℕ)) (phase : Phase) → AreApart r.branches → IsIn b r.branches
+    → (b.is_cancel ≡ false → IsAfter (is_invite r) b.phase phase)
     → Succeeds r (with_phase (record b { final_to = to }) phase r)
 phased_succeeds r b to phase apart there after = mapped_succeeds r (λ (x : Branch). cond (is_same_branch x b) (turned (record b { final_to = to }) phase x) x) (record {
   cancel_is = λ x. kept x (is_same_branch x b);
@@ -228,7 +234,8 @@ phased_succeeds r b to phase apart there after = mapped_succeeds r (λ (x : Bran
   numbered x true = refl
   numbered x false = refl
 
-  by_test : (x : Branch) → IsIn x r.branches → x.is_cancel ≡ false → (t : Bool) → is_same_branch x b ≡ t → Follows (is_invite r) r.branches (cond t (turned (record b { final_to = to }) phase x) x)
+  by_test : (x : Branch) → IsIn x r.branches → x.is_cancel ≡ false → (t : Bool) → is_same_branch x b ≡ t
+      → Follows (is_invite r) r.branches (cond t (turned (record b { final_to = to }) phase x) x)
   by_test x here target true same =
       let is : x ≡ b = same_is r.branches x b apart here there same target in
       record {
@@ -245,7 +252,8 @@ phased_succeeds r b to phase apart there after = mapped_succeeds r (λ (x : Bran
 -- ---- branches that are to be cancelled
 
 -- those that pass a test
-pub wanting_succeeds : (r : OpenRequest) (test : Branch → Bool) → Succeeds r (record r { branches = map (λ (x : Branch). cond (test x) (record x { wants_cancel = true }) x) r.branches })
+pub wanting_succeeds : (r : OpenRequest) (test : Branch → Bool) → Succeeds r (record r
+    { branches = map (λ (x : Branch). cond (test x) (record x { wants_cancel = true }) x) r.branches })
 wanting_succeeds r test = mapped_succeeds r (λ (x : Branch). cond (test x) (record x { wants_cancel = true }) x) (record {
   cancel_is = λ x. kept x (test x);
   number_is = λ x. numbered x (test x);
@@ -297,7 +305,13 @@ cancels_count n now (b ∷ bs) = by_test (is_cancellable b) (cancels_count n now
   by_test : (t : Bool) → count_by (is_target n) (flat_map (with_cancel now) bs) ≡ count_by (is_target n) bs
       → count_by (is_target n) (cond t (held_branch now b ∷ cancel_branch now b ∷ []) (b ∷ []) ++ flat_map (with_cancel now) bs) ≡ count_by (is_target n) (b ∷ bs)
   by_test true rest =
-      omega (arith, count_cons (is_target n) (held_branch now b) (cancel_branch now b ∷ flat_map (with_cancel now) bs), cancel_count n now b (flat_map (with_cancel now) bs), count_cons (is_target n) b bs, rest)
+      omega (
+        arith,
+        count_cons (is_target n) (held_branch now b) (cancel_branch now b ∷ flat_map (with_cancel now) bs),
+        cancel_count n now b (flat_map (with_cancel now) bs),
+        count_cons (is_target n) b bs,
+        rest,
+      )
   by_test false rest = omega (arith, count_cons (is_target n) b (flat_map (with_cancel now) bs), count_cons (is_target n) b bs, rest)
 
 -- a branch that is sent a CANCEL is ready for it
@@ -325,7 +339,8 @@ cancel_follows invite branches now b there = by_test (is_cancellable b) refl whe
   by_test false is = (stays invite branches b there, tt)
 
 -- all branches
-cancels_follow : (invite : Bool) (branches : List Branch) (now : ℕ) (bs : List Branch) → ((b : Branch) → IsIn b bs → IsIn b branches) → AllByRecursion (FollowsIf invite branches) (flat_map (with_cancel now) bs)
+cancels_follow : (invite : Bool) (branches : List Branch) (now : ℕ) (bs : List Branch) → ((b : Branch) → IsIn b bs → IsIn b branches)
+    → AllByRecursion (FollowsIf invite branches) (flat_map (with_cancel now) bs)
 cancels_follow invite branches now [] there = tt
 cancels_follow invite branches now (b ∷ bs) there =
     all_joined (FollowsIf invite branches) (with_cancel now b) (flat_map (with_cancel now) bs) (cancel_follows invite branches now b (there b (inl refl)))

@@ -1,5 +1,6 @@
 -- Over every history: what was sent to targets, and that it was sent on time.
-use Rattle.std.proofs.Common.{◌≡◌, ◌⊎◌, inl, inr, ℕ, ◌+◌, ◌≤◌, ◌<◌, Bool, true, false, cond, List, [], ◌∷◌, ◌++◌, Option, Some, None, refl, sym, ap, subst, ◌∙◌, arith, count_by, codes, bytes_eq}
+use Rattle.std.proofs.Common.{◌≡◌, ◌⊎◌, inl, inr, ℕ, ◌+◌, ◌≤◌, ◌<◌, Bool, true, false, cond, List, [], ◌∷◌, ◌++◌, Option, Some, None, refl, sym, ap, subst, ◌∙◌, arith}
+use Rattle.std.proofs.Common.{count_by, codes, bytes_eq}
 use Rattle.std.specs.List.{AllByRecursion, flat_map, filter_map}
 use Rattle.std.specs.Option.{option_to_list, option_map_or}
 use Rattle.sip_message_form.specs.declared.message.Message.{Message}
@@ -35,13 +36,18 @@ use Rattle.model_bounds.proofs.SendingSteps.{Adds, said_next, parts_hold}
 -- ---- what one more step hands out
 
 -- its first sendings and its copies
-link_adds : (link : Link) (history : List Link) → Adds link.out.at (originals link.out.packets) (retransmissions link.out.packets) (λ n k. moments_of n k history) (λ n k. moments_of n k (link ∷ history))
+link_adds : (link : Link) (history : List Link) → Adds link.out.at (originals link.out.packets) (retransmissions link.out.packets) (λ n k. moments_of n k history)
+    (λ n k. moments_of n k (link ∷ history))
 link_adds link history = record {
-  none = λ n k high zero_first zero_again. ap (λ at. at ++ moments_of n k history) (none_kept (is_sent_for n k) link.out.at link.out.packets (omega (arith, total n k, zero_first, zero_again)));
-  first = λ n k high one zero_again. ap (λ at. at ++ moments_of n k history) (one_kept (is_sent_for n k) link.out.at link.out.packets (omega (arith, total n k, one, zero_again)));
-  copy = λ n k high zero_first one. ap (λ at. at ++ moments_of n k history) (one_kept (is_sent_for n k) link.out.at link.out.packets (omega (arith, total n k, zero_first, one)));
+  none = λ n k high zero_first zero_again. ap (λ at. at ++ moments_of n k history) (none_kept (is_sent_for n k) link.out.at link.out.packets
+      (omega (arith, total n k, zero_first, zero_again)));
+  first = λ n k high one zero_again. ap (λ at. at ++ moments_of n k history) (one_kept (is_sent_for n k) link.out.at link.out.packets
+      (omega (arith, total n k, one, zero_again)));
+  copy = λ n k high zero_first one. ap (λ at. at ++ moments_of n k history) (one_kept (is_sent_for n k) link.out.at link.out.packets
+      (omega (arith, total n k, zero_first, one)));
 } where
-  total : (n k : ℕ) → count_by (is_sent_for n k) link.out.packets ≡ count_by (is_sent_for n k) (originals link.out.packets) + count_by (is_sent_for n k) (retransmissions link.out.packets)
+  total : (n k : ℕ) → count_by (is_sent_for n k) link.out.packets ≡ count_by (is_sent_for n k) (originals link.out.packets) + count_by (is_sent_for n k)
+      (retransmissions link.out.packets)
   total n k = count_parts (is_sent_for n k) (λ (p : Packet). p.again) link.out.packets
 
 -- ---- what a history says of INVITEs
@@ -99,7 +105,8 @@ bytes_of (Given (Time at)) = []
 bytes_of (Given (Fault at ticket)) = []
 bytes_of (Passing at) = []
 
-one_message : (state : ProxyState) (act : Act) (a b : Arrival) (xs ys : List ℕ) (m n : Message) (s t : Bool) → IsSaidAt state act a xs m s → IsSaidAt state act b ys n t → m ≡ n
+one_message : (state : ProxyState) (act : Act) (a b : Arrival) (xs ys : List ℕ) (m n : Message) (s t : Bool) → IsSaidAt state act a xs m s → IsSaidAt state act b ys n t
+    → m ≡ n
 unfolding bytes_of
 one_message state act a b xs ys m n s t first second =
     let same : xs ≡ ys = sym (ap bytes_of first.is_act) ∙ ap bytes_of second.is_act in
@@ -109,7 +116,8 @@ one_message state act a b xs ys m n s t first second =
 -- ---- what is due
 
 -- what goes again of a branch of an open request isn't due before a moment that none is before
-branch_ahead : (P : ℕ → Type 0) (requests : List OpenRequest) (r : OpenRequest) (b : Branch) (due : ℕ) → AllByRecursion P (flat_map resends_of requests) → IsIn r requests → IsIn b r.branches → branch_due r b ≡ Some due → P due
+branch_ahead : (P : ℕ → Type 0) (requests : List OpenRequest) (r : OpenRequest) (b : Branch) (due : ℕ) → AllByRecursion P (flat_map resends_of requests) → IsIn r requests
+    → IsIn b r.branches → branch_due r b ≡ Some due → P due
 branch_ahead P requests r b due all there inside is =
     let own : AllByRecursion P (resends_of r) = all_flat P resends_of requests r all there in
     all_made P (branch_due r) r.branches b due (all_behind P (option_to_list (answer_due r)) (filter_map (branch_due r) r.branches) own) inside is
@@ -117,7 +125,8 @@ branch_ahead P requests r b due all there inside is =
 -- an INVITE of which nothing was heard goes again
 unheard_goes : (r : OpenRequest) (b : Branch) → b.is_cancel ≡ false → is_unheard b.phase ≡ true → branch_due r b ≡ Some b.again.due
 unheard_goes r b target unheard = by_kind b.is_cancel b.phase target unheard where
-  by_kind : (t : Bool) (phase : Phase) → t ≡ false → is_unheard phase ≡ true → cond (cond t (is_cancelled_again phase) (is_sent_again (is_invite r) phase)) (Some b.again.due) None ≡ Some b.again.due
+  by_kind : (t : Bool) (phase : Phase) → t ≡ false → is_unheard phase ≡ true → cond (cond t (is_cancelled_again phase) (is_sent_again (is_invite r) phase))
+      (Some b.again.due) None ≡ Some b.again.due
   by_kind true phase target unheard = absurd (cc)
   by_kind false (Unheard until) target unheard = refl
   by_kind false (Heard until) target unheard = absurd (cc)
@@ -126,9 +135,11 @@ unheard_goes r b target unheard = by_kind b.is_cancel b.phase target unheard whe
   by_kind false Ended target unheard = absurd (cc)
 
 -- what is due is ahead after a step
-ahead_of : (act : Act) (state : ProxyState) (r : OpenRequest) (b : Branch) (due : ℕ) → HasFired act state → NoneAgainBefore state.moment state.requests → IsIn r state.requests → IsIn b r.branches → branch_due r b ≡ Some due
+ahead_of : (act : Act) (state : ProxyState) (r : OpenRequest) (b : Branch) (due : ℕ) → HasFired act state → NoneAgainBefore state.moment state.requests
+    → IsIn r state.requests → IsIn b r.branches → branch_due r b ≡ Some due
     → IsAhead act state.moment due
-ahead_of (Given (Datagram at word from bytes)) state r b due fired none there inside is = branch_ahead (λ (x : ℕ). state.moment < x) state.requests r b due fired.1 there inside is
+ahead_of (Given (Datagram at word from bytes)) state r b due fired none there inside is =
+    branch_ahead (λ (x : ℕ). state.moment < x) state.requests r b due fired.1 there inside is
 ahead_of (Given (Time at)) state r b due fired none there inside is = branch_ahead (λ (x : ℕ). state.moment < x) state.requests r b due fired.1 there inside is
 ahead_of (Given (Fault at ticket)) state r b due fired none there inside is = branch_ahead (λ (x : ℕ). state.moment ≤ x) state.requests r b due none there inside is
 ahead_of (Passing at) state r b due fired none there inside is = branch_ahead (λ (x : ℕ). state.moment ≤ x) state.requests r b due none there inside is
@@ -148,7 +159,8 @@ pub record AreModelLaws (server : Server) : Type 0 where
   pub parts : (other : Server) (old : ProxyState) (act : Act) (out : StepOut) (new : ProxyState) → IsStep other old act out new → HasParts other old act out new
   pub rising : (first : ℕ) (history : List Link) (last : ProxyState) → IsChain server (first_state first) history last → AreRising last.requests
   pub none_again : (first : ℕ) (history : List Link) (last : ProxyState) → IsChain server (first_state first) history last → NoneAgainBefore last.moment last.requests
-  pub has_fired : (first : ℕ) (history : List Link) (last : ProxyState) → IsChain server (first_state first) history last → AllByRecursion (λ (link : Link). HasFired link.act link.after) history
+  pub has_fired : (first : ℕ) (history : List Link) (last : ProxyState) → IsChain server (first_state first) history last
+      → AllByRecursion (λ (link : Link). HasFired link.act link.after) history
 
 module _ (laws : AreCopyLaws) (server : Server) (model : AreModelLaws server) (first : ℕ) where
   -- a datagram that said an INVITE has a lower number than the next
@@ -166,7 +178,8 @@ module _ (laws : AreCopyLaws) (server : Server) (model : AreModelLaws server) (f
     by_case (inr before) earlier = let low = earlier before in omega (arith, next, low, next_rises link.before link.act)
 
   -- what one more step says
-  link_tells : (link : Link) (history : List Link) → Tells (λ n. WasInvite n history) (λ n. WasInvite n (link ∷ history)) link.before.next (next_after link.before link.act)
+  link_tells : (link : Link) (history : List Link) → Tells (λ n. WasInvite n history) (λ n. WasInvite n (link ∷ history)) link.before.next
+      (next_after link.before link.act)
   link_tells link history = record { rises = next_rises link.before link.act; told = λ n low w. by_case n low (was_cases n link history w) } where
     by_case : (n : ℕ) → n < link.before.next → IsInviteNow n link ⊎ WasInvite n history → WasInvite n history
     by_case n low (inl now) =
@@ -176,18 +189,21 @@ module _ (laws : AreCopyLaws) (server : Server) (model : AreModelLaws server) (f
     by_case n low (inr before) = before
 
   -- the datagram of a step says an INVITE if the history says so of its number
-  link_says : (link : Link) (history : List Link) → IsChain server (first_state first) history link.before → (a : Arrival) (bytes : List ℕ) (m : Message) (short : Bool) → IsSaidAt link.before link.act a bytes m short
+  link_says : (link : Link) (history : List Link) → IsChain server (first_state first) history link.before → (a : Arrival) (bytes : List ℕ) (m : Message) (short : Bool)
+      → IsSaidAt link.before link.act a bytes m short
       → WasInvite a.number (link ∷ history) → bytes_eq (method_of m.start) (codes "INVITE") ≡ true
   link_says link history chain a bytes m short said w = by_case (was_cases a.number link history w) where
     by_case : IsInviteNow a.number link ⊎ WasInvite a.number history → bytes_eq (method_of m.start) (codes "INVITE") ≡ true
-    by_case (inl now) = ap (λ (x : Message). bytes_eq (method_of x.start) (codes "INVITE")) (one_message link.before link.act a now.a bytes now.bytes m now.m short now.short said now.is_said) ∙ now.is_invite
+    by_case (inl now) = ap (λ (x : Message). bytes_eq (method_of x.start) (codes "INVITE"))
+        (one_message link.before link.act a now.a bytes now.bytes m now.m short now.short said now.is_said) ∙ now.is_invite
     by_case (inr before) =
         let low = was_below history link.before chain a.number before in
         let next = said_next link.before link.act a bytes m short said in
         absurd (omega (arith, low, next.1))
 
   -- What holds after every history.
-  chain_holds : (history : List Link) (last : ProxyState) → IsChain server (first_state first) history last → Holds (λ n. WasInvite n history) last.next (λ n k. moments_of n k history) last.requests
+  chain_holds : (history : List Link) (last : ProxyState) → IsChain server (first_state first) history last
+      → Holds (λ n. WasInvite n history) last.next (λ n k. moments_of n k history) last.requests
   chain_holds [] last chain = subst (λ (s : ProxyState). Holds (λ n. WasInvite n []) s.next (λ n k. []) s.requests) (sym chain) (record {
     few = λ n k high. omega arith;
     invites = λ n k high w. absurd (none_was n w);
@@ -196,12 +212,17 @@ module _ (laws : AreCopyLaws) (server : Server) (model : AreModelLaws server) (f
     fit = tt;
   })
   chain_holds (link ∷ history) last chain =
-      let parts : HasParts (under server link.config) link.before link.act link.out link.after = model.parts (under server link.config) link.before link.act link.out link.after chain.1 in
-      let adds : Adds link.after.moment (originals link.out.packets) (retransmissions link.out.packets) (λ n k. moments_of n k history) (λ n k. moments_of n k (link ∷ history)) =
-      subst (λ (at : ℕ). Adds at (originals link.out.packets) (retransmissions link.out.packets) (λ n k. moments_of n k history) (λ n k. moments_of n k (link ∷ history))) parts.is_at (link_adds link history) in
+      let parts : HasParts (under server link.config) link.before link.act link.out link.after =
+      model.parts (under server link.config) link.before link.act link.out link.after chain.1 in
+      let adds : Adds link.after.moment (originals link.out.packets) (retransmissions link.out.packets) (λ n k. moments_of n k history)
+      (λ n k. moments_of n k (link ∷ history)) =
+      subst (λ (at : ℕ). Adds at (originals link.out.packets) (retransmissions link.out.packets) (λ n k. moments_of n k history) (λ n k. moments_of n k (link ∷ history)))
+      parts.is_at (link_adds link history) in
       let holds : Holds (λ n. WasInvite n (link ∷ history)) (next_after link.before link.act) (λ n k. moments_of n k (link ∷ history)) link.after.requests =
-      parts_hold laws (under server link.config) link.before link.act link.after.moment (λ n. WasInvite n history) (λ n. WasInvite n (link ∷ history)) (link_tells link history) (link_says link history chain.2)
-      link.before.requests link.after.requests (originals link.out.packets) (retransmissions link.out.packets) (λ n k. moments_of n k history) (λ n k. moments_of n k (link ∷ history))
+      parts_hold laws (under server link.config) link.before link.act link.after.moment (λ n. WasInvite n history) (λ n. WasInvite n (link ∷ history))
+      (link_tells link history) (link_says link history chain.2)
+      link.before.requests link.after.requests (originals link.out.packets) (retransmissions link.out.packets) (λ n k. moments_of n k history)
+      (λ n k. moments_of n k (link ∷ history))
       parts.none_passed (model.rising first history link.before chain.2) parts.parts adds (chain_holds history link.before chain.2) in
       subst (λ (s : ProxyState). Holds (λ n. WasInvite n (link ∷ history)) s.next (λ n k. moments_of n k (link ∷ history)) s.requests) (sym chain.0)
       (subst (λ (n : ℕ). Holds (λ m. WasInvite m (link ∷ history)) n (λ m k. moments_of m k (link ∷ history)) link.after.requests) (sym parts.is_next) holds)
@@ -211,7 +232,8 @@ module _ (laws : AreCopyLaws) (server : Server) (model : AreModelLaws server) (f
   -- after the newest step
   link_on_time : (link : Link) (history : List Link) → IsChain server (first_state first) (link ∷ history) link.after → AreOnTime link (link ∷ history)
   link_on_time link history chain r b open_then invite inside target unheard =
-      let holds : Holds (λ n. WasInvite n (link ∷ history)) link.after.next (λ n k. moments_of n k (link ∷ history)) link.after.requests = chain_holds (link ∷ history) link.after chain in
+      let holds : Holds (λ n. WasInvite n (link ∷ history)) link.after.next (λ n k. moments_of n k (link ∷ history)) link.after.requests =
+      chain_holds (link ∷ history) link.after chain in
       let there : IsIn r link.after.requests = in_list link.after.requests r open_then in
       let within : IsIn b r.branches = in_list r.branches b inside in
       let fits : Fits (λ n. WasInvite n (link ∷ history)) (λ n k. moments_of n k (link ∷ history)) r =
@@ -221,7 +243,8 @@ module _ (laws : AreCopyLaws) (server : Server) (model : AreModelLaws server) (f
       let going = going_of b.phase b.again (moments_of r.number b.number (link ∷ history)) unheard
       (subst (λ (t : Bool). WasSent t b.phase b.again (moments_of r.number b.number (link ∷ history))) invite right.was_sent) in
       let fired = model.has_fired first (link ∷ history) link.after chain in
-      let ahead = ahead_of link.act link.after r b b.again.due fired.0 (model.none_again first (link ∷ history) link.after chain) there within (unheard_goes r b target unheard) in
+      let ahead = ahead_of link.act link.after r b b.again.due fired.0 (model.none_again first (link ∷ history) link.after chain) there within
+      (unheard_goes r b target unheard) in
       record {
         first = going.1.first;
         count = going.1.count;

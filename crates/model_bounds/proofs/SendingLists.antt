@@ -1,5 +1,6 @@
 -- Lists: what stands in them, what holds of all, and how many pass a test.
-use Rattle.std.proofs.Common.{◌≡◌, ◌⊎◌, inl, inr, ℕ, zero, suc, ◌+◌, ◌≤◌, ◌<◌, Bool, true, false, not, ◌&&◌, ◌==◌, cond, List, [], ◌∷◌, ◌++◌, map, filter, length, Option, Some, None, refl, sym, ap, subst, ◌∙◌, arith, slice_index_or, Contains, find, count_by}
+use Rattle.std.proofs.Common.{◌≡◌, ◌⊎◌, inl, inr, ℕ, zero, suc, ◌+◌, ◌≤◌, ◌<◌, Bool, true, false, not, ◌&&◌, ◌==◌, cond, List, [], ◌∷◌, ◌++◌, map, filter, length, Option}
+use Rattle.std.proofs.Common.{Some, None, refl, sym, ap, subst, ◌∙◌, arith, slice_index_or, Contains, find, count_by}
 use Rattle.std.specs.List.{AllByRecursion, flat_map, filter_map}
 use Rattle.std.proofs.lemmas.Bool.Decides.{nat_tests}
 use Rattle.std.proofs.lemmas.List.Sums.{sum_by-cons, sum_by-append}
@@ -134,7 +135,8 @@ pub count_parts : {X : Type 0} (p q : X → Bool) (xs : List X) → count_by p x
 count_parts p q [] = refl
 count_parts p q (x ∷ xs) = by_test (q x) (count_parts p q xs) where
   by_test : (t : Bool) → count_by p xs ≡ count_by p (filter (λ x. not (q x)) xs) + count_by p (filter q xs)
-      → count_by p (x ∷ xs) ≡ count_by p (cond (not t) (x ∷ filter (λ x. not (q x)) xs) (filter (λ x. not (q x)) xs)) + count_by p (cond t (x ∷ filter q xs) (filter q xs))
+      → count_by p (x ∷ xs) ≡ count_by p (cond (not t) (x ∷ filter (λ x. not (q x)) xs) (filter (λ x. not (q x)) xs)) + count_by p
+      (cond t (x ∷ filter q xs) (filter q xs))
   by_test true rest = omega (arith, count_cons p x xs, count_cons p x (filter q xs), rest)
   by_test false rest = omega (arith, count_cons p x xs, count_cons p x (filter (λ x. not (q x)) xs), rest)
 
@@ -150,7 +152,8 @@ none_kept {X = X} p at (x ∷ xs) e = by_test (p x) refl (λ none. none_kept p a
 pub one_kept : {X : Type 0} (p : X → Bool) (at : ℕ) (xs : List X) → count_by p xs ≡ 1 → map (λ (x : X). at) (filter p xs) ≡ at ∷ []
 one_kept p at [] e = absurd (cc)
 one_kept {X = X} p at (x ∷ xs) e = by_test (p x) refl (λ one. one_kept p at xs one) where
-  by_test : (t : Bool) → p x ≡ t → (count_by p xs ≡ 1 → map (λ (x : X). at) (filter p xs) ≡ at ∷ []) → map (λ (x : X). at) (cond t (x ∷ filter p xs) (filter p xs)) ≡ at ∷ []
+  by_test : (t : Bool) → p x ≡ t → (count_by p xs ≡ 1 → map (λ (x : X). at) (filter p xs) ≡ at ∷ [])
+      → map (λ (x : X). at) (cond t (x ∷ filter p xs) (filter p xs)) ≡ at ∷ []
   by_test true is rest = ap (λ rest. at ∷ rest) (none_kept p at xs (omega (arith, e, count_cons p x xs, one_at (p x) is)))
   by_test false is rest = rest (omega (arith, e, count_cons p x xs, none_at (p x) is))
 

@@ -33,12 +33,14 @@ pub record Fits (was : ℕ → Type 0) (sent : ℕ → ℕ → List ℕ) (r : Op
 pub fits_after : AreCopyLaws → (was : ℕ → Type 0) (sent : ℕ → ℕ → List ℕ) (r later : OpenRequest) → Succeeds r later → Fits was sent r → Fits was sent later
 fits_after laws was sent r later next h = record {
   apart = λ n. let own = h.apart n in let same = next.no_more n in omega (arith, own, same);
-  fit = all_weaker (FollowsIf (is_invite r) r.branches) (BranchFits (is_invite later) (sent later.number)) later.branches (λ b follows target. right b (follows target)) next.follow;
+  fit = all_weaker (FollowsIf (is_invite r) r.branches) (BranchFits (is_invite later) (sent later.number)) later.branches (λ b follows target. right b (follows target))
+      next.follow;
   was_invite = λ did. same_invite r later next.key_is ∙ h.was_invite (subst was next.number_is did);
 } where
   right : (b : Branch) → Follows (is_invite r) r.branches b → IsRight (is_invite later) (sent later.number b.number) b
   right b own =
-      let before : IsRight (is_invite r) (sent r.number own.before.number) own.before = all_in (BranchFits (is_invite r) (sent r.number)) r.branches own.before h.fit own.there own.is_target in
+      let before : IsRight (is_invite r) (sent r.number own.before.number) own.before =
+      all_in (BranchFits (is_invite r) (sent r.number)) r.branches own.before h.fit own.there own.is_target in
       let in_phase : WasSent (is_invite r) b.phase own.before.again (sent r.number own.before.number) =
       sent_after laws (is_invite r) own.before.phase b.phase own.before.again (sent r.number own.before.number) own.phase_is before.was_sent in
       let again : WasSent (is_invite r) b.phase b.again (sent r.number own.before.number) =
@@ -55,7 +57,8 @@ fits_after laws was sent r later next h = record {
         still x y is lives = before_ended (is_invite r) x.phase y.phase is lives
 
 -- it fits where as much was sent to its targets
-pub fits_as : (was was_now : ℕ → Type 0) (sent after : ℕ → ℕ → List ℕ) (r : OpenRequest) → (was_now r.number → was r.number) → ((k : ℕ) → 1 ≤ k → after r.number k ≡ sent r.number k) → Fits was sent r → Fits was_now after r
+pub fits_as : (was was_now : ℕ → Type 0) (sent after : ℕ → ℕ → List ℕ) (r : OpenRequest) → (was_now r.number → was r.number)
+    → ((k : ℕ) → 1 ≤ k → after r.number k ≡ sent r.number k) → Fits was sent r → Fits was_now after r
 fits_as was was_now sent after r told same h = record {
   apart = h.apart;
   fit = all_weaker (BranchFits (is_invite r) (sent r.number)) (BranchFits (is_invite r) (after r.number)) r.branches (λ b own target. right b (own target)) h.fit;
@@ -94,8 +97,10 @@ holds_as was was_now next after_next sent after requests tells same h = record {
   few = λ n k high. subst (λ (s : List ℕ). length s ≤ 11) (sym (same n k high)) (h.few n k high);
   invites = λ n k high did. subst AreInviteMoments (sym (same n k high)) (by_number n k high did (by_order n next));
   none_later = λ n k high late. let more = tells.rises in same n k high ∙ h.none_later n k high (omega (arith, late, more));
-  below = all_weaker (λ (r : OpenRequest). r.number < next) (λ (r : OpenRequest). r.number < after_next) requests (λ r low. let more = tells.rises in omega (arith, low, more)) h.below;
-  fit = all_both (λ (r : OpenRequest). r.number < next) (Fits was sent) (Fits was_now after) requests (λ r low own. fits_as was was_now sent after r (tells.told r.number low) (same r.number) own) h.below h.fit;
+  below = all_weaker (λ (r : OpenRequest). r.number < next) (λ (r : OpenRequest). r.number < after_next) requests (λ r low. let more = tells.rises in
+      omega (arith, low, more)) h.below;
+  fit = all_both (λ (r : OpenRequest). r.number < next) (Fits was sent) (Fits was_now after) requests
+      (λ r low own. fits_as was was_now sent after r (tells.told r.number low) (same r.number) own) h.below h.fit;
 } where
   by_number : (n k : ℕ) → 1 ≤ k → was_now n → (n < next) ⊎ (next ≤ n) → AreInviteMoments (sent n k)
   by_number n k high did (inl low) = h.invites n k high (tells.told n low did)
@@ -111,13 +116,15 @@ all_replaced P new (x ∷ xs) all h = by_test (x.number == new.number) (has_left
   by_test false left rest = (all.0, rest)
 
 -- after a change of an open request, with which nothing was sent to a target
-pub holds_changed : AreCopyLaws → (was : ℕ → Type 0) (next : ℕ) (sent : ℕ → ℕ → List ℕ) (requests : List OpenRequest) (r later : OpenRequest) → IsIn r requests → Succeeds r later
+pub holds_changed : AreCopyLaws → (was : ℕ → Type 0) (next : ℕ) (sent : ℕ → ℕ → List ℕ) (requests : List OpenRequest) (r later : OpenRequest) → IsIn r requests
+    → Succeeds r later
     → Holds was next sent requests → Holds was next sent (replaced later requests)
 holds_changed laws was next sent requests r later there follows h = record {
   few = h.few;
   invites = h.invites;
   none_later = h.none_later;
-  below = all_replaced (λ (x : OpenRequest). x.number < next) later requests h.below (subst (λ (n : ℕ). n < next) (sym follows.number_is) (all_in (λ (x : OpenRequest). x.number < next) requests r h.below there));
+  below = all_replaced (λ (x : OpenRequest). x.number < next) later requests h.below (subst (λ (n : ℕ). n < next) (sym follows.number_is)
+      (all_in (λ (x : OpenRequest). x.number < next) requests r h.below there));
   fit = all_replaced (Fits was sent) later requests h.fit (fits_after laws was sent r later follows (all_in (Fits was sent) requests r h.fit there));
 }
 
@@ -140,7 +147,8 @@ new_are sent (Once at e) = subst AreInviteMoments (sym e) (one_are at)
 
 -- a request that a datagram brings, whether it is opened or not
 pub holds_turned : (was was_now : ℕ → Type 0) (next : ℕ) (sent after : ℕ → ℕ → List ℕ) (requests : List OpenRequest) → Tells was was_now next (next + 1)
-    → ((n k : ℕ) → 1 ≤ k → (n ≡ next → ⊥) → after n k ≡ sent n k) → ((k : ℕ) → 1 ≤ k → IsNew (after next k)) → Holds was next sent requests → Holds was_now (next + 1) after requests
+    → ((n k : ℕ) → 1 ≤ k → (n ≡ next → ⊥) → after n k ≡ sent n k) → ((k : ℕ) → 1 ≤ k → IsNew (after next k)) → Holds was next sent requests
+    → Holds was_now (next + 1) after requests
 holds_turned was was_now next sent after requests tells same new h = record {
   few = λ n k high. few_at n k high (by_case n);
   invites = λ n k high did. invites_at n k high did (by_case n);
@@ -164,7 +172,8 @@ holds_turned was was_now next sent after requests tells same new h = record {
       subst AreInviteMoments (sym (same n k high (λ is. omega (arith, is, late)) ∙ h.none_later n k high (omega (arith, late)))) none_are
 
 -- a request that is opened fits, and stands behind the others
-pub holds_opened : (was : ℕ → Type 0) (next : ℕ) (sent : ℕ → ℕ → List ℕ) (requests : List OpenRequest) (r : OpenRequest) → r.number < next → Fits was sent r → Holds was next sent requests → Holds was next sent (requests ++ r ∷ [])
+pub holds_opened : (was : ℕ → Type 0) (next : ℕ) (sent : ℕ → ℕ → List ℕ) (requests : List OpenRequest) (r : OpenRequest) → r.number < next → Fits was sent r
+    → Holds was next sent requests → Holds was next sent (requests ++ r ∷ [])
 holds_opened was next sent requests r low own h = record {
   few = h.few;
   invites = h.invites;

@@ -1,5 +1,6 @@
 -- What was sent to a target by then, by how far its branch is: an INVITE at its moments, and another request no more often than it still may.
-use Rattle.std.proofs.Common.{◌≡◌, inl, inr, ℕ, zero, suc, ◌+◌, ◌-◌, ◌*◌, ◌^◌, ◌≤◌, ◌<◌, Bool, true, false, cond, List, [], ◌∷◌, length, Some, refl, sym, ap, subst, ◌∙◌, arith}
+use Rattle.std.proofs.Common.{◌≡◌, inl, inr, ℕ, zero, suc, ◌+◌, ◌-◌, ◌*◌, ◌^◌, ◌≤◌, ◌<◌, Bool, true, false, cond, List, [], ◌∷◌, length, Some, refl, sym, ap, subst, ◌∙◌}
+use Rattle.std.proofs.Common.{arith}
 use Rattle.sip_model.specs.state.declared.resend.Resend.{Resend}
 use Rattle.sip_model.specs.state.declared.branch.Phase.{Phase}
 use Rattle.sip_model.specs.state.declared.branch.Phase.TheVariants.{Unheard, Heard, Cancelled, Done, Ended}
@@ -20,8 +21,10 @@ pub record AreCopyLaws : Type 0 where
   pub timely_first : (now : ℕ) → IsTimely (now + 32000) (first_resend now)
   pub timely_again : (until most : ℕ) (again : Resend) → 4000 ≤ most → IsTimely until again → IsTimely until (resend_after most again)
   pub timely_heard : (until : ℕ) (again : Resend) → IsTimely until again → IsTimely until (steady again)
-  pub less_unheard : (until : ℕ) (again : Resend) → IsTimely until again → again.due ≤ until → other_copies_left (Unheard until) (resend_after 4000 again) + 1 ≡ other_copies_left (Unheard until) again
-  pub less_heard : (until : ℕ) (again : Resend) → IsTimely until again → again.due ≤ until → other_copies_left (Heard until) (steady again) + 1 ≡ other_copies_left (Heard until) again
+  pub less_unheard : (until : ℕ) (again : Resend) → IsTimely until again → again.due ≤ until
+      → other_copies_left (Unheard until) (resend_after 4000 again) + 1 ≡ other_copies_left (Unheard until) again
+  pub less_heard : (until : ℕ) (again : Resend) → IsTimely until again → again.due ≤ until
+      → other_copies_left (Heard until) (steady again) + 1 ≡ other_copies_left (Heard until) again
   pub no_more : (phase : Phase) (again : Resend) → other_copies_left (other_heard phase) again ≤ other_copies_left phase again
 
 -- ---- moments of an INVITE
@@ -142,7 +145,8 @@ module _ (laws : AreCopyLaws) where
   other_after before Ended again sent is h = let few = h.few in record { few = omega (arith, few); near = tt }
 
   -- either
-  pub sent_after : (invite : Bool) (before after : Phase) (again : Resend) (sent : List ℕ) → IsAfter invite before after → WasSent invite before again sent → WasSent invite after again sent
+  pub sent_after : (invite : Bool) (before after : Phase) (again : Resend) (sent : List ℕ) → IsAfter invite before after → WasSent invite before again sent
+      → WasSent invite after again sent
   sent_after true before after again sent is h = invite_after before after again sent is h
   sent_after false before after again sent is h = other_after before after again sent is h
 
@@ -171,21 +175,24 @@ module _ (laws : AreCopyLaws) where
       }
 
   -- another request does
-  other_unheard : (until : ℕ) (again : Resend) (sent : List ℕ) → again.due ≤ until → OtherSent (Unheard until) again sent → OtherSent (Unheard until) (resend_after 4000 again) (again.due ∷ sent)
+  other_unheard : (until : ℕ) (again : Resend) (sent : List ℕ) → again.due ≤ until → OtherSent (Unheard until) again sent
+      → OtherSent (Unheard until) (resend_after 4000 again) (again.due ∷ sent)
   other_unheard until again sent early h =
       let few = h.few in
       let less = laws.less_unheard until again h.near early in
       record { few = omega (arith, few, less); near = laws.timely_again until 4000 again (omega arith) h.near }
 
   -- also once it was heard
-  other_heard_again : (until : ℕ) (again : Resend) (sent : List ℕ) → again.due ≤ until → OtherSent (Heard until) again sent → OtherSent (Heard until) (steady again) (again.due ∷ sent)
+  other_heard_again : (until : ℕ) (again : Resend) (sent : List ℕ) → again.due ≤ until → OtherSent (Heard until) again sent
+      → OtherSent (Heard until) (steady again) (again.due ∷ sent)
   other_heard_again until again sent early h =
       let few = h.few in
       let less = laws.less_heard until again h.near early in
       record { few = omega (arith, few, less); near = laws.timely_heard until again h.near }
 
   -- either
-  pub sent_again : (invite : Bool) (phase : Phase) (again : Resend) (sent : List ℕ) → is_sent_again invite phase ≡ true → ((until : ℕ) → phase_deadline phase ≡ Some until → again.due ≤ until)
+  pub sent_again : (invite : Bool) (phase : Phase) (again : Resend) (sent : List ℕ) → is_sent_again invite phase ≡ true
+      → ((until : ℕ) → phase_deadline phase ≡ Some until → again.due ≤ until)
       → WasSent invite phase again sent → WasSent invite phase (next_time invite phase again) (again.due ∷ sent)
   sent_again true (Unheard until) again sent goes early h = invite_again until again sent (early until refl) h
   sent_again true (Heard until) again sent goes early h = absurd (cc)

@@ -44,7 +44,14 @@ listed n o ts = map (entry_at n o) ts
 count-turned : (p : Entry → Bool) (es : List Entry) → count_by p (reverse es) ≡ count_by p es
 count-turned p [] = refl
 count-turned p (e ∷ es) =
-    omega (arith, ap (λ xs. count_by p xs) (reverse-append (e ∷ []) es), entries-append p (reverse es) (e ∷ []), count-turned p es, entries-cons p e es, entries-cons p e [])
+    omega (
+      arith,
+      ap (λ xs. count_by p xs) (reverse-append (e ∷ []) es),
+      entries-append p (reverse es) (e ∷ []),
+      count-turned p es,
+      entries-cons p e es,
+      entries-cons p e [],
+    )
 
 -- a timer is of a part, or isn't among its timers
 of_part : (e : Entry) (n : ℕ) (o : Owner) (ts : List (Letter × ℕ)) → (count_by (same_entry e) (listed n o ts) ≡ 0) ⊎ ((e.name.owner ≡ o) × (e.name.request ≡ n))
@@ -52,12 +59,14 @@ of_part e n o [] = inl refl
 of_part e n o (t ∷ ts) = by_test (same_entry e (entry_at n o t)) refl (of_part e n o ts) where
   by_test : (v : Bool) → same_entry e (entry_at n o t) ≡ v → (count_by (same_entry e) (listed n o ts) ≡ 0) ⊎ ((e.name.owner ≡ o) × (e.name.request ≡ n))
       → (count_by (same_entry e) (entry_at n o t ∷ listed n o ts) ≡ 0) ⊎ ((e.name.owner ≡ o) × (e.name.request ≡ n))
-  by_test true is rest = let same : e ≡ entry_at n o t = entry_is e (entry_at n o t) is in inr (ap (λ (x : Entry). x.name.owner) same, ap (λ (x : Entry). x.name.request) same)
+  by_test true is rest = let same : e ≡ entry_at n o t = entry_is e (entry_at n o t) is in
+      inr (ap (λ (x : Entry). x.name.owner) same, ap (λ (x : Entry). x.name.request) same)
   by_test false is (inl none) = inl (omega (arith, none, entries-cons (same_entry e) (entry_at n o t) (listed n o ts), ap (λ (b : Bool). cond {A = ℕ} b 1 0) is))
   by_test false is (inr its) = inr its
 
 -- with another letter it is none of them
-other_letters : (e : Entry) (n : ℕ) (o : Owner) (l : Letter) (ts : List (Letter × ℕ)) → e.name.letter ≡ l → AllByRecursion (λ (u : Letter × ℕ). u.0 ≢ l) ts → count_by (same_entry e) (listed n o ts) ≡ 0
+other_letters : (e : Entry) (n : ℕ) (o : Owner) (l : Letter) (ts : List (Letter × ℕ)) → e.name.letter ≡ l → AllByRecursion (λ (u : Letter × ℕ). u.0 ≢ l) ts
+    → count_by (same_entry e) (listed n o ts) ≡ 0
 other_letters e n o l [] is differ = refl
 other_letters e n o l (t ∷ ts) is differ = by_test (same_entry e (entry_at n o t)) refl (other_letters e n o l ts is differ.1) where
   by_test : (v : Bool) → same_entry e (entry_at n o t) ≡ v → count_by (same_entry e) (listed n o ts) ≡ 0 → count_by (same_entry e) (entry_at n o t ∷ listed n o ts) ≡ 0
@@ -69,7 +78,8 @@ listed_once e n o [] differ = omega arith
 listed_once e n o (t ∷ ts) differ = by_test (same_entry e (entry_at n o t)) refl (listed_once e n o ts differ.1) where
   by_test : (v : Bool) → same_entry e (entry_at n o t) ≡ v → count_by (same_entry e) (listed n o ts) ≤ 1 → count_by (same_entry e) (entry_at n o t ∷ listed n o ts) ≤ 1
   by_test true same rest =
-      let none : count_by (same_entry e) (listed n o ts) ≡ 0 = other_letters e n o t.0 ts (ap (λ (x : Entry). x.name.letter) (entry_is e (entry_at n o t) same)) differ.0 in
+      let none : count_by (same_entry e) (listed n o ts) ≡ 0 = other_letters e n o t.0 ts (ap (λ (x : Entry). x.name.letter) (entry_is e (entry_at n o t) same)) differ.0
+      in
       omega (arith, none, entries-cons (same_entry e) (entry_at n o t) (listed n o ts), ap (λ (b : Bool). cond {A = ℕ} b 1 0) same)
   by_test false same rest = omega (arith, rest, entries-cons (same_entry e) (entry_at n o t) (listed n o ts), ap (λ (b : Bool). cond {A = ℕ} b 1 0) same)
 
@@ -78,7 +88,8 @@ part_once e n o ts differ = omega (arith, count-turned (same_entry e) (listed n 
 
 its_part : (e : Entry) (n : ℕ) (o : Owner) (ts : List (Letter × ℕ)) → (count_by (same_entry e) (part_entries n o ts) ≡ 0) ⊎ ((e.name.owner ≡ o) × (e.name.request ≡ n))
 its_part e n o ts = by_side (of_part e n o ts) where
-  by_side : (count_by (same_entry e) (listed n o ts) ≡ 0) ⊎ ((e.name.owner ≡ o) × (e.name.request ≡ n)) → (count_by (same_entry e) (part_entries n o ts) ≡ 0) ⊎ ((e.name.owner ≡ o) × (e.name.request ≡ n))
+  by_side : (count_by (same_entry e) (listed n o ts) ≡ 0) ⊎ ((e.name.owner ≡ o) × (e.name.request ≡ n))
+      → (count_by (same_entry e) (part_entries n o ts) ≡ 0) ⊎ ((e.name.owner ≡ o) × (e.name.request ≡ n))
   by_side (inl none) = inl (omega (arith, none, count-turned (same_entry e) (listed n o ts)))
   by_side (inr its) = inr its
 
@@ -145,10 +156,12 @@ have_owners bs (WithCancel b c rest is c_is numbers is_past new branched) =
     ((differ, alone (owner_of b) b.number rest (its_number b) new), (alone (owner_of c) b.number rest (its_number c ∙ numbers) new, have_owners rest branched))
 
 -- a timer of another owner is none of theirs
-none_of_branches : (e : Entry) (r : OpenRequest) (o : Owner) (bs : List Branch) → e.name.owner ≡ o → IsAlone o bs → count_by (same_entry e) (flat_map (branch_entries r) bs) ≡ 0
+none_of_branches : (e : Entry) (r : OpenRequest) (o : Owner) (bs : List Branch) → e.name.owner ≡ o → IsAlone o bs
+    → count_by (same_entry e) (flat_map (branch_entries r) bs) ≡ 0
 none_of_branches e r o [] is alone_there = refl
 none_of_branches e r o (b ∷ bs) is alone_there = by_side (its_part e r.number (owner_of b) (branch_timers r b)) (none_of_branches e r o bs is alone_there.1) where
-  by_side : (count_by (same_entry e) (branch_entries r b) ≡ 0) ⊎ ((e.name.owner ≡ owner_of b) × (e.name.request ≡ r.number)) → count_by (same_entry e) (flat_map (branch_entries r) bs) ≡ 0
+  by_side : (count_by (same_entry e) (branch_entries r b) ≡ 0) ⊎ ((e.name.owner ≡ owner_of b) × (e.name.request ≡ r.number))
+      → count_by (same_entry e) (flat_map (branch_entries r) bs) ≡ 0
       → count_by (same_entry e) (branch_entries r b ++ flat_map (branch_entries r) bs) ≡ 0
   by_side (inl none) rest = omega (arith, none, rest, entries-append (same_entry e) (branch_entries r b) (flat_map (branch_entries r) bs))
   by_side (inr its) rest = absurd (alone_there.0 (sym its.0 ∙ is))
@@ -156,7 +169,8 @@ none_of_branches e r o (b ∷ bs) is alone_there = by_side (its_part e r.number 
 branches_once : (e : Entry) (r : OpenRequest) (bs : List Branch) → HaveOwners bs → count_by (same_entry e) (flat_map (branch_entries r) bs) ≤ 1
 branches_once e r [] owners = omega arith
 branches_once e r (b ∷ bs) owners = by_side (its_part e r.number (owner_of b) (branch_timers r b)) (branches_once e r bs owners.1) where
-  by_side : (count_by (same_entry e) (branch_entries r b) ≡ 0) ⊎ ((e.name.owner ≡ owner_of b) × (e.name.request ≡ r.number)) → count_by (same_entry e) (flat_map (branch_entries r) bs) ≤ 1
+  by_side : (count_by (same_entry e) (branch_entries r b) ≡ 0) ⊎ ((e.name.owner ≡ owner_of b) × (e.name.request ≡ r.number))
+      → count_by (same_entry e) (flat_map (branch_entries r) bs) ≤ 1
       → count_by (same_entry e) (branch_entries r b ++ flat_map (branch_entries r) bs) ≤ 1
   by_side (inl none) rest = omega (arith, none, rest, entries-append (same_entry e) (branch_entries r b) (flat_map (branch_entries r) bs))
   by_side (inr its) rest =
@@ -177,12 +191,19 @@ no_server (b ∷ bs) = (server_by b.is_cancel b.number, no_server bs)
 
 request_once : (e : Entry) (r : OpenRequest) → AreBranched r.branches → count_by (same_entry e) (request_entries r) ≤ 1
 request_once e r branched = by_side (its_part e r.number Of.Server (side_timers r)) where
-  whole : count_by (same_entry e) (request_entries r) ≡ count_by (same_entry e) (part_entries r.number Of.Server (side_timers r)) + count_by (same_entry e) (flat_map (branch_entries r) r.branches)
+  whole : count_by (same_entry e) (request_entries r) ≡ count_by (same_entry e) (part_entries r.number Of.Server (side_timers r)) + count_by (same_entry e)
+      (flat_map (branch_entries r) r.branches)
   whole = entries-append (same_entry e) (part_entries r.number Of.Server (side_timers r)) (flat_map (branch_entries r) r.branches)
 
-  by_side : (count_by (same_entry e) (part_entries r.number Of.Server (side_timers r)) ≡ 0) ⊎ ((e.name.owner ≡ Of.Server) × (e.name.request ≡ r.number)) → count_by (same_entry e) (request_entries r) ≤ 1
+  by_side : (count_by (same_entry e) (part_entries r.number Of.Server (side_timers r)) ≡ 0) ⊎ ((e.name.owner ≡ Of.Server) × (e.name.request ≡ r.number))
+      → count_by (same_entry e) (request_entries r) ≤ 1
   by_side (inl none) = omega (arith, none, whole, branches_once e r r.branches (have_owners r.branches branched))
-  by_side (inr its) = omega (arith, whole, part_once e r.number Of.Server (side_timers r) (side_letters r), none_of_branches e r Of.Server r.branches its.0 (no_server r.branches))
+  by_side (inr its) = omega (
+    arith,
+    whole,
+    part_once e r.number Of.Server (side_timers r) (side_letters r),
+    none_of_branches e r Of.Server r.branches its.0 (no_server r.branches),
+  )
 
 -- ---- all open requests
 
@@ -190,7 +211,8 @@ request_once e r branched = by_side (its_part e r.number Of.Server (side_timers 
 branches_of : (e : Entry) (r : OpenRequest) (bs : List Branch) → (count_by (same_entry e) (flat_map (branch_entries r) bs) ≡ 0) ⊎ (e.name.request ≡ r.number)
 branches_of e r [] = inl refl
 branches_of e r (b ∷ bs) = by_side (its_part e r.number (owner_of b) (branch_timers r b)) (branches_of e r bs) where
-  by_side : (count_by (same_entry e) (branch_entries r b) ≡ 0) ⊎ ((e.name.owner ≡ owner_of b) × (e.name.request ≡ r.number)) → (count_by (same_entry e) (flat_map (branch_entries r) bs) ≡ 0) ⊎ (e.name.request ≡ r.number)
+  by_side : (count_by (same_entry e) (branch_entries r b) ≡ 0) ⊎ ((e.name.owner ≡ owner_of b) × (e.name.request ≡ r.number))
+      → (count_by (same_entry e) (flat_map (branch_entries r) bs) ≡ 0) ⊎ (e.name.request ≡ r.number)
       → (count_by (same_entry e) (branch_entries r b ++ flat_map (branch_entries r) bs) ≡ 0) ⊎ (e.name.request ≡ r.number)
   by_side (inr its) rest = inr its.1
   by_side (inl none) (inr its) = inr its
@@ -198,28 +220,51 @@ branches_of e r (b ∷ bs) = by_side (its_part e r.number (owner_of b) (branch_t
 
 of_request : (e : Entry) (r : OpenRequest) → (count_by (same_entry e) (request_entries r) ≡ 0) ⊎ (e.name.request ≡ r.number)
 of_request e r = by_side (its_part e r.number Of.Server (side_timers r)) (branches_of e r r.branches) where
-  by_side : (count_by (same_entry e) (part_entries r.number Of.Server (side_timers r)) ≡ 0) ⊎ ((e.name.owner ≡ Of.Server) × (e.name.request ≡ r.number)) → (count_by (same_entry e) (flat_map (branch_entries r) r.branches) ≡ 0) ⊎ (e.name.request ≡ r.number)
+  by_side : (count_by (same_entry e) (part_entries r.number Of.Server (side_timers r)) ≡ 0) ⊎ ((e.name.owner ≡ Of.Server) × (e.name.request ≡ r.number))
+      → (count_by (same_entry e) (flat_map (branch_entries r) r.branches) ≡ 0) ⊎ (e.name.request ≡ r.number)
       → (count_by (same_entry e) (request_entries r) ≡ 0) ⊎ (e.name.request ≡ r.number)
   by_side (inr its) rest = inr its.1
   by_side (inl none) (inr its) = inr its
-  by_side (inl none) (inl others) = inl (omega (arith, none, others, entries-append (same_entry e) (part_entries r.number Of.Server (side_timers r)) (flat_map (branch_entries r) r.branches)))
+  by_side (inl none) (inl others) = inl (omega (
+    arith,
+    none,
+    others,
+    entries-append (same_entry e) (part_entries r.number Of.Server (side_timers r))
+        (flat_map (branch_entries r) r.branches),
+  ))
 
 entries_of-more : (r : OpenRequest) (rs : List OpenRequest) → entries_of (r ∷ rs) ≡ entries_of rs ++ request_entries r
 entries_of-more r rs =
-    ap (λ xs. flat_map request_entries xs) (reverse-append (r ∷ []) rs) ∙ flat_map-append request_entries (reverse rs) (r ∷ []) ∙ ap (λ es. entries_of rs ++ es) (append-nil (request_entries r))
+    ap (λ xs. flat_map request_entries xs) (reverse-append (r ∷ []) rs) ∙ flat_map-append request_entries (reverse rs) (r ∷ [])
+    ∙ ap (λ es. entries_of rs ++ es) (append-nil (request_entries r))
 
-none_later : (e : Entry) (n : ℕ) (rs : List OpenRequest) → e.name.request ≡ n → AllByRecursion (λ (x : OpenRequest). n < x.number) rs → count_by (same_entry e) (entries_of rs) ≡ 0
+none_later : (e : Entry) (n : ℕ) (rs : List OpenRequest) → e.name.request ≡ n → AllByRecursion (λ (x : OpenRequest). n < x.number) rs
+    → count_by (same_entry e) (entries_of rs) ≡ 0
 none_later e n [] is later = refl
 none_later e n (r ∷ rs) is later = by_side (of_request e r) (none_later e n rs is later.1) where
-  by_side : (count_by (same_entry e) (request_entries r) ≡ 0) ⊎ (e.name.request ≡ r.number) → count_by (same_entry e) (entries_of rs) ≡ 0 → count_by (same_entry e) (entries_of (r ∷ rs)) ≡ 0
-  by_side (inl none) rest = omega (arith, none, rest, ap (λ es. count_by (same_entry e) es) (entries_of-more r rs), entries-append (same_entry e) (entries_of rs) (request_entries r))
+  by_side : (count_by (same_entry e) (request_entries r) ≡ 0) ⊎ (e.name.request ≡ r.number) → count_by (same_entry e) (entries_of rs) ≡ 0
+      → count_by (same_entry e) (entries_of (r ∷ rs)) ≡ 0
+  by_side (inl none) rest = omega (
+    arith,
+    none,
+    rest,
+    ap (λ es. count_by (same_entry e) es) (entries_of-more r rs),
+    entries-append (same_entry e) (entries_of rs) (request_entries r),
+  )
   by_side (inr its) rest = absurd (omega (arith, its, is, later.0))
 
 pub apart : (requests : List OpenRequest) → AreNumbered requests → AllByRecursion (λ (r : OpenRequest). AreBranched r.branches) requests → AreApart requests
 apart [] numbered branched e = omega arith
 apart (r ∷ rs) numbered branched e = by_side (of_request e r) (apart rs numbered.1 branched.1 e) where
-  by_side : (count_by (same_entry e) (request_entries r) ≡ 0) ⊎ (e.name.request ≡ r.number) → count_by (same_entry e) (entries_of rs) ≤ 1 → count_by (same_entry e) (entries_of (r ∷ rs)) ≤ 1
-  by_side (inl none) rest = omega (arith, none, rest, ap (λ es. count_by (same_entry e) es) (entries_of-more r rs), entries-append (same_entry e) (entries_of rs) (request_entries r))
+  by_side : (count_by (same_entry e) (request_entries r) ≡ 0) ⊎ (e.name.request ≡ r.number) → count_by (same_entry e) (entries_of rs) ≤ 1
+      → count_by (same_entry e) (entries_of (r ∷ rs)) ≤ 1
+  by_side (inl none) rest = omega (
+    arith,
+    none,
+    rest,
+    ap (λ es. count_by (same_entry e) es) (entries_of-more r rs),
+    entries-append (same_entry e) (entries_of rs) (request_entries r),
+  )
   by_side (inr its) rest =
       omega (
         arith,

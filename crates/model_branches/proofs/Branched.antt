@@ -58,7 +58,8 @@ other_kind a b false e f = grind (arith, nat_tests)
 
 -- ---- one that is met, and one that isn't
 
-met : (w b : Branch) (ws bs : List Branch) → is_same_branch w b ≡ true → IsAlone (owner_of b) ws → IsAlone (owner_of b) bs → AreMatched ws bs → AreMatched (w ∷ ws) (b ∷ bs)
+met : (w b : Branch) (ws bs : List Branch) → is_same_branch w b ≡ true → IsAlone (owner_of b) ws → IsAlone (owner_of b) bs → AreMatched ws bs
+    → AreMatched (w ∷ ws) (b ∷ bs)
 met w b ws bs same left right rest =
     let e : past (w ∷ ws) b ≡ ws = ap (λ t. cond t ws (w ∷ ws)) same in (
       subst (λ (xs : List Branch). IsAlone (owner_of b) xs) (sym e) left,
@@ -66,7 +67,8 @@ met w b ws bs same left right rest =
       subst (λ (xs : List Branch). AreMatched xs bs) (sym e) rest,
     )
 
-joins_by : (ws bs : List Branch) (b : Branch) → is_next ws b ≡ false → past ws b ≡ ws → IsAlone (owner_of b) ws → IsAlone (owner_of b) bs → AreMatched ws bs → AreMatched ws (b ∷ bs)
+joins_by : (ws bs : List Branch) (b : Branch) → is_next ws b ≡ false → past ws b ≡ ws → IsAlone (owner_of b) ws → IsAlone (owner_of b) bs → AreMatched ws bs
+    → AreMatched ws (b ∷ bs)
 joins_by ws bs b none e left right rest = (
   subst (λ (xs : List Branch). IsAlone (owner_of b) xs) (sym e) left,
   (λ is. right),
@@ -114,13 +116,11 @@ no_cancel_of b e = ap (λ (t : Bool). not t && b.wants_cancel && is_ready b.phas
 alone_one : (now : ℕ) (b : Branch) → is_cancellable b ≡ false → with_cancel now b ≡ b ∷ []
 alone_one now b e = ap (λ t. cond t (held_branch now b ∷ cancel_branch now b ∷ []) (b ∷ [])) e
 
-with_both : (now : ℕ) (b : Branch) → is_cancellable b ≡ true → with_cancel now b ≡ held_branch now b ∷ cancel_branch now b ∷ []
-with_both now b e = ap (λ t. cond t (held_branch now b ∷ cancel_branch now b ∷ []) (b ∷ [])) e
-
 new_joined : (now n : ℕ) (bs : List Branch) → IsNewNumber n bs → IsNewNumber n (flat_map (with_cancel now) bs)
 new_joined now n [] new = tt
 new_joined now n (b ∷ bs) new = by_test (is_cancellable b) (new_joined now n bs new.1) where
-  by_test : (t : Bool) → IsNewNumber n (flat_map (with_cancel now) bs) → IsNewNumber n (cond t (held_branch now b ∷ cancel_branch now b ∷ []) (b ∷ []) ++ flat_map (with_cancel now) bs)
+  by_test : (t : Bool) → IsNewNumber n (flat_map (with_cancel now) bs) → IsNewNumber n
+      (cond t (held_branch now b ∷ cancel_branch now b ∷ []) (b ∷ []) ++ flat_map (with_cancel now) bs)
   by_test true rest = (new.0, (new.0, rest))
   by_test false rest = (new.0, rest)
 
@@ -129,7 +129,8 @@ module _ (f : Branch → Branch) (now : ℕ) where
   abbrev pub after : List Branch → List Branch
   after bs = flat_map (with_cancel now) (map f bs)
 
-  one_kept : (b : Branch) (bs : List Branch) → Keeps f b → AllByRecursion (Keeps f) bs → b.is_cancel ≡ false → IsNewNumber b.number bs → AreKept bs (after bs) → AreKept (b ∷ bs) (after (b ∷ bs))
+  one_kept : (b : Branch) (bs : List Branch) → Keeps f b → AllByRecursion (Keeps f) bs → b.is_cancel ≡ false → IsNewNumber b.number bs → AreKept bs (after bs)
+      → AreKept (b ∷ bs) (after (b ∷ bs))
   one_kept b bs keeps others is new rest = by_test (is_cancellable (f b)) where
     same : is_same_branch b (f b) ≡ true
     same = same_by b (f b) (sym keeps.number) (sym keeps.is_cancel)
@@ -151,14 +152,16 @@ module _ (f : Branch → Branch) (now : ℕ) where
         record {
           branched = WithCancel h c (after bs) its_kind refl refl refl its_new rest.branched;
           matched = met b h bs (c ∷ after bs) same left (other, alone (owner_of h) (f b).number (after bs) (its_number h) its_new)
-              (joins bs (after bs) c (subst (λ (n : ℕ). IsNewNumber n bs) (sym keeps.number) new) (alone (owner_of c) (f b).number (after bs) (its_number c) its_new) rest.matched);
+              (joins bs (after bs) c (subst (λ (n : ℕ). IsNewNumber n bs) (sym keeps.number) new) (alone (owner_of c) (f b).number (after bs) (its_number c) its_new)
+              rest.matched);
         }
     by_test false = record {
       branched = OneBranch (f b) (after bs) its_kind its_new rest.branched;
       matched = met b (f b) bs (after bs) same left (alone (owner_of (f b)) (f b).number (after bs) (its_number (f b)) its_new) rest.matched;
     }
 
-  both_kept : (b c : Branch) (bs : List Branch) → Keeps f b → Keeps f c → AllByRecursion (Keeps f) bs → b.is_cancel ≡ false → c.is_cancel ≡ true → c.number ≡ b.number → may_be_cancelled b.phase ≡ false → IsNewNumber b.number bs → AreKept bs (after bs)
+  both_kept : (b c : Branch) (bs : List Branch) → Keeps f b → Keeps f c → AllByRecursion (Keeps f) bs → b.is_cancel ≡ false → c.is_cancel ≡ true → c.number ≡ b.number
+      → may_be_cancelled b.phase ≡ false → IsNewNumber b.number bs → AreKept bs (after bs)
       → AreKept (b ∷ c ∷ bs) (after (b ∷ c ∷ bs))
   both_kept b c bs keeps c_keeps others is c_is numbers is_past new rest = subst (λ (xs : List Branch). AreKept (b ∷ c ∷ bs) xs) (sym listed) its_kept where
     number_is : (f c).number ≡ (f b).number
@@ -174,7 +177,8 @@ module _ (f : Branch → Branch) (now : ℕ) where
     c_kind = c_keeps.is_cancel ∙ c_is
 
     listed : after (b ∷ c ∷ bs) ≡ f b ∷ f c ∷ after bs
-    listed = ap (λ xs. xs ++ (with_cancel now (f c) ++ after bs)) (alone_one now (f b) (not_cancelled (f b) its_past)) ∙ ap (λ xs. f b ∷ (xs ++ after bs)) (alone_one now (f c) (no_cancel_of (f c) c_kind))
+    listed = ap (λ xs. xs ++ (with_cancel now (f c) ++ after bs)) (alone_one now (f b) (not_cancelled (f b) its_past))
+        ∙ ap (λ xs. f b ∷ (xs ++ after bs)) (alone_one now (f c) (no_cancel_of (f c) c_kind))
 
     its_new : IsNewNumber (f b).number (after bs)
     its_new = new_joined now (f b).number (map f bs) (new_mapped f b.number (f b).number bs keeps.number others new)
@@ -207,7 +211,8 @@ module _ (f : Branch → Branch) (now : ℕ) where
 
 -- the branches after an event that only maps them
 module _ (f : Branch → Branch) where
-  one_stays : (b : Branch) (bs : List Branch) → Keeps f b → AllByRecursion (Keeps f) bs → b.is_cancel ≡ false → IsNewNumber b.number bs → AreKept bs (map f bs) → AreKept (b ∷ bs) (f b ∷ map f bs)
+  one_stays : (b : Branch) (bs : List Branch) → Keeps f b → AllByRecursion (Keeps f) bs → b.is_cancel ≡ false → IsNewNumber b.number bs → AreKept bs (map f bs)
+      → AreKept (b ∷ bs) (f b ∷ map f bs)
   one_stays b bs keeps others is new rest =
       let its_new : IsNewNumber (f b).number (map f bs) = new_mapped f b.number (f b).number bs keeps.number others new in
       record {
@@ -217,7 +222,8 @@ module _ (f : Branch → Branch) where
             (alone (owner_of (f b)) (f b).number (map f bs) (its_number (f b)) its_new) rest.matched;
       }
 
-  both_stay : (b c : Branch) (bs : List Branch) → Keeps f b → Keeps f c → AllByRecursion (Keeps f) bs → b.is_cancel ≡ false → c.is_cancel ≡ true → c.number ≡ b.number → may_be_cancelled b.phase ≡ false → IsNewNumber b.number bs → AreKept bs (map f bs)
+  both_stay : (b c : Branch) (bs : List Branch) → Keeps f b → Keeps f c → AllByRecursion (Keeps f) bs → b.is_cancel ≡ false → c.is_cancel ≡ true → c.number ≡ b.number
+      → may_be_cancelled b.phase ≡ false → IsNewNumber b.number bs → AreKept bs (map f bs)
       → AreKept (b ∷ c ∷ bs) (f b ∷ f c ∷ map f bs)
   both_stay b c bs keeps c_keeps others is c_is numbers is_past new rest =
       let number_is : (f c).number ≡ (f b).number = c_keeps.number ∙ (numbers ∙ sym keeps.number) in
@@ -225,7 +231,8 @@ module _ (f : Branch → Branch) where
       let c_kind : (f c).is_cancel ≡ true = c_keeps.is_cancel ∙ c_is in
       let its_new : IsNewNumber (f b).number (map f bs) = new_mapped f b.number (f b).number bs keeps.number others new in
       let not_c : owner_of c ≢ owner_of (f b) = λ e. kinds_differ c.number (f b).number (sym (owner_is c true c_is) ∙ (e ∙ owner_is (f b) false its_kind)) in
-      let not_fc : owner_of (f c) ≢ owner_of (f b) = λ e. kinds_differ (f c).number (f b).number (sym (owner_is (f c) true c_kind) ∙ (e ∙ owner_is (f b) false its_kind)) in
+      let not_fc : owner_of (f c) ≢ owner_of (f b) = λ e. kinds_differ (f c).number (f b).number (sym (owner_is (f c) true c_kind) ∙ (e ∙ owner_is (f b) false its_kind))
+      in
       record {
         branched = WithCancel (f b) (f c) (map f bs) its_kind c_kind number_is (keeps.phase is_past) its_new rest.branched;
         matched = met b (f b) (c ∷ bs) (f c ∷ map f bs) (same_by b (f b) (sym keeps.number) (sym keeps.is_cancel))

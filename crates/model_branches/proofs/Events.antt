@@ -17,7 +17,11 @@ use Rattle.model_transactions.specs.state.declared.open_request.Upward.{Upward}
 use Rattle.model_transactions.specs.state.declared.resend.Resend.{Resend}
 use Rattle.model_transactions.specs.state.declared.server.Server.{Server}
 use Rattle.model_transactions.specs.state.State.{is_answering, is_decline, is_final, is_invite, is_provisional, is_success}
-use Rattle.model_transactions.specs.context_model.Branches.{is_same_branch, turned, phased, with_phase, with_final, marked_branch, marked, given_up, best_upward, after_upward, settled, invite_heard, other_heard, heard, relayed_provisional, relayed_success, search_ended, told_to, final_of, linger, with_answer, acks_of, further, target_responded, cancel_responded, responded, target_overdue, branch_overdue, overdue, side_overdue, send_failed, cancelled, with_cancel, acknowledged, acknowledged_side, was_refused}
+use Rattle.model_transactions.specs.context_model.Branches.{is_same_branch, turned, phased, with_phase, with_final, marked_branch, marked, given_up, best_upward}
+use Rattle.model_transactions.specs.context_model.Branches.{after_upward, settled, invite_heard, other_heard, heard, relayed_provisional, relayed_success, search_ended}
+use Rattle.model_transactions.specs.context_model.Branches.{told_to, final_of, linger, with_answer, acks_of, further, target_responded, cancel_responded, responded}
+use Rattle.model_transactions.specs.context_model.Branches.{target_overdue, branch_overdue, overdue, side_overdue, send_failed, cancelled, with_cancel, acknowledged}
+use Rattle.model_transactions.specs.context_model.Branches.{acknowledged_side, was_refused}
 use Rattle.model_transactions.specs.context_model.Retransmission.{branch_next, resent_branch, with_resend}
 use Rattle.model_transactions.specs.context_model.Opening.{branch_to, branches_from, dialog_branch, opening, tried, trying}
 use Rattle.model_transactions.specs.Matching.{may_be_cancelled, IsNewNumber, AreBranched, NoBranch, OneBranch}
@@ -68,14 +72,17 @@ same_branches : (now : ℕ) (o : Option Upward) (r : OpenRequest) → (after_upw
 same_branches now None r = refl
 same_branches now (Some u) r = refl
 
-settled_branches : (server : Server) (now : ℕ) (acks : List Packet) (relayed : Option Upward) (r : OpenRequest) → (settled server now acks relayed r).request.branches ≡ flat_map (with_cancel now) r.branches
+settled_branches : (server : Server) (now : ℕ) (acks : List Packet) (relayed : Option Upward) (r : OpenRequest)
+    → (settled server now acks relayed r).request.branches ≡ flat_map (with_cancel now) r.branches
 settled_branches server now acks relayed r =
     let told : OpenRequest = after_upward now relayed r in
     ap (λ bs. flat_map (with_cancel now) bs) (same_branches now (best_upward server told) told ∙ same_branches now relayed r)
 
-pub settles : (server : Server) (now : ℕ) (acks : List Packet) (relayed : Option Upward) (before : List Branch) (r : OpenRequest) → AreBranched before → AreMapped before r.branches → AreKept before (settled server now acks relayed r).request.branches
+pub settles : (server : Server) (now : ℕ) (acks : List Packet) (relayed : Option Upward) (before : List Branch) (r : OpenRequest) → AreBranched before
+    → AreMapped before r.branches → AreKept before (settled server now acks relayed r).request.branches
 settles server now acks relayed before r branched m =
-    let e : (settled server now acks relayed r).request.branches ≡ flat_map (with_cancel now) (map m.f before) = settled_branches server now acks relayed r ∙ ap (λ bs. flat_map (with_cancel now) bs) m.is in
+    let e : (settled server now acks relayed r).request.branches ≡ flat_map (with_cancel now) (map m.f before) = settled_branches server now acks relayed r
+    ∙ ap (λ bs. flat_map (with_cancel now) bs) m.is in
     subst (λ (xs : List Branch). AreKept before xs) (sym e) (kept m.f now before m.keeps branched)
 
 -- ---- what events do to branches
@@ -121,7 +128,8 @@ phases_past : (b : Branch) (p : Phase) (bs : List Branch) → may_be_cancelled p
 phases_past b p [] e = tt
 phases_past b p (x ∷ bs) e = (phases_one b p x (λ same is. e), phases_past b p bs e)
 
-phases_on : (b : Branch) (p : Phase) (bs : List Branch) → (may_be_cancelled b.phase ≡ false → may_be_cancelled p ≡ false) → AllByRecursion (λ x. is_same_branch x b ≡ true → may_be_cancelled x.phase ≡ may_be_cancelled b.phase) bs
+phases_on : (b : Branch) (p : Phase) (bs : List Branch) → (may_be_cancelled b.phase ≡ false → may_be_cancelled p ≡ false)
+    → AllByRecursion (λ x. is_same_branch x b ≡ true → may_be_cancelled x.phase ≡ may_be_cancelled b.phase) bs
     → AllByRecursion (Keeps (phased b p)) bs
 phases_on b p [] on far = tt
 phases_on b p (x ∷ bs) on far = (phases_one b p x (λ same is. on (sym (far.0 same) ∙ is)), phases_on b p bs on far.1)
@@ -169,20 +177,23 @@ all_mark [] = tt
 all_mark (x ∷ bs) = (marks x, all_mark bs)
 
 -- the branches that are one with one of them are as far
-far_as : (bs : List Branch) (b : Branch) → AreBranched bs → Contains bs b → AllByRecursion (λ x. is_same_branch x b ≡ true → may_be_cancelled x.phase ≡ may_be_cancelled b.phase) bs
+far_as : (bs : List Branch) (b : Branch) → AreBranched bs → Contains bs b → AllByRecursion (λ x. is_same_branch x b ≡ true
+    → may_be_cancelled x.phase ≡ may_be_cancelled b.phase) bs
 far_as bs b branched there =
     let P : Branch → Type 0 = λ y. AllByRecursion (λ x. is_same_branch x y ≡ true → may_be_cancelled x.phase ≡ may_be_cancelled y.phase) bs in
     All-contains P bs b (All-from_recursion P bs (all_as_far bs branched)) there
 
 -- ---- events
 
-search_mapped : (r : OpenRequest) (status : ℕ) (before : List Branch) (after : OpenRequest) → AreMapped before after.branches → AreMapped before (search_ended r status after).branches
+search_mapped : (r : OpenRequest) (status : ℕ) (before : List Branch) (after : OpenRequest) → AreMapped before after.branches
+    → AreMapped before (search_ended r status after).branches
 search_mapped r status before after m = by_test (is_invite r && (is_success status || is_decline status)) where
   by_test : (t : Bool) → AreMapped before (cond t (marked after) after).branches
   by_test true = mapped_then marked_branch before after.branches marks m
   by_test false = m
 
-pub responds : (server : Server) (now status : ℕ) (r : OpenRequest) (b : Branch) (m : Message) → AreBranched r.branches → Contains r.branches b → AreKept r.branches (responded server now r b status m).request.branches
+pub responds : (server : Server) (now status : ℕ) (r : OpenRequest) (b : Branch) (m : Message) → AreBranched r.branches → Contains r.branches b
+    → AreKept r.branches (responded server now r b status m).request.branches
 responds server now status r b m branched there = by_kind b.is_cancel where
   far : AllByRecursion (λ x. is_same_branch x b ≡ true → may_be_cancelled x.phase ≡ may_be_cancelled b.phase) r.branches
   far = far_as r.branches b branched there
@@ -190,7 +201,8 @@ responds server now status r b m branched there = by_kind b.is_cancel where
   heard_on : AreMapped r.branches (with_phase b (heard r now status b.phase) r).branches
   heard_on = mapped_by (phased b (heard r now status b.phase)) r.branches (phases_on b (heard r now status b.phase) r.branches (heard_past r now status b.phase) far)
 
-  of_cancel : (t u : Bool) → AreKept r.branches (cond t (settled server now [] None (with_phase b (other_heard b.phase) r)) (cond u (settled server now [] None r) (settled server now [] None (with_phase b (Done (now + 5000) status) r)))).request.branches
+  of_cancel : (t u : Bool) → AreKept r.branches (cond t (settled server now [] None (with_phase b (other_heard b.phase) r))
+      (cond u (settled server now [] None r) (settled server now [] None (with_phase b (Done (now + 5000) status) r)))).request.branches
   of_cancel true u =
       settles server now [] None r.branches (with_phase b (other_heard b.phase) r) branched
       (mapped_by (phased b (other_heard b.phase)) r.branches (phases_on b (other_heard b.phase) r.branches (other_heard_past b.phase) far))
@@ -200,13 +212,15 @@ responds server now status r b m branched there = by_kind b.is_cancel where
       (mapped_by (phased b (Done (now + 5000) status)) r.branches (phases_past b (Done (now + 5000) status) r.branches refl))
 
   of_target : (t u : Bool) → AreKept r.branches (cond t (settled server now [] (relayed_provisional r b status m) (with_phase b (heard r now status b.phase) r))
-      (cond u (settled server now [] (further r b b.phase status m) r) (settled server now (acks_of server r b status m) (relayed_success r b status m) (with_answer r b now status m)))).request.branches
+      (cond u (settled server now [] (further r b b.phase status m) r) (settled server now (acks_of server r b status m) (relayed_success r b status m)
+      (with_answer r b now status m)))).request.branches
   of_target true u = settles server now [] (relayed_provisional r b status m) r.branches (with_phase b (heard r now status b.phase) r) branched heard_on
   of_target false true = settles server now [] (further r b b.phase status m) r.branches r branched (mapped_same r.branches)
   of_target false false =
       let answered : OpenRequest = with_final (final_of status m) (with_phase (told_to r b status m) (Done (now + linger r) status) r) in
       settles server now (acks_of server r b status m) (relayed_success r b status m) r.branches (with_answer r b now status m) branched
-      (search_mapped r status r.branches answered (mapped_by (phased (told_to r b status m) (Done (now + linger r) status)) r.branches (phases_past (told_to r b status m) (Done (now + linger r) status) r.branches refl)))
+      (search_mapped r status r.branches answered (mapped_by (phased (told_to r b status m) (Done (now + linger r) status)) r.branches
+      (phases_past (told_to r b status m) (Done (now + linger r) status) r.branches refl)))
 
   by_kind : (t : Bool) → AreKept r.branches (cond t (cancel_responded server now r b status m) (target_responded server now r b status m)).request.branches
   by_kind true = of_cancel (is_provisional status) (is_final b.phase)
@@ -218,7 +232,10 @@ gives_up b status r = mapped_by (phased b Ended) r.branches (phases_past b Ended
 ends_overdue : (r : OpenRequest) (b : Branch) (p : Phase) → AreMapped r.branches (target_overdue r b p).branches
 ends_overdue r b (Unheard due) = gives_up b 408 r
 ends_overdue r b (Heard due) = by_test (is_invite r) where
-  by_test : (t : Bool) → AreMapped r.branches (cond t (record r { branches = map (λ (x : Branch). cond (is_same_branch x b) (record x { wants_cancel = true }) x) r.branches }) (given_up b 408 r)).branches
+  by_test : (t : Bool) → AreMapped r.branches (cond t (record r {
+    branches = map (λ (x : Branch). cond (is_same_branch x b) (record x { wants_cancel = true }) x)
+        r.branches;
+  }) (given_up b 408 r)).branches
   by_test true = mapped_by (λ y. cond (is_same_branch y b) (record y { wants_cancel = true }) y) r.branches (all_want b r.branches)
   by_test false = gives_up b 408 r
 ends_overdue r b (Cancelled due) = gives_up b 487 r
@@ -251,7 +268,8 @@ numbers_above now from number (t ∷ ts) low = ((λ e. omega (arith, e, low)), n
 
 pub begin_branched : (now number : ℕ) (ts : List Target) → AreBranched (branches_from now number ts)
 begin_branched now number [] = NoBranch
-begin_branched now number (t ∷ ts) = OneBranch (branch_to now number t) (branches_from now (number + 1) ts) refl (numbers_above now (number + 1) number ts (omega arith)) (begin_branched now (number + 1) ts)
+begin_branched now number (t ∷ ts) = OneBranch (branch_to now number t) (branches_from now (number + 1) ts) refl (numbers_above now (number + 1) number ts (omega arith))
+    (begin_branched now (number + 1) ts)
 
 pub dialog_branched : (server : Server) (now : ℕ) (m : Message) (address : Addr) → AreBranched (dialog_branch server now m address ∷ [])
 dialog_branched server now m address = OneBranch (dialog_branch server now m address) [] refl tt NoBranch

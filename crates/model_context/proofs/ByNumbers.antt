@@ -1,5 +1,6 @@
 -- Comparing every text and looking up by the numbers in it find the same branch.
-use Rattle.std.proofs.Common.{◌≡◌, ℕ, ◌+◌, ◌<◌, ◌≤◌, ◌^◌, Bool, true, false, cond, ◌==◌, List, [], ◌∷◌, Option, Some, None, option_map, refl, sym, ap, ◌∙◌, arith, find, count_by, eq-eqb, eqb-true}
+use Rattle.std.proofs.Common.{◌≡◌, ℕ, ◌+◌, ◌<◌, ◌≤◌, ◌^◌, Bool, true, false, cond, ◌==◌, List, [], ◌∷◌, Option, Some, None, option_map, refl, sym, ap, ◌∙◌, arith, find}
+use Rattle.std.proofs.Common.{count_by, eq-eqb, eqb-true}
 use Rattle.std.specs.Prelude.{◌&&◌, if◌then◌else◌, codes}
 use Rattle.std.specs.Option.{option_and_then, option_map_or}
 use Rattle.std.specs.List.{AllByRecursion}
@@ -89,9 +90,11 @@ not_in : (server : Server) (text method : List ℕ) (r : OpenRequest) → branch
 not_in server text method r none fits =
     none_found (is_branch server text method r) r.branches
     (all_from (λ (b : Branch). b.number < 2 ^ 32) (λ (b : Branch). is_branch server text method r b ≡ false) r.branches
-    (λ b lt. ap (λ t. t && bytes_eq (if b.is_cancel then codes "CANCEL" else r.key.method) method) (unnamed server.word text r.number b.number none fits.number_fits lt)) fits.targets_fit)
+    (λ b lt. ap (λ t. t && bytes_eq (if b.is_cancel then codes "CANCEL" else r.key.method) method) (unnamed server.word text r.number b.number none fits.number_fits lt))
+    fits.targets_fit)
 
-found_nowhere : (server : Server) (text method : List ℕ) (requests : List OpenRequest) → branch_id_of server.word text ≡ None → AllByRecursion HasNumbers requests → found_branch server text method requests ≡ None
+found_nowhere : (server : Server) (text method : List ℕ) (requests : List OpenRequest) → branch_id_of server.word text ≡ None → AllByRecursion HasNumbers requests
+    → found_branch server text method requests ≡ None
 found_nowhere server text method [] none fit = refl
 found_nowhere server text method (r ∷ rs) none fit = rw (not_in server text method r none fit.0) (found_nowhere server text method rs none fit.1)
 
@@ -101,7 +104,8 @@ module _ (server : Server) (text method : List ℕ) (id : BranchId) (named : bra
   agrees : (r : OpenRequest) (t : Bool) → (r.number == id.number) ≡ t → HasNumbers r → (b : Branch) → b.number < 2 ^ 32
       → is_branch server text method r b ≡ (t && is_sent id.target method r b)
   agrees r t is fits b lt =
-      ap (λ v. v && bytes_eq (if b.is_cancel then codes "CANCEL" else r.key.method) method) (tested server.word text id r.number b.number named fits.number_fits lt ∙ ap (λ v. v && (b.number == id.target)) is)
+      ap (λ v. v && bytes_eq (if b.is_cancel then codes "CANCEL" else r.key.method) method)
+      (tested server.word text id r.number b.number named fits.number_fits lt ∙ ap (λ v. v && (b.number == id.target)) is)
       ∙ grouped t (b.number == id.target) (bytes_eq (if b.is_cancel then codes "CANCEL" else r.key.method) method)
     where
       grouped : (t u v : Bool) → ((t && u) && v) ≡ (t && (u && v))
@@ -111,12 +115,14 @@ module _ (server : Server) (text method : List ℕ) (id : BranchId) (named : bra
   in_another : (r : OpenRequest) → (r.number == id.number) ≡ false → HasNumbers r → branch_in server text method r ≡ None
   in_another r is fits =
       none_found (is_branch server text method r) r.branches
-      (all_from (λ (b : Branch). b.number < 2 ^ 32) (λ (b : Branch). is_branch server text method r b ≡ false) r.branches (λ b lt. agrees r false is fits b lt) fits.targets_fit)
+      (all_from (λ (b : Branch). b.number < 2 ^ 32) (λ (b : Branch). is_branch server text method r b ≡ false) r.branches (λ b lt. agrees r false is fits b lt)
+      fits.targets_fit)
 
   in_this : (r : OpenRequest) → (r.number == id.number) ≡ true → HasNumbers r → branch_in server text method r ≡ find (is_sent id.target method r) r.branches
   in_this r is fits =
       same_found (is_branch server text method r) (is_sent id.target method r) r.branches
-      (all_from (λ (b : Branch). b.number < 2 ^ 32) (λ (b : Branch). is_branch server text method r b ≡ is_sent id.target method r b) r.branches (λ b lt. agrees r true is fits b lt) fits.targets_fit)
+      (all_from (λ (b : Branch). b.number < 2 ^ 32) (λ (b : Branch). is_branch server text method r b ≡ is_sent id.target method r b) r.branches
+      (λ b lt. agrees r true is fits b lt) fits.targets_fit)
 
   found_there : (requests : List OpenRequest) → count_by (is_of_datagram id.number) requests ≤ 1 → AllByRecursion HasNumbers requests
       → found_branch server text method requests ≡ option_and_then (sent_in id.target method) (find (is_of_datagram id.number) requests)
@@ -127,18 +133,21 @@ module _ (server : Server) (text method : List ℕ) (id : BranchId) (named : bra
     or_later None later none = none
     or_later (Some b) later none = refl
 
-    by_test : (t : Bool) → (r.number == id.number) ≡ t → found_branch server text method rs ≡ option_and_then (sent_in id.target method) (find (is_of_datagram id.number) rs)
+    by_test : (t : Bool) → (r.number == id.number) ≡ t → found_branch server text method rs
+        ≡ option_and_then (sent_in id.target method) (find (is_of_datagram id.number) rs)
         → option_map_or (λ b. Some (r, b)) (branch_in server text method r) (found_branch server text method rs)
         ≡ option_and_then (sent_in id.target method) (cond t (Some r) (find (is_of_datagram id.number) rs))
     by_test false is rest = rw (in_another r is fit.0) rest
     by_test true is rest =
         let none_left : count_by (is_of_datagram id.number) rs ≡ 0 = omega (arith, few, count_cons (is_of_datagram id.number) r rs, one_at (r.number == id.number) is) in
-        let nowhere : found_branch server text method rs ≡ None = rest ∙ ap (option_and_then (sent_in id.target method)) (not_found (is_of_datagram id.number) rs none_left) in
+        let nowhere : found_branch server text method rs ≡ None = rest ∙ ap (option_and_then (sent_in id.target method))
+        (not_found (is_of_datagram id.number) rs none_left) in
         rw (in_this r is fit.0) (or_later (find (is_sent id.target method r) r.branches) (found_branch server text method rs) nowhere)
 
 -- ---- the whole
 
-pub by_numbers : (server : Server) (text method : List ℕ) (requests : List OpenRequest) → ((number : ℕ) → count_by (is_of_datagram number) requests ≤ 1) → AllByRecursion HasNumbers requests
+pub by_numbers : (server : Server) (text method : List ℕ) (requests : List OpenRequest) → ((number : ℕ) → count_by (is_of_datagram number) requests ≤ 1)
+    → AllByRecursion HasNumbers requests
     → found_branch server text method requests ≡ branch_by_id server text method requests
 by_numbers server text method requests few fit = by_name (branch_id_of server.word text) refl where
   by_name : (o : Option BranchId) → branch_id_of server.word text ≡ o

@@ -1,5 +1,5 @@
 //! Worked examples of events of an open request, as contracts that compute: responses, CANCELs, ACKs, faults, and the timers that they set.
-ghost use Rattle.std.specs.Prelude.{◌≡◌, [], ◌∷◌, map, nat_lt, true, false};
+ghost use Rattle.std.specs.Prelude.{◌≡◌, [], ◌∷◌, nat_lt, true, false};
 ghost use Rattle.sip_state.specs.declared.branch.Phase.TheVariants.{Unheard, Heard, Cancelled, Done, Ended};
 ghost use Rattle.sip_state.specs.declared.open_request.Side.TheVariants.{Answering, Closing, Acknowledged, Closed};
 ghost use Rattle.sip_state.specs.State.{has_left};

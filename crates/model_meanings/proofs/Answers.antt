@@ -1,5 +1,6 @@
 -- What the answers that go to the caller of a request, and the requests of a dialog that are sent on, make of the known dialogs.
-use Rattle.std.proofs.Common.{◌≡◌, ◌∙◌, ℕ, ◌≤◌, ◌<◌, Bool, true, false, ◌&&◌, cond, List, [], ◌∷◌, ◌++◌, codes, bytes_eq, Option, Some, None, option_and_then, refl, sym, ap, subst, arith}
+use Rattle.std.proofs.Common.{◌≡◌, ◌∙◌, ℕ, ◌≤◌, ◌<◌, Bool, true, false, ◌&&◌, cond, List, [], ◌∷◌, ◌++◌, codes, bytes_eq, Option, Some, None, option_and_then, refl, sym}
+use Rattle.std.proofs.Common.{ap, subst, arith}
 use Rattle.std.specs.Prelude.{nat_le}
 use Rattle.std.specs.Option.{option_map_or, option_to_list}
 use Rattle.std.specs.List.{AllByRecursion}
@@ -25,7 +26,8 @@ use Rattle.sip_model.specs.state.declared.server.Server.{Server}
 use Rattle.sip_model.specs.state.declared.open_request.OpenRequest.{OpenRequest}
 use Rattle.sip_model.specs.state.declared.open_request.Upward.{Upward}
 use Rattle.sip_model.specs.state.State.{is_invite, is_success, has_left}
-use Rattle.sip_model.specs.state.Dialogs.{dialog_of, addresses_of, after_request, after_answer_within, invite_answer, after_invite_answer, answered_dialog, after_first_answer, after_answer_of, after_answer, after_answers, after_leaving}
+use Rattle.sip_model.specs.state.Dialogs.{dialog_of, addresses_of, after_request, after_answer_within, invite_answer, after_invite_answer, answered_dialog}
+use Rattle.sip_model.specs.state.Dialogs.{after_first_answer, after_answer_of, after_answer, after_answers, after_leaving}
 use Rattle.sip_model.specs.state.Arrival.{Arrival}
 use Rattle.sip_model.specs.context_model.Branches.{Change}
 use Rattle.sip_model.specs.steps_model.Effect.{method_of, dialogs_after}
@@ -165,7 +167,8 @@ module _ (server : Server) (history : List Link) (link : Link) where
     }
 
     -- what the answer tells of that dialog
-    lesson_now : (u : Upward) (id : DialogId) → IsUp r u → is_invite r ≡ true → nat_le u.status 100 ≡ false → nat_le u.status 299 ≡ true → answered_dialog r u.message ≡ Some id
+    lesson_now : (u : Upward) (id : DialogId) → IsUp r u → is_invite r ≡ true → nat_le u.status 100 ≡ false → nat_le u.status 299 ≡ true
+        → answered_dialog r u.message ≡ Some id
         → IsLesson server history link (invite_answer server r u id)
     unfolding begins_now
     lesson_now u id up is above below e = record {
@@ -199,7 +202,8 @@ module _ (server : Server) (history : List Link) (link : Link) where
   module _ (T : Dialog → Type 0) (closed : IsClosed server history link T) (taken : IsTakenIn server history link) where
     module _ (now : ℕ) (r : OpenRequest) (came : Came server history r) where
       -- an answer to an INVITE that names a dialog
-      invite_told : (u : Upward) (id : DialogId) (dialogs : List Dialog) → IsUp r u → is_invite r ≡ true → nat_le u.status 100 ≡ false → answered_dialog r u.message ≡ Some id
+      invite_told : (u : Upward) (id : DialogId) (dialogs : List Dialog) → IsUp r u → is_invite r ≡ true → nat_le u.status 100 ≡ false
+          → answered_dialog r u.message ≡ Some id
           → AllByRecursion T dialogs
           → AllByRecursion T (after_invite_answer server now r u id dialogs)
       invite_told u id dialogs up is above e h = by_test (nat_le u.status 299) refl where
@@ -209,7 +213,8 @@ module _ (server : Server) (history : List Link) (link : Link) where
         by_test false below =
             taught_kept server history link T closed now id (addresses_of server u.message) dialogs
             (addresses_told server history link taken id u.message
-            (AnswerToInvite came.a r.request u.message taken.is_there came.is_brought (invite_came taken now r came is) (went_there taken now r came u up) (answer_names r u.message id e))) h
+            (AnswerToInvite came.a r.request u.message taken.is_there came.is_brought (invite_came taken now r came is) (went_there taken now r came u up)
+            (answer_names r u.message id e))) h
 
       -- an answer to a request without a To tag
       first_told : (u : Upward) (dialogs : List Dialog) → IsUp r u → nat_le u.status 100 ≡ false → AllByRecursion T dialogs
@@ -248,7 +253,8 @@ module _ (server : Server) (history : List Link) (link : Link) where
         by_test false above = by_dialog above (dialog_of r.request) refl
 
       -- several
-      answers_told : (us : List Upward) (dialogs : List Dialog) → AllByRecursion (IsUp r) us → AllByRecursion T dialogs → AllByRecursion T (after_answers server now r us dialogs)
+      answers_told : (us : List Upward) (dialogs : List Dialog) → AllByRecursion (IsUp r) us → AllByRecursion T dialogs
+          → AllByRecursion T (after_answers server now r us dialogs)
       answers_told [] dialogs ups h = h
       answers_told (u ∷ us) dialogs ups h = answers_told us (after_answer server now r u dialogs) ups.1 (answer_told u dialogs ups.0 h)
 
@@ -264,7 +270,8 @@ module _ (server : Server) (history : List Link) (link : Link) where
         → AllByRecursion T dialogs
         → AllByRecursion T (dialogs_after server now change dialogs)
     change_told now change dialogs came ups h =
-        leaving_told now change.request came (after_answers server now change.request change.upward dialogs) (answers_told now change.request came change.upward dialogs ups h)
+        leaving_told now change.request came (after_answers server now change.request change.upward dialogs)
+        (answers_told now change.request came change.upward dialogs ups h)
 
     -- a request of a dialog that is sent on
     pub request_told : (a : Arrival) (m : Message) (id : DialogId) (dialogs : List Dialog) (brought : IsBrought history a m) → brought.link ≡ link → dialog_of m ≡ Some id
@@ -273,7 +280,13 @@ module _ (server : Server) (history : List Link) (link : Link) where
     request_told a m id dialogs brought is_now e sent h =
         let names : Names m id = dialog_names m id e in
         let on : WasSentOn server history a m =
-        record { packet = sent.packet; is_there = sent_in history link sent.packet taken.is_there sent.is_there; is_text = sent.is_text; is_of_datagram = sent.is_of_datagram }
+        record {
+          packet = sent.packet;
+          is_there = sent_in history link sent.packet taken.is_there sent.is_there;
+          is_text = sent.is_text;
+          is_of_datagram = sent.is_of_datagram;
+        }
         in
-        renewed_kept server history link T closed a.now id (addresses_of server m) dialogs (addresses_told server history link taken id m (Within a m brought is_now names sent))
+        renewed_kept server history link T closed a.now id (addresses_of server m) dialogs
+        (addresses_told server history link taken id m (Within a m brought is_now names sent))
         (λ d same. Later a m brought (names_alike server history d id m same names) on refl) h

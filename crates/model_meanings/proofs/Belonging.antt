@@ -1,5 +1,6 @@
 -- A response is given to the branch that it says.
-use Rattle.std.proofs.Common.{◌≡◌, ◌≢◌, ◌⊎◌, inl, inr, ℕ, zero, suc, get_or, ◌+◌, ◌≤◌, ◌<◌, ◌^◌, Bool, true, false, cond, not, ◌&&◌, ◌==◌, List, [], ◌∷◌, length, codes, find, count_by, Contains, Option, Some, None, Result, Ok, Err, option_map, refl, sym, ap, subst, ◌∙◌, arith, bytes_eq, true≢false}
+use Rattle.std.proofs.Common.{◌≡◌, ◌≢◌, ◌⊎◌, inl, inr, ℕ, zero, suc, get_or, ◌+◌, ◌≤◌, ◌<◌, ◌^◌, Bool, true, false, cond, not, ◌&&◌, ◌==◌, List, [], ◌∷◌, length, codes}
+use Rattle.std.proofs.Common.{find, count_by, Contains, Option, Some, None, Result, Ok, Err, option_map, refl, sym, ap, subst, ◌∙◌, arith, bytes_eq, true≢false}
 use Rattle.std.specs.Option.{option_map_or, option_and_then}
 use Rattle.std.specs.Prelude.{unwrap_or}
 use Rattle.std.specs.Result.{result_ok}
@@ -77,7 +78,10 @@ module _ {X : Type 0} (p : X → Bool) where
     by_test : (t : Bool) → p y ≡ t → (Contains ys x → p x ≡ true → Finds p ys) → (y ≡ x) ⊎ Contains ys x → Finds p (y ∷ ys)
     by_test true e later where_it_is = record { first = y; finds = ap (λ (b : Bool). cond b (Some y) (find p ys)) e }
     by_test false e later (inl same) = absurd (true≢false (sym passes ∙ sym (ap p same) ∙ e))
-    by_test false e later (inr there) = let rest = later there passes in record { first = rest.first; finds = ap (λ (b : Bool). cond b (Some y) (find p ys)) e ∙ rest.finds }
+    by_test false e later (inr there) = let rest = later there passes in record {
+      first = rest.first;
+      finds = ap (λ (b : Bool). cond b (Some y) (find p ys)) e ∙ rest.finds;
+    }
 
   count_cons : (x : X) (xs : List X) → count_by p (x ∷ xs) ≡ cond (p x) 1 0 + count_by p xs
   count_cons x xs = sum_by-cons (λ (y : X). cond {A = ℕ} (p y) 1 0) x xs
@@ -94,7 +98,8 @@ module _ {X : Type 0} (p : X → Bool) where
   finds_it : (xs : List X) (x : X) → Contains xs x → p x ≡ true → count_by p xs ≤ 1 → find p xs ≡ Some x
   finds_it [] x there passes one = absurd (omega (arith, there.1))
   finds_it (y ∷ ys) x there passes one = by_test (p y) refl (finds_it ys x) (head_or_tail y x ys there) where
-    by_test : (t : Bool) → p y ≡ t → (Contains ys x → p x ≡ true → count_by p ys ≤ 1 → find p ys ≡ Some x) → (y ≡ x) ⊎ Contains ys x → cond t (Some y) (find p ys) ≡ Some x
+    by_test : (t : Bool) → p y ≡ t → (Contains ys x → p x ≡ true → count_by p ys ≤ 1 → find p ys ≡ Some x) → (y ≡ x) ⊎ Contains ys x
+        → cond t (Some y) (find p ys) ≡ Some x
     by_test true e later (inl same) = ap Some same
     by_test true e later (inr there) =
         let first : cond {A = ℕ} (p y) 1 0 ≡ 1 = ap (λ (b : Bool). cond {A = ℕ} b 1 0) e in
@@ -152,7 +157,12 @@ named_once_found server text method [] r b e = absurd (cc)
 named_once_found server text method (q ∷ qs) r b e = by_branch (branch_in server text method q) refl (named_once_found server text method qs r b) e where
   by_branch : (o : Option Branch) → branch_in server text method q ≡ o → (found_branch server text method qs ≡ Some (r, b) → IsNamed server text method qs r b)
       → option_map_or (λ c. Some (q, c)) o (found_branch server text method qs) ≡ Some (r, b) → IsNamed server text method (q ∷ qs) r b
-  by_branch None is later e = let rest = later e in record { is_open = tail_there q r qs rest.is_open; is_its = rest.is_its; has_text = rest.has_text; has_method = rest.has_method }
+  by_branch None is later e = let rest = later e in record {
+    is_open = tail_there q r qs rest.is_open;
+    is_its = rest.is_its;
+    has_text = rest.has_text;
+    has_method = rest.has_method;
+  }
   by_branch (Some c) is later e =
       let pair : (q, c) ≡ (r, b) = ap (λ (o : Option (OpenRequest × Branch)). unwrap_or o (q, c)) e in
       let found = is_found (is_branch server text method q) q.branches c is in
@@ -177,7 +187,8 @@ one_by (Err error) cseq e = absurd (cc)
 pub taken : (server : Server) (requests : List OpenRequest) (fields : List Field) (r : OpenRequest) (b : Branch) → responding server requests fields ≡ Some (r, b)
     → IsOfBranch server requests fields r b
 taken server requests fields r b e =
-    let text = stepped (λ text. option_and_then (λ cseq. found_branch server text cseq.method requests) (result_ok (cseq_in fields))) (top_branch server fields) (r, b) e in
+    let text = stepped (λ text. option_and_then (λ cseq. found_branch server text cseq.method requests) (result_ok (cseq_in fields))) (top_branch server fields) (r, b) e
+    in
     let cseq = stepped (λ (cseq : CSeq). found_branch server text.from cseq.method requests) (result_ok (cseq_in fields)) (r, b) text.gives in
     let via = stepped (own_branch server.config.own) (option_and_then via_of (first_value Name.Via fields)) text.from text.is_from in
     let value = stepped via_of (first_value Name.Via fields) via.from via.is_from in
@@ -210,7 +221,8 @@ search_is server requests fields r b says =
     ∙ ap (λ (o : Option Via). option_and_then (own_branch server.config.own) o) says.reads
     ∙ ap (λ (t : Bool). cond t (branch_of says.via.parameters) None) says.is_own ∙ says.has_text in
     ap (λ (o : Option (List ℕ)). option_and_then (λ text. option_and_then (λ cseq. found_branch server text cseq.method requests) (result_ok (cseq_in fields))) o) top
-    ∙ ap (λ (o : Result CSeq HeaderError). option_and_then (λ (cseq : CSeq). found_branch server (branch_text server.word r.number b.number) cseq.method requests) (result_ok o))
+    ∙ ap (λ (o : Result CSeq HeaderError). option_and_then (λ (cseq : CSeq). found_branch server (branch_text server.word r.number b.number) cseq.method requests)
+    (result_ok o))
     says.is_one_cseq
 
 -- whether a branch is sent so
@@ -227,7 +239,8 @@ sent_says r b target method e =
     ((Decides-eqb b.number target).0 both.0, method_by r b method ((bytes_eq-Decides (cond b.is_cancel (codes "CANCEL") r.key.method) method).0 both.1))
 
 module _
-    (reads_back : (boot number target : ℕ) → number < 2 ^ 64 → target < 2 ^ 32 → branch_id_of boot (branch_text boot number target) ≡ Some (record { number = number; target = target }))
+    (reads_back : (boot number target : ℕ) → number < 2 ^ 64 → target < 2 ^ 32 → branch_id_of boot (branch_text boot number target)
+    ≡ Some (record { number = number; target = target }))
   where
     -- where numbers differ and fit, by the numbers of its text
     pub given_by_numbers : (server : Server) (state : ProxyState) (fields : List Field) (r : OpenRequest) (b : Branch) → AreNumbered state.next state.requests
@@ -245,13 +258,15 @@ module _
         let sent = sent_says r its.first b.number method found.passes in
         let request : find (is_of_datagram r.number) state.requests ≡ Some r =
         finds_it (is_of_datagram r.number) state.requests r is.is_open ((Decides-eqb r.number r.number).1 refl) (numbered.differ r.number) in
-        let id : branch_id_of server.word text ≡ Some (record { number = r.number; target = b.number }) = reads_back server.word r.number b.number fits.number_fits target_fits in
+        let id : branch_id_of server.word text ≡ Some (record { number = r.number; target = b.number }) =
+        reads_back server.word r.number b.number fits.number_fits target_fits in
         record {
           found = its.first;
           method = method;
           is_given =
               search_is server state.requests fields r b is.says ∙ by_id text method
-              ∙ ap (λ (o : Option BranchId). option_and_then (λ (id : BranchId). option_and_then (sent_in id.target method) (find (is_of_datagram id.number) state.requests)) o) id
+              ∙ ap (λ (o : Option BranchId). option_and_then (λ (id : BranchId). option_and_then (sent_in id.target method)
+              (find (is_of_datagram id.number) state.requests)) o) id
               ∙ ap (λ (o : Option OpenRequest). option_and_then (sent_in b.number method) o) request
               ∙ ap (λ (o : Option Branch). option_map (λ (c : Branch). (r, c)) o) its.finds;
           is_its = found.is_there;

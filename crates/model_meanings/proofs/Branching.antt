@@ -1,5 +1,6 @@
 -- The packets of a request's branches go to its targets.
-use Rattle.std.proofs.Common.{◌≡◌, ℕ, ◌+◌, Bool, true, false, cond, not, List, [], ◌∷◌, ◌++◌, codes, decimal, length, flat_map, Option, Some, None, refl, sym, ap, subst, ◌∙◌, append_assoc, bytes_eq, option_map}
+use Rattle.std.proofs.Common.{◌≡◌, ℕ, ◌+◌, Bool, true, false, cond, not, List, [], ◌∷◌, ◌++◌, codes, decimal, length, flat_map, Option, Some, None, refl, sym, ap, subst}
+use Rattle.std.proofs.Common.{◌∙◌, append_assoc, bytes_eq, option_map}
 use Rattle.std.specs.Option.{option_map_or}
 use Rattle.std.proofs.lemmas.Slice.Eq.{bytes_eq-Decides}
 use Rattle.sip_uri.specs.declared.addr.Addr.{Addr}
@@ -42,8 +43,10 @@ begins_with : (m : Message) (method uri : List ℕ) → m.start ≡ Request meth
 begins_with m method uri e = record {
   rest = flat_map field_text m.fields ++ codes "Content-Length: " ++ decimal (length m.body) ++ codes "\r\n\r\n" ++ m.body;
   is_text =
-      ap (λ (s : Start). start_text s ++ codes "\r\n" ++ flat_map field_text m.fields ++ codes "Content-Length: " ++ decimal (length m.body) ++ codes "\r\n\r\n" ++ m.body) e
-      ∙ parted method (codes " ") uri (codes "SIP/2.0") (codes "\r\n") (flat_map field_text m.fields) (codes "Content-Length: ") (decimal (length m.body)) (codes "\r\n\r\n") m.body;
+      ap (λ (s : Start). start_text s ++ codes "\r\n" ++ flat_map field_text m.fields ++ codes "Content-Length: " ++ decimal (length m.body) ++ codes "\r\n\r\n"
+      ++ m.body) e
+      ∙ parted method (codes " ") uri (codes "SIP/2.0") (codes "\r\n") (flat_map field_text m.fields) (codes "Content-Length: ") (decimal (length m.body))
+      (codes "\r\n\r\n") m.body;
 }
 
 -- a Record-Route leaves the start line
@@ -80,11 +83,13 @@ module _ (server : Server) (a : Arrival) (m : Message) (method uri : List ℕ) (
     is_first = refl;
   }
 
-  pub all_go : (place : ℕ) (targets : List Target) → GoToTargets a.number method place targets (flat_map (branch_packets server false (arriving a m)) (branches_from a.now place targets))
+  pub all_go : (place : ℕ) (targets : List Target) → GoToTargets a.number method place targets
+      (flat_map (branch_packets server false (arriving a m)) (branches_from a.now place targets))
   unfolding packet_to
   all_go place [] = NoMore place
   all_go place (t ∷ ts) = by_address t.address refl (all_go (place + 1) ts) where
-    by_address : (o : Option Addr) → t.address ≡ o → GoToTargets a.number method (place + 1) ts (flat_map (branch_packets server false (arriving a m)) (branches_from a.now (place + 1) ts))
+    by_address : (o : Option Addr) → t.address ≡ o → GoToTargets a.number method (place + 1) ts
+        (flat_map (branch_packets server false (arriving a m)) (branches_from a.now (place + 1) ts))
         → GoToTargets a.number method place (t ∷ ts)
         (option_map_or (λ address. packet_to place t address ∷ []) o [] ++ flat_map (branch_packets server false (arriving a m)) (branches_from a.now (place + 1) ts))
     by_address None is rest = GoesNowhere place t ts _ is rest
@@ -106,7 +111,8 @@ pub valid_version : (own : Own) (m : Message) (method uri version : List ℕ)
     → m.start ≡ Request method uri version → refusal_of own m false ≡ None → version ≡ codes "SIP/2.0"
 valid_version own m method uri version e valid =
     let checked = subst (λ (s : Start). option_map_or refusal (candidate_by own m.fields false s) None ≡ None) e valid in
-    (bytes_eq-Decides version (codes "SIP/2.0")).0 (text_by (bytes_eq version (codes "SIP/2.0")) (version_by _ (not (bytes_eq version (codes "SIP/2.0"))) _ _ _ _ checked))
+    (bytes_eq-Decides version (codes "SIP/2.0")).0 (text_by (bytes_eq version (codes "SIP/2.0"))
+    (version_by _ (not (bytes_eq version (codes "SIP/2.0"))) _ _ _ _ checked))
 
 -- ---- a step
 
@@ -123,7 +129,8 @@ pub step_goes : ((server : Server) (first : ℕ) (history : List Link) (last : P
     → (server : Server) (first : ℕ) (link : Link) (history : List Link) (last : ProxyState) → IsChain server (first_state first) (link ∷ history) last
     → (at word : ℕ) (from : Addr) (bytes : List ℕ) → link.act ≡ Given (Datagram at word from bytes) → (m : Message) (method : List ℕ) (core : CoreFields)
     → IsNewRequest (under server link.config) link.before bytes m method core
-    → GoToTargets link.before.next method 1 (targets_on (under server link.config) (bindings_after server history) link.before (moment_of link.before at) m method core) (branch_originals link.out.packets)
+    → GoToTargets link.before.next method 1 (targets_on (under server link.config) (bindings_after server history) link.before (moment_of link.before at) m method core)
+    (branch_originals link.out.packets)
 step_goes access server first link history last chain at word from bytes is m method core new =
     let served = serves_datagram server history link at word from bytes m method core is (access server first (link ∷ history) last chain).0.serves new in
     let version = valid_version server.config.own m method new.uri new.version new.is_request new.is_valid in

@@ -47,8 +47,10 @@ module _ (known after : ProxyState) (earlier : List Link) where
   lost = lost_goes_up known after
 
   -- it comes for the first target
-  busy_for : (r : OpenRequest) (b : Branch) (status : ℕ) (response : Message) → ComesNow sample lost.before lost.act r b status response → (b ≡ first_branch) × (status ≡ 486)
-  busy_for r b status response comes = response_comes_for sample lost.before 63500 9 (local 5082) (text_of busy) busy busy_said r two_called b first_branch status response busy_is_for comes
+  busy_for : (r : OpenRequest) (b : Branch) (status : ℕ) (response : Message) → ComesNow sample lost.before lost.act r b status response
+      → (b ≡ first_branch) × (status ≡ 486)
+  busy_for r b status response comes = response_comes_for sample lost.before 63500 9 (local 5082) (text_of busy) busy busy_said r two_called b first_branch status
+      response busy_is_for comes
 
   -- no branch has its deadline then
   not_due : AllByRecursion (λ (b : Branch). phase_deadline b.phase ≡ Some 63500 → ⊥) two_called.branches
@@ -65,7 +67,8 @@ module _ (known after : ProxyState) (earlier : List Link) where
   acks_are : (packets : List Packet) → IsAckNow sample lost.before lost.act two_called packets → AllByRecursion IsElsewhere packets
   acks_are _ NoAck = tt
   acks_are _ (Acks b status response comes invite failure going) =
-      subst (λ (x : Branch). AllByRecursion IsElsewhere (ack_packets sample false two_called x (first_value Name.To response.fields))) (sym (busy_for two_called b status response comes).0) (differ 5082 5070 refl refl, tt)
+      subst (λ (x : Branch). AllByRecursion IsElsewhere (ack_packets sample false two_called x (first_value Name.To response.fields)))
+      (sym (busy_for two_called b status response comes).0) (differ 5082 5070 refl refl, tt)
 
   -- so the caller gets nothing
   pub lost_refused : Access sample (lost ∷ earlier) → ⊥
@@ -75,7 +78,8 @@ module _ (known after : ProxyState) (earlier : List Link) where
           acks_are = acks_are;
           no_answer = record {
             not_passed = λ b status response comes passed.
-                refusal_not_passed two_called b status (ap is_provisional (busy_for two_called b status response comes).1) (ap is_success (busy_for two_called b status response comes).1) passed;
+                refusal_not_passed two_called b status (ap is_provisional (busy_for two_called b status response comes).1)
+                (ap is_success (busy_for two_called b status response comes).1) passed;
             no_best = λ b last there going ends others answering. no_best b last there ends others;
           };
           cancels_are = ((differ 5082 5070 refl refl, tt), ((differ 5083 5070 refl refl, tt), tt));
@@ -91,9 +95,11 @@ module _ (known after : ProxyState) (earlier : List Link) where
   late = late_ringing known after
 
   -- it comes for the second target
-  ringing_for : (r : OpenRequest) (b : Branch) (status : ℕ) (response : Message) → ComesNow sample late.before late.act r b status response → (b ≡ branch_at 2 5083 (Cancelled 95000)) × (status ≡ 180)
+  ringing_for : (r : OpenRequest) (b : Branch) (status : ℕ) (response : Message) → ComesNow sample late.before late.act r b status response
+      → (b ≡ branch_at 2 5083 (Cancelled 95000)) × (status ≡ 180)
   ringing_for r b status response comes =
-      response_comes_for sample late.before 63500 9 (local 5083) (text_of (ringing_from 2)) (ringing_from 2) ringing_said r accepted_call b (branch_at 2 5083 (Cancelled 95000)) status response
+      response_comes_for sample late.before 63500 9 (local 5083) (text_of (ringing_from 2)) (ringing_from 2) ringing_said r accepted_call b
+      (branch_at 2 5083 (Cancelled 95000)) status response
       ringing_is_for comes
 
   -- so nothing is to be sent
@@ -102,7 +108,8 @@ module _ (known after : ProxyState) (earlier : List Link) where
       record {
         no_ack = λ b status response comes failure going. true≢false (sym failure ∙ ap is_failure (ringing_for accepted_call b status response comes).1);
         no_answer = record {
-          not_passed = λ b status response comes passed. late_not_passed accepted_call b status refl (ap is_success (ringing_for accepted_call b status response comes).1) passed;
+          not_passed = λ b status response comes passed. late_not_passed accepted_call b status refl (ap is_success (ringing_for accepted_call b status response comes).1)
+              passed;
           no_best = λ b last there going ends others answering. true≢false (sym answering);
         };
         no_cancel = (
@@ -114,7 +121,8 @@ module _ (known after : ProxyState) (earlier : List Link) where
   pub late_refused : Access sample (late ∷ earlier) → ⊥
   late_refused access =
       some_is_not_none _ _
-      (sends_nothing sample earlier late (idle, tt) (response_gets_nothing sample late.before 63500 9 (local 5083) (text_of (ringing_from 2)) (ringing_from 2) ringing_said refl) access)
+      (sends_nothing sample earlier late (idle, tt) (response_gets_nothing sample late.before 63500 9 (local 5083) (text_of (ringing_from 2)) (ringing_from 2)
+      ringing_said refl) access)
 
 -- ---- the 100
 
@@ -123,9 +131,11 @@ module _ (known after : ProxyState) (earlier : List Link) where
   passed = passed_100 known after
 
   -- it comes for the one target
-  trying_for : (r : OpenRequest) (b : Branch) (status : ℕ) (response : Message) → ComesNow sample passed.before passed.act r b status response → (b ≡ first_branch) × (status ≡ 100)
+  trying_for : (r : OpenRequest) (b : Branch) (status : ℕ) (response : Message) → ComesNow sample passed.before passed.act r b status response
+      → (b ≡ first_branch) × (status ≡ 100)
   trying_for r b status response comes =
-      response_comes_for sample passed.before 62100 9 (local 5082) (text_of trying_there) trying_there trying_said r one_target b first_branch status response trying_is_for comes
+      response_comes_for sample passed.before 62100 9 (local 5082) (text_of trying_there) trying_there trying_said r one_target b first_branch status response
+      trying_is_for comes
 
   -- a 100 ends no branch
   goes_on : (b : Branch) (last : Final) → Contains one_target.branches b → EndsNow sample passed.before passed.act 62100 one_target b last → ⊥
@@ -146,11 +156,13 @@ module _ (known after : ProxyState) (earlier : List Link) where
           acks_are = no_acks;
           no_answer = record {
             not_passed = λ b status response comes goes.
-                trying_not_passed one_target b status (trying_for one_target b status response comes).1 (ap is_success (trying_for one_target b status response comes).1) goes;
+                trying_not_passed one_target b status (trying_for one_target b status response comes).1 (ap is_success (trying_for one_target b status response comes).1)
+                goes;
             no_best = λ b last there going ends others answering. goes_on b last there ends;
           };
           cancels_are = ((differ 5082 5070 refl refl, tt), tt);
         },
         tt,
       )
-      (response_gets_nothing sample passed.before 62100 9 (local 5082) (text_of trying_there) trying_there trying_said refl) _ access.0.sent).0 (ap (λ (n : ℕ). Some n) caller_is)
+      (response_gets_nothing sample passed.before 62100 9 (local 5082) (text_of trying_there) trying_there trying_said refl) _ access.0.sent).0
+      (ap (λ (n : ℕ). Some n) caller_is)

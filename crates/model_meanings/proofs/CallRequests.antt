@@ -15,8 +15,10 @@ use Rattle.sip_model.specs.context_model.Calls.{marked_at, first_ringing, one_ri
 use Rattle.sip_model.specs.steps_model.Examples.{sample, help_text}
 use Rattle.sip_model.specs.Run.{Link}
 use Rattle.sip_model.specs.Access.{ComesNow, EndsNow, IsHeardNow, IsCancelledNow, WasGivenUp, ByCaller, ByAnswer, Access}
-use Rattle.model_meanings.specs.WrongRequests.{ending, bye_open, copy_goes_on, unwanted_cancel, busy, busy_branch, one_busy, acknowledged_twice, cancel_refused, cancel_there, acknowledged_cancel}
-use Rattle.model_meanings.proofs.Refused.{some_is_not_none, holds_of, is_datagram, not_said, nothing_comes, NothingComes, IsIdle, sends_nothing, not_ready, no_target, idle_without}
+use Rattle.model_meanings.specs.WrongRequests.{ending, bye_open, copy_goes_on, unwanted_cancel, busy, busy_branch, one_busy, acknowledged_twice, cancel_refused}
+use Rattle.model_meanings.specs.WrongRequests.{cancel_there, acknowledged_cancel}
+use Rattle.model_meanings.proofs.Refused.{some_is_not_none, holds_of, is_datagram, not_said, nothing_comes, NothingComes, IsIdle, sends_nothing, not_ready, no_target}
+use Rattle.model_meanings.proofs.Refused.{idle_without}
 use Rattle.model_meanings.proofs.Said.{said_is, status_or, request_comes_for_none, response_comes_for, response_gets_nothing, open_gets_nothing}
 use Rattle.model_meanings.proofs.Messages.{ending_said, ending_key, ending_is_open, busy_said, busy_again_is_for, refused_said, refused_is_for}
 use Rattle.model_meanings.proofs.Coming.{differ, refusal_not_passed, EndsHow, ends_how, unheard_goes_on}
@@ -30,14 +32,16 @@ module _ (known after : ProxyState) (earlier : List Link) where
   -- the BYE that is open waits for its answer
   waits : IsIdle sample (copied ∷ earlier) copied.before copied.act 70300 bye_open
   waits =
-      idle_without sample copied.before copied.act (copied ∷ earlier) 70300 (request_comes_for_none sample copied.before 70300 9 (local 5070) (text_of ending) ending ending_said refl) refl bye_open
+      idle_without sample copied.before copied.act (copied ∷ earlier) 70300 (request_comes_for_none sample copied.before 70300 9 (local 5070) (text_of ending) ending
+      ending_said refl) refl bye_open
       (λ answering. (differ 102000 70300 refl refl, tt)) (λ cancelled. true≢false (sym cancelled.is_of_invite), tt)
 
   pub copied_refused : Access sample (copied ∷ earlier) → ⊥
   copied_refused access =
       some_is_not_none _ _
       (sends_nothing sample earlier copied (waits, tt)
-      (open_gets_nothing sample copied.before 70300 9 (local 5070) (text_of ending) ending ending_said (codes "BYE") help_text (codes "SIP/2.0") bye_open.key bye_open refl refl ending_key ending_is_open) access)
+      (open_gets_nothing sample copied.before 70300 9 (local 5070) (text_of ending) ending ending_said (codes "BYE") help_text (codes "SIP/2.0") bye_open.key bye_open
+      refl refl ending_key ending_is_open) access)
 
 -- ---- a CANCEL
 
@@ -48,7 +52,8 @@ given_up_before server link earlier number quiet (ByCaller was) = by_case (Conta
   by_case : Contains (link ∷ []) was.link ⊎ Contains earlier was.link → WasGivenUp server earlier number
   by_case (inl now) =
       absurd
-      (not_said server was.link.before was.link.act (ap (λ (x : Link). is_datagram x.act) (holds_of (λ (x : Link). x ≡ link) (link ∷ []) was.link (refl, tt) now) ∙ quiet) was.a was.bytes was.m was.short
+      (not_said server was.link.before was.link.act (ap (λ (x : Link). is_datagram x.act) (holds_of (λ (x : Link). x ≡ link) (link ∷ []) was.link (refl, tt) now) ∙ quiet)
+      was.a was.bytes was.m was.short
       was.is_said)
   by_case (inr there) =
       ByCaller
@@ -71,7 +76,8 @@ given_up_before server link earlier number quiet (ByAnswer status response came 
   by_case : Contains (link ∷ []) came.link ⊎ Contains earlier came.link → WasGivenUp server earlier number
   by_case (inl now) =
       absurd
-      (not_said server came.link.before came.link.act (ap (λ (x : Link). is_datagram x.act) (holds_of (λ (x : Link). x ≡ link) (link ∷ []) came.link (refl, tt) now) ∙ quiet) came.a came.bytes response
+      (not_said server came.link.before came.link.act (ap (λ (x : Link). is_datagram x.act) (holds_of (λ (x : Link). x ≡ link) (link ∷ []) came.link (refl, tt) now)
+      ∙ quiet) came.a came.bytes response
       false came.is_said)
   by_case (inr there) =
       ByAnswer status response
@@ -118,7 +124,8 @@ module _ (known after : ProxyState) (earlier : List Link) where
   again = acknowledged_twice known after
 
   -- the 486 comes for the target that was busy before
-  busy_for : (r : OpenRequest) (b : Branch) (status : ℕ) (response : Message) → ComesNow sample again.before again.act r b status response → (b ≡ busy_branch) × (status ≡ 486)
+  busy_for : (r : OpenRequest) (b : Branch) (status : ℕ) (response : Message) → ComesNow sample again.before again.act r b status response
+      → (b ≡ busy_branch) × (status ≡ 486)
   busy_for r b status response comes =
       response_comes_for sample again.before 63500 9 (local 5082) (text_of busy) busy busy_said r one_busy b busy_branch status response busy_again_is_for comes
 
@@ -132,7 +139,8 @@ module _ (known after : ProxyState) (earlier : List Link) where
     by_how : EndsHow sample again.before again.act 63500 one_busy b → ⊥
     by_how (inl x) = is_another b (busy_for one_busy b x.0 x.1 x.2).0 going
     by_how (inr due) =
-        holds_of (λ (x : Branch). phase_deadline x.phase ≡ Some 63500 → ⊥) one_busy.branches b (differ 95000 63500 refl refl, (differ 94000 63500 refl refl, tt)) there due
+        holds_of (λ (x : Branch). phase_deadline x.phase ≡ Some 63500 → ⊥) one_busy.branches b (differ 95000 63500 refl refl, (differ 94000 63500 refl refl, tt)) there
+        due
 
   -- a 486 is no provisional response
   not_heard : (r : OpenRequest) (b : Branch) → IsHeardNow sample again.before again.act r b → ⊥
@@ -141,7 +149,8 @@ module _ (known after : ProxyState) (earlier : List Link) where
       (sym now.is_before_final
       ∙ ap is_provisional
       (ap status_or (sym now.is_response)
-      ∙ ap (λ (n : Message). status_or n.start) (said_is sample again.before 63500 9 (local 5082) (text_of busy) busy busy_said now.a now.bytes now.response false now.is_said)))
+      ∙ ap (λ (n : Message). status_or n.start) (said_is sample again.before 63500 9 (local 5082) (text_of busy) busy busy_said now.a now.bytes now.response false
+      now.is_said)))
 
   pub again_refused : Access sample (again ∷ earlier) → ⊥
   again_refused access =
@@ -151,7 +160,8 @@ module _ (known after : ProxyState) (earlier : List Link) where
           no_ack = λ b status response comes failure going. is_another b (busy_for one_busy b status response comes).0 going;
           no_answer = record {
             not_passed = λ b status response comes passed.
-                refusal_not_passed one_busy b status (ap is_provisional (busy_for one_busy b status response comes).1) (ap is_success (busy_for one_busy b status response comes).1) passed;
+                refusal_not_passed one_busy b status (ap is_provisional (busy_for one_busy b status response comes).1)
+                (ap is_success (busy_for one_busy b status response comes).1) passed;
             no_best = λ b last there going ends others answering. no_end b last there going ends;
           };
           no_cancel = (
@@ -173,7 +183,8 @@ module _ (known after : ProxyState) (earlier : List Link) where
       true≢false
       (sym
       (ap (λ (x : Branch). x.is_cancel)
-      (response_comes_for sample refused.before 63500 9 (local 5082) (text_of cancel_refused) cancel_refused refused_said r (cancelled_target 95000) b cancel_there status response refused_is_for comes).0)
+      (response_comes_for sample refused.before 63500 9 (local 5082) (text_of cancel_refused) cancel_refused refused_said r (cancelled_target 95000) b cancel_there status
+      response refused_is_for comes).0)
       ∙ comes.is_target)
 
   pub cancel_refused_refused : Access sample (refused ∷ earlier) → ⊥

@@ -15,7 +15,11 @@ use Rattle.sip_model.specs.state.declared.open_request.OpenRequest.{OpenRequest}
 use Rattle.sip_model.specs.state.declared.open_request.Upward.{Upward}
 use Rattle.sip_model.specs.state.declared.proxy_state.ProxyState.{ProxyState}
 use Rattle.sip_model.specs.state.State.{is_invite, is_final, is_answering, is_success, is_decline, is_provisional}
-use Rattle.sip_model.specs.context_model.Branches.{Change, is_same_branch, turned, phased, with_phase, with_final, marked_branch, marked, given_up, best_upward, is_cancellable, cancel_branch, held_branch, with_cancel, after_upward, upward_list, settled, heard, other_heard, relayed_provisional, relayed_success, final_of, linger, told_to, with_answer, acks_of, further, target_responded, cancel_responded, responded, target_overdue, branch_overdue, send_failed, cancelled, acknowledged_side, was_refused, acknowledged, answered}
+use Rattle.sip_model.specs.context_model.Branches.{Change, is_same_branch, turned, phased, with_phase, with_final, marked_branch, marked, given_up, best_upward}
+use Rattle.sip_model.specs.context_model.Branches.{is_cancellable, cancel_branch, held_branch, with_cancel, after_upward, upward_list, settled, heard, other_heard}
+use Rattle.sip_model.specs.context_model.Branches.{relayed_provisional, relayed_success, final_of, linger, told_to, with_answer, acks_of, further, target_responded}
+use Rattle.sip_model.specs.context_model.Branches.{cancel_responded, responded, target_overdue, branch_overdue, send_failed, cancelled, acknowledged_side, was_refused}
+use Rattle.sip_model.specs.context_model.Branches.{acknowledged, answered}
 use Rattle.sip_model.specs.context_model.Retransmission.{branch_next, resent_branch, IsResent, OfAnswer, OfRequest}
 use Rattle.sip_model.specs.steps_model.Step.{Act, IsOverdue, OfSide, OfBranch}
 use Rattle.sip_model.specs.Parts.{IsChangeAt, ByResponse, ByDeadline, ByFault, ByCancel}
@@ -39,7 +43,8 @@ same_numbers bs h = h
 -- a change of each that leaves its number
 pub edited_numbers : (edit : Branch → Branch) → ((b : Branch) → (edit b).number ≡ b.number) → (bs : List Branch) → KeepNumbers bs (map edit bs)
 edited_numbers edit same bs h =
-    all_map (λ (b : Branch). 1 ≤ b.number) edit bs (all_weaker (λ (b : Branch). 1 ≤ b.number) (λ (b : Branch). 1 ≤ (edit b).number) bs (λ b own. subst (λ (n : ℕ). 1 ≤ n) (sym (same b)) own) h)
+    all_map (λ (b : Branch). 1 ≤ b.number) edit bs (all_weaker (λ (b : Branch). 1 ≤ b.number) (λ (b : Branch). 1 ≤ (edit b).number) bs
+    (λ b own. subst (λ (n : ℕ). 1 ≤ n) (sym (same b)) own) h)
 
 -- of two branches with a number either has it
 either_number : (t : Bool) (x y : Branch) (n : ℕ) → x.number ≡ n → y.number ≡ n → (cond t x y).number ≡ n
@@ -144,16 +149,19 @@ module _ (P : OpenRequest → Type 0)
   answer_kept : (r : OpenRequest) (b : Branch) (now status : ℕ) (m : Message) → P r → P (with_answer r b now status m)
   answer_kept r b now status m h =
       let after : OpenRequest = with_final (final_of status m) (with_phase (told_to r b status m) (Done (now + linger r) status) r) in
-      let own : P after = final_kept (final_of status m) (with_phase (told_to r b status m) (Done (now + linger r) status) r) (phase_kept (told_to r b status m) (Done (now + linger r) status) r h) in
+      let own : P after = final_kept (final_of status m) (with_phase (told_to r b status m) (Done (now + linger r) status) r)
+      (phase_kept (told_to r b status m) (Done (now + linger r) status) r h) in
       either (is_invite r && (is_success status || is_decline status)) (marked after) after (marked_kept after own) own
 
   -- to the request of a branch
   target_kept : (server : Server) (now : ℕ) (r : OpenRequest) (b : Branch) (status : ℕ) (m : Message) → P r → Keeps now (target_responded server now r b status m)
   target_kept server now r b status m h =
       either_change now (is_provisional status) (settled server now [] (relayed_provisional r b status m) (with_phase b (heard r now status b.phase) r))
-      (cond (is_final b.phase) (settled server now [] (further r b b.phase status m) r) (settled server now (acks_of server r b status m) (relayed_success r b status m) (with_answer r b now status m)))
+      (cond (is_final b.phase) (settled server now [] (further r b b.phase status m) r)
+      (settled server now (acks_of server r b status m) (relayed_success r b status m) (with_answer r b now status m)))
       (settled_kept server now [] (relayed_provisional r b status m) (with_phase b (heard r now status b.phase) r) (phase_kept b (heard r now status b.phase) r h))
-      (either_change now (is_final b.phase) (settled server now [] (further r b b.phase status m) r) (settled server now (acks_of server r b status m) (relayed_success r b status m) (with_answer r b now status m))
+      (either_change now (is_final b.phase) (settled server now [] (further r b b.phase status m) r)
+      (settled server now (acks_of server r b status m) (relayed_success r b status m) (with_answer r b now status m))
       (settled_kept server now [] (further r b b.phase status m) r h)
       (settled_kept server now (acks_of server r b status m) (relayed_success r b status m) (with_answer r b now status m) (answer_kept r b now status m h)))
 
@@ -170,7 +178,8 @@ module _ (P : OpenRequest → Type 0)
   -- either
   pub responded_kept : (server : Server) (now : ℕ) (r : OpenRequest) (b : Branch) (status : ℕ) (m : Message) → P r → Keeps now (responded server now r b status m)
   responded_kept server now r b status m h =
-      either_change now b.is_cancel (cancel_responded server now r b status m) (target_responded server now r b status m) (cancel_kept server now r b status m h) (target_kept server now r b status m h)
+      either_change now b.is_cancel (cancel_responded server now r b status m) (target_responded server now r b status m) (cancel_kept server now r b status m h)
+      (target_kept server now r b status m h)
 
   -- ---- what else changes a request
 
@@ -189,7 +198,8 @@ module _ (P : OpenRequest → Type 0)
   pub overdue_kept : (server : Server) (due : ℕ) (r : OpenRequest) (change : Change) → IsOverdue server due r change → P r → Keeps due change
   overdue_kept server due r _ (OfSide is) h = settled_kept server due [] None (record r { side = Closed }) (side_kept r Closed h)
   overdue_kept server due r _ (OfBranch b there is) h =
-      settled_kept server due [] None (branch_overdue r b) (either b.is_cancel (with_phase b Ended r) (target_overdue r b b.phase) (phase_kept b Ended r h) (target_overdue_kept r b b.phase h))
+      settled_kept server due [] None (branch_overdue r b) (either b.is_cancel (with_phase b Ended r) (target_overdue r b b.phase) (phase_kept b Ended r h)
+      (target_overdue_kept r b b.phase h))
 
   -- a send that failed
   pub failed_kept : (server : Server) (now : ℕ) (r : OpenRequest) (b : Branch) → P r → Keeps now (send_failed server now r b)
@@ -198,7 +208,8 @@ module _ (P : OpenRequest → Type 0)
   -- a CANCEL of the caller's
   pub cancelled_kept : (server : Server) (now : ℕ) (r : OpenRequest) → P r → Keeps now (cancelled server now r)
   cancelled_kept server now r h =
-      settled_kept server now [] None (cond (is_invite r && is_answering r.side) (marked r) r) (either (is_invite r && is_answering r.side) (marked r) r (marked_kept r h) h)
+      settled_kept server now [] None (cond (is_invite r && is_answering r.side) (marked r) r)
+      (either (is_invite r && is_answering r.side) (marked r) r (marked_kept r h) h)
 
   -- any change
   pub change_kept : (server : Server) (state : ProxyState) (act : Act) (now : ℕ) (r : OpenRequest) (change : Change) (again : List Packet)
@@ -212,8 +223,10 @@ module _ (P : OpenRequest → Type 0)
   pub resent_kept : (server : Server) (now : ℕ) (r : OpenRequest) (packets : List Packet) (later : OpenRequest) → IsResent server now r packets later → P r → P later
   resent_kept server now r _ _ (OfAnswer due) h = keeps r r.side _ r.finals r.branches (same_numbers r.branches) h
   resent_kept server now r _ _ (OfRequest b there due) h =
-      branches_kept r (map (resent_branch b (branch_next r b)) r.branches) (edited_numbers (resent_branch b (branch_next r b)) (resent_number b (branch_next r b)) r.branches) h
+      branches_kept r (map (resent_branch b (branch_next r b)) r.branches) (edited_numbers (resent_branch b (branch_next r b)) (resent_number b (branch_next r b))
+      r.branches) h
 
   -- an ACK
   pub acknowledged_kept : (now : ℕ) (r : OpenRequest) → P r → P (acknowledged now r)
-  acknowledged_kept now r h = either (is_invite r && was_refused r.answer) (record r { side = acknowledged_side now r.side }) r (side_kept r (acknowledged_side now r.side) h) h
+  acknowledged_kept now r h = either (is_invite r && was_refused r.answer) (record r { side = acknowledged_side now r.side }) r
+      (side_kept r (acknowledged_side now r.side) h) h

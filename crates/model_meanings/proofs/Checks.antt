@@ -1,5 +1,6 @@
 -- What the model takes for a valid new request is one for the headline, and the other way round.
-use Rattle.std.proofs.Common.{◌≡◌, ◌∙◌, ◌⊎◌, inl, inr, ℕ, ◌<◌, ◌||◌, Bool, true, false, cond, not, List, length, find, Contains, codes, Option, Some, None, Result, Ok, Err, option_map, option_and_then, is_some, refl, sym, ap, subst, arith}
+use Rattle.std.proofs.Common.{◌≡◌, ◌∙◌, ◌⊎◌, inl, inr, ℕ, ◌<◌, ◌||◌, Bool, true, false, cond, not, List, length, find, Contains, codes, Option, Some, None, Result, Ok}
+use Rattle.std.proofs.Common.{Err, option_map, option_and_then, is_some, refl, sym, ap, subst, arith}
 use Rattle.std.specs.Prelude.{nat_le}
 use Rattle.std.specs.Option.{option_map_or}
 use Rattle.std.specs.Result.{result_ok}
@@ -18,7 +19,8 @@ use Rattle.sip_header.specs.CoreFields.{core_in, core_of}
 use Rattle.sip_transaction_table.specs.declared.key.Key.{Key}
 use Rattle.sip_route.specs.declared.own.Own.{Own}
 use Rattle.sip_validate.specs.Candidate.{Candidate, candidate_with}
-use Rattle.sip_validate.specs.Faults.{has_short_body, lacks_core_field, has_other_cseq_method, has_bad_max_forwards, has_bad_uri, has_bad_item, registers_other_scheme, binds_other_contact, is_bad}
+use Rattle.sip_validate.specs.Faults.{has_short_body, lacks_core_field, has_other_cseq_method, has_bad_max_forwards, has_bad_uri, has_bad_item, registers_other_scheme}
+use Rattle.sip_validate.specs.Faults.{binds_other_contact, is_bad}
 use Rattle.sip_validate.specs.Refusal.{Row, has_other_version, has_other_scheme, has_no_hops, has_own_via, needs_extension, has_other_route, refusal, refusal_of}
 use Rattle.sip_dialog.specs.declared.dialog.DialogId.{DialogId}
 use Rattle.sip_dialog.specs.DialogId.{id_of}

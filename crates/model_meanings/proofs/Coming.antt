@@ -14,7 +14,8 @@ use Rattle.sip_model.specs.context_model.Branches.{is_ready, is_unheard}
 use Rattle.sip_model.specs.context_model.Sending.{request_of, to_branch}
 use Rattle.sip_model.specs.steps_model.Step.{Act}
 use Rattle.sip_model.specs.Run.{Link}
-use Rattle.sip_model.specs.Access.{ComesNow, IsAckNow, IsPassedOn, Early, Accepting, EndsNow, ByResponse, BySilence, ByLaterSilence, ByCancel, ByFault, IsHeardNow, IsCancelledNow, AreCancelsNow, IsForOpen, ForNone, ForOne, IsAllSent, sent_for}
+use Rattle.sip_model.specs.Access.{ComesNow, IsAckNow, IsPassedOn, Early, Accepting, EndsNow, ByResponse, BySilence, ByLaterSilence, ByCancel, ByFault, IsHeardNow}
+use Rattle.sip_model.specs.Access.{IsCancelledNow, AreCancelsNow, IsForOpen, ForNone, ForOne, IsAllSent, sent_for}
 use Rattle.model_meanings.proofs.Refused.{holds_of, is_fault, HasNoAnswer, no_answers}
 use Rattle.model_meanings.proofs.Said.{found_same}
 use Rattle.model_meanings.proofs.Lists.{all_append}
@@ -46,7 +47,8 @@ module _ (r : OpenRequest) (b : Branch) (status : ℕ) where
 module _ (server : Server) (state : ProxyState) (act : Act) (at : ℕ) where
   -- a final response came for a branch, or its deadline is now
   abbrev pub EndsHow : OpenRequest → Branch → Type 0
-  EndsHow r b = ((status : ℕ) × (response : Message) × ComesNow server state act r b status response × (is_provisional status ≡ false)) ⊎ (phase_deadline b.phase ≡ Some at)
+  EndsHow r b = ((status : ℕ) × (response : Message) × ComesNow server state act r b status response × (is_provisional status ≡ false))
+      ⊎ (phase_deadline b.phase ≡ Some at)
 
   -- so it ends, unless a send failed
   pub ends_how : is_fault act ≡ false → (r : OpenRequest) (b : Branch) (last : Final) → EndsNow server state act at r b last → EndsHow r b
@@ -57,7 +59,8 @@ module _ (server : Server) (state : ProxyState) (act : Act) (at : ℕ) where
   ends_how no_fault r b _ (ByFault when ticket is_act number branch unheard) = absurd (true≢false (sym (ap is_fault is_act) ∙ no_fault))
 
   -- a branch of which nothing was heard is sent no CANCEL
-  pub unheard_goes_on : (history : List Link) (r : OpenRequest) (b : Branch) → is_ready b.phase ≡ false → (IsHeardNow server state act r b → ⊥) → IsCancelledNow server history state act at r b → ⊥
+  pub unheard_goes_on : (history : List Link) (r : OpenRequest) (b : Branch) → is_ready b.phase ≡ false → (IsHeardNow server state act r b → ⊥)
+      → IsCancelledNow server history state act at r b → ⊥
   unheard_goes_on history r b waits not_now cancelled = by_case cancelled.was_heard where
     by_case : (is_ready b.phase ≡ true) ⊎ ((is_unheard b.phase ≡ true) × IsHeardNow server state act r b) → ⊥
     by_case (inl ready) = true≢false (sym ready ∙ waits)
@@ -97,6 +100,8 @@ module _ (server : Server) (history : List Link) (state : ProxyState) (act : Act
       (subst (λ (ps : List Packet). AllByRecursion P ps) (sym (no_answers server history state act at r h.no_answer answers answer)) tt)) (cancels_go r h cancels cancel)
 
   -- so it is of what a step sends for the first time, where its datagram gets nothing
-  pub all_sent_are : AllByRecursion TellsNothing state.requests → sent_for server state act ≡ [] → (packets : List Packet) → IsAllSent server history state act at packets → AllByRecursion P packets
+  pub all_sent_are : AllByRecursion TellsNothing state.requests → sent_for server state act ≡ [] → (packets : List Packet) → IsAllSent server history state act at packets
+      → AllByRecursion P packets
   all_sent_are all gets packets sent =
-      subst (λ (ps : List Packet). AllByRecursion P ps) (sym (sent.are_all ∙ ap (λ (ps : List Packet). ps ++ sent.others) gets)) (tells_nothing all sent.others sent.are_owed)
+      subst (λ (ps : List Packet). AllByRecursion P ps) (sym (sent.are_all ∙ ap (λ (ps : List Packet). ps ++ sent.others) gets))
+      (tells_nothing all sent.others sent.are_owed)

@@ -1,5 +1,6 @@
 -- A 200 to a REGISTER lists each live binding of its address, in their order.
-use Rattle.std.proofs.Common.{◌≡◌, ℕ, ◌+◌, ◌-◌, ◌*◌, ◌/◌, ◌≤◌, ◌<◌, Bool, true, false, cond, ◌&&◌, List, [], ◌∷◌, ◌++◌, codes, decimal, length, map, refl, sym, ap, ◌∙◌, arith, bytes_eq, true≢false}
+use Rattle.std.proofs.Common.{◌≡◌, ℕ, ◌+◌, ◌-◌, ◌*◌, ◌/◌, ◌≤◌, ◌<◌, Bool, true, false, cond, ◌&&◌, List, [], ◌∷◌, ◌++◌, codes, decimal, length, map, refl, sym, ap, ◌∙◌}
+use Rattle.std.proofs.Common.{arith, bytes_eq, true≢false}
 use Rattle.std.proofs.lemmas.Bool.Decides.{nat_tests}
 use Rattle.std.proofs.lemmas.Slice.Eq.{bytes_eq-Decides}
 use Rattle.sip_uri.specs.declared.aor.Aor.{Aor}
@@ -86,7 +87,8 @@ listed_alone now aor rows fields (Lists b f others more h says rest) = by_test (
   by_test true e later = ap (λ (g : Field). g ∷ more) (the_field now b f h.lives says) ∙ ap (λ (gs : List Field). contact_field now b ∷ gs) later
   by_test false e later = absurd (cc)
 listed_alone now aor rows fields (LeavesOut b others more none rest) = by_test (is_listed now aor b) refl (listed_alone now aor others more rest) where
-  by_test : (t : Bool) → is_listed now aor b ≡ t → more ≡ contact_fields now aor others → more ≡ map (contact_field now) (cond t (b ∷ live aor now others) (live aor now others))
+  by_test : (t : Bool) → is_listed now aor b ≡ t → more ≡ contact_fields now aor others
+      → more ≡ map (contact_field now) (cond t (b ∷ live aor now others) (live aor now others))
   by_test true e later = absurd (none (live_by now aor b e))
   by_test false e later = later
 

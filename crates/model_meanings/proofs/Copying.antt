@@ -32,11 +32,13 @@ goes_by_time state act at _ quiet alone Nothing = inl refl
 goes_by_time state act at _ quiet alone (ByCopy a bytes m short key r said no_ack key_is found) = absurd (not_said sample state act quiet a bytes m short said)
 goes_by_time state act at _ quiet alone (ByFinal a bytes m status reason r b said is_response is_for) = absurd (not_said sample state act quiet a bytes m false said)
 goes_by_time state act at packets quiet alone (ByTime r later _ there resent) =
-    inr (by_resent r packets later (holds_of (λ (x : OpenRequest). x ≡ one_target) (one_target ∷ []) r (refl, tt) (subst (λ (rs : List OpenRequest). Contains rs r) alone there)) resent) where
+    inr (by_resent r packets later (holds_of (λ (x : OpenRequest). x ≡ one_target) (one_target ∷ []) r (refl, tt)
+    (subst (λ (rs : List OpenRequest). Contains rs r) alone there)) resent) where
       by_resent : (x : OpenRequest) (sent : List Packet) (next : OpenRequest) → x ≡ one_target → IsResent sample at x sent next → GoesByTime at sent
       by_resent x _ _ e (OfAnswer due) = absurd (true≢false (ap is_some (sym due ∙ ap answer_due e)))
       by_resent x _ _ e (OfRequest b there_too due) =
-          let same : b ≡ first_branch = holds_of (λ (y : Branch). y ≡ first_branch) (first_branch ∷ []) b (refl, tt) (subst (λ (y : OpenRequest). Contains y.branches b) e there_too) in (
+          let same : b ≡ first_branch = holds_of (λ (y : Branch). y ≡ first_branch) (first_branch ∷ []) b (refl, tt)
+          (subst (λ (y : OpenRequest). Contains y.branches b) e there_too) in (
             ap (λ (y : OpenRequest). branch_packets sample true y b) e ∙ ap (λ (y : Branch). branch_packets sample true one_target y) same,
             sym (ap (λ (y : OpenRequest). branch_due y b) e ∙ ap (λ (y : Branch). branch_due one_target y) same) ∙ due,
           )

@@ -32,7 +32,8 @@ module _ (test : ℕ → Bool) where
         by_test false sum e later = omega (arith, sum, later e)
 
   -- the text has what its start line has, and what the field has
-  pub text_has : (m : Message) (name : FieldName) (w : Field) → all_named name m.fields ≡ w ∷ [] → passing (start_text m.start) + passing (field_text w) ≤ passing (text_of m)
+  pub text_has : (m : Message) (name : FieldName) (w : Field) → all_named name m.fields ≡ w ∷ []
+      → passing (start_text m.start) + passing (field_text w) ≤ passing (text_of m)
   text_has m name w e =
       let front : List ℕ = start_text m.start ++ codes "\r\n" in
       let fields : List ℕ = flat_map field_text m.fields in

@@ -1,5 +1,6 @@
 -- Each step keeps that every dialog which is known was told.
-use Rattle.std.proofs.Common.{◌≡◌, ◌∙◌, inl, inr, ℕ, ◌==◌, Bool, true, false, not, ◌&&◌, cond, List, [], ◌∷◌, ◌++◌, flat_map, find, Option, Some, None, is_some, refl, sym, ap, subst, arith}
+use Rattle.std.proofs.Common.{◌≡◌, ◌∙◌, inl, inr, ℕ, ◌==◌, Bool, true, false, not, ◌&&◌, cond, List, [], ◌∷◌, ◌++◌, flat_map, find, Option, Some, None, is_some, refl}
+use Rattle.std.proofs.Common.{sym, ap, subst, arith}
 use Rattle.std.specs.Option.{option_map_or, unwrap_or}
 use Rattle.std.specs.List.{AllByRecursion}
 use Rattle.std.proofs.lemmas.Bool.Decides.{nat_tests}
@@ -32,7 +33,8 @@ use Rattle.sip_model.specs.state.Arrival.{Arrival}
 use Rattle.sip_model.specs.context_model.Branches.{Change, relayed_from, responded, send_failed, cancelled, answered}
 use Rattle.sip_model.specs.context_model.Sending.{onward_as, request_of, branch_packets}
 use Rattle.sip_model.specs.context_model.Opening.{arriving, forking, branches_from, dialog_branch, trying, tried, opening}
-use Rattle.sip_model.specs.verdict_model.Verdict.{Verdict, Drop, Respond, Copy, AckOn, Cancel, Answer, InDialog, Challenge, Deny, Send, Register, responding, message_verdict, message_in, verdict_in, verdict_of}
+use Rattle.sip_model.specs.verdict_model.Verdict.{Verdict, Drop, Respond, Copy, AckOn, Cancel, Answer, InDialog, Challenge, Deny, Send, Register, responding}
+use Rattle.sip_model.specs.verdict_model.Verdict.{message_verdict, message_in, verdict_in, verdict_of}
 use Rattle.sip_model.specs.steps_model.Effect.{change_packets, upward_packets, opening_packets, ack_packet, dialogs_after, nothing, counted, replied, effect_of}
 use Rattle.sip_model.specs.steps_model.Step.{Act, Given, Passing, IsStep, IsOverdue, originals, moment_of, arrival_of, is_failed, failed_branch, failed_request}
 use Rattle.sip_model.specs.Access.{IsSaidAt, CameFor}
@@ -45,7 +47,8 @@ use Rattle.model_meanings.proofs.Lists.{all_left, all_right, all_every}
 use Rattle.model_meanings.proofs.Changes.{KeepNumbers, Tells, settled_kept, responded_kept, overdue_kept, failed_kept, cancelled_kept}
 use Rattle.model_meanings.proofs.Requests.{WasSent, upward_went}
 use Rattle.model_meanings.proofs.Facts.{IsForBranch, IsKeyed, Facts, message_facts}
-use Rattle.model_meanings.proofs.Failures.{KeepsFailures, Refusing, IsHonest, responded_honest, overdue_honest, failed_honest, cancelled_honest, opening_honest, unsent_fail}
+use Rattle.model_meanings.proofs.Failures.{KeepsFailures, Refusing, IsHonest, responded_honest, overdue_honest, failed_honest, cancelled_honest, opening_honest}
+use Rattle.model_meanings.proofs.Failures.{unsent_fail}
 use Rattle.model_meanings.proofs.Telling.{IsTakenIn}
 use Rattle.model_meanings.proofs.Edits.{IsClosed}
 use Rattle.model_meanings.proofs.Answers.{Came, came_of, MayBegin, IsUp, change_told, request_told}
@@ -101,7 +104,8 @@ module _ (server : Server) (history : List Link) where
   all_came now us = all_every (Tells (Came server history) came_kept now) (came_told now) us
 
   -- a number stays, too
-  number_kept : (number : ℕ) (r : OpenRequest) (side : Side) (again : Resend) (finals : List Final) (branches : List Branch) → KeepNumbers r.branches branches → r.number ≡ number
+  number_kept : (number : ℕ) (r : OpenRequest) (side : Side) (again : Resend) (finals : List Final) (branches : List Branch) → KeepNumbers r.branches branches
+      → r.number ≡ number
       → r.number ≡ number
   number_kept number r side again finals branches numbers h = h
 
@@ -122,7 +126,8 @@ module _ (server : Server) (history : List Link) where
   }
 
   -- one of a dialog has no Record-Route of this server
-  plain_within : (r : OpenRequest) (b : Branch) (id : DialogId) → dialog_of r.request ≡ Some id → request_of server r b ≡ onward_as server r.number r.request r.source b.uri b.number
+  plain_within : (r : OpenRequest) (b : Branch) (id : DialogId) → dialog_of r.request ≡ Some id
+      → request_of server r b ≡ onward_as server r.number r.request r.source b.uri b.number
   plain_within r b id e = by_test (is_invite r) (dialog_of r.request) e where
     plain : Message
     plain = onward_as server r.number r.request r.source b.uri b.number
@@ -158,21 +163,25 @@ pub record IsHere (server : Server) (history : List Link) (link : Link) (old : P
   pub requests : AllByRecursion (HasCome history) old.requests
   pub failures : AllByRecursion KeepsFailures old.requests
 
-module _ (server : Server) (history : List Link) (link : Link) (T : Dialog → Type 0) (closed : IsClosed server history link T) (taken : IsTakenIn server history link) where
+module _ (server : Server) (history : List Link) (link : Link) (T : Dialog → Type 0) (closed : IsClosed server history link T)
+    (taken : IsTakenIn server history link) where
   -- a change of a request of a number that came, once its packets were sent
   honest_told : (now number : ℕ) (change : Change) (dialogs : List Dialog) → Came server history change.request → change.request.number ≡ number
       → IsHonest (MayBegin server history link number) change
       → AllByRecursion (WasSent (link ∷ [])) (change_packets change) → AllByRecursion T dialogs → AllByRecursion T (dialogs_after server now change dialogs)
   honest_told now number change dialogs came same honest packets h =
       change_told server history link T closed taken now change dialogs came
-      (all_both (λ (u : Upward). WentToCaller (link ∷ []) change.request.number change.request.request change.request.source (text_of u.message)) (MayBegin server history link number) (IsUp server history link change.request)
+      (all_both (λ (u : Upward). WentToCaller (link ∷ []) change.request.number change.request.request change.request.source (text_of u.message))
+      (MayBegin server history link number) (IsUp server history link change.request)
       (λ u went may. record { went = went; may_begin = subst (λ (n : ℕ). MayBegin server history link n u) (sym same) may }) change.upward
-      (upward_went (link ∷ []) change change.request.number change.request.request change.request.source (record { is_number = refl; is_request = refl; is_source = refl }) packets) honest.upward) h
+      (upward_went (link ∷ []) change change.request.number change.request.request change.request.source
+      (record { is_number = refl; is_request = refl; is_source = refl }) packets) honest.upward) h
 
   -- ---- a request that is sent to its branches
 
   -- what it makes of the dialogs
-  opening_told : (now : ℕ) (r : OpenRequest) (dialogs : List Dialog) → Came server history r → KeepsFailures r → AllByRecursion (WasSent (link ∷ [])) (opening_packets server now r)
+  opening_told : (now : ℕ) (r : OpenRequest) (dialogs : List Dialog) → Came server history r → KeepsFailures r
+      → AllByRecursion (WasSent (link ∷ [])) (opening_packets server now r)
       → AllByRecursion T dialogs
       → AllByRecursion T (forking_dialogs server now r dialogs)
   opening_told now r dialogs came fails packets h =
@@ -182,8 +191,10 @@ module _ (server : Server) (history : List Link) (link : Link) (T : Dialog → T
       all_left (WasSent (link ∷ [])) (upward_packets r (trying server r) ++ change_packets change) (flat_map (branch_packets server false r) r.branches) packets
       in
       honest_told now r.number change dialogs
-      (settled_kept (Came server history) (came_kept server history) server now [] None first (came_tried server history now (trying server r) r came) (all_came server history now change.upward))
-      (settled_kept (λ (x : OpenRequest). x.number ≡ r.number) (number_kept server history r.number) server now [] None first (tried_number (trying server r) r) (all_numbered server history r.number now change.upward))
+      (settled_kept (Came server history) (came_kept server history) server now [] None first (came_tried server history now (trying server r) r came)
+      (all_came server history now change.upward))
+      (settled_kept (λ (x : OpenRequest). x.number ≡ r.number) (number_kept server history r.number) server now [] None first (tried_number (trying server r) r)
+      (all_numbered server history r.number now change.upward))
       (opening_honest (MayBegin server history link r.number) (refuses server history link r.number) server now r fails)
       (all_right (WasSent (link ∷ [])) (upward_packets r (trying server r)) (change_packets change) answers) h where
         tried_number : (us : List Upward) (x : OpenRequest) → (tried now us x).number ≡ x.number
@@ -202,29 +213,36 @@ module _ (server : Server) (history : List Link) (link : Link) (T : Dialog → T
     fails_in r there = all_in KeepsFailures old.requests r here.failures there
 
     -- a response
-    response_told : (a : Arrival) (bytes : List ℕ) (m : Message) (short : Bool) (r : OpenRequest) (b : Branch) (status : ℕ) (dialogs : List Dialog) → IsSaidAt old act a bytes m short
-        → IsForBranch server old m short r b status → AllByRecursion (WasSent (link ∷ [])) (change_packets (responded server a.now r b status m)) → AllByRecursion T dialogs
+    response_told : (a : Arrival) (bytes : List ℕ) (m : Message) (short : Bool) (r : OpenRequest) (b : Branch) (status : ℕ) (dialogs : List Dialog)
+        → IsSaidAt old act a bytes m short
+        → IsForBranch server old m short r b status → AllByRecursion (WasSent (link ∷ [])) (change_packets (responded server a.now r b status m))
+        → AllByRecursion T dialogs
         → AllByRecursion T (dialogs_after server a.now (responded server a.now r b status m) dialogs)
     response_told a bytes m short r b status dialogs said is packets h =
         let whole : IsSaidAt old act a bytes m false = subst (λ (t : Bool). IsSaidAt old act a bytes m t) is.is_whole said in
         let change : Change = responded server a.now r b status m in
         honest_told a.now r.number change dialogs
         (responded_kept (Came server history) (came_kept server history) server a.now r b status m (came_in r is.is_open) (all_came server history a.now change.upward))
-        (responded_kept (λ (x : OpenRequest). x.number ≡ r.number) (number_kept server history r.number) server a.now r b status m refl (all_numbered server history r.number a.now change.upward))
-        (responded_honest (MayBegin server history link r.number) (refuses server history link r.number) server a.now r b status m (relayed whole) (fails_in r is.is_open)) packets h where
+        (responded_kept (λ (x : OpenRequest). x.number ≡ r.number) (number_kept server history r.number) server a.now r b status m refl
+        (all_numbered server history r.number a.now change.upward))
+        (responded_honest (MayBegin server history link r.number) (refuses server history link r.number) server a.now r b status m (relayed whole)
+        (fails_in r is.is_open)) packets h where
           relayed : IsSaidAt old act a bytes m false → b.is_cancel ≡ false → MayBegin server history link r.number (relayed_from b status m)
           relayed whole target = λ below above.
               let x = here.came a bytes m status is.reason r b whole is.is_response is.is_for target in
               record { response = m; came = x.0; is_now = x.2; is_message = refl; is_target = ap (λ (y : Branch). y.address) (sym x.1) }
 
     -- a CANCEL of the caller's
-    cancel_told : (now : ℕ) (r : OpenRequest) (dialogs : List Dialog) → IsIn r old.requests → AllByRecursion (WasSent (link ∷ [])) (change_packets (cancelled server now r))
+    cancel_told : (now : ℕ) (r : OpenRequest) (dialogs : List Dialog) → IsIn r old.requests
+        → AllByRecursion (WasSent (link ∷ [])) (change_packets (cancelled server now r))
         → AllByRecursion T dialogs
         → AllByRecursion T (dialogs_after server now (cancelled server now r) dialogs)
     cancel_told now r dialogs there packets h =
         let change : Change = cancelled server now r in
-        honest_told now r.number change dialogs (cancelled_kept (Came server history) (came_kept server history) server now r (came_in r there) (all_came server history now change.upward))
-        (cancelled_kept (λ (x : OpenRequest). x.number ≡ r.number) (number_kept server history r.number) server now r refl (all_numbered server history r.number now change.upward))
+        honest_told now r.number change dialogs (cancelled_kept (Came server history) (came_kept server history) server now r (came_in r there)
+        (all_came server history now change.upward))
+        (cancelled_kept (λ (x : OpenRequest). x.number ≡ r.number) (number_kept server history r.number) server now r refl
+        (all_numbered server history r.number now change.upward))
         (cancelled_honest (MayBegin server history link r.number) (refuses server history link r.number) server now r (fails_in r there)) packets h
 
     -- a send that failed
@@ -233,8 +251,10 @@ module _ (server : Server) (history : List Link) (link : Link) (T : Dialog → T
         → AllByRecursion T (dialogs_after server now (send_failed server now r b) dialogs)
     failed_told now r b dialogs there packets h =
         let change : Change = send_failed server now r b in
-        honest_told now r.number change dialogs (failed_kept (Came server history) (came_kept server history) server now r b (came_in r there) (all_came server history now change.upward))
-        (failed_kept (λ (x : OpenRequest). x.number ≡ r.number) (number_kept server history r.number) server now r b refl (all_numbered server history r.number now change.upward))
+        honest_told now r.number change dialogs (failed_kept (Came server history) (came_kept server history) server now r b (came_in r there)
+        (all_came server history now change.upward))
+        (failed_kept (λ (x : OpenRequest). x.number ≡ r.number) (number_kept server history r.number) server now r b refl
+        (all_numbered server history r.number now change.upward))
         (failed_honest (MayBegin server history link r.number) (refuses server history link r.number) server now r b (fails_in r there)) packets h
 
     -- a deadline
@@ -242,22 +262,29 @@ module _ (server : Server) (history : List Link) (link : Link) (T : Dialog → T
         → AllByRecursion (WasSent (link ∷ [])) (change_packets change)
         → AllByRecursion T dialogs → AllByRecursion T (dialogs_after server due change dialogs)
     overdue_told due r change dialogs is there packets h =
-        honest_told due r.number change dialogs (overdue_kept (Came server history) (came_kept server history) server due r change is (came_in r there) (all_came server history due change.upward))
-        (overdue_kept (λ (x : OpenRequest). x.number ≡ r.number) (number_kept server history r.number) server due r change is refl (all_numbered server history r.number due change.upward))
+        honest_told due r.number change dialogs (overdue_kept (Came server history) (came_kept server history) server due r change is (came_in r there)
+        (all_came server history due change.upward))
+        (overdue_kept (λ (x : OpenRequest). x.number ≡ r.number) (number_kept server history r.number) server due r change is refl
+        (all_numbered server history r.number due change.upward))
         (overdue_honest (MayBegin server history link r.number) (refuses server history link r.number) server due r change is (fails_in r there)) packets h
 
     -- a verdict on a message
-    verdict_told : (a : Arrival) (bytes : List ℕ) (m : Message) (short : Bool) (v : Verdict) (dialogs : List Dialog) → IsSaidAt old act a bytes m short → Facts server old a m short v
-        → AllByRecursion (WasSent (link ∷ [])) (effect_of server a m v (counted a old)).originals → AllByRecursion T dialogs → AllByRecursion T (verdict_dialogs server a m v dialogs)
+    verdict_told : (a : Arrival) (bytes : List ℕ) (m : Message) (short : Bool) (v : Verdict) (dialogs : List Dialog) → IsSaidAt old act a bytes m short
+        → Facts server old a m short v
+        → AllByRecursion (WasSent (link ∷ [])) (effect_of server a m v (counted a old)).originals → AllByRecursion T dialogs
+        → AllByRecursion T (verdict_dialogs server a m v dialogs)
     verdict_told a bytes m short (Respond r b status) dialogs said is sent h = response_told a bytes m short r b status dialogs said is sent h
     verdict_told a bytes m short (AckOn address id) dialogs said is sent h =
-        request_told server history link T closed taken a m id dialogs (here.said a bytes m short said) (here.said_now a bytes m short said) is (record { packet = ack_packet server a m address; is_there = sent.0; is_text = refl; is_of_datagram = refl }) h
+        request_told server history link T closed taken a m id dialogs (here.said a bytes m short said) (here.said_now a bytes m short said) is
+        (record { packet = ack_packet server a m address; is_there = sent.0; is_text = refl; is_of_datagram = refl }) h
     verdict_told a bytes m short (Cancel None) dialogs said is sent h = h
     verdict_told a bytes m short (Cancel (Some r)) dialogs said is sent h =
-        cancel_told a.now r dialogs is.is_open (all_right (WasSent (link ∷ [])) (replied server a m 200 [] [] (counted a old)).originals (change_packets (cancelled server a.now r)) sent) h
+        cancel_told a.now r dialogs is.is_open (all_right (WasSent (link ∷ [])) (replied server a m 200 [] [] (counted a old)).originals
+        (change_packets (cancelled server a.now r)) sent) h
     verdict_told a bytes m short (InDialog address id) dialogs said is sent h =
         let r : OpenRequest = forking a m (dialog_branch server a.now m address ∷ []) in
-        opening_told a.now r (after_request server a.now id m dialogs) (forking_came server history a m (dialog_branch server a.now m address ∷ []) (here.said a bytes m short said) is.0)
+        opening_told a.now r (after_request server a.now id m dialogs) (forking_came server history a m (dialog_branch server a.now m address ∷ [])
+        (here.said a bytes m short said) is.0)
         (unsent_fail (MayBegin server history link r.number) (refuses server history link r.number) (dialog_branch server a.now m address ∷ [])) sent
         (request_told server history link T closed taken a m id dialogs (here.said a bytes m short said) (here.said_now a bytes m short said) is.1
         (within_sent server (link ∷ []) a m address id is.1 sent) h)
@@ -281,15 +308,18 @@ module _ (server : Server) (history : List Link) (link : Link) (T : Dialog → T
     -- a datagram
     datagram_told : (a : Arrival) (bytes : List ℕ) (dialogs : List Dialog)
         → ((m : Message) (short : Bool) → message_in (reading_of bytes) ≡ Some (m, short) → IsSaidAt old act a bytes m short)
-        → AllByRecursion (WasSent (link ∷ [])) (option_map_or (λ x. effect_of server a x.0 x.1 (counted a old)) (verdict_of server old a bytes) (nothing (counted a old))).originals
+        → AllByRecursion (WasSent (link ∷ [])) (option_map_or (λ x. effect_of server a x.0 x.1 (counted a old)) (verdict_of server old a bytes)
+        (nothing (counted a old))).originals
         → AllByRecursion T dialogs
         → AllByRecursion T (option_map_or (λ x. verdict_dialogs server a x.0 x.1 dialogs) (verdict_of server old a bytes) dialogs)
     datagram_told a bytes dialogs said sent h = by_message (message_in (reading_of bytes)) refl sent where
       by_message : (o : Option (Message × Bool)) → message_in (reading_of bytes) ≡ o
-          → AllByRecursion (WasSent (link ∷ [])) (option_map_or (λ x. effect_of server a x.0 x.1 (counted a old)) (verdict_in server old a o) (nothing (counted a old))).originals
+          → AllByRecursion (WasSent (link ∷ [])) (option_map_or (λ x. effect_of server a x.0 x.1 (counted a old)) (verdict_in server old a o)
+          (nothing (counted a old))).originals
           → AllByRecursion T (option_map_or (λ x. verdict_dialogs server a x.0 x.1 dialogs) (verdict_in server old a o) dialogs)
       by_message None is packets = h
-      by_message (Some x) is packets = verdict_told a bytes x.0 x.1 (message_verdict server old a x.0 x.1) dialogs (said x.0 x.1 is) (message_facts server old a x.0 x.1) packets h
+      by_message (Some x) is packets = verdict_told a bytes x.0 x.1 (message_verdict server old a x.0 x.1) dialogs (said x.0 x.1 is) (message_facts server old a x.0 x.1)
+          packets h
 
     -- a send of a packet failed
     fault_told : (now : ℕ) (ticket : Ticket) (o : Option OpenRequest) (dialogs : List Dialog) → ((r : OpenRequest) → o ≡ Some r → IsIn r old.requests)
@@ -308,7 +338,8 @@ module _ (server : Server) (history : List Link) (link : Link) (T : Dialog → T
       → AllByRecursion (WasSent (link ∷ [])) (originals out.packets) → AllByRecursion T dialogs → AllByRecursion T (step_dialogs server old act out new step dialogs)
   step_told old (Given (Datagram at word from bytes)) out new step dialogs here sent h =
       let a : Arrival = arrival_of old at word from in
-      datagram_told old (Given (Datagram at word from bytes)) here a bytes dialogs (λ m short says. record { at = at; word = word; from = from; is_act = refl; is_arrival = refl; says = says })
+      datagram_told old (Given (Datagram at word from bytes)) here a bytes dialogs (λ m short says.
+      record { at = at; word = word; from = from; is_act = refl; is_arrival = refl; says = says })
       (subst (AllByRecursion (WasSent (link ∷ []))) step.does.sends sent) h
   step_told old (Given (Time at)) out new step dialogs here sent h = h
   step_told old (Given (Fault at ticket)) out new step dialogs here sent h =

@@ -1,5 +1,6 @@
 -- A dialog that no 2xx confirmed is known only while its INVITE is open.
-use Rattle.std.proofs.Common.{◌≡◌, ◌⊎◌, ◌∙◌, inl, inr, ℕ, ◌-◌, ◌≤◌, ◌<◌, ◌==◌, Bool, true, false, not, ◌&&◌, ◌||◌, cond, List, [], ◌∷◌, ◌++◌, map, filter, find, codes, bytes_eq, Contains, Option, Some, None, refl, sym, ap, subst, arith, count_by}
+use Rattle.std.proofs.Common.{◌≡◌, ◌⊎◌, ◌∙◌, inl, inr, ℕ, ◌-◌, ◌≤◌, ◌<◌, ◌==◌, Bool, true, false, not, ◌&&◌, ◌||◌, cond, List, [], ◌∷◌, ◌++◌, map, filter, find, codes}
+use Rattle.std.proofs.Common.{bytes_eq, Contains, Option, Some, None, refl, sym, ap, subst, arith, count_by}
 use Rattle.std.specs.Prelude.{nat_le}
 use Rattle.std.specs.Option.{option_map_or}
 use Rattle.std.specs.List.{AllByRecursion, list_all}
@@ -14,7 +15,8 @@ use Rattle.sip_targets.specs.Targets.{target_list}
 use Rattle.sip_dialog.specs.declared.dialog.DialogId.{DialogId}
 use Rattle.sip_dialog.specs.declared.dialog.Dialog.{Dialog}
 use Rattle.sip_dialog.specs.declared.dialog.InviteAnswer.{InviteAnswer}
-use Rattle.sip_dialog.specs.Dialogs.{is_known, known, is_named, told, edited, taught, renewed, answered_again, begun, knows, is_full_for, learnt, without_dialog, is_unconfirmed, after_invite}
+use Rattle.sip_dialog.specs.Dialogs.{is_known, known, is_named, told, edited, taught, renewed, answered_again, begun, knows, is_full_for, learnt, without_dialog}
+use Rattle.sip_dialog.specs.Dialogs.{is_unconfirmed, after_invite}
 use Rattle.sip_dialog.specs.Sameness.{SameDialogs}
 use Rattle.sip_event.specs.declared.packet.Packet.{Packet}
 use Rattle.sip_event.specs.declared.packet.Ticket.{Ticket}
@@ -29,12 +31,14 @@ use Rattle.sip_model.specs.state.declared.open_request.OpenRequest.{OpenRequest}
 use Rattle.sip_model.specs.state.declared.open_request.Upward.{Upward}
 use Rattle.sip_model.specs.state.declared.proxy_state.ProxyState.{ProxyState}
 use Rattle.sip_model.specs.state.State.{first_state, is_invite, is_success, is_ended, is_closed, has_left}
-use Rattle.sip_model.specs.state.Dialogs.{dialog_of, addresses_of, after_request, after_answer_within, invite_answer, after_invite_answer, answered_dialog, after_first_answer, after_answer_of, after_answer, after_answers, after_leaving}
+use Rattle.sip_model.specs.state.Dialogs.{dialog_of, addresses_of, after_request, after_answer_within, invite_answer, after_invite_answer, answered_dialog}
+use Rattle.sip_model.specs.state.Dialogs.{after_first_answer, after_answer_of, after_answer, after_answers, after_leaving}
 use Rattle.sip_model.specs.state.Arrival.{Arrival}
 use Rattle.sip_model.specs.context_model.Branches.{Change, is_same_branch, responded, send_failed, cancelled, acknowledged, acknowledged_side, was_refused}
 use Rattle.sip_model.specs.context_model.Opening.{forking, branches_from, dialog_branch, opening}
 use Rattle.sip_model.specs.context_model.Retransmission.{branch_next, resent_branch, IsResent, OfAnswer, OfRequest}
-use Rattle.sip_model.specs.verdict_model.Verdict.{Bound, Refused, Verdict, Drop, Respond, Copy, AckOn, Cancel, Answer, InDialog, Challenge, Deny, Send, Register, is_full, message_verdict, message_in, verdict_in, verdict_of}
+use Rattle.sip_model.specs.verdict_model.Verdict.{Bound, Refused, Verdict, Drop, Respond, Copy, AckOn, Cancel, Answer, InDialog, Challenge, Deny, Send, Register, is_full}
+use Rattle.sip_model.specs.verdict_model.Verdict.{message_verdict, message_in, verdict_in, verdict_of}
 use Rattle.sip_model.specs.steps_model.Effect.{method_of, replaced, opened, dialogs_after, nothing, counted, effect_of}
 use Rattle.sip_model.specs.steps_model.Step.{Act, Given, Passing, IsStep, IsOverdue, moment_of, arrival_of, is_failed, failed_branch, failed_request}
 use Rattle.sip_model.specs.Run.{Link, under, IsChain}
@@ -66,30 +70,36 @@ module _ (P : ℕ → Type 0) where
   again_stands answer d (inr h) = inr h
 
   -- an edit that keeps it
-  edited_stands : (now : ℕ) (id : DialogId) (edit : Dialog → Dialog) (dialogs : List Dialog) → ((d : Dialog) → Stands P d → Stands P (edit d)) → AllByRecursion (Stands P) dialogs
+  edited_stands : (now : ℕ) (id : DialogId) (edit : Dialog → Dialog) (dialogs : List Dialog) → ((d : Dialog) → Stands P d → Stands P (edit d))
+      → AllByRecursion (Stands P) dialogs
       → AllByRecursion (Stands P) (edited now id edit dialogs)
   edited_stands now id edit dialogs keeps h =
       all_map (Stands P) (λ d. cond (is_named id d) (edit d) d) (known now dialogs)
-      (all_weaker (Stands P) (λ d. Stands P (cond (is_named id d) (edit d) d)) (known now dialogs) (λ d own. by_test d own (is_named id d)) (all_filter (Stands P) (is_known now) dialogs h)) where
+      (all_weaker (Stands P) (λ d. Stands P (cond (is_named id d) (edit d) d)) (known now dialogs) (λ d own. by_test d own (is_named id d))
+      (all_filter (Stands P) (is_known now) dialogs h)) where
         by_test : (d : Dialog) → Stands P d → (t : Bool) → Stands P (cond t (edit d) d)
         by_test d own true = keeps d own
         by_test d own false = own
 
   -- addresses
-  taught_stands : (now : ℕ) (id : DialogId) (addresses : List Addr) (dialogs : List Dialog) → AllByRecursion (Stands P) dialogs → AllByRecursion (Stands P) (taught now id addresses dialogs)
+  taught_stands : (now : ℕ) (id : DialogId) (addresses : List Addr) (dialogs : List Dialog) → AllByRecursion (Stands P) dialogs
+      → AllByRecursion (Stands P) (taught now id addresses dialogs)
   taught_stands now id addresses dialogs h = edited_stands now id (told addresses) dialogs (λ d own. own) h
 
   -- a request that is sent on
-  renewed_stands : (now : ℕ) (id : DialogId) (addresses : List Addr) (dialogs : List Dialog) → AllByRecursion (Stands P) dialogs → AllByRecursion (Stands P) (renewed now id addresses dialogs)
+  renewed_stands : (now : ℕ) (id : DialogId) (addresses : List Addr) (dialogs : List Dialog) → AllByRecursion (Stands P) dialogs
+      → AllByRecursion (Stands P) (renewed now id addresses dialogs)
   renewed_stands now id addresses dialogs h = edited_stands now id (λ d. record (told addresses d) { since = now }) dialogs (λ d own. own) h
 
   -- an answer that begins a dialog
-  learnt_stands : (now : ℕ) (answer : InviteAnswer) (dialogs : List Dialog) → P answer.number → AllByRecursion (Stands P) dialogs → AllByRecursion (Stands P) (learnt now answer dialogs)
+  learnt_stands : (now : ℕ) (answer : InviteAnswer) (dialogs : List Dialog) → P answer.number → AllByRecursion (Stands P) dialogs
+      → AllByRecursion (Stands P) (learnt now answer dialogs)
   learnt_stands now answer dialogs own h = by_tests (knows now answer.id dialogs) (is_full_for now answer.id dialogs) where
     kept : AllByRecursion (Stands P) (known now dialogs)
     kept = all_filter (Stands P) (is_known now) dialogs h
 
-    by_tests : (t u : Bool) → AllByRecursion (Stands P) (cond t (edited now answer.id (answered_again answer) dialogs) (cond u (known now dialogs) (known now dialogs ++ begun answer ∷ [])))
+    by_tests : (t u : Bool) → AllByRecursion (Stands P) (cond t (edited now answer.id (answered_again answer) dialogs)
+        (cond u (known now dialogs) (known now dialogs ++ begun answer ∷ [])))
     by_tests true u = edited_stands now answer.id (answered_again answer) dialogs (again_stands answer) h
     by_tests false true = kept
     by_tests false false = all_append (Stands P) (known now dialogs) (begun answer ∷ []) kept (inr own, tt)
@@ -103,30 +113,35 @@ module _ (P : ℕ → Type 0) where
     invite_stands : (u : Upward) (id : DialogId) (dialogs : List Dialog) → (nat_le u.status 299 ≡ true → P r.number) → AllByRecursion (Stands P) dialogs
         → AllByRecursion (Stands P) (after_invite_answer server now r u id dialogs)
     invite_stands u id dialogs may h = by_test (nat_le u.status 299) refl where
-      by_test : (t : Bool) → nat_le u.status 299 ≡ t → AllByRecursion (Stands P) (cond t (learnt now (invite_answer server r u id) dialogs) (taught now id (addresses_of server u.message) dialogs))
+      by_test : (t : Bool) → nat_le u.status 299 ≡ t → AllByRecursion (Stands P) (cond t (learnt now (invite_answer server r u id) dialogs)
+          (taught now id (addresses_of server u.message) dialogs))
       by_test true is = learnt_stands now (invite_answer server r u id) dialogs (may is) h
       by_test false is = taught_stands now id (addresses_of server u.message) dialogs h
 
     -- to a request without a To tag
-    first_stands : (u : Upward) (dialogs : List Dialog) → MayBegin r u → AllByRecursion (Stands P) dialogs → AllByRecursion (Stands P) (after_first_answer server now r u dialogs)
+    first_stands : (u : Upward) (dialogs : List Dialog) → MayBegin r u → AllByRecursion (Stands P) dialogs
+        → AllByRecursion (Stands P) (after_first_answer server now r u dialogs)
     first_stands u dialogs may h = by_test (is_invite r) refl where
       by_name : is_invite r ≡ true → (o : Option DialogId) → AllByRecursion (Stands P) (option_map_or (λ id. after_invite_answer server now r u id dialogs) o dialogs)
       by_name is None = h
       by_name is (Some id) = invite_stands u id dialogs (may is) h
 
-      by_test : (t : Bool) → is_invite r ≡ t → AllByRecursion (Stands P) (cond t (option_map_or (λ id. after_invite_answer server now r u id dialogs) (answered_dialog r u.message) dialogs) dialogs)
+      by_test : (t : Bool) → is_invite r ≡ t → AllByRecursion (Stands P) (cond t (option_map_or (λ id. after_invite_answer server now r u id dialogs)
+          (answered_dialog r u.message) dialogs) dialogs)
       by_test true is = by_name is (answered_dialog r u.message)
       by_test false is = h
 
     -- to a request of a dialog
-    within_stands : (u : Upward) (id : DialogId) (dialogs : List Dialog) → AllByRecursion (Stands P) dialogs → AllByRecursion (Stands P) (after_answer_within server now r u id dialogs)
+    within_stands : (u : Upward) (id : DialogId) (dialogs : List Dialog) → AllByRecursion (Stands P) dialogs
+        → AllByRecursion (Stands P) (after_answer_within server now r u id dialogs)
     within_stands u id dialogs h = by_test (bytes_eq r.key.method (codes "BYE") && is_success u.status) where
       by_test : (t : Bool) → AllByRecursion (Stands P) (cond t (without_dialog now id dialogs) (taught now id (addresses_of server u.message) dialogs))
       by_test true = all_filter (Stands P) (λ d. not (is_named id d)) (known now dialogs) (all_filter (Stands P) (is_known now) dialogs h)
       by_test false = taught_stands now id (addresses_of server u.message) dialogs h
 
     -- to any
-    answer_stands : (u : Upward) (dialogs : List Dialog) → MayBegin r u → AllByRecursion (Stands P) dialogs → AllByRecursion (Stands P) (after_answer server now r u dialogs)
+    answer_stands : (u : Upward) (dialogs : List Dialog) → MayBegin r u → AllByRecursion (Stands P) dialogs
+        → AllByRecursion (Stands P) (after_answer server now r u dialogs)
     answer_stands u dialogs may h = by_test (nat_le u.status 100) where
       by_dialog : (o : Option DialogId) → AllByRecursion (Stands P) (after_answer_of server now r u o dialogs)
       by_dialog None = first_stands u dialogs may h
@@ -137,7 +152,8 @@ module _ (P : ℕ → Type 0) where
       by_test false = by_dialog (dialog_of r.request)
 
     -- several
-    answers_stand : (us : List Upward) (dialogs : List Dialog) → AllByRecursion (MayBegin r) us → AllByRecursion (Stands P) dialogs → AllByRecursion (Stands P) (after_answers server now r us dialogs)
+    answers_stand : (us : List Upward) (dialogs : List Dialog) → AllByRecursion (MayBegin r) us → AllByRecursion (Stands P) dialogs
+        → AllByRecursion (Stands P) (after_answers server now r us dialogs)
     answers_stand [] dialogs may h = h
     answers_stand (u ∷ us) dialogs may h = answers_stand us (after_answer server now r u dialogs) may.1 (answer_stands u dialogs may.0 h)
 
@@ -159,7 +175,8 @@ module _ (P : ℕ → Type 0) where
       let change : Change = opening server now (forking a m branches) in
       leaving_stands server now change.request (after_answers server now change.request change.upward dialogs)
       (answers_stand server now change.request change.upward dialogs
-      (all_weaker Refusing (MayBegin change.request) change.upward (refusal_begins change.request) (opening_honest Refusing (λ u is. is) server now (forking a m branches) (unsent_fail Refusing (λ u is. is) branches)).upward) h)
+      (all_weaker Refusing (MayBegin change.request) change.upward (refusal_begins change.request)
+      (opening_honest Refusing (λ u is. is) server now (forking a m branches) (unsent_fail Refusing (λ u is. is) branches)).upward) h)
 
 -- ---- open INVITEs
 
@@ -202,7 +219,8 @@ numbered_apart next requests h x y there other same =
 other_stays : (s x : OpenRequest) (requests : List OpenRequest) → IsIn x requests → (x.number == s.number) ≡ false → IsIn x (replaced s requests)
 other_stays s x [] h e = absurd h
 other_stays s x (z ∷ zs) h e = by_test (z.number == s.number) refl (has_left s) (λ later. other_stays s x zs later e) h where
-  by_test : (t : Bool) → (z.number == s.number) ≡ t → (left : Bool) → (IsIn x zs → IsIn x (replaced s zs)) → IsIn x (z ∷ zs) → IsIn x (cond t (cond left zs (s ∷ zs)) (z ∷ replaced s zs))
+  by_test : (t : Bool) → (z.number == s.number) ≡ t → (left : Bool) → (IsIn x zs → IsIn x (replaced s zs)) → IsIn x (z ∷ zs)
+      → IsIn x (cond t (cond left zs (s ∷ zs)) (z ∷ replaced s zs))
   by_test true is left rest (inl same) = let f : (z.number == s.number) ≡ false = ap (λ (y : OpenRequest). y.number == s.number) same ∙ e in absurd (cc)
   by_test true is true rest (inr later) = later
   by_test true is false rest (inr later) = inr later
@@ -325,8 +343,10 @@ module _ (requests : List OpenRequest) (apart : AreApart requests) (r s : OpenRe
       → AllByRecursion (Stands (HasInvite (replaced s requests))) (filter (λ d. not (is_unconfirmed s.number d)) dialogs)
   all_left_stand [] h = tt
   all_left_stand (d ∷ ds) h = by_test (not (is_unconfirmed s.number d)) refl (all_left_stand ds h.1) where
-    by_test : (t : Bool) → not (is_unconfirmed s.number d) ≡ t → AllByRecursion (Stands (HasInvite (replaced s requests))) (filter (λ x. not (is_unconfirmed s.number x)) ds)
-        → AllByRecursion (Stands (HasInvite (replaced s requests))) (cond t (d ∷ filter (λ x. not (is_unconfirmed s.number x)) ds) (filter (λ x. not (is_unconfirmed s.number x)) ds))
+    by_test : (t : Bool) → not (is_unconfirmed s.number d) ≡ t → AllByRecursion (Stands (HasInvite (replaced s requests)))
+        (filter (λ x. not (is_unconfirmed s.number x)) ds)
+        → AllByRecursion (Stands (HasInvite (replaced s requests))) (cond t (d ∷ filter (λ x. not (is_unconfirmed s.number x)) ds)
+        (filter (λ x. not (is_unconfirmed s.number x)) ds))
     by_test true is rest = (left_stands d h.0 is, rest)
     by_test false is rest = rest
 
@@ -334,7 +354,8 @@ module _ (requests : List OpenRequest) (apart : AreApart requests) (r s : OpenRe
   leaving_ends : (now : ℕ) (dialogs : List Dialog) → AllByRecursion (Stands (HasInvite requests)) dialogs
       → AllByRecursion (Stands (HasInvite (replaced s requests))) (after_leaving now s dialogs)
   leaving_ends now dialogs h = by_tests (is_invite s) refl (has_left s) refl where
-    by_tests : (t : Bool) → is_invite s ≡ t → (u : Bool) → has_left s ≡ u → AllByRecursion (Stands (HasInvite (replaced s requests))) (cond (t && u) (after_invite now s.number dialogs) dialogs)
+    by_tests : (t : Bool) → is_invite s ≡ t → (u : Bool) → has_left s ≡ u → AllByRecursion (Stands (HasInvite (replaced s requests)))
+        (cond (t && u) (after_invite now s.number dialogs) dialogs)
     by_tests true invite true left = all_left_stand (known now dialogs) (all_filter (Stands (HasInvite requests)) (is_known now) dialogs h)
     by_tests true invite false left = all_stay (inl left) dialogs h
     by_tests false invite u left = all_stay (inr invite) dialogs h
@@ -346,7 +367,8 @@ change_stands : (server : Server) (now : ℕ) (requests : List OpenRequest) (r :
     → AllByRecursion (Stands (HasInvite (replaced change.request requests))) (dialogs_after server now change dialogs)
 change_stands server now requests r change dialogs apart there still h =
     leaving_ends requests apart r change.request there still now (after_answers server now change.request change.upward dialogs)
-    (answers_stand (HasInvite requests) server now change.request change.upward dialogs (all_every (MayBegin (HasInvite requests) change.request) (λ u invite below. own invite) change.upward) h) where
+    (answers_stand (HasInvite requests) server now change.request change.upward dialogs
+    (all_every (MayBegin (HasInvite requests) change.request) (λ u invite below. own invite) change.upward) h) where
       own : is_invite change.request ≡ true → HasInvite requests change.request.number
       own invite = record { request = r; there = there; numbered = sym still.number; invites = sym (same_invite r change.request still) ∙ invite }
 
@@ -358,7 +380,8 @@ resent_ends : (b : Branch) (next : Resend) (bs : List Branch)
 resent_ends b next [] = refl
 resent_ends b next (x ∷ xs) = both (is_same_branch x b) (resent_ends b next xs) where
   both : (t : Bool) → list_all (λ (y : Branch). is_ended y.phase) (map (resent_branch b next) xs) ≡ list_all (λ (y : Branch). is_ended y.phase) xs
-      → (is_ended (cond t (record x { again = next }) x).phase && list_all (λ (y : Branch). is_ended y.phase) (map (resent_branch b next) xs)) ≡ (is_ended x.phase && list_all (λ (y : Branch). is_ended y.phase) xs)
+      → (is_ended (cond t (record x { again = next }) x).phase && list_all (λ (y : Branch). is_ended y.phase) (map (resent_branch b next) xs))
+      ≡ (is_ended x.phase && list_all (λ (y : Branch). is_ended y.phase) xs)
   both true e = ap (λ (u : Bool). is_ended x.phase && u) e
   both false e = ap (λ (u : Bool). is_ended x.phase && u) e
 
@@ -428,23 +451,28 @@ module _ (server : Server) (old : ProxyState) (are : AreOpen old.requests) where
       → AllStand (replaced (cancelled server now r).request old.requests) (dialogs_after server now (cancelled server now r) dialogs)
   cancel_stands now r dialogs there h =
       let change : Change = cancelled server now r in
-      change_stands server now old.requests r change dialogs are.apart there (cancelled_kept (IsStill r) (still_kept r) server now r (still_itself r) (all_still r now change.upward)) h
+      change_stands server now old.requests r change dialogs are.apart there (cancelled_kept (IsStill r) (still_kept r) server now r (still_itself r)
+      (all_still r now change.upward)) h
 
   -- a send that failed
   failed_stands : (now : ℕ) (r : OpenRequest) (b : Branch) (dialogs : List Dialog) → IsIn r old.requests → AllStand old.requests dialogs
       → AllStand (replaced (send_failed server now r b).request old.requests) (dialogs_after server now (send_failed server now r b) dialogs)
   failed_stands now r b dialogs there h =
       let change : Change = send_failed server now r b in
-      change_stands server now old.requests r change dialogs are.apart there (failed_kept (IsStill r) (still_kept r) server now r b (still_itself r) (all_still r now change.upward)) h
+      change_stands server now old.requests r change dialogs are.apart there (failed_kept (IsStill r) (still_kept r) server now r b (still_itself r)
+      (all_still r now change.upward)) h
 
   -- a deadline
-  overdue_stands : (due : ℕ) (r : OpenRequest) (change : Change) (dialogs : List Dialog) → IsOverdue server due r change → IsIn r old.requests → AllStand old.requests dialogs
+  overdue_stands : (due : ℕ) (r : OpenRequest) (change : Change) (dialogs : List Dialog) → IsOverdue server due r change → IsIn r old.requests
+      → AllStand old.requests dialogs
       → AllStand (replaced change.request old.requests) (dialogs_after server due change dialogs)
   overdue_stands due r change dialogs is there h =
-      change_stands server due old.requests r change dialogs are.apart there (overdue_kept (IsStill r) (still_kept r) server due r change is (still_itself r) (all_still r due change.upward)) h
+      change_stands server due old.requests r change dialogs are.apart there (overdue_kept (IsStill r) (still_kept r) server due r change is (still_itself r)
+      (all_still r due change.upward)) h
 
   -- what goes again
-  resent_stands : (now : ℕ) (r : OpenRequest) (packets : List Packet) (later : OpenRequest) (dialogs : List Dialog) → IsResent server now r packets later → IsIn r old.requests
+  resent_stands : (now : ℕ) (r : OpenRequest) (packets : List Packet) (later : OpenRequest) (dialogs : List Dialog) → IsResent server now r packets later
+      → IsIn r old.requests
       → AllStand old.requests dialogs → AllStand (replaced later old.requests) dialogs
   resent_stands now r packets later dialogs is there h =
       all_stay old.requests are.apart r later there (resent_kept (IsStill r) (still_kept r) server now r packets later is (still_itself r))
@@ -467,9 +495,11 @@ module _ (server : Server) (old : ProxyState) (are : AreOpen old.requests) where
   verdict_stands a m short (AckOn address id) dialogs is h = renewed_stands (HasInvite old.requests) a.now id (addresses_of server m) dialogs h
   verdict_stands a m short (Cancel None) dialogs is h = opened_stand _ (counted a old) dialogs h
   verdict_stands a m short (Cancel (Some r)) dialogs is h =
-      behind_stand (cancelled server a.now r).request _ (counted a old) (dialogs_after server a.now (cancelled server a.now r) dialogs) (cancel_stands a.now r dialogs is.is_open h)
+      behind_stand (cancelled server a.now r).request _ (counted a old) (dialogs_after server a.now (cancelled server a.now r) dialogs)
+      (cancel_stands a.now r dialogs is.is_open h)
   verdict_stands a m short (InDialog address id) dialogs is h =
-      request_stands a m (dialog_branch server a.now m address ∷ []) _ (counted a old) (after_request server a.now id m dialogs) (renewed_stands (HasInvite old.requests) a.now id (addresses_of server m) dialogs h)
+      request_stands a m (dialog_branch server a.now m address ∷ []) _ (counted a old) (after_request server a.now id m dialogs)
+      (renewed_stands (HasInvite old.requests) a.now id (addresses_of server m) dialogs h)
   verdict_stands a m short (Send q id Targets.NotFound) dialogs is h = opened_stand _ (counted a old) dialogs h
   verdict_stands a m short (Send q id Targets.Unavailable) dialogs is h = opened_stand _ (counted a old) dialogs h
   verdict_stands a m short (Send q id (Targets.Bindings targets)) dialogs is h =
@@ -489,13 +519,15 @@ module _ (server : Server) (old : ProxyState) (are : AreOpen old.requests) where
       → AllStand (option_map_or (λ x. effect_of server a x.0 x.1 (counted a old)) (verdict_of server old a bytes) (nothing (counted a old))).state.requests
       (option_map_or (λ x. verdict_dialogs server a x.0 x.1 dialogs) (verdict_of server old a bytes) dialogs)
   datagram_stands a bytes dialogs h = by_message (message_in (reading_of bytes)) where
-    by_message : (o : Option (Message × Bool)) → AllStand (option_map_or (λ x. effect_of server a x.0 x.1 (counted a old)) (verdict_in server old a o) (nothing (counted a old))).state.requests
+    by_message : (o : Option (Message × Bool)) → AllStand (option_map_or (λ x. effect_of server a x.0 x.1 (counted a old)) (verdict_in server old a o)
+        (nothing (counted a old))).state.requests
         (option_map_or (λ x. verdict_dialogs server a x.0 x.1 dialogs) (verdict_in server old a o) dialogs)
     by_message None = h
     by_message (Some x) = verdict_stands a x.0 x.1 (message_verdict server old a x.0 x.1) dialogs (message_facts server old a x.0 x.1) h
 
   -- a send of a packet failed
-  fault_stands : (now : ℕ) (ticket : Ticket) (o : Option OpenRequest) (dialogs : List Dialog) → ((r : OpenRequest) → o ≡ Some r → IsIn r old.requests) → AllStand old.requests dialogs
+  fault_stands : (now : ℕ) (ticket : Ticket) (o : Option OpenRequest) (dialogs : List Dialog) → ((r : OpenRequest) → o ≡ Some r → IsIn r old.requests)
+      → AllStand old.requests dialogs
       → AllStand (failed_request server now ticket (record old { moment = now }) o).state.requests (fault_dialogs server now ticket o dialogs)
   fault_stands now ticket None dialogs there h = h
   fault_stands now ticket (Some r) dialogs there h = by_branch (find (is_failed ticket.branch) r.branches) where
@@ -507,7 +539,8 @@ module _ (server : Server) (old : ProxyState) (are : AreOpen old.requests) where
   step_stands : (act : Act) (out : StepOut) (new : ProxyState) (step : IsStep server old act out new) (dialogs : List Dialog) → AllStand old.requests dialogs
       → AllStand new.requests (step_dialogs server old act out new step dialogs)
   step_stands (Given (Datagram at word from bytes)) out new step dialogs h =
-      subst (λ (requests : List OpenRequest). AllStand requests (step_dialogs server old (Given (Datagram at word from bytes)) out new step dialogs)) (sym step.does.leaves.requests)
+      subst (λ (requests : List OpenRequest). AllStand requests (step_dialogs server old (Given (Datagram at word from bytes)) out new step dialogs))
+      (sym step.does.leaves.requests)
       (datagram_stands (arrival_of old at word from) bytes dialogs h)
   step_stands (Given (Time at)) out new step dialogs h = subst (λ (requests : List OpenRequest). AllStand requests dialogs) (sym step.quiet.does.leaves.requests) h
   step_stands (Given (Fault at ticket)) out new step dialogs h =
@@ -524,8 +557,10 @@ module _ (server : Server) (old : ProxyState) (are : AreOpen old.requests) where
 
 -- ---- every history
 
-module _ (differ : (server : Server) (first : ℕ) (history : List Link) (last : ProxyState) → IsChain server (first_state first) history last → AreNumbered last.next last.requests)
-    (can_end : (server : Server) (first : ℕ) (history : List Link) (last : ProxyState) → IsChain server (first_state first) history last → AllByRecursion CanEnd last.requests) where
+module _ (differ : (server : Server) (first : ℕ) (history : List Link) (last : ProxyState) → IsChain server (first_state first) history last
+    → AreNumbered last.next last.requests)
+    (can_end : (server : Server) (first : ℕ) (history : List Link) (last : ProxyState) → IsChain server (first_state first) history last
+    → AllByRecursion CanEnd last.requests) where
   -- the open requests after a history
   chain_open : (server : Server) (first : ℕ) (history : List Link) (last : ProxyState) → IsChain server (first_state first) history last → AreOpen last.requests
   chain_open server first history last h = record {
@@ -540,7 +575,8 @@ module _ (differ : (server : Server) (first : ℕ) (history : List Link) (last :
   chain_stands server first (link ∷ history) last h =
       let dialogs : List Dialog = history_dialogs server (first_state first) history link.before h.2 in
       subst (λ (s : ProxyState). AllStand s.requests (step_dialogs (under server link.config) link.before link.act link.out link.after h.1 dialogs)) (sym h.0)
-      (step_stands (under server link.config) link.before (chain_open server first history link.before h.2) link.act link.out link.after h.1 dialogs (chain_stands server first history link.before h.2))
+      (step_stands (under server link.config) link.before (chain_open server first history link.before h.2) link.act link.out link.after h.1 dialogs
+      (chain_stands server first history link.before h.2))
 
   -- each known dialog that no 2xx confirmed
   pub early_open : ((server : Server) (first : ℕ) (history : List Link) (last : ProxyState) (h : IsChain server (first_state first) history last)
@@ -549,8 +585,14 @@ module _ (differ : (server : Server) (first : ℕ) (history : List Link) (last :
       → last.moment - d.since < 43200000 → d.has_success ≡ false → IsInviteOpen last.requests d.number
   early_open taught server first history last h d there recent early =
       by_either
-      (known_in_both (Stands (HasInvite last.requests)) last.moment last.dialogs (history_dialogs server (first_state first) history last h) (taught server first history last h)
+      (known_in_both (Stands (HasInvite last.requests)) last.moment last.dialogs (history_dialogs server (first_state first) history last h)
+      (taught server first history last h)
       (chain_stands server first history last h) d (in_from_contains last.dialogs d there) recent) where
         by_either : Stands (HasInvite last.requests) d → IsInviteOpen last.requests d.number
         by_either (inl e) = absurd (cc)
-        by_either (inr own) = record { request = own.request; is_open = contains_from_in last.requests own.request own.there; is_number = own.numbered; is_for_invite = own.invites }
+        by_either (inr own) = record {
+          request = own.request;
+          is_open = contains_from_in last.requests own.request own.there;
+          is_number = own.numbered;
+          is_for_invite = own.invites;
+        }

@@ -6,7 +6,8 @@ use Rattle.sip_dialog.specs.declared.dialog.DialogId.{DialogId}
 use Rattle.sip_dialog.specs.declared.dialog.Dialog.{Dialog}
 use Rattle.sip_dialog.specs.declared.dialog.InviteAnswer.{InviteAnswer}
 use Rattle.sip_dialog.specs.DialogId.{is_same_dialog}
-use Rattle.sip_dialog.specs.Dialogs.{is_known, known, is_named, told, edited, taught, renewed, answered_again, begun, knows, is_full_for, learnt, without_dialog, is_unconfirmed, after_invite}
+use Rattle.sip_dialog.specs.Dialogs.{is_known, known, is_named, told, edited, taught, renewed, answered_again, begun, knows, is_full_for, learnt, without_dialog}
+use Rattle.sip_dialog.specs.Dialogs.{is_unconfirmed, after_invite}
 use Rattle.sip_model.specs.state.declared.server.Server.{Server}
 use Rattle.sip_model.specs.Run.{Link}
 use Rattle.model_meanings.specs.Dialogs.{IsAddressOf, HadRequest, WasTold}
@@ -16,7 +17,8 @@ use Rattle.model_meanings.proofs.Telling.{IsLesson, taught_told, renewed_told, b
 
 -- What is said of a dialog is kept by what a step may tell of it.
 pub record IsClosed (server : Server) (history : List Link) (link : Link) (T : Dialog → Type 0) : Type 0 where
-  pub on_taught : (id : DialogId) (addresses : List Addr) (d : Dialog) → is_named id d ≡ true → AllByRecursion (IsAddressOf server history id) addresses → T d → T (told addresses d)
+  pub on_taught : (id : DialogId) (addresses : List Addr) (d : Dialog) → is_named id d ≡ true → AllByRecursion (IsAddressOf server history id) addresses → T d
+      → T (told addresses d)
   pub on_renewed : (now : ℕ) (id : DialogId) (addresses : List Addr) (d : Dialog) → is_named id d ≡ true → AllByRecursion (IsAddressOf server history id) addresses
       → HadRequest server history d.id now → T d
       → T (record (told addresses d) { since = now })
@@ -38,7 +40,8 @@ module _ (server : Server) (history : List Link) (link : Link) (T : Dialog → T
   known_kept now dialogs h = all_filter T (is_known now) dialogs h
 
   -- after an edit that keeps it
-  edited_kept : (now : ℕ) (id : DialogId) (edit : Dialog → Dialog) (dialogs : List Dialog) → ((d : Dialog) → is_named id d ≡ true → T d → T (edit d)) → AllByRecursion T dialogs
+  edited_kept : (now : ℕ) (id : DialogId) (edit : Dialog → Dialog) (dialogs : List Dialog) → ((d : Dialog) → is_named id d ≡ true → T d → T (edit d))
+      → AllByRecursion T dialogs
       → AllByRecursion T (edited now id edit dialogs)
   edited_kept now id edit dialogs keeps h =
       all_map T (λ d. cond (is_named id d) (edit d) d) (known now dialogs)
@@ -48,7 +51,8 @@ module _ (server : Server) (history : List Link) (link : Link) (T : Dialog → T
         by_test d own false is = own
 
   -- after an answer that tells addresses
-  pub taught_kept : (now : ℕ) (id : DialogId) (addresses : List Addr) (dialogs : List Dialog) → AllByRecursion (IsAddressOf server history id) addresses → AllByRecursion T dialogs
+  pub taught_kept : (now : ℕ) (id : DialogId) (addresses : List Addr) (dialogs : List Dialog) → AllByRecursion (IsAddressOf server history id) addresses
+      → AllByRecursion T dialogs
       → AllByRecursion T (taught now id addresses dialogs)
   taught_kept now id addresses dialogs own h = edited_kept now id (told addresses) dialogs (λ d same was. closed.on_taught id addresses d same own was) h
 
@@ -62,7 +66,8 @@ module _ (server : Server) (history : List Link) (link : Link) (T : Dialog → T
   pub learnt_kept : (now : ℕ) (answer : InviteAnswer) (dialogs : List Dialog) → IsLesson server history link answer → AllByRecursion T dialogs
       → AllByRecursion T (learnt now answer dialogs)
   learnt_kept now answer dialogs lesson h = by_tests (knows now answer.id dialogs) (is_full_for now answer.id dialogs) where
-    by_tests : (t u : Bool) → AllByRecursion T (cond t (edited now answer.id (answered_again answer) dialogs) (cond u (known now dialogs) (known now dialogs ++ begun answer ∷ [])))
+    by_tests : (t u : Bool) → AllByRecursion T (cond t (edited now answer.id (answered_again answer) dialogs)
+        (cond u (known now dialogs) (known now dialogs ++ begun answer ∷ [])))
     by_tests true u = edited_kept now answer.id (answered_again answer) dialogs (λ d same was. closed.on_again answer d lesson same was) h
     by_tests false true = known_kept now dialogs h
     by_tests false false = all_append T (known now dialogs) (begun answer ∷ []) (known_kept now dialogs h) (closed.on_begun answer lesson, tt)

@@ -1,5 +1,6 @@
 -- A dialog of which a BYE was accepted isn't known any more, unless it was told anew.
-use Rattle.std.proofs.Common.{◌≡◌, ◌⊎◌, ◌∙◌, inl, inr, ℕ, ◌-◌, ◌<◌, Bool, true, false, not, ◌&&◌, ◌||◌, cond, List, [], ◌∷◌, ◌++◌, filter, codes, bytes_eq, Contains, Option, Some, None, option_and_then, refl, sym, ap, subst, arith}
+use Rattle.std.proofs.Common.{◌≡◌, ◌⊎◌, ◌∙◌, inl, inr, ℕ, ◌-◌, ◌<◌, Bool, true, false, not, ◌&&◌, ◌||◌, cond, List, [], ◌∷◌, ◌++◌, filter, codes, bytes_eq, Contains}
+use Rattle.std.proofs.Common.{Option, Some, None, option_and_then, refl, sym, ap, subst, arith}
 use Rattle.std.specs.Prelude.{nat_le, option_map, Result}
 use Rattle.std.specs.Option.{option_map_or, unwrap_or}
 use Rattle.std.specs.Result.{result_ok}
@@ -32,7 +33,8 @@ use Rattle.sip_model.specs.state.declared.proxy_state.ProxyState.{ProxyState}
 use Rattle.sip_model.specs.state.State.{first_state, is_invite, is_answering, is_final, is_success, is_provisional, has_left}
 use Rattle.sip_model.specs.state.Dialogs.{dialog_of, addresses_of, after_answer_within, after_answer_of, after_answer, after_answers, after_leaving}
 use Rattle.sip_model.specs.state.Arrival.{Arrival}
-use Rattle.sip_model.specs.context_model.Branches.{Change, with_phase, best_upward, after_upward, upward_list, settled, heard, relayed_from, relayed_provisional, is_accepted, relayed_success, with_answer, acks_of, further, target_responded, cancel_responded, responded}
+use Rattle.sip_model.specs.context_model.Branches.{Change, with_phase, best_upward, after_upward, upward_list, settled, heard, relayed_from, relayed_provisional}
+use Rattle.sip_model.specs.context_model.Branches.{is_accepted, relayed_success, with_answer, acks_of, further, target_responded, cancel_responded, responded}
 use Rattle.sip_model.specs.verdict_model.Verdict.{Verdict, Drop, Respond, is_many, response_verdict, responding, by_start, message_verdict, verdict_in, verdict_of}
 use Rattle.sip_model.specs.steps_model.Effect.{dialogs_after}
 use Rattle.sip_model.specs.steps_model.Step.{Act, IsStep, arrival_of}
@@ -98,7 +100,8 @@ HasOther id d = is_named id d ≡ false
 -- those that are left without it
 without_other : (now : ℕ) (id : DialogId) (dialogs : List Dialog) → AllByRecursion (HasOther id) (without_dialog now id dialogs)
 without_other now id dialogs = each (known now dialogs) where
-  by_test : (x : Dialog) (rest : List Dialog) → AllByRecursion (HasOther id) rest → (t : Bool) → is_named id x ≡ t → AllByRecursion (HasOther id) (cond (not t) (x ∷ rest) rest)
+  by_test : (x : Dialog) (rest : List Dialog) → AllByRecursion (HasOther id) rest → (t : Bool) → is_named id x ≡ t
+      → AllByRecursion (HasOther id) (cond (not t) (x ∷ rest) rest)
   by_test x rest h true is = h
   by_test x rest h false is = (is, h)
 
@@ -108,7 +111,8 @@ without_other now id dialogs = each (known now dialogs) where
 
 module _ (server : Server) (now : ℕ) (r : OpenRequest) (id : DialogId) (is : dialog_of r.request ≡ Some id) where
   -- where none has the name none has it after further answers to its request
-  within_other : (u : Upward) (dialogs : List Dialog) → AllByRecursion (HasOther id) dialogs → AllByRecursion (HasOther id) (after_answer_within server now r u id dialogs)
+  within_other : (u : Upward) (dialogs : List Dialog) → AllByRecursion (HasOther id) dialogs
+      → AllByRecursion (HasOther id) (after_answer_within server now r u id dialogs)
   within_other u dialogs h = by_test (bytes_eq r.key.method (codes "BYE") && is_success u.status) where
     kept : (d : Dialog) → HasOther id d → (t : Bool) → HasOther id (cond t (told (addresses_of server u.message) d) d)
     kept d own true = own
@@ -118,7 +122,8 @@ module _ (server : Server) (now : ℕ) (r : OpenRequest) (id : DialogId) (is : d
     by_test true = without_other now id dialogs
     by_test false =
         all_map (HasOther id) (λ d. cond (is_named id d) (told (addresses_of server u.message) d) d) (known now dialogs)
-        (all_weaker (HasOther id) (λ d. HasOther id (cond (is_named id d) (told (addresses_of server u.message) d) d)) (known now dialogs) (λ d own. kept d own (is_named id d))
+        (all_weaker (HasOther id) (λ d. HasOther id (cond (is_named id d) (told (addresses_of server u.message) d) d)) (known now dialogs)
+        (λ d own. kept d own (is_named id d))
         (all_filter (HasOther id) (is_known now) dialogs h))
 
   -- after one
@@ -147,7 +152,8 @@ module _ (server : Server) (now : ℕ) (r : OpenRequest) (id : DialogId) (is : d
       let ends : (bytes_eq r.key.method (codes "BYE") && is_success u.status) ≡ true = and_holds _ _ bye success in
       subst (λ (t : Bool). AllByRecursion (HasOther id) (cond t dialogs (after_answer_of server now r u (dialog_of r.request) dialogs))) (sym above)
       (subst (λ (o : Option DialogId). AllByRecursion (HasOther id) (after_answer_of server now r u o dialogs)) (sym is)
-      (subst (λ (t : Bool). AllByRecursion (HasOther id) (cond t (without_dialog now id dialogs) (taught now id (addresses_of server u.message) dialogs))) (sym ends) (without_other now id dialogs)))
+      (subst (λ (t : Bool). AllByRecursion (HasOther id) (cond t (without_dialog now id dialogs) (taught now id (addresses_of server u.message) dialogs))) (sym ends)
+      (without_other now id dialogs)))
 
 -- ---- the step
 
@@ -178,8 +184,10 @@ first_success server now r b status m success target first waits =
     let goes : (is_success status && (is_answering r.side || is_accepted r)) ≡ true = and_holds _ _ success (or_first (is_answering r.side) (is_accepted r) waits) in
     ap (λ (t : Bool). cond t (cancel_responded server now r b status m) (target_responded server now r b status m)) target
     ∙ ap (λ (t : Bool). cond t (settled server now [] (relayed_provisional r b status m) (with_phase b (heard r now status b.phase) r))
-    (cond (is_final b.phase) (settled server now [] (further r b b.phase status m) r) (settled server now (acks_of server r b status m) (relayed_success r b status m) (with_answer r b now status m)))) (success_final status success)
-    ∙ ap (λ (t : Bool). cond t (settled server now [] (further r b b.phase status m) r) (settled server now (acks_of server r b status m) (relayed_success r b status m) (with_answer r b now status m))) first
+    (cond (is_final b.phase) (settled server now [] (further r b b.phase status m) r)
+    (settled server now (acks_of server r b status m) (relayed_success r b status m) (with_answer r b now status m)))) (success_final status success)
+    ∙ ap (λ (t : Bool). cond t (settled server now [] (further r b b.phase status m) r)
+    (settled server now (acks_of server r b status m) (relayed_success r b status m) (with_answer r b now status m))) first
     ∙ ap (λ (t : Bool). settled server now (acks_of server r b status m) (cond t (Some (relayed_from b status m)) None) (with_answer r b now status m)) goes
 
 -- it leaves no dialog of the BYE's name
@@ -188,7 +196,8 @@ success_other : (server : Server) (now : ℕ) (r : OpenRequest) (b : Branch) (st
     → is_answering r.side ≡ true → bytes_eq r.key.method (codes "BYE") ≡ true → dialog_of r.request ≡ Some id
     → AllByRecursion (HasOther id) (dialogs_after server now (responded server now r b status m) dialogs)
 success_other server now r b status m id dialogs success target first waits bye names =
-    subst (λ (c : Change). IsStill r c.request → AllByRecursion (HasOther id) (dialogs_after server now c dialogs)) (sym (first_success server now r b status m success target first waits)) settled_other
+    subst (λ (c : Change). IsStill r c.request → AllByRecursion (HasOther id) (dialogs_after server now c dialogs))
+    (sym (first_success server now r b status m success target first waits)) settled_other
     (responded_kept (IsStill r) (still_kept r) server now r b status m (record { request = refl; method = refl })
     (all_every (Tells (IsStill r) (still_kept r) now) (λ u s h. record { request = h.request; method = h.method }) (responded server now r b status m).upward)) where
       change : Change
@@ -202,7 +211,8 @@ success_other server now r b status m id dialogs success target first waits bye 
           let others : List Upward = upward_list (best_upward server (after_upward now (Some u) (with_answer r b now status m))) in
           let told_first : List Dialog = after_answer server now change.request u dialogs in
           leaving_other server now change.request id is (after_answers server now change.request others told_first)
-          (answers_other server now change.request id is others told_first (bye_other server now change.request id is (relayed_from b status m) dialogs (success_above status success) success method))
+          (answers_other server now change.request id is others told_first (bye_other server now change.request id is (relayed_from b status m) dialogs
+          (success_above status success) success method))
 
 -- the verdict on it
 verdict_responds : (server : Server) (old : ProxyState) (a : Arrival) (m : Message) (status : ℕ) (reason : List ℕ) (r : OpenRequest) (b : Branch)
@@ -217,7 +227,8 @@ step_other : (server : Server) (link : Link) (id : DialogId) (h : EndsDialog ser
     (step : IsStep (under server link.config) link.before link.act link.out link.after) (dialogs : List Dialog)
     → AllByRecursion (HasOther (id_in h.names.core h.names.tag)) (step_dialogs (under server link.config) link.before link.act link.out link.after step dialogs)
 step_other server link id h step dialogs =
-    subst (λ (act : Act). (s : IsStep by link.before act link.out link.after) → AllByRecursion (HasOther (id_in h.names.core h.names.tag)) (step_dialogs by link.before act link.out link.after s dialogs))
+    subst (λ (act : Act). (s : IsStep by link.before act link.out link.after) → AllByRecursion (HasOther (id_in h.names.core h.names.tag))
+    (step_dialogs by link.before act link.out link.after s dialogs))
     (sym h.is_said.is_act) (λ s. of_datagram) step where
       by : Server
       by = under server link.config
@@ -228,12 +239,16 @@ step_other server link id h step dialogs =
       verdict : verdict_of by link.before a h.bytes ≡ Some (h.response, Respond h.request h.branch h.status)
       verdict =
           ap (verdict_in by link.before a) h.is_said.says
-          ∙ ap (λ (v : Verdict). Some (h.response, v)) (verdict_responds by link.before a h.response h.status h.reason h.request h.branch h.is_response h.is_for h.goes_on)
+          ∙ ap (λ (v : Verdict). Some (h.response, v)) (verdict_responds by link.before a h.response h.status h.reason h.request h.branch h.is_response h.is_for
+          h.goes_on)
 
-      of_datagram : AllByRecursion (HasOther (id_in h.names.core h.names.tag)) (option_map_or (λ x. verdict_dialogs by a x.0 x.1 dialogs) (verdict_of by link.before a h.bytes) dialogs)
+      of_datagram : AllByRecursion (HasOther (id_in h.names.core h.names.tag)) (option_map_or (λ x. verdict_dialogs by a x.0 x.1 dialogs)
+          (verdict_of by link.before a h.bytes) dialogs)
       of_datagram =
-          subst (λ (o : Option (Message × Verdict)). AllByRecursion (HasOther (id_in h.names.core h.names.tag)) (option_map_or (λ x. verdict_dialogs by a x.0 x.1 dialogs) o dialogs)) (sym verdict)
-          (success_other by a.now h.request h.branch h.status h.response (id_in h.names.core h.names.tag) dialogs h.is_accepting h.is_target h.is_first h.is_waiting h.is_bye (names_read h.request.request id h.names))
+          subst (λ (o : Option (Message × Verdict)). AllByRecursion (HasOther (id_in h.names.core h.names.tag))
+          (option_map_or (λ x. verdict_dialogs by a x.0 x.1 dialogs) o dialogs)) (sym verdict)
+          (success_other by a.now h.request h.branch h.status h.response (id_in h.names.core h.names.tag) dialogs h.is_accepting h.is_target h.is_first h.is_waiting
+          h.is_bye (names_read h.request.request id h.names))
 
 -- ---- every history
 
@@ -256,7 +271,8 @@ anew_closed server link newer history id = record {
         begins = begins_under (under server link.config) server.config history answer.id lesson.a lesson.invite lesson.status lesson.response lesson.begins;
         is_newer =
             subst (λ (l : Link). Contains (link ∷ newer) l)
-            (sym (link_under (under server link.config) server.config history answer.id lesson.a lesson.invite lesson.status lesson.response lesson.begins ∙ lesson.is_now)) (Contains-append_left (link ∷ []) newer link (0, omega arith, refl));
+            (sym (link_under (under server link.config) server.config history answer.id lesson.a lesson.invite lesson.status lesson.response lesson.begins
+            ∙ lesson.is_now)) (Contains-append_left (link ∷ []) newer link (0, omega arith, refl));
       };
   on_again = λ answer d lesson same was. was;
 }
@@ -270,7 +286,8 @@ later_anew server link newer history id h = record {
   status = h.status;
   response = h.response;
   begins = later_begins server link history id h.a h.invite h.status h.response h.begins;
-  is_newer = subst (λ (l : Link). Contains (link ∷ newer) l) (sym (later_link server link history id h.a h.invite h.status h.response h.begins)) (later_there link newer h.begins.came_for.link h.is_newer);
+  is_newer = subst (λ (l : Link). Contains (link ∷ newer) l) (sym (later_link server link history id h.a h.invite h.status h.response h.begins))
+      (later_there link newer h.begins.came_for.link h.is_newer);
 }
 
 -- a truth is no falsehood
@@ -278,30 +295,42 @@ contrary : (t : Bool) → t ≡ false → t ≡ true → ⊥
 contrary true e f = absurd (cc)
 contrary false e f = absurd (cc)
 
-module _ (parts : (server : Server) (old : ProxyState) (act : Act) (out : StepOut) (new : ProxyState) → IsStep server old act out new → HasParts server old act out new) where
+module _ (parts : (server : Server) (old : ProxyState) (act : Act) (out : StepOut) (new : ProxyState) → IsStep server old act out new
+    → HasParts server old act out new) where
   -- all dialogs of the name were told anew since
-  chain_anew : (server : Server) (first : ℕ) (newer : List Link) (link : Link) (older : List Link) (last : ProxyState) (h : IsChain server (first_state first) (newer ++ link ∷ older) last) (id : DialogId)
+  chain_anew : (server : Server) (first : ℕ) (newer : List Link) (link : Link) (older : List Link) (last : ProxyState)
+      (h : IsChain server (first_state first) (newer ++ link ∷ older) last) (id : DialogId)
       (ends : EndsDialog server link id)
-      → AllByRecursion (ToldAnewIf server newer (newer ++ link ∷ older) (id_in ends.names.core ends.names.tag)) (history_dialogs server (first_state first) (newer ++ link ∷ older) last h)
+      → AllByRecursion (ToldAnewIf server newer (newer ++ link ∷ older) (id_in ends.names.core ends.names.tag))
+      (history_dialogs server (first_state first) (newer ++ link ∷ older) last h)
   chain_anew server first [] link older last h id ends =
-      all_weaker (HasOther (id_in ends.names.core ends.names.tag)) (ToldAnewIf server [] (link ∷ older) (id_in ends.names.core ends.names.tag)) (step_dialogs (under server link.config) link.before link.act link.out link.after h.1 (history_dialogs server (first_state first) older link.before h.2))
+      all_weaker (HasOther (id_in ends.names.core ends.names.tag)) (ToldAnewIf server [] (link ∷ older) (id_in ends.names.core ends.names.tag))
+      (step_dialogs (under server link.config) link.before link.act link.out link.after h.1 (history_dialogs server (first_state first) older link.before h.2))
       (λ d other same. absurd (contrary _ other same))
       (step_other server link id ends h.1 (history_dialogs server (first_state first) older link.before h.2))
   chain_anew server first (newest ∷ newer) link older last h id ends =
-      step_told (under server newest.config) (newest ∷ newer ++ link ∷ older) newest (ToldAnewIf server (newest ∷ newer) (newest ∷ newer ++ link ∷ older) (id_in ends.names.core ends.names.tag))
-      (anew_closed server newest newer (newest ∷ newer ++ link ∷ older) (id_in ends.names.core ends.names.tag)) (taken_now server newest (newer ++ link ∷ older)) newest.before newest.act newest.out newest.after h.1
-      (history_dialogs server (first_state first) (newer ++ link ∷ older) newest.before h.2) (chain_here parts server first newest (newer ++ link ∷ older) h.2) (sent_now newest [])
-      (all_weaker (ToldAnewIf server newer (newer ++ link ∷ older) (id_in ends.names.core ends.names.tag)) (ToldAnewIf server (newest ∷ newer) (newest ∷ newer ++ link ∷ older) (id_in ends.names.core ends.names.tag))
-      (history_dialogs server (first_state first) (newer ++ link ∷ older) newest.before h.2) (λ d was same. later_anew server newest newer (newer ++ link ∷ older) d.id (was same))
+      step_told (under server newest.config) (newest ∷ newer ++ link ∷ older) newest (ToldAnewIf server (newest ∷ newer) (newest ∷ newer ++ link ∷ older)
+      (id_in ends.names.core ends.names.tag))
+      (anew_closed server newest newer (newest ∷ newer ++ link ∷ older) (id_in ends.names.core ends.names.tag)) (taken_now server newest (newer ++ link ∷ older))
+      newest.before newest.act newest.out newest.after h.1
+      (history_dialogs server (first_state first) (newer ++ link ∷ older) newest.before h.2) (chain_here parts server first newest (newer ++ link ∷ older) h.2)
+      (sent_now newest [])
+      (all_weaker (ToldAnewIf server newer (newer ++ link ∷ older) (id_in ends.names.core ends.names.tag))
+      (ToldAnewIf server (newest ∷ newer) (newest ∷ newer ++ link ∷ older) (id_in ends.names.core ends.names.tag))
+      (history_dialogs server (first_state first) (newer ++ link ∷ older) newest.before h.2)
+      (λ d was same. later_anew server newest newer (newer ++ link ∷ older) d.id (was same))
       (chain_anew server first newer link older newest.before h.2 id ends))
 
   -- each known one was
   pub ended_anew : ((server : Server) (first : ℕ) (history : List Link) (last : ProxyState) (h : IsChain server (first_state first) history last)
       → SameDialogs last.moment last.dialogs (history_dialogs server (first_state first) history last h))
-      → (server : Server) (first : ℕ) (newer : List Link) (link : Link) (older : List Link) (last : ProxyState) → IsChain server (first_state first) (newer ++ link ∷ older) last
+      → (server : Server) (first : ℕ) (newer : List Link) (link : Link) (older : List Link) (last : ProxyState)
+      → IsChain server (first_state first) (newer ++ link ∷ older) last
       → (d : Dialog) → Contains last.dialogs d
       → last.moment - d.since < 43200000 → EndsDialog server link d.id → WasToldAnew server newer (newer ++ link ∷ older) d.id
   ended_anew taught server first newer link older last h d there recent ends =
       let id : DialogId = id_in ends.names.core ends.names.tag in
-      known_in_both (ToldAnewIf server newer (newer ++ link ∷ older) id) last.moment last.dialogs (history_dialogs server (first_state first) (newer ++ link ∷ older) last h)
-      (taught server first (newer ++ link ∷ older) last h) (chain_anew server first newer link older last h d.id ends) d (in_from_contains last.dialogs d there) recent (same_name d.id id ends.names.name_is)
+      known_in_both (ToldAnewIf server newer (newer ++ link ∷ older) id) last.moment last.dialogs
+      (history_dialogs server (first_state first) (newer ++ link ∷ older) last h)
+      (taught server first (newer ++ link ∷ older) last h) (chain_anew server first newer link older last h d.id ends) d (in_from_contains last.dialogs d there) recent
+      (same_name d.id id ends.names.name_is)

@@ -1,5 +1,6 @@
 -- What a verdict on a message says of that message, where it changes what is known of dialogs.
-use Rattle.std.proofs.Common.{◌≡◌, inl, inr, ℕ, Bool, true, false, cond, ◌&&◌, ◌||◌, List, [], ◌∷◌, codes, find, Option, Some, None, option_and_then, is_some, refl, ap, subst, ◌∙◌, bytes_eq}
+use Rattle.std.proofs.Common.{◌≡◌, inl, inr, ℕ, Bool, true, false, cond, ◌&&◌, ◌||◌, List, [], ◌∷◌, codes, find, Option, Some, None, option_and_then, is_some, refl, ap}
+use Rattle.std.proofs.Common.{subst, ◌∙◌, bytes_eq}
 use Rattle.std.specs.Option.{option_map_or}
 use Rattle.std.specs.Result.{result_ok}
 use Rattle.sip_message_fields.specs.Values.{values_of}
@@ -27,7 +28,11 @@ use Rattle.sip_model.specs.state.Arrival.{Arrival}
 use Rattle.sip_model.specs.context_model.Branches.{is_accepted}
 use Rattle.sip_model.specs.context_model.FoundBranch.{branch_in, found_branch}
 use Rattle.sip_model.specs.verdict_model.declared.question.Question.{Question}
-use Rattle.sip_model.specs.verdict_model.Verdict.{Verdict, Drop, Respond, Copy, AckOn, Cancel, Answer, InDialog, Challenge, Deny, Send, Register, is_many, response_verdict, top_branch, responding, within_at, within, next_address, ack_verdict, is_full, is_cancelled_by, found_for_cancel, cancel_verdict, is_register, registration_by, request_targets, let_through, decided, policy_verdict, question_of, answer_of, is_outside, core_verdict, checked_verdict, new_verdict, by_open, by_key, by_start, message_verdict}
+use Rattle.sip_model.specs.verdict_model.Verdict.{Verdict, Drop, Respond, Copy, AckOn, Cancel, Answer, InDialog, Challenge, Deny, Send, Register, is_many}
+use Rattle.sip_model.specs.verdict_model.Verdict.{response_verdict, top_branch, responding, within_at, within, next_address, ack_verdict, is_full, is_cancelled_by}
+use Rattle.sip_model.specs.verdict_model.Verdict.{found_for_cancel, cancel_verdict, is_register, registration_by, request_targets, let_through, decided, policy_verdict}
+use Rattle.sip_model.specs.verdict_model.Verdict.{question_of, answer_of, is_outside, core_verdict, checked_verdict, new_verdict, by_open, by_key, by_start}
+use Rattle.sip_model.specs.verdict_model.Verdict.{message_verdict}
 use Rattle.sip_model.specs.steps_model.Effect.{method_of}
 use Rattle.sip_model.proofs.Places.{IsIn, found_in}
 
@@ -118,7 +123,8 @@ there_if requests r x false h e = absurd (cc)
 -- it is open
 cancelled_there : (state : ProxyState) (key : Key) (from : Addr) (x : OpenRequest) → found_for_cancel state key from ≡ Some x → IsIn x state.requests
 cancelled_there state key from x e = by_found (find (is_cancelled_by key) state.requests) refl e where
-  by_found : (o : Option OpenRequest) → find (is_cancelled_by key) state.requests ≡ o → option_and_then (λ r. cond (bytes_eq r.source.ip from.ip) (Some r) None) o ≡ Some x
+  by_found : (o : Option OpenRequest) → find (is_cancelled_by key) state.requests ≡ o
+      → option_and_then (λ r. cond (bytes_eq r.source.ip from.ip) (Some r) None) o ≡ Some x
       → IsIn x state.requests
   by_found None is f = absurd (cc)
   by_found (Some r) is f = there_if state.requests r x (bytes_eq r.source.ip from.ip) (found_in (is_cancelled_by key) state.requests r is).0 f
@@ -133,13 +139,14 @@ module _ (server : Server) (state : ProxyState) (a : Arrival) (m : Message) (sho
   response_facts : (status : ℕ) (reason : List ℕ) → m.start ≡ Status status reason → (t : Bool) → short ≡ t
       → Facts server state a m short (cond t Drop (response_verdict m.fields status (responding server state.requests m.fields)))
   response_facts status reason start true is = tt
-  response_facts status reason start false is = by_found (responding server state.requests m.fields) refl (found_for server state.requests (top_branch server m.fields) (result_ok (cseq_in m.fields))) where
-    by_found : (o : Option (OpenRequest × Branch)) → responding server state.requests m.fields ≡ o → IsFound state.requests o
-        → Facts server state a m short (response_verdict m.fields status o)
-    by_found None found there = tt
-    by_found (Some x) found there =
-        facts_either (x.1.is_cancel || is_many (values_of Name.Via m.fields)) (Respond x.0 x.1 status) Drop
-        (record { reason = reason; is_whole = is; is_response = start; is_for = found; is_open = there }) tt
+  response_facts status reason start false is = by_found (responding server state.requests m.fields) refl
+      (found_for server state.requests (top_branch server m.fields) (result_ok (cseq_in m.fields))) where
+        by_found : (o : Option (OpenRequest × Branch)) → responding server state.requests m.fields ≡ o → IsFound state.requests o
+            → Facts server state a m short (response_verdict m.fields status o)
+        by_found None found there = tt
+        by_found (Some x) found there =
+            facts_either (x.1.is_cancel || is_many (values_of Name.Via m.fields)) (Respond x.0 x.1 status) Drop
+            (record { reason = reason; is_whole = is; is_response = start; is_for = found; is_open = there }) tt
 
   -- within a dialog
   within_facts : (now : ℕ) (on : Addr → DialogId → Verdict) (none : Verdict)
@@ -157,7 +164,8 @@ module _ (server : Server) (state : ProxyState) (a : Arrival) (m : Message) (sho
       facts_either (is_some (refusal_of server.config.own m short)) Drop (within server state now m AckOn Drop) tt (within_facts now AckOn Drop (λ address id e. e) tt)
 
   -- a CANCEL
-  cancel_facts : (key : Key) → key_of m ≡ Some key → bytes_eq (method_of m.start) (codes "CANCEL") ≡ true → Facts server state a m short (cancel_verdict server state a m short key)
+  cancel_facts : (key : Key) → key_of m ≡ Some key → bytes_eq (method_of m.start) (codes "CANCEL") ≡ true
+      → Facts server state a m short (cancel_verdict server state a m short key)
   cancel_facts key is cancel =
       facts_either (is_bad_request server.config.own m short) (Answer 400 []) (cond (is_full state) (Answer 503 []) (Cancel (found_for_cancel state key a.from))) tt
       (facts_either (is_full state) (Answer 503 []) (Cancel (found_for_cancel state key a.from)) tt (by_found (found_for_cancel state key a.from) refl)) where
@@ -169,7 +177,8 @@ module _ (server : Server) (state : ProxyState) (a : Arrival) (m : Message) (sho
   let_through_facts : (now : ℕ) (method : List ℕ) (core : CoreFields) (q : Question) (id : ℕ) (d : Decision) → IsKeyed m
       → Facts server state a m short (let_through server state now m method core q id d)
   let_through_facts now method core q id d keyed =
-      facts_either (is_register method) (Register q id (registration_by server state.bindings now m core)) (Send q id (request_targets server state.bindings now m q d)) tt keyed
+      facts_either (is_register method) (Register q id (registration_by server state.bindings now m core)) (Send q id (request_targets server state.bindings now m q d))
+      tt keyed
 
   -- what policy decides
   decided_facts : (now : ℕ) (method : List ℕ) (core : CoreFields) (q : Question) (d : Decision) → IsKeyed m
@@ -188,26 +197,35 @@ module _ (server : Server) (state : ProxyState) (a : Arrival) (m : Message) (sho
       (within_facts now InDialog (Answer 481 []) (λ address id e. (keyed, e)) tt)
 
   -- a request that was checked
-  checked_facts : (now : ℕ) (method : List ℕ) (refusal : Option (ℕ × List ℕ)) → IsKeyed m → Facts server state a m short (checked_verdict server state now m method refusal)
+  checked_facts : (now : ℕ) (method : List ℕ) (refusal : Option (ℕ × List ℕ)) → IsKeyed m
+      → Facts server state a m short (checked_verdict server state now m method refusal)
   checked_facts now method (Some refusal) keyed = tt
   checked_facts now method None keyed =
-      facts_either (is_full state) (Answer 503 []) (core_verdict server state now m method (result_ok (core_of m))) tt (core_facts now method (result_ok (core_of m)) keyed)
+      facts_either (is_full state) (Answer 503 []) (core_verdict server state now m method (result_ok (core_of m))) tt
+      (core_facts now method (result_ok (core_of m)) keyed)
 
   -- a request whose key isn't open
-  new_facts : (method : List ℕ) (key : Key) → method_of m.start ≡ method → key_of m ≡ Some key → Facts server state a m short (new_verdict server state a m short method key)
+  new_facts : (method : List ℕ) (key : Key) → method_of m.start ≡ method → key_of m ≡ Some key
+      → Facts server state a m short (new_verdict server state a m short method key)
   new_facts method key is keyed = by_tests (bytes_eq method (codes "ACK")) refl (bytes_eq method (codes "CANCEL")) refl where
     by_tests : (t : Bool) → bytes_eq method (codes "ACK") ≡ t → (u : Bool) → bytes_eq method (codes "CANCEL") ≡ u
-        → Facts server state a m short (cond t (ack_verdict server state a.now m short) (cond u (cancel_verdict server state a m short key) (checked_verdict server state a.now m method (refusal_of server.config.own m short))))
+        → Facts server state a m short (cond t (ack_verdict server state a.now m short)
+        (cond u (cancel_verdict server state a m short key) (checked_verdict server state a.now m method (refusal_of server.config.own m short))))
     by_tests true ack u cancel = ack_facts a.now
     by_tests false ack true cancel = cancel_facts key keyed (ap (λ (v : List ℕ). bytes_eq v (codes "CANCEL")) is ∙ cancel)
     by_tests false ack false cancel =
-        checked_facts a.now method (refusal_of server.config.own m short) (record { key = key; is_key = keyed; is_no_ack = ap (λ (v : List ℕ). bytes_eq v (codes "ACK")) is ∙ ack })
+        checked_facts a.now method (refusal_of server.config.own m short) (record {
+          key = key;
+          is_key = keyed;
+          is_no_ack = ap (λ (v : List ℕ). bytes_eq v (codes "ACK")) is ∙ ack;
+        })
 
   -- a request whose key may be open
   open_facts : (method : List ℕ) (key : Key) (o : Option OpenRequest) → method_of m.start ≡ method → key_of m ≡ Some key → find (has_key key) state.requests ≡ o
       → Facts server state a m short (by_open server state a m short method key o)
   open_facts method key (Some r) is keyed found =
-      facts_either (bytes_eq method (codes "ACK") && is_accepted r) (ack_verdict server state a.now m short) (Copy r) (ack_facts a.now) (found_in (has_key key) state.requests r found).0
+      facts_either (bytes_eq method (codes "ACK") && is_accepted r) (ack_verdict server state a.now m short) (Copy r) (ack_facts a.now)
+      (found_in (has_key key) state.requests r found).0
   open_facts method key None is keyed found = new_facts method key is keyed
 
   -- a request that may have a key

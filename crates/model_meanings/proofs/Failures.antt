@@ -1,5 +1,6 @@
 -- The final answers that an open request keeps are of 300 to 699, so that one of 101 to 299 goes to the caller only as it comes from a branch.
-use Rattle.std.proofs.Common.{◌≡◌, ℕ, ◌+◌, Bool, true, false, not, ◌&&◌, ◌||◌, ◌==◌, cond, List, [], ◌∷◌, ◌++◌, map, filter, refl, sym, subst, Option, Some, None, arith, is_some}
+use Rattle.std.proofs.Common.{◌≡◌, ℕ, ◌+◌, Bool, true, false, not, ◌&&◌, ◌||◌, ◌==◌, cond, List, [], ◌∷◌, ◌++◌, map, filter, refl, sym, subst, Option, Some, None, arith}
+use Rattle.std.proofs.Common.{is_some}
 use Rattle.std.specs.Prelude.{option_map}
 use Rattle.std.specs.List.{AllByRecursion}
 use Rattle.std.proofs.lemmas.Bool.Decides.{nat_tests}
@@ -15,7 +16,10 @@ use Rattle.sip_model.specs.state.declared.open_request.Side.TheVariants.{Closed}
 use Rattle.sip_model.specs.state.declared.open_request.OpenRequest.{OpenRequest}
 use Rattle.sip_model.specs.state.declared.open_request.Upward.{Upward}
 use Rattle.sip_model.specs.state.State.{is_invite, is_final, is_answering, is_success, is_failure, is_decline, is_provisional}
-use Rattle.sip_model.specs.context_model.Branches.{Change, is_same_branch, with_phase, with_final, marked, given_up, upward_of, all_final, best_upward, after_upward, upward_list, settled, heard, other_heard, relayed_from, relayed_provisional, is_accepted, relayed_success, final_of, linger, told_to, with_answer, acks_of, further, target_responded, cancel_responded, responded, target_overdue, branch_overdue, send_failed, cancelled}
+use Rattle.sip_model.specs.context_model.Branches.{Change, is_same_branch, with_phase, with_final, marked, given_up, upward_of, all_final, best_upward, after_upward}
+use Rattle.sip_model.specs.context_model.Branches.{upward_list, settled, heard, other_heard, relayed_from, relayed_provisional, is_accepted, relayed_success, final_of}
+use Rattle.sip_model.specs.context_model.Branches.{linger, told_to, with_answer, acks_of, further, target_responded, cancel_responded, responded, target_overdue}
+use Rattle.sip_model.specs.context_model.Branches.{branch_overdue, send_failed, cancelled}
 use Rattle.sip_model.specs.context_model.Sending.{made_answer}
 use Rattle.sip_model.specs.context_model.Opening.{unsent, is_tried, trying, tried, opening}
 use Rattle.sip_model.specs.steps_model.Step.{IsOverdue, OfSide, OfBranch}
@@ -114,7 +118,8 @@ answer_fails r b now status m final h = by_tests (is_answering r.side) refl (is_
   before = with_phase (told_to r b status m) (Done (now + linger r) status) r
 
   told : Bool → OpenRequest
-  told t = cond (is_invite r && (is_success status || is_decline status)) (marked (record before { finals = cond t (r.finals ++ final_of status m ∷ []) r.finals })) (record before { finals = cond t (r.finals ++ final_of status m ∷ []) r.finals })
+  told t = cond (is_invite r && (is_success status || is_decline status)) (marked (record before { finals = cond t (r.finals ++ final_of status m ∷ []) r.finals }))
+      (record before { finals = cond t (r.finals ++ final_of status m ∷ []) r.finals })
 
   provisional : (t : Bool) (xs : List Final) → t ≡ false → AllByRecursion Fails (cond t xs [])
   provisional true xs e = absurd (cc)
@@ -193,26 +198,33 @@ module _ (P : Upward → Type 0) (refuses : (u : Upward) → Refusing u → P u)
 
     by_tests : (t : Bool) → is_provisional status ≡ t → (u : Bool)
         → IsHonest P (cond t (settled server now [] (relayed_provisional r b status m) heard_request)
-        (cond u (settled server now [] (further r b b.phase status m) r) (settled server now (acks_of server r b status m) (relayed_success r b status m) (with_answer r b now status m))))
+        (cond u (settled server now [] (further r b b.phase status m) r) (settled server now (acks_of server r b status m) (relayed_success r b status m)
+        (with_answer r b now status m))))
     by_tests true is u =
-        relayed_honest server now [] b status m (relayed_provisional r b status m) heard_request p (relayed_if b status m (not (status == 100) && not (is_final b.phase) && is_answering r.side))
+        relayed_honest server now [] b status m (relayed_provisional r b status m) heard_request p
+        (relayed_if b status m (not (status == 100) && not (is_final b.phase) && is_answering r.side))
         (upward_fails now (relayed_provisional r b status m) heard_request h)
     by_tests false is true =
-        relayed_honest server now [] b status m (further r b b.phase status m) r p (further_relayed r b b.phase status m) (upward_fails now (further r b b.phase status m) r h)
+        relayed_honest server now [] b status m (further r b b.phase status m) r p (further_relayed r b b.phase status m)
+        (upward_fails now (further r b b.phase status m) r h)
     by_tests false is false =
         relayed_honest server now (acks_of server r b status m) b status m (relayed_success r b status m) (with_answer r b now status m) p
         (relayed_if b status m (is_success status && (is_answering r.side || is_accepted r))) (answer_fails r b now status m is h)
 
   -- to a CANCEL
-  cancel_honest : (server : Server) (now : ℕ) (r : OpenRequest) (b : Branch) (status : ℕ) (m : Message) → KeepsFailures r → IsHonest P (cancel_responded server now r b status m)
+  cancel_honest : (server : Server) (now : ℕ) (r : OpenRequest) (b : Branch) (status : ℕ) (m : Message) → KeepsFailures r
+      → IsHonest P (cancel_responded server now r b status m)
   cancel_honest server now r b status m h =
       honest_either (is_provisional status) (settled server now [] None (with_phase b (other_heard b.phase) r))
-      (cond (is_final b.phase) (settled server now [] None r) (settled server now [] None (with_phase b (Done (now + 5000) status) r))) (settled_honest server now [] (with_phase b (other_heard b.phase) r) h)
-      (honest_either (is_final b.phase) (settled server now [] None r) (settled server now [] None (with_phase b (Done (now + 5000) status) r)) (settled_honest server now [] r h)
+      (cond (is_final b.phase) (settled server now [] None r) (settled server now [] None (with_phase b (Done (now + 5000) status) r)))
+      (settled_honest server now [] (with_phase b (other_heard b.phase) r) h)
+      (honest_either (is_final b.phase) (settled server now [] None r) (settled server now [] None (with_phase b (Done (now + 5000) status) r))
+      (settled_honest server now [] r h)
       (settled_honest server now [] (with_phase b (Done (now + 5000) status) r) h))
 
   -- either
-  pub responded_honest : (server : Server) (now : ℕ) (r : OpenRequest) (b : Branch) (status : ℕ) (m : Message) → (b.is_cancel ≡ false → P (relayed_from b status m)) → KeepsFailures r
+  pub responded_honest : (server : Server) (now : ℕ) (r : OpenRequest) (b : Branch) (status : ℕ) (m : Message) → (b.is_cancel ≡ false → P (relayed_from b status m))
+      → KeepsFailures r
       → IsHonest P (responded server now r b status m)
   responded_honest server now r b status m p h = by_test b.is_cancel refl where
     by_test : (t : Bool) → b.is_cancel ≡ t → IsHonest P (cond t (cancel_responded server now r b status m) (target_responded server now r b status m))
@@ -234,7 +246,8 @@ module _ (P : Upward → Type 0) (refuses : (u : Upward) → Refusing u → P u)
   target_overdue_fails : (r : OpenRequest) (b : Branch) (phase : Phase) → KeepsFailures r → KeepsFailures (target_overdue r b phase)
   target_overdue_fails r b (Unheard due) h = given_up_fails b 408 r refl h
   target_overdue_fails r b (Heard due) h =
-      keeps_either (is_invite r) (record r { branches = map (λ (x : Branch). cond (is_same_branch x b) (record x { wants_cancel = true }) x) r.branches }) (given_up b 408 r) h (given_up_fails b 408 r refl h)
+      keeps_either (is_invite r) (record r { branches = map (λ (x : Branch). cond (is_same_branch x b) (record x { wants_cancel = true }) x) r.branches })
+      (given_up b 408 r) h (given_up_fails b 408 r refl h)
   target_overdue_fails r b (Cancelled due) h = given_up_fails b 487 r refl h
   target_overdue_fails r b (Done due status) h = h
   target_overdue_fails r b Ended h = h
@@ -243,7 +256,8 @@ module _ (P : Upward → Type 0) (refuses : (u : Upward) → Refusing u → P u)
   pub overdue_honest : (server : Server) (due : ℕ) (r : OpenRequest) (change : Change) → IsOverdue server due r change → KeepsFailures r → IsHonest P change
   overdue_honest server due r _ (OfSide is) h = settled_honest server due [] (record r { side = Closed }) h
   overdue_honest server due r _ (OfBranch b there is) h =
-      settled_honest server due [] (branch_overdue r b) (keeps_either b.is_cancel (with_phase b Ended r) (target_overdue r b b.phase) h (target_overdue_fails r b b.phase h))
+      settled_honest server due [] (branch_overdue r b) (keeps_either b.is_cancel (with_phase b Ended r) (target_overdue r b b.phase) h
+      (target_overdue_fails r b b.phase h))
 
   -- a send that failed
   pub failed_honest : (server : Server) (now : ℕ) (r : OpenRequest) (b : Branch) → KeepsFailures r → IsHonest P (send_failed server now r b)
@@ -251,14 +265,16 @@ module _ (P : Upward → Type 0) (refuses : (u : Upward) → Refusing u → P u)
 
   -- a CANCEL of the caller's
   pub cancelled_honest : (server : Server) (now : ℕ) (r : OpenRequest) → KeepsFailures r → IsHonest P (cancelled server now r)
-  cancelled_honest server now r h = settled_honest server now [] (cond (is_invite r && is_answering r.side) (marked r) r) (marked_fails (is_invite r && is_answering r.side) r h)
+  cancelled_honest server now r h = settled_honest server now [] (cond (is_invite r && is_answering r.side) (marked r) r)
+      (marked_fails (is_invite r && is_answering r.side) r h)
 
   -- ---- a request that is opened
 
   -- a 100 leaves the final answers
   trying_fails : (now : ℕ) (server : Server) (r : OpenRequest) → KeepsFailures r → KeepsFailures (tried now (trying server r) r)
   trying_fails now server r h = by_test (is_tried r) where
-    by_test : (t : Bool) → KeepsFailures (tried now (cond t (record { status = 100; message = made_answer server r.number r.request r.source 100 []; target = None } ∷ []) []) r)
+    by_test : (t : Bool) → KeepsFailures (tried now (cond t (record { status = 100; message = made_answer server r.number r.request r.source 100 []; target = None } ∷ [])
+        []) r)
     by_test true = h
     by_test false = h
 

@@ -1,5 +1,6 @@
 -- What a datagram gets is all sent for the first time; so where no request is open, nothing goes beside it.
-use Rattle.std.proofs.Common.{◌≡◌, ℕ, Bool, true, false, cond, not, if◌then◌else◌, List, [], ◌∷◌, ◌++◌, drop, flat_map, Option, Some, None, refl, sym, ap, ◌∙◌, subst, true≢false}
+use Rattle.std.proofs.Common.{◌≡◌, ℕ, Bool, true, false, cond, not, if◌then◌else◌, List, [], ◌∷◌, ◌++◌, drop, flat_map, Option, Some, None, refl, sym, ap, ◌∙◌, subst}
+use Rattle.std.proofs.Common.{true≢false}
 use Rattle.std.specs.List.{AllByRecursion, list_any}
 use Rattle.std.specs.Option.{option_map_or}
 use Rattle.sip_message_form.specs.declared.message.Message.{Message}
@@ -15,7 +16,8 @@ use Rattle.sip_model.specs.state.declared.open_request.OpenRequest.{OpenRequest}
 use Rattle.sip_model.specs.state.declared.proxy_state.ProxyState.{ProxyState}
 use Rattle.sip_model.specs.state.Arrival.{Arrival}
 use Rattle.sip_model.specs.state.State.{is_invite}
-use Rattle.sip_model.specs.verdict_model.Verdict.{Bound, Refused, Verdict, Drop, Respond, Copy, AckOn, Cancel, Answer, InDialog, Challenge, Deny, Send, Register, verdict_of}
+use Rattle.sip_model.specs.verdict_model.Verdict.{Bound, Refused, Verdict, Drop, Respond, Copy, AckOn, Cancel, Answer, InDialog, Challenge, Deny, Send, Register}
+use Rattle.sip_model.specs.verdict_model.Verdict.{verdict_of}
 use Rattle.sip_model.specs.context_model.Opening.{arriving, branches_from, dialog_branch}
 use Rattle.sip_model.specs.context_model.Sending.{to_branch, branch_packets, ticket_branch, sent_of}
 use Rattle.sip_model.specs.steps_model.Step.{Act, Given, Passing, originals, arrival_of}
@@ -32,7 +34,8 @@ IsFirst p = p.again ≡ false
 to_branch_first : (r : OpenRequest) (b : Branch) (target : ℕ) (m : Message) → AllByRecursion IsFirst (to_branch r b target false m)
 to_branch_first r b target m = by_address b.address where
   by_address : (address : Option Addr)
-      → AllByRecursion IsFirst (option_map_or (λ to. record { to = to; bytes = text_of m; ticket = record { datagram = r.number; branch = target }; again = false } ∷ []) address [])
+      → AllByRecursion IsFirst (option_map_or (λ to. record { to = to; bytes = text_of m; ticket = record { datagram = r.number; branch = target }; again = false } ∷ [])
+      address [])
   by_address None = tt
   by_address (Some to) = (refl, tt)
 
@@ -100,12 +103,14 @@ pub none_open : (server : Server) (earlier : List Link) (link : Link) → link.b
     → originals link.out.packets ≡ sent_for (under server link.config) link.before link.act
 none_open server earlier link none access =
     sends_alone (under server link.config) (link ∷ earlier) link.before link.act link.out.at
-    (subst (λ (rs : List OpenRequest). AllByRecursion (IsIdle (under server link.config) (link ∷ earlier) link.before link.act link.out.at) rs) (sym none) tt) (originals link.out.packets) access.0.sent
+    (subst (λ (rs : List OpenRequest). AllByRecursion (IsIdle (under server link.config) (link ∷ earlier) link.before link.act link.out.at) rs) (sym none) tt)
+    (originals link.out.packets) access.0.sent
 
 -- so nothing goes beside that
 pub nothing_beside : (server : Server) (earlier : List Link) (link : Link) (p : Packet) → p.again ≡ false → link.before.requests ≡ []
     → link.out.packets ≡ sent_for (under server link.config) link.before link.act ++ p ∷ [] → Access server (link ∷ earlier) → ⊥
 nothing_beside server earlier link p first none packets access =
     let gets : List Packet = sent_for (under server link.config) link.before link.act in
-    let all : originals (gets ++ p ∷ []) ≡ gets ++ p ∷ [] = firsts_are_originals (gets ++ p ∷ []) (all_append IsFirst gets (p ∷ []) (sent_first_only (under server link.config) link.before link.act) (first, tt)) in
+    let all : originals (gets ++ p ∷ []) ≡ gets ++ p ∷ [] = firsts_are_originals (gets ++ p ∷ [])
+    (all_append IsFirst gets (p ∷ []) (sent_first_only (under server link.config) link.before link.act) (first, tt)) in
     no_longer gets p (sym all ∙ ap originals (sym packets) ∙ none_open server earlier link none access)

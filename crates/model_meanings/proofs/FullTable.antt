@@ -1,5 +1,6 @@
 -- No more than 1,024 requests are open, over every history.
-use Rattle.std.proofs.Common.{◌≡◌, ℕ, suc, ◌≤◌, ◌<◌, Bool, true, false, cond, ◌==◌, List, [], ◌∷◌, ◌++◌, codes, length, find, Option, Some, None, refl, sym, subst, arith, nat_le, bytes_eq, inl, inr}
+use Rattle.std.proofs.Common.{◌≡◌, ℕ, suc, ◌≤◌, ◌<◌, Bool, true, false, cond, ◌==◌, List, [], ◌∷◌, ◌++◌, codes, length, find, Option, Some, None, refl, sym, subst, arith}
+use Rattle.std.proofs.Common.{nat_le, bytes_eq, inl, inr}
 use Rattle.std.specs.Option.{option_map_or}
 use Rattle.std.proofs.lemmas.Bool.Decides.{nat_tests}
 use Rattle.std.proofs.lemmas.List.{length-append}
@@ -15,9 +16,11 @@ use Rattle.sip_model.specs.state.declared.proxy_state.ProxyState.{ProxyState}
 use Rattle.sip_model.specs.state.State.{first_state, has_left}
 use Rattle.sip_model.specs.state.Arrival.{Arrival}
 use Rattle.sip_model.specs.verdict_model.declared.question.Question.{Question}
-use Rattle.sip_model.specs.verdict_model.Verdict.{Registered, Bound, Refused, Verdict, Drop, Respond, Copy, AckOn, Cancel, Answer, InDialog, Challenge, Deny, Send, Register, is_full, verdict_of}
+use Rattle.sip_model.specs.verdict_model.Verdict.{Registered, Bound, Refused, Verdict, Drop, Respond, Copy, AckOn, Cancel, Answer, InDialog, Challenge, Deny, Send}
+use Rattle.sip_model.specs.verdict_model.Verdict.{Register, is_full, verdict_of}
 use Rattle.sip_model.specs.context_model.Branches.{cancelled, acknowledged, responded, send_failed}
-use Rattle.sip_model.specs.steps_model.Effect.{Effect, replaced, opened, nothing, method_of, counted, effect_of, datagram_effect, registering, sending, cancelling, copied}
+use Rattle.sip_model.specs.steps_model.Effect.{Effect, replaced, opened, nothing, method_of, counted, effect_of, datagram_effect, registering, sending, cancelling}
+use Rattle.sip_model.specs.steps_model.Effect.{copied}
 use Rattle.sip_model.specs.steps_model.Step.{Act, Given, Passing, IsStep, is_failed, failed_branch, failed_request, fault_effect, arrival_of, moment_of}
 use Rattle.sip_model.specs.Run.{Link, under, IsChain}
 
@@ -122,7 +125,8 @@ few_by_step : (server : Server) (old : ProxyState) (act : Act) (out : StepOut) (
     → IsStep server old act out new → length old.requests ≤ 1024 → length new.requests ≤ 1024
 few_by_step server old (Given (Datagram at word from bytes)) out new step few =
     let a : Arrival = arrival_of old at word from in
-    as_left new (datagram_effect server old a bytes).state.requests step.does.leaves.requests (few_by_datagram server a (verdict_of server old a bytes) (counted a old) few)
+    as_left new (datagram_effect server old a bytes).state.requests step.does.leaves.requests
+    (few_by_datagram server a (verdict_of server old a bytes) (counted a old) few)
 few_by_step server old (Given (Time at)) out new step few = as_left new old.requests step.quiet.does.leaves.requests few
 few_by_step server old (Given (Fault at ticket)) out new step few =
     as_left new (fault_effect server (moment_of old at) ticket (record old { moment = moment_of old at })).state.requests step.does.leaves.requests
@@ -130,7 +134,8 @@ few_by_step server old (Given (Fault at ticket)) out new step few =
 few_by_step server old (Passing at) out new (inl quiet) few = as_left new old.requests quiet.does.leaves.requests few
 few_by_step server old (Passing at) out new (inr (inl passed)) few =
     as_left new (replaced passed.change.request old.requests) passed.does.leaves.requests (few_replaced passed.change.request old.requests few)
-few_by_step server old (Passing at) out new (inr (inr goes)) few = as_left new (replaced goes.next old.requests) goes.does.leaves.requests (few_replaced goes.next old.requests few)
+few_by_step server old (Passing at) out new (inr (inr goes)) few = as_left new (replaced goes.next old.requests) goes.does.leaves.requests
+    (few_replaced goes.next old.requests few)
 
 pub few_of_chain : (server : Server) (first : ℕ) (history : List Link) (last : ProxyState) → IsChain server (first_state first) history last → length last.requests ≤ 1024
 few_of_chain server first [] last e = subst (λ (state : ProxyState). length state.requests ≤ 1024) (sym e) (omega arith)

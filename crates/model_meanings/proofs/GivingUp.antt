@@ -39,10 +39,12 @@ call_goes_on =
     not_given_up (ringing_came ∷ invite_came ∷ []) 4 (
       (λ a bytes m short said.
           subst GivesNothingUp
-          (sym (said_is sample ringing_came.before 63000 9 (local 5082) (text_of (ringing_from 1)) (ringing_from 1) first_ringing_said a bytes m short said)) (refl, refl)),
+          (sym (said_is sample ringing_came.before 63000 9 (local 5082) (text_of (ringing_from 1)) (ringing_from 1) first_ringing_said a bytes m short said))
+          (refl, refl)),
       (
         (λ a bytes m short said.
-            subst GivesNothingUp (sym (said_is sample invite_came.before 62000 9 (local 5070) (text_of Onward.invite) Onward.invite invite_said a bytes m short said)) (refl, refl)),
+            subst GivesNothingUp (sym (said_is sample invite_came.before 62000 9 (local 5070) (text_of Onward.invite) Onward.invite invite_said a bytes m short said))
+            (refl, refl)),
         tt,
       ),
     )

@@ -34,7 +34,8 @@ not_before server link a m address h =
     omega (arith, now)
 
 -- each goes where its dialog was told
-pub within_goes : ((server : Server) (first : ℕ) (history : List Link) (last : ProxyState) → IsChain server (first_state first) history last → (d : Dialog) → Contains last.dialogs d → last.moment - d.since < 43200000
+pub within_goes : ((server : Server) (first : ℕ) (history : List Link) (last : ProxyState) → IsChain server (first_state first) history last → (d : Dialog)
+    → Contains last.dialogs d → last.moment - d.since < 43200000
     → WasTold server history d)
     → (server : Server) (first : ℕ) (link : Link) (history : List Link) (last : ProxyState) → IsChain server (first_state first) (link ∷ history) last
     → (a : Arrival) (m : Message) (address : Addr)

@@ -1,5 +1,6 @@
 -- Every 200 that a step makes here is the one to a REGISTER that binds, or the one to a CANCEL that names an open request.
-use Rattle.std.proofs.Common.{◌≡◌, ◌≢◌, ◌⊎◌, inl, inr, ℕ, ◌+◌, ◌≤◌, Bool, true, false, cond, not, ◌&&◌, List, [], ◌∷◌, ◌++◌, codes, decimal, length, get_or, map, filter, flat_map, Contains, Option, Some, None, option_map, refl, sym, ap, subst, ◌∙◌, arith, is_some}
+use Rattle.std.proofs.Common.{◌≡◌, ◌≢◌, ◌⊎◌, inl, inr, ℕ, ◌+◌, ◌≤◌, Bool, true, false, cond, not, ◌&&◌, List, [], ◌∷◌, ◌++◌, codes, decimal, length, get_or, map, filter}
+use Rattle.std.proofs.Common.{flat_map, Contains, Option, Some, None, option_map, refl, sym, ap, subst, ◌∙◌, arith, is_some}
 use Rattle.std.specs.Option.{option_map_or}
 use Rattle.std.specs.List.{AllByRecursion}
 use Rattle.std.proofs.lemmas.Bool.Decides.{Decides-eqb}
@@ -28,11 +29,14 @@ use Rattle.sip_model.specs.state.declared.proxy_state.ProxyState.{ProxyState}
 use Rattle.sip_model.specs.state.State.{first_state, is_answering}
 use Rattle.sip_model.specs.state.Arrival.{Arrival}
 use Rattle.sip_model.specs.context_model.Sending.{made_answer, onward_as, branch_packets, ticket_branch, sent_of}
-use Rattle.sip_model.specs.context_model.Branches.{Change, after_upward, upward_list, upward_of, all_final, best_upward, is_ready, is_cancellable, cancel_branch, cancelled, responded}
+use Rattle.sip_model.specs.context_model.Branches.{Change, after_upward, upward_list, upward_of, all_final, best_upward, is_ready, is_cancellable, cancel_branch}
+use Rattle.sip_model.specs.context_model.Branches.{cancelled, responded}
 use Rattle.sip_model.specs.context_model.Opening.{unsent, forking, is_tried, trying, tried, opening, branches_from, dialog_branch}
-use Rattle.sip_model.specs.verdict_model.Verdict.{Bound, Refused, Verdict, Drop, Respond, Copy, AckOn, Cancel, Answer, InDialog, Challenge, Deny, Send, Register, message_in, message_verdict, verdict_in}
+use Rattle.sip_model.specs.verdict_model.Verdict.{Bound, Refused, Verdict, Drop, Respond, Copy, AckOn, Cancel, Answer, InDialog, Challenge, Deny, Send, Register}
+use Rattle.sip_model.specs.verdict_model.Verdict.{message_in, message_verdict, verdict_in}
 use Rattle.sip_policy.specs.declared.operation.Operation.{Operation}
-use Rattle.sip_model.specs.steps_model.Effect.{contact_fields, challenge_status, challenges_to, upward_packets, change_packets, opening_packets, ack_packet, effect_of, counted, nothing, datagram_effect}
+use Rattle.sip_model.specs.steps_model.Effect.{contact_fields, challenge_status, challenges_to, upward_packets, change_packets, opening_packets, ack_packet, effect_of}
+use Rattle.sip_model.specs.steps_model.Effect.{counted, nothing, datagram_effect}
 use Rattle.sip_model.specs.steps_model.Step.{Act, Given, IsStep, originals, arrival_of}
 use Rattle.sip_model.specs.Order.{is_numbered, AreNumbered}
 use Rattle.sip_model.specs.Run.{Link, under, IsChain}
@@ -55,7 +59,8 @@ unsent_all [] = tt
 unsent_all (b ∷ bs) = by_test (not (is_some b.address)) (unsent_all bs) where
   by_test : (t : Bool) → AllByRecursion IsUnsent (unsent bs)
       → AllByRecursion IsUnsent
-      (map (λ (b : Branch). record { status = 503; message = None }) (cond t (b ∷ filter (λ (b : Branch). not (is_some b.address)) bs) (filter (λ (b : Branch). not (is_some b.address)) bs)))
+      (map (λ (b : Branch). record { status = 503; message = None }) (cond t (b ∷ filter (λ (b : Branch). not (is_some b.address)) bs)
+      (filter (λ (b : Branch). not (is_some b.address)) bs)))
   by_test true rest = ((refl, refl), rest)
   by_test false rest = rest
 
@@ -76,13 +81,16 @@ picked_unsent test (f ∷ fs) x all e = by_test (test f) (picked_unsent test fs)
 -- it goes up as a 500 that is made here
 goes_as_500 : (others : List Final) (f : Final) → IsUnsent f → going_up others f ≡ record { status = 500; message = None }
 goes_as_500 others f is =
-    ap (λ (t : Bool). cond {A = Final} t (record { status = 500; message = None }) (cond (is_challenge_status f.status) (challenging others f) f)) ((Decides-eqb f.status 503).1 is.0)
+    ap (λ (t : Bool). cond {A = Final} t (record { status = 500; message = None }) (cond (is_challenge_status f.status) (challenging others f) f))
+    ((Decides-eqb f.status 503).1 is.0)
 
 best_is_500 : (finals : List Final) (f : Final) → AllByRecursion IsUnsent finals → best_of finals ≡ Some f → f ≡ record { status = 500; message = None }
 best_is_500 finals f all e = by_chosen (chosen_of finals) refl e where
-  by_chosen : (o : Option (Final × List Final)) → chosen_of finals ≡ o → option_map (λ (x : Final × List Final). going_up x.1 x.0) o ≡ Some f → f ≡ record { status = 500; message = None }
+  by_chosen : (o : Option (Final × List Final)) → chosen_of finals ≡ o → option_map (λ (x : Final × List Final). going_up x.1 x.0) o ≡ Some f
+      → f ≡ record { status = 500; message = None }
   by_chosen None is e = absurd (cc)
-  by_chosen (Some x) is e = sym (ap (λ (o : Option Final). option_map_or (λ (g : Final). g) o f) e) ∙ goes_as_500 x.1 x.0 (picked_unsent (is_unbeaten finals) finals x all is)
+  by_chosen (Some x) is e = sym (ap (λ (o : Option Final). option_map_or (λ (g : Final). g) o f) e)
+      ∙ goes_as_500 x.1 x.0 (picked_unsent (is_unbeaten finals) finals x all is)
 
 -- ---- branches that are first sent
 
@@ -100,7 +108,8 @@ new_branches now place (t ∷ ts) some = (record { is_target = refl; is_wanted =
 none_cancelled : (bs : List Branch) → AllByRecursion IsNew bs → filter is_cancellable bs ≡ []
 none_cancelled [] all = refl
 none_cancelled (b ∷ bs) all = by_tests b.is_cancel b.wants_cancel all.0.is_wanted (none_cancelled bs all.1) where
-  by_tests : (s t : Bool) → t ≡ false → filter is_cancellable bs ≡ [] → cond (not s && t && is_ready b.phase) (b ∷ filter is_cancellable bs) (filter is_cancellable bs) ≡ []
+  by_tests : (s t : Bool) → t ≡ false → filter is_cancellable bs ≡ [] → cond (not s && t && is_ready b.phase) (b ∷ filter is_cancellable bs) (filter is_cancellable bs)
+      ≡ []
   by_tests true t e rest = rest
   by_tests false true e rest = absurd (cc)
   by_tests false false e rest = rest
@@ -132,7 +141,8 @@ module _ (server : Server) (a : Arrival) (m : Message) (extras : List Field) whe
   none_tried : (bs : List Branch) → AllByRecursion IsNone (upward_packets (forking a m bs) (trying server (forking a m bs)))
   none_tried bs = by_test (is_tried (forking a m bs)) where
     by_test : (t : Bool)
-        → AllByRecursion IsNone (upward_packets (forking a m bs) (cond t (record { status = 100; message = made_answer server a.number m a.from 100 []; target = None } ∷ []) []))
+        → AllByRecursion IsNone (upward_packets (forking a m bs) (cond t (record { status = 100; message = made_answer server a.number m a.from 100 []; target = None }
+        ∷ []) []))
     by_test true = (none_of_status 100 [] (omega arith, λ e. absurd (omega (arith, e))), tt)
     by_test false = tt
 
@@ -143,7 +153,8 @@ module _ (server : Server) (a : Arrival) (m : Message) (extras : List Field) whe
 
   after_trying : (now : ℕ) (bs : List Branch) → IsAfter bs (tried now (trying server (forking a m bs)) (forking a m bs))
   after_trying now bs = by_test (is_tried (forking a m bs)) where
-    by_test : (t : Bool) → IsAfter bs (tried now (cond t (record { status = 100; message = made_answer server a.number m a.from 100 []; target = None } ∷ []) []) (forking a m bs))
+    by_test : (t : Bool) → IsAfter bs (tried now (cond t (record { status = 100; message = made_answer server a.number m a.from 100 []; target = None } ∷ []) [])
+        (forking a m bs))
     by_test true = record { has_branches = refl; has_finals = refl }
     by_test false = record { has_branches = refl; has_finals = refl }
 
@@ -160,7 +171,8 @@ module _ (server : Server) (a : Arrival) (m : Message) (extras : List Field) whe
         let message : (upward_of server r f).message ≡ made_answer server r.number r.request r.source 500 [] =
         ap (λ (g : Final). option_map_or (λ (x : Message). x) g.message (made_answer server r.number r.request r.source g.status [])) it in
         let ok : Message = made_answer server a.number m a.from 200 extras in (
-          (λ same. of_500 (one_status (upward_of server r f).message ok 500 200 (reason_of 500) (reason_of 200) (omega arith) (omega arith) (ap (λ (x : Message). x.start) message) refl
+          (λ same. of_500 (one_status (upward_of server r f).message ok 500 200 (reason_of 500) (reason_of 200) (omega arith) (omega arith)
+              (ap (λ (x : Message). x.start) message) refl
               (ap (λ (p : Packet). p.bytes) same))),
           tt,
         )
@@ -179,7 +191,8 @@ module _ (server : Server) (a : Arrival) (m : Message) (extras : List Field) whe
       let is : IsAfter bs told = after_trying a.now bs in
       let after : OpenRequest = after_upward a.now (best_upward server told) told in
       let change : Change = opening server a.now (forking a m bs) in
-      let none : filter is_cancellable after.branches ≡ [] = ap (filter is_cancellable) (same_branches a.now (best_upward server told) told ∙ is.has_branches) ∙ none_cancelled bs new in
+      let none : filter is_cancellable after.branches ≡ [] = ap (filter is_cancellable) (same_branches a.now (best_upward server told) told ∙ is.has_branches)
+      ∙ none_cancelled bs new in
       all_none (upward_packets change.request change.upward) change.cancels (none_upward told change.request bs is)
       (subst (λ (cs : List Branch). AllByRecursion IsNone (flat_map (branch_packets server false after) (map (cancel_branch a.now) cs))) (sym none) tt)
 
@@ -192,7 +205,12 @@ module _ (server : Server) (a : Arrival) (m : Message) (extras : List Field) whe
 
     by_address : (o : Option Addr)
         → AllByRecursion IsNone
-        (option_map_or (λ address. record { to = address; bytes = text_of (sent_of server r b); ticket = record { datagram = r.number; branch = ticket_branch b }; again = false } ∷ []) o [])
+        (option_map_or (λ address. record {
+          to = address;
+          bytes = text_of (sent_of server r b);
+          ticket = record { datagram = r.number; branch = ticket_branch b };
+          again = false;
+        } ∷ []) o [])
     by_address None = tt
     by_address (Some address) =
         let none : ticket_branch b ≡ 0 → ⊥ = λ e. absurd (omega (arith, e, number_is b.is_cancel new.is_target, new.is_numbered)) in
@@ -200,7 +218,8 @@ module _ (server : Server) (a : Arrival) (m : Message) (extras : List Field) whe
 
   none_branches : (r : OpenRequest) (bs : List Branch) → AllByRecursion IsNew bs → AllByRecursion IsNone (flat_map (branch_packets server false r) bs)
   none_branches r [] new = tt
-  none_branches r (b ∷ bs) new = all_none (branch_packets server false r b) (flat_map (branch_packets server false r) bs) (none_branch r b new.0) (none_branches r bs new.1)
+  none_branches r (b ∷ bs) new = all_none (branch_packets server false r b) (flat_map (branch_packets server false r) bs) (none_branch r b new.0)
+      (none_branches r bs new.1)
 
   none_opened : (bs : List Branch) → AllByRecursion IsNew bs → AllByRecursion IsNone (opening_packets server a.now (forking a m bs))
   none_opened bs new =
@@ -212,7 +231,8 @@ module _ (server : Server) (a : Arrival) (m : Message) (extras : List Field) whe
 
   begins_with_a : (ack : Message) (uri version : List ℕ) → ack.start ≡ Request (codes "ACK") uri version → get_or (text_of ack) 0 0 ≡ 65
   begins_with_a ack uri version e =
-      ap (λ (s : Start). get_or (start_text s ++ codes "\r\n" ++ flat_map field_text ack.fields ++ codes "Content-Length: " ++ decimal (length ack.body) ++ codes "\r\n\r\n" ++ ack.body) 0 0) e
+      ap (λ (s : Start). get_or (start_text s ++ codes "\r\n" ++ flat_map field_text ack.fields ++ codes "Content-Length: " ++ decimal (length ack.body)
+      ++ codes "\r\n\r\n" ++ ack.body) 0 0) e
 
   none_ack : (address : Addr) → IsAck m → IsNone (ack_packet server a m address)
   none_ack address is same =
@@ -268,10 +288,13 @@ module _ (server : Server) (a : Arrival) (m : Message) (extras : List Field) whe
         absurd (none_forked (dialog_branch server a.now m address ∷ []) (record { is_target = refl; is_wanted = refl; is_numbered = omega arith }, tt) there)
     by_verdict (Challenge q) tells there =
         let status : ℕ = challenge_status q.operation in
-        absurd (one_there (answer_here server a m status (challenges_to server a q)) there (none_of_status status (challenges_to server a q) (challenge_other q.operation)))
+        absurd (one_there (answer_here server a m status (challenges_to server a q)) there
+        (none_of_status status (challenges_to server a q) (challenge_other q.operation)))
     by_verdict (Deny q id) tells there = absurd (one_there (answer_here server a m 403 _) there (none_of_status 403 _ (above 403 (omega arith) (omega arith))))
-    by_verdict (Send q id Targets.NotFound) tells there = absurd (one_there (answer_here server a m 404 []) there (none_of_status 404 [] (above 404 (omega arith) (omega arith))))
-    by_verdict (Send q id Targets.Unavailable) tells there = absurd (one_there (answer_here server a m 480 []) there (none_of_status 480 [] (above 480 (omega arith) (omega arith))))
+    by_verdict (Send q id Targets.NotFound) tells there = absurd (one_there (answer_here server a m 404 []) there
+        (none_of_status 404 [] (above 404 (omega arith) (omega arith))))
+    by_verdict (Send q id Targets.Unavailable) tells there = absurd (one_there (answer_here server a m 480 []) there
+        (none_of_status 480 [] (above 480 (omega arith) (omega arith))))
     by_verdict (Send q id (Targets.Bindings targets)) tells there =
         absurd (none_forked (branches_from a.now 1 targets) (new_branches a.now 1 targets (omega arith)) there)
     by_verdict (Send q id (Targets.Hop uri address)) tells there =
@@ -307,12 +330,14 @@ next_is_new state r numbered there e =
 effect_is : (server : Server) (state : ProxyState) (a : Arrival) (bytes : List ℕ) (m : Message) (short : Bool) → message_in (reading_of bytes) ≡ Some (m, short)
     → (datagram_effect server state a bytes).originals ≡ (effect_of server a m (message_verdict server state a m short) (counted a state)).originals
 effect_is server state a bytes m short says =
-    ap (λ (o : Option (Message × Bool)). (option_map_or (λ x. effect_of server a x.0 x.1 (counted a state)) (verdict_in server state a o) (nothing (counted a state))).originals) says
+    ap (λ (o : Option (Message × Bool)). (option_map_or (λ x. effect_of server a x.0 x.1 (counted a state)) (verdict_in server state a o)
+    (nothing (counted a state))).originals) says
 
 by_datagram : (server : Server) (old new : ProxyState) (out : StepOut) (at word : ℕ) (from : Addr) (bytes : List ℕ) (m : Message) (short : Bool) (extras : List Field)
     → AreNumbered old.next old.requests → IsStep server old (Given (Datagram at word from bytes)) out new → message_in (reading_of bytes) ≡ Some (m, short)
     → Contains (originals out.packets) (answer_here server (arrival_of old at word from) m 200 extras)
-    → IsRegistered server old (arrival_of old at word from) m short (originals out.packets) ⊎ IsCancelling server old (arrival_of old at word from) m (originals out.packets)
+    → IsRegistered server old (arrival_of old at word from) m short (originals out.packets)
+    ⊎ IsCancelling server old (arrival_of old at word from) m (originals out.packets)
 by_datagram server old new out at word from bytes m short extras numbered step says there =
     let a : Arrival = arrival_of old at word from in
     let sends = step.does.sends ∙ effect_is server old a bytes m short says in
@@ -320,13 +345,17 @@ by_datagram server old new out at word from bytes m short extras numbered step s
     (by_verdict server a m extras old short (message_verdict server old a m short) (verdict_tells server old a m short (λ r there. next_is_new old r numbered there))
     (subst (λ (packets : List Packet). Contains packets (answer_here server a m 200 extras)) sends there))
 
-pub granted : ((server : Server) (first : ℕ) (history : List Link) (last : ProxyState) → IsChain server (first_state first) history last → AreNumbered last.next last.requests)
+pub granted : ((server : Server) (first : ℕ) (history : List Link) (last : ProxyState) → IsChain server (first_state first) history last
+    → AreNumbered last.next last.requests)
     → (server : Server) (first : ℕ) (link : Link) (history : List Link) (last : ProxyState) → IsChain server (first_state first) (link ∷ history) last
     → (a : Arrival) (bytes : List ℕ) (m : Message) (short : Bool) (extras : List Field) → IsSaidAt link.before link.act a bytes m short
     → Contains (originals link.out.packets) (answer_here server a m 200 extras)
-    → IsRegistered (under server link.config) link.before a m short (originals link.out.packets) ⊎ IsCancelling (under server link.config) link.before a m (originals link.out.packets)
+    → IsRegistered (under server link.config) link.before a m short (originals link.out.packets)
+    ⊎ IsCancelling (under server link.config) link.before a m (originals link.out.packets)
 granted numbers server first link history last chain a bytes m short extras said there =
     let step = subst (λ (act : Act). IsStep (under server link.config) link.before act link.out link.after) said.is_act chain.1 in
-    subst (λ (b : Arrival). IsRegistered (under server link.config) link.before b m short (originals link.out.packets) ⊎ IsCancelling (under server link.config) link.before b m (originals link.out.packets)) (sym said.is_arrival)
-    (by_datagram (under server link.config) link.before link.after link.out said.at said.word said.from bytes m short extras (numbers server first history link.before chain.2) step said.says
+    subst (λ (b : Arrival). IsRegistered (under server link.config) link.before b m short (originals link.out.packets)
+    ⊎ IsCancelling (under server link.config) link.before b m (originals link.out.packets)) (sym said.is_arrival)
+    (by_datagram (under server link.config) link.before link.after link.out said.at said.word said.from bytes m short extras
+    (numbers server first history link.before chain.2) step said.says
     (subst (λ (b : Arrival). Contains (originals link.out.packets) (answer_here server b m 200 extras)) said.is_arrival there))

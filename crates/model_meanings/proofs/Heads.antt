@@ -36,19 +36,22 @@ limited_start m whole short false false false e = ap (start_or whole.start) e
 from_start : (s : Start) (lines : List (List ℕ)) (rest : List ℕ) (m : Message) (short : Bool) → message_in (message_from s lines rest) ≡ Some (m, short) → s ≡ m.start
 unfolding message_from
 from_start s lines rest m short e = by_entries (entries_of lines) e where
-  by_kept : (n : Option ℕ) (o : Option (List Field)) → message_in (ok_or o BadField >>= λ fields. limited (is_short n rest) (with_body s fields n rest)) ≡ Some (m, short) → s ≡ m.start
+  by_kept : (n : Option ℕ) (o : Option (List Field)) → message_in (ok_or o BadField >>= λ fields. limited (is_short n rest) (with_body s fields n rest)) ≡ Some (m, short)
+      → s ≡ m.start
   by_kept n None e = absurd (cc)
   by_kept n (Some fields) e =
       limited_start m (with_body s fields n rest) short (nat_lt 256 (length fields)) (nat_lt 49152 (length (text_of (with_body s fields n rest)))) (is_short n rest) e
 
   by_length : (entries : List Field) (o : Option (Option ℕ))
-      → message_in (ok_or o BadField >>= λ n. ok_or (kept entries) BadField >>= λ fields. limited (is_short n rest) (with_body s fields n rest)) ≡ Some (m, short) → s ≡ m.start
+      → message_in (ok_or o BadField >>= λ n. ok_or (kept entries) BadField >>= λ fields. limited (is_short n rest) (with_body s fields n rest)) ≡ Some (m, short)
+      → s ≡ m.start
   by_length entries None e = absurd (cc)
   by_length entries (Some n) e = by_kept n (kept entries) e
 
   by_entries : (o : Option (List Field))
       → message_in
-      (ok_or o BadField >>= λ entries. ok_or (one_length (lengths entries)) BadField >>= λ n. ok_or (kept entries) BadField >>= λ fields. limited (is_short n rest) (with_body s fields n rest))
+      (ok_or o BadField >>= λ entries. ok_or (one_length (lengths entries)) BadField >>= λ n. ok_or (kept entries) BadField >>=
+      λ fields. limited (is_short n rest) (with_body s fields n rest))
       ≡ Some (m, short)
       → s ≡ m.start
   by_entries None e = absurd (cc)
@@ -68,7 +71,8 @@ with_folds x = (unfolded x.0, x.1)
 pub head_in : (bytes : List ℕ) (m : Message) (short : Bool) → message_in (reading_of bytes) ≡ Some (m, short) → HasHead bytes m.start
 unfolding reading_of datagram_of
 head_in bytes m short e = by_size (nat_lt 65507 (length bytes)) e where
-  by_lines : (x : List ℕ × List ℕ) (s : Start) (o : Option (List (List ℕ) × List ℕ)) → line_at (after_blanks bytes) ≡ Some x → start_of x.0 ≡ Some s → lines_at false x.1 ≡ o
+  by_lines : (x : List ℕ × List ℕ) (s : Start) (o : Option (List (List ℕ) × List ℕ)) → line_at (after_blanks bytes) ≡ Some x → start_of x.0 ≡ Some s
+      → lines_at false x.1 ≡ o
       → message_in (ok_or (option_map with_folds o) NotSip >>= λ head. message_from s head.0 head.1) ≡ Some (m, short)
       → HasHead bytes m.start
   by_lines x s None first start lines e = absurd (cc)
@@ -85,7 +89,8 @@ head_in bytes m short e = by_size (nat_lt 65507 (length bytes)) e where
   by_start x (Some s) first start e = by_lines x s (lines_at false x.1) first start refl e
 
   by_line : (o : Option (List ℕ × List ℕ)) → line_at (after_blanks bytes) ≡ o
-      → message_in (ok_or o NotSip >>= λ first. ok_or (start_of first.0) NotSip >>= λ start. ok_or (head_at first.1) NotSip >>= λ head. message_from start head.0 head.1) ≡ Some (m, short)
+      → message_in (ok_or o NotSip >>= λ first. ok_or (start_of first.0) NotSip >>= λ start. ok_or (head_at first.1) NotSip >>= λ head. message_from start head.0 head.1)
+      ≡ Some (m, short)
       → HasHead bytes m.start
   by_line None first e = absurd (cc)
   by_line (Some x) first e = by_start x (start_of x.0) first refl e

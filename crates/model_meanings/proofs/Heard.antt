@@ -23,7 +23,8 @@ module _ (server : Server) (old new : ProxyState) (at word : ℕ) (from : Addr) 
   effect_is : Hears server old at word from bytes m v out new → datagram_effect server old (arrival_of old at word from) bytes ≡ effect
   effect_is h =
       ap (λ (o : Option (Message × Verdict.Verdict)).
-      option_map_or (λ (x : Message × Verdict.Verdict). effect_of server (arrival_of old at word from) x.0 x.1 (counted (arrival_of old at word from) old)) o (nothing (counted (arrival_of old at word from) old)))
+      option_map_or (λ (x : Message × Verdict.Verdict). effect_of server (arrival_of old at word from) x.0 x.1 (counted (arrival_of old at word from) old)) o
+      (nothing (counted (arrival_of old at word from) old)))
       h.says
 
   pub sends : Hears server old at word from bytes m v out new → originals out.packets ≡ effect.originals

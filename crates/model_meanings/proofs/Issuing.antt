@@ -1,5 +1,6 @@
 -- A challenge tells the nonce that it issues.
-use Rattle.std.proofs.Common.{◌≡◌, ℕ, suc, ◌+◌, ◌-◌, ◌<◌, ◌≤◌, Bool, true, false, cond, ◌||◌, List, [], ◌∷◌, ◌++◌, codes, length, drop, Any, Contains, count_by, refl, sym, subst, ◌∙◌, arith, append_assoc}
+use Rattle.std.proofs.Common.{◌≡◌, ℕ, suc, ◌+◌, ◌-◌, ◌<◌, ◌≤◌, Bool, true, false, cond, ◌||◌, List, [], ◌∷◌, ◌++◌, codes, length, drop, Any, Contains, count_by, refl}
+use Rattle.std.proofs.Common.{sym, subst, ◌∙◌, arith, append_assoc}
 use Rattle.std.specs.List.{AllByRecursion, list_any}
 use Rattle.std.proofs.lemmas.Bool.Decides.{nat_tests}
 use Rattle.std.proofs.lemmas.List.{length-append, drop-append-le}
@@ -28,7 +29,8 @@ told_by name realm nonce stale algorithm = record {
   front = codes "Digest realm=\"" ++ realm ++ codes "\", ";
   back = (codes ", algorithm=" ++ name_of algorithm ++ codes ", qop=\"auth\"") ++ stale_part stale;
   is_value =
-      parted (codes "Digest realm=\"") realm (codes "\", ") (codes "nonce=\"") nonce (codes "\"") (codes ", algorithm=" ++ name_of algorithm ++ codes ", qop=\"auth\"") (stale_part stale);
+      parted (codes "Digest realm=\"") realm (codes "\", ") (codes "nonce=\"") nonce (codes "\"") (codes ", algorithm=" ++ name_of algorithm ++ codes ", qop=\"auth\"")
+      (stale_part stale);
 }
 
 -- of each that is offered
@@ -81,7 +83,8 @@ none_by p (row ∷ rows) e = by_test (p row) (none_by p rows) (sym (sum_by-cons 
 -- what was issued is known and lives
 pub known_once_issued : (rows : List Nonce) (word now : ℕ) → Any (IsNonceOf word now) (issued rows word now)
 known_once_issued rows word now = by_test (list_any (is_this word now) rows) refl where
-  by_test : (t : Bool) → list_any (is_this word now) rows ≡ t → Any (IsNonceOf word now) (cond t rows (keep_last 4096 (rows ++ record { word = word; since = now; count = 0 } ∷ [])))
+  by_test : (t : Bool) → list_any (is_this word now) rows ≡ t → Any (IsNonceOf word now)
+      (cond t rows (keep_last 4096 (rows ++ record { word = word; since = now; count = 0 } ∷ [])))
   by_test true e = some_by (is_this word now) (IsNonceOf word now) (lives word now) rows e
   by_test false e =
       some_there (IsNonceOf word now) (keep_last 4096 (rows ++ record { word = word; since = now; count = 0 } ∷ [])) (record { word = word; since = now; count = 0 })
@@ -91,6 +94,7 @@ known_once_issued rows word now = by_test (list_any (is_this word now) rows) ref
 pub new_once_issued : (rows : List Nonce) (word now : ℕ) → count_by (is_this word now) rows ≡ 0
     → Contains (issued rows word now) (record { word = word; since = now; count = 0 })
 new_once_issued rows word now none = by_test (list_any (is_this word now) rows) (none_by (is_this word now) rows none) where
-  by_test : (t : Bool) → t ≡ false → Contains (cond t rows (keep_last 4096 (rows ++ record { word = word; since = now; count = 0 } ∷ []))) (record { word = word; since = now; count = 0 })
+  by_test : (t : Bool) → t ≡ false → Contains (cond t rows (keep_last 4096 (rows ++ record { word = word; since = now; count = 0 } ∷ [])))
+      (record { word = word; since = now; count = 0 })
   by_test true e = absurd (cc)
   by_test false e = last_kept rows (record { word = word; since = now; count = 0 })

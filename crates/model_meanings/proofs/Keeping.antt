@@ -69,7 +69,8 @@ module _ (server : Server) (rows : List Binding) (link : Link) (serves : Serves 
 
   gets : GetsIts server rows link.before arrival q.message q.method q.core link.out
   gets =
-      subst (λ (now : ℕ). GetsIts server rows link.before (record { number = link.before.next; now = now; word = new.is_valid.word; from = q.from }) q.message q.method q.core link.out) new.is_valid.is_now
+      subst (λ (now : ℕ). GetsIts server rows link.before (record { number = link.before.next; now = now; word = new.is_valid.word; from = q.from }) q.message q.method
+      q.core link.out) new.is_valid.is_now
       ((subst (λ (act : Act). Serves server rows link.before act link.out) new.is_valid.is_act serves) q.message q.method q.core (new_to server link q new))
 
   goes_there : AllZip (GoesTo q.method) (branch_originals link.out.packets) (places by_digest server rows link q)
@@ -77,15 +78,18 @@ module _ (server : Server) (rows : List Binding) (link : Link) (serves : Serves 
       let ts : List Target = targets_on server rows link.before q.now q.message q.method q.core in
       subst (λ (packets : List Packet). AllZip (GoesTo q.method) packets (places by_digest server rows link q)) (sym gets.reaches)
       (subst (λ (xs : List (Addr × List ℕ)). AllZip (GoesTo q.method) (requests_to server arrival q.message ts) xs) (same_places server rows link q)
-      (zipped link.before.next q.method 1 ts (requests_to server arrival q.message ts) (all_go server arrival q.message q.method new.is_valid.uri new.is_valid.is_said.is_request 1 ts)))
+      (zipped link.before.next q.method 1 ts (requests_to server arrival q.message ts)
+      (all_go server arrival q.message q.method new.is_valid.uri new.is_valid.is_said.is_request 1 ts)))
 
   served : IsServed by_digest server rows link q
   served = record {
     goes = goes_there;
     denies = λ id e.
-        alone server arrival q link.out.packets 403 Name.Warning (denial_warning server.config.own id ∷ []) (denial_warning server.config.own id ∷ []) refl warning_not_copied refl (gets.denies id e);
+        alone server arrival q link.out.packets 403 Name.Warning (denial_warning server.config.own id ∷ []) (denial_warning server.config.own id ∷ []) refl
+        warning_not_copied refl (gets.denies id e);
     lists = λ after allowed e.
-        alone server arrival q link.out.packets 200 Name.Contact (contact_fields q.now (to_aor q.core) after) (contact_fields q.now (to_aor q.core) after) refl contact_not_copied
+        alone server arrival q link.out.packets 200 Name.Contact (contact_fields q.now (to_aor q.core) after) (contact_fields q.now (to_aor q.core) after) refl
+        contact_not_copied
         (all_contacts q.now (live (to_aor q.core) q.now after))
         (gets.lists allowed.id after allowed.registers allowed.is_let_through (bound_is server rows q after e));
     refuses = λ allowed none.
@@ -114,7 +118,8 @@ let_by server state (Given (Time at)) r e = absurd (cc)
 let_by server state (Given (Fault at ticket)) r e = absurd (cc)
 let_by server state (Passing at) r e = absurd (cc)
 
-module _ (law : (server : Server) (state : ProxyState) (a : Arrival) (bytes : List ℕ) (r : Arrived) → (allowed_in server state a bytes ≡ Some r) ↔ IsAllowedRegister server state a bytes r) where
+module _ (law : (server : Server) (state : ProxyState) (a : Arrival) (bytes : List ℕ) (r : Arrived)
+    → (allowed_in server state a bytes ≡ Some r) ↔ IsAllowedRegister server state a bytes r) where
   -- a REGISTER that is allowed is one of those of the history
   is_counted : (server : Server) (link : Link) (q : Came) → IsAllowed by_digest server link q
       → allowed_at server link.before link.act ≡ Some (record { config = server.config; at = q.now; request = q.message })
@@ -130,7 +135,8 @@ module _ (law : (server : Server) (state : ProxyState) (a : Arrival) (bytes : Li
         id = allowed.id;
         is_new = new_to server link q allowed.is_new;
         registers = allowed.registers;
-        is_let_through = subst (λ (now : ℕ). rule_of (decision_on server link.before now q.message q.method q.core) ≡ Some allowed.id) (sym said.is_now) allowed.is_let_through;
+        is_let_through = subst (λ (now : ℕ). rule_of (decision_on server link.before now q.message q.method q.core) ≡ Some allowed.id) (sym said.is_now)
+            allowed.is_let_through;
         is_it = ap (λ (now : ℕ). record { config = server.config; at = now; request = q.message }) (sym said.is_now);
       })
 
@@ -149,18 +155,26 @@ module _ (law : (server : Server) (state : ProxyState) (a : Arrival) (bytes : Li
         let q : Came = came_in a h.m h.method h.core in
         let new : IsNew now_under link q =
         new_of now_under link a let_through.bytes h.m h.method h.core
-        (record { at = let_through.at; word = let_through.word; from = let_through.from; is_act = let_through.is_act; is_arrival = refl; says = h.is_new.says }) h.is_new in
+        (record { at = let_through.at; word = let_through.word; from = let_through.from; is_act = let_through.is_act; is_arrival = refl; says = h.is_new.says }) h.is_new
+        in
         let same : after_register server r rows ≡ unwrap_or (bound_by now_under rows q) rows =
         ap (λ (x : Arrived). after_register server x rows) h.is_it
-        ∙ ap (λ (read : Result CoreFields HeaderError). option_map_or (λ (core : CoreFields). rows_after rows (registration_by now_under rows a.now h.m core)) (result_ok read) rows) h.is_new.core_is ∙ rows_are now_under rows q in
-        subst (Binds by_digest now_under link rows) (sym same) (Registers q (record { id = h.id; is_new = new; registers = h.registers; is_let_through = h.is_let_through }))
+        ∙ ap (λ (read : Result CoreFields HeaderError). option_map_or (λ (core : CoreFields). rows_after rows (registration_by now_under rows a.now h.m core))
+        (result_ok read) rows) h.is_new.core_is ∙ rows_are now_under rows q in
+        subst (Binds by_digest now_under link rows) (sym same) (Registers q (record {
+          id = h.id;
+          is_new = new;
+          registers = h.registers;
+          is_let_through = h.is_let_through;
+        }))
 
     none_is : (r : Arrived) → ◌≡◌ {A = Option Arrived} None (Some r) → ⊥
     none_is r e = absurd (cc)
 
     binds : Binds by_digest now_under link rows (bindings_after server (link ∷ history))
     binds = by_allowed (allowed_at now_under link.before link.act) refl where
-      by_allowed : (o : Option Arrived) → allowed_at now_under link.before link.act ≡ o → Binds by_digest now_under link rows (bindings_by server (option_to_list o ++ allowed_registers server history))
+      by_allowed : (o : Option Arrived) → allowed_at now_under link.before link.act ≡ o
+          → Binds by_digest now_under link rows (bindings_by server (option_to_list o ++ allowed_registers server history))
       by_allowed None is = Stays (λ q allowed. none_is _ (sym is ∙ is_counted now_under link q allowed))
       by_allowed (Some r) is = registers r (let_by now_under link.before link.act r is)
 

@@ -14,6 +14,9 @@ pub answered_later_refused : (status : ℕ) (extras : List Field) (known after :
 answered_later_refused status extras known after earlier access =
     let link : Link = answered_later status extras known after in
     some_is_not_none _ _
-    (sends_nothing sample earlier link
-    (idle_without sample link.before link.act (link ∷ earlier) 1500 (nothing_comes sample link.before link.act refl) refl denied_register (λ answering. absurd (true≢false (sym answering))) tt, tt) refl
+    (sends_nothing sample earlier link (
+      idle_without sample link.before link.act (link ∷ earlier) 1500 (nothing_comes sample link.before link.act refl) refl denied_register
+          (λ answering. absurd (true≢false (sym answering))) tt,
+      tt,
+    ) refl
     access)

@@ -41,16 +41,19 @@ module _ (name other : FieldName) (differ : is_same_name other name ≡ false) w
   none_among : (fields : List Field) → all_named name (all_named other fields) ≡ []
   none_among [] = refl
   none_among (f ∷ fields) = by_test (is_same_name f.name other) refl (none_among fields) where
-    by_test : (t : Bool) → is_same_name f.name other ≡ t → all_named name (all_named other fields) ≡ [] → all_named name (cond t (f ∷ all_named other fields) (all_named other fields)) ≡ []
+    by_test : (t : Bool) → is_same_name f.name other ≡ t → all_named name (all_named other fields) ≡ []
+        → all_named name (cond t (f ∷ all_named other fields) (all_named other fields)) ≡ []
     by_test true is rest =
-        ap (λ (b : Bool). cond {A = List Field} b (f ∷ all_named name (all_named other fields)) (all_named name (all_named other fields))) (other_name f.name other name differ is) ∙ rest
+        ap (λ (b : Bool). cond {A = List Field} b (f ∷ all_named name (all_named other fields)) (all_named name (all_named other fields)))
+        (other_name f.name other name differ is) ∙ rest
     by_test false is rest = rest
 
   -- nor has the first of them
   none_first : (fields : List Field) → all_named name (first_of other fields) ≡ []
   none_first [] = refl
   none_first (f ∷ fields) = by_test (is_same_name f.name other) refl (none_first fields) where
-    by_test : (t : Bool) → is_same_name f.name other ≡ t → all_named name (first_of other fields) ≡ [] → all_named name (option_to_list (cond t (Some f) (first_named other fields))) ≡ []
+    by_test : (t : Bool) → is_same_name f.name other ≡ t → all_named name (first_of other fields) ≡ []
+        → all_named name (option_to_list (cond t (Some f) (first_named other fields))) ≡ []
     by_test true is rest = ap (λ (b : Bool). cond {A = List Field} b (f ∷ []) []) (other_name f.name other name differ is)
     by_test false is rest = rest
 
@@ -107,7 +110,8 @@ module _ (name : FieldName) (is : IsNotCopied name) where
       (both (vias ++ froms ++ tos ++ ids ++ cseqs) times
       (both (vias ++ froms ++ tos ++ ids) cseqs
       (both (vias ++ froms ++ tos) ids
-      (both (vias ++ froms) tos (both vias froms (none_among name Name.Via is.via fields) (none_first name Name.From is.from fields)) (none_answered name Name.To is.to status tag fields))
+      (both (vias ++ froms) tos (both vias froms (none_among name Name.Via is.via fields) (none_first name Name.From is.from fields))
+      (none_answered name Name.To is.to status tag fields))
       (none_first name Name.CallId is.call_id fields))
       (none_first name Name.CSeq is.cseq fields))
       (no_timestamp status fields))
@@ -134,7 +138,8 @@ module _ (server : Server) (rows : List Binding) (q : Came) where
 
   served_here : (o : Option Uri)
       → (is_own_uri server o && is_users_address server.config.users server.config.own.domains (to_aor q.core))
-      ≡ (option_map_or (λ (uri : Uri). is_own_domain server.config.own.domains uri.host) o false && is_users_address server.config.users server.config.own.domains (to_aor q.core))
+      ≡ (option_map_or (λ (uri : Uri). is_own_domain server.config.own.domains uri.host) o false
+      && is_users_address server.config.users server.config.own.domains (to_aor q.core))
   served_here None = refl
   served_here (Some uri) = refl
 
@@ -143,10 +148,12 @@ module _ (server : Server) (rows : List Binding) (q : Came) where
 
   same_edit : edited_by rows (registration_of q.core q.message.fields) q.now ≡ result_ok made
   same_edit =
-      by_tests (asks_nothing asked.contacts) (has_bad_star asked) (is_too_brief asked) (has_old_cseq asked (live asked.aor q.now rows)) (nat_lt 16 (length (edited rows asked q.now))) where
+      by_tests (asks_nothing asked.contacts) (has_bad_star asked) (is_too_brief asked) (has_old_cseq asked (live asked.aor q.now rows))
+      (nat_lt 16 (length (edited rows asked q.now))) where
         by_tests : (asks a b c d : Bool)
             → cond asks (Some rows) (cond (a || b || c || d) None (Some (of_others asked.aor rows ++ edited rows asked q.now)))
-            ≡ result_ok (cond asks (Ok rows) (cond a (Err BadStar) (cond b (Err TooBrief) (cond c (Err OldCSeq) (cond d (Err TooMany) (Ok (of_others asked.aor rows ++ edited rows asked q.now)))))))
+            ≡ result_ok (cond asks (Ok rows) (cond a (Err BadStar) (cond b (Err TooBrief)
+            (cond c (Err OldCSeq) (cond d (Err TooMany) (Ok (of_others asked.aor rows ++ edited rows asked q.now)))))))
         by_tests true a b c d = refl
         by_tests false true b c d = refl
         by_tests false false true c d = refl
@@ -197,4 +204,5 @@ refusal_by false r e = record { status = 404; extras = []; is_it = refl; is_fina
 
 -- a REGISTER of which the registrar makes no bindings is refused
 pub refusal_is : (server : Server) (rows : List Binding) (q : Came) → bound_by server rows q ≡ None → IsRefusal (registration_by server rows q.now q.message q.core)
-refusal_is server rows q e = subst IsRefusal (sym (outcome_is server rows q)) (refusal_by (is_served_here server q) (registered rows (registration_of q.core q.message.fields) q.now) (sym (same_bound server rows q) ∙ e))
+refusal_is server rows q e = subst IsRefusal (sym (outcome_is server rows q)) (refusal_by (is_served_here server q)
+    (registered rows (registration_of q.core q.message.fields) q.now) (sym (same_bound server rows q) ∙ e))

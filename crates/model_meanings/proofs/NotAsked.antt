@@ -1,5 +1,6 @@
 -- A step in which policy isn't asked is one by each configuration that gives hosts the same addresses.
-use Rattle.std.proofs.Common.{◌≡◌, inl, inr, ◌∙◌, ℕ, ◌==◌, Bool, true, false, if◌then◌else◌, List, [], find, codes, bytes_eq, Option, Some, None, option_and_then, refl, sym, ap, subst}
+use Rattle.std.proofs.Common.{◌≡◌, inl, inr, ◌∙◌, ℕ, ◌==◌, Bool, true, false, if◌then◌else◌, List, [], find, codes, bytes_eq, Option, Some, None, option_and_then, refl}
+use Rattle.std.proofs.Common.{sym, ap, subst}
 use Rattle.std.specs.Option.{option_map_or}
 use Rattle.std.specs.Prelude.{option_map}
 use Rattle.std.specs.Result.{result_ok}
@@ -30,9 +31,13 @@ use Rattle.sip_model.specs.state.Arrival.{Arrival}
 use Rattle.sip_model.specs.context_model.Branches.{Change}
 use Rattle.sip_model.specs.context_model.Retransmission.{IsResent, OfAnswer, OfRequest}
 use Rattle.sip_model.specs.verdict_model.declared.question.Question.{Question}
-use Rattle.sip_model.specs.verdict_model.Verdict.{Registered, Verdict, Drop, Respond, Copy, AckOn, Cancel, Answer, InDialog, Challenge, Deny, Send, Register, is_full, is_register, is_outside, question_of, answer_of, registration_by, request_targets, decided, policy_verdict, within, ack_verdict, cancel_verdict, core_verdict, checked_verdict, new_verdict, by_open, by_key, by_start, message_verdict, message_in, verdict_in, verdict_of}
+use Rattle.sip_model.specs.verdict_model.Verdict.{Registered, Verdict, Drop, Respond, Copy, AckOn, Cancel, Answer, InDialog, Challenge, Deny, Send, Register, is_full}
+use Rattle.sip_model.specs.verdict_model.Verdict.{is_register, is_outside, question_of, answer_of, registration_by, request_targets, decided, policy_verdict, within}
+use Rattle.sip_model.specs.verdict_model.Verdict.{ack_verdict, cancel_verdict, core_verdict, checked_verdict, new_verdict, by_open, by_key, by_start, message_verdict}
+use Rattle.sip_model.specs.verdict_model.Verdict.{message_in, verdict_in, verdict_of}
 use Rattle.sip_model.specs.steps_model.Effect.{Effect, changed, counted, effect_of, nothing, datagram_effect}
-use Rattle.sip_model.specs.steps_model.Step.{Act, Given, Passing, IsStep, Does, IsQuiet, IsOverdue, OfSide, OfBranch, resent, arrival_of, moment_of, is_failed, failed_branch, failed_request, fault_effect}
+use Rattle.sip_model.specs.steps_model.Step.{Act, Given, Passing, IsStep, Does, IsQuiet, IsOverdue, OfSide, OfBranch, resent, arrival_of, moment_of, is_failed}
+use Rattle.sip_model.specs.steps_model.Step.{failed_branch, failed_request, fault_effect}
 use Rattle.sip_model.specs.Run.{under}
 use Rattle.sip_model.specs.Histories.{Judged, judged_at, asked_in}
 
@@ -78,15 +83,18 @@ module _ (server : Server) (config : Config) where
       → core_verdict other state now m method o ≡ core_verdict server state now m method o
   core_same state now m method None e = refl
   core_same state now m method (Some core) e =
-      taken_second (is_outside method core) (policy_verdict server state now m method core) (policy_verdict other state now m method core) (within server state now m InDialog (Answer 481 []))
-      (outside_is_asked server state now m method core (question_of server state.nonces now m method core) (answer_of server (question_of server state.nonces now m method core))) e
+      taken_second (is_outside method core) (policy_verdict server state now m method core) (policy_verdict other state now m method core)
+      (within server state now m InDialog (Answer 481 []))
+      (outside_is_asked server state now m method core (question_of server state.nonces now m method core)
+      (answer_of server (question_of server state.nonces now m method core))) e
 
   -- on one that the checks refuse, or don't
   checked_same : (state : ProxyState) (now : ℕ) (m : Message) (method : List ℕ) (o : Option (ℕ × List ℕ)) → IsNotAsked (checked_verdict server state now m method o)
       → checked_verdict other state now m method o ≡ checked_verdict server state now m method o
   checked_same state now m method (Some refusal) e = refl
   checked_same state now m method None e =
-      second_same (is_full state) (Answer 503 []) (core_verdict server state now m method (result_ok (core_of m))) (core_verdict other state now m method (result_ok (core_of m)))
+      second_same (is_full state) (Answer 503 []) (core_verdict server state now m method (result_ok (core_of m)))
+      (core_verdict other state now m method (result_ok (core_of m)))
       (core_same state now m method (result_ok (core_of m))) e
 
   -- on one whose key isn't open
@@ -94,15 +102,18 @@ module _ (server : Server) (config : Config) where
       → new_verdict other state a m short method key ≡ new_verdict server state a m short method key
   new_same state a m short method key e =
       second_same (bytes_eq method (codes "ACK")) (ack_verdict server state a.now m short) (cancel_or server) (cancel_or other)
-      (second_same (bytes_eq method (codes "CANCEL")) (cancel_verdict server state a m short key) (checked_verdict server state a.now m method (refusal_of server.config.own m short))
-      (checked_verdict other state a.now m method (refusal_of server.config.own m short)) (checked_same state a.now m method (refusal_of server.config.own m short))) e where
+      (second_same (bytes_eq method (codes "CANCEL")) (cancel_verdict server state a m short key)
+      (checked_verdict server state a.now m method (refusal_of server.config.own m short))
+      (checked_verdict other state a.now m method (refusal_of server.config.own m short)) (checked_same state a.now m method (refusal_of server.config.own m short)))
+      e where
         cancel_or : Server → Verdict
         cancel_or x =
             if bytes_eq method (codes "CANCEL") then cancel_verdict x state a m short key
             else checked_verdict x state a.now m method (refusal_of x.config.own m short)
 
   -- on any
-  open_same : (state : ProxyState) (a : Arrival) (m : Message) (short : Bool) (method : List ℕ) (key : Key) (o : Option OpenRequest) → IsNotAsked (by_open server state a m short method key o)
+  open_same : (state : ProxyState) (a : Arrival) (m : Message) (short : Bool) (method : List ℕ) (key : Key) (o : Option OpenRequest)
+      → IsNotAsked (by_open server state a m short method key o)
       → by_open other state a m short method key o ≡ by_open server state a m short method key o
   open_same state a m short method key None e = new_same state a m short method key e
   open_same state a m short method key (Some r) e = refl
@@ -137,10 +148,12 @@ module _ (server : Server) (config : Config) where
   judged_same : (a : Arrival) (m : Message) (short : Bool) (state : ProxyState) → IsNotAsked (message_verdict server state a m short)
       → effect_of other a m (message_verdict other state a m short) (counted a state) ≡ effect_of server a m (message_verdict server state a m short) (counted a state)
   judged_same a m short state e =
-      ap (λ (v : Verdict). effect_of other a m v (counted a state)) (start_same state a m short m.start e) ∙ effect_same a m (message_verdict server state a m short) (counted a state) e
+      ap (λ (v : Verdict). effect_of other a m v (counted a state)) (start_same state a m short m.start e)
+      ∙ effect_same a m (message_verdict server state a m short) (counted a state) e
 
   -- what bytes say does the same
-  said_same : (state : ProxyState) (a : Arrival) (said : Option (Message × Bool)) → option_and_then (λ (x : Message × Verdict). asked_in x.1) (verdict_in server state a said) ≡ None
+  said_same : (state : ProxyState) (a : Arrival) (said : Option (Message × Bool)) → option_and_then (λ (x : Message × Verdict). asked_in x.1)
+      (verdict_in server state a said) ≡ None
       → option_map_or (λ x. effect_of other a x.0 x.1 (counted a state)) (verdict_in other state a said) (nothing (counted a state))
       ≡ option_map_or (λ x. effect_of server a x.0 x.1 (counted a state)) (verdict_in server state a said) (nothing (counted a state))
   said_same state a None e = refl
@@ -156,7 +169,8 @@ module _ (server : Server) (config : Config) where
   asked_said state a (Some x) e = e
 
   -- the same effect is done by either
-  does_same : (old : ProxyState) (at : ℕ) (effect like : Effect) (out : StepOut) (new : ProxyState) → like ≡ effect → Does server old at effect out new → Does other old at like out new
+  does_same : (old : ProxyState) (at : ℕ) (effect like : Effect) (out : StepOut) (new : ProxyState) → like ≡ effect → Does server old at effect out new
+      → Does other old at like out new
   does_same old at effect like out new same h = record {
     at_moment = h.at_moment;
     sends = h.sends ∙ ap (λ (e : Effect). e.originals) (sym same);
@@ -210,7 +224,8 @@ module _ (server : Server) (config : Config) where
       branch_same now state r None = refl
       branch_same now state r (Some b) = refl
 
-      fault_same : (now : ℕ) (ticket : Ticket) (state : ProxyState) (o : Option OpenRequest) → failed_request other now ticket state o ≡ failed_request server now ticket state o
+      fault_same : (now : ℕ) (ticket : Ticket) (state : ProxyState) (o : Option OpenRequest)
+          → failed_request other now ticket state o ≡ failed_request server now ticket state o
       fault_same now ticket state None = refl
       fault_same now ticket state (Some r) = branch_same now state r (find (is_failed ticket.branch) r.branches)
   step_same old (Passing at) out new e (inl quiet) = inl (quiet_same old at out new quiet)
@@ -245,4 +260,5 @@ pub step_stays : (server : Server) (config : Config) (old new : ProxyState) (act
     → option_and_then (λ (j : Judged). asked_in j.verdict) (judged_at server old act) ≡ None → IsStep server old act out new
     → IsStep (under server config) old act out new
 step_stays server config old new act out same e h =
-    subst (λ (rows : List HostAddress). IsStep (under server (record config { addresses = rows })) old act out new) (sym same) (step_same server config old act out new e h)
+    subst (λ (rows : List HostAddress). IsStep (under server (record config { addresses = rows })) old act out new) (sym same)
+    (step_same server config old act out new e h)

@@ -1,5 +1,6 @@
 -- What a change of an open request sends is of that request's number; what an opening sends for a request's own number is no 200.
-use Rattle.std.proofs.Common.{◌≡◌, ℕ, suc, ◌+◌, ◌≤◌, ◌<◌, ◌^◌, Bool, true, false, cond, ◌&&◌, ◌||◌, List, [], ◌∷◌, ◌++◌, codes, decimal, length, get_or, flat_map, Option, Some, None, refl, sym, ap, ◌∙◌, arith, append_assoc}
+use Rattle.std.proofs.Common.{◌≡◌, ℕ, suc, ◌+◌, ◌≤◌, ◌<◌, ◌^◌, Bool, true, false, cond, ◌&&◌, ◌||◌, List, [], ◌∷◌, ◌++◌, codes, decimal, length, get_or, flat_map, Option}
+use Rattle.std.proofs.Common.{Some, None, refl, sym, ap, ◌∙◌, arith, append_assoc}
 use Rattle.std.specs.Option.{option_map_or}
 use Rattle.std.specs.List.{AllByRecursion}
 use Rattle.std.proofs.lemmas.Fmt.{decimal_is_IsNumeral, decimal_injective}
@@ -21,7 +22,8 @@ use Rattle.sip_message_fields.specs.declared.field_name.FieldName.TheVariants as
 use Rattle.sip_message_fields.specs.Values.{first_value}
 use Rattle.sip_edit.specs.OwnRequests.{ack_with}
 use Rattle.sip_model.specs.context_model.Sending.{branch_packets, to_branch, ack_packets, request_of}
-use Rattle.sip_model.specs.context_model.Branches.{Change, settled, after_upward, best_upward, new_cancels, marked, search_ended, with_phase, with_answer, acks_of, responded, target_responded, cancel_responded, heard, other_heard, further, relayed_provisional, relayed_success}
+use Rattle.sip_model.specs.context_model.Branches.{Change, settled, after_upward, best_upward, new_cancels, marked, search_ended, with_phase, with_answer, acks_of}
+use Rattle.sip_model.specs.context_model.Branches.{responded, target_responded, cancel_responded, heard, other_heard, further, relayed_provisional, relayed_success}
 use Rattle.sip_model.specs.steps_model.Effect.{upward_packets, change_packets}
 
 -- ---- statuses in texts
@@ -49,16 +51,19 @@ digits_high : (n : ℕ) → n < 2 ^ 64 → AreHigh (decimal n)
 digits_high n fits i lt = (digit_at (decimal n) i (decimal_is_IsNumeral n fits).0.1 lt).0
 
 parted : (front number space reason end fields name size blank body : List ℕ)
-    → front ++ number ++ space ++ reason ++ end ++ fields ++ name ++ size ++ blank ++ body ≡ front ++ (number ++ (space ++ (reason ++ end ++ fields ++ name ++ size ++ blank ++ body)))
+    → front ++ number ++ space ++ reason ++ end ++ fields ++ name ++ size ++ blank ++ body ≡ front
+    ++ (number ++ (space ++ (reason ++ end ++ fields ++ name ++ size ++ blank ++ body)))
 parted front number space reason end fields name size blank body = simp append_assoc
 
 -- the text of a response says its status
 text_says : (m : Message) (status : ℕ) (reason : List ℕ) → m.start ≡ Status status reason
     → text_of m
     ≡ codes "SIP/2.0 "
-    ++ (decimal status ++ (codes " " ++ (reason ++ codes "\r\n" ++ flat_map field_text m.fields ++ codes "Content-Length: " ++ decimal (length m.body) ++ codes "\r\n\r\n" ++ m.body)))
+    ++ (decimal status ++ (codes " " ++ (reason ++ codes "\r\n" ++ flat_map field_text m.fields ++ codes "Content-Length: " ++ decimal (length m.body) ++ codes "\r\n\r\n"
+    ++ m.body)))
 text_says m status reason e =
-    ap (λ (s : Start). start_text s ++ codes "\r\n" ++ flat_map field_text m.fields ++ codes "Content-Length: " ++ decimal (length m.body) ++ codes "\r\n\r\n" ++ m.body) e
+    ap (λ (s : Start). start_text s ++ codes "\r\n" ++ flat_map field_text m.fields ++ codes "Content-Length: " ++ decimal (length m.body) ++ codes "\r\n\r\n" ++ m.body)
+    e
     ∙ parted (codes "SIP/2.0 ") (decimal status) (codes " ") reason (codes "\r\n") (flat_map field_text m.fields) (codes "Content-Length: ") (decimal (length m.body))
     (codes "\r\n\r\n") m.body
 
@@ -84,13 +89,19 @@ module _ (number : ℕ) where
   of_branch : (r : OpenRequest) (b : Branch) (target : ℕ) (m : Message) → r.number ≡ number → AllByRecursion (IsOf number) (to_branch r b target false m)
   of_branch r b target m is = by_address b.address where
     by_address : (o : Option Addr)
-        → AllByRecursion (IsOf number) (option_map_or (λ address. record { to = address; bytes = text_of m; ticket = record { datagram = r.number; branch = target }; again = false } ∷ []) o [])
+        → AllByRecursion (IsOf number) (option_map_or (λ address. record {
+          to = address;
+          bytes = text_of m;
+          ticket = record { datagram = r.number; branch = target };
+          again = false;
+        } ∷ []) o [])
     by_address None = tt
     by_address (Some address) = (is, tt)
 
   of_branches : (server : Server) (r : OpenRequest) (bs : List Branch) → r.number ≡ number → AllByRecursion (IsOf number) (flat_map (branch_packets server false r) bs)
   of_branches server r [] is = tt
-  of_branches server r (b ∷ bs) is = all_both (branch_packets server false r b) (flat_map (branch_packets server false r) bs) (of_branch r b _ _ is) (of_branches server r bs is)
+  of_branches server r (b ∷ bs) is = all_both (branch_packets server false r b) (flat_map (branch_packets server false r) bs) (of_branch r b _ _ is)
+      (of_branches server r bs is)
 
   of_upward : (r : OpenRequest) (us : List Upward) → r.number ≡ number → AllByRecursion (IsOf number) (upward_packets r us)
   of_upward r [] is = tt
@@ -112,7 +123,8 @@ module _ (number : ℕ) where
       (all_both acks (upward_packets change.request change.upward) those (of_upward change.request change.upward stays))
       (of_branches server after (new_cancels now after) stays)
 
-  acks_are_of : (server : Server) (r : OpenRequest) (b : Branch) (status : ℕ) (m : Message) → r.number ≡ number → AllByRecursion (IsOf number) (acks_of server r b status m)
+  acks_are_of : (server : Server) (r : OpenRequest) (b : Branch) (status : ℕ) (m : Message) → r.number ≡ number
+      → AllByRecursion (IsOf number) (acks_of server r b status m)
   acks_are_of server r b status m is = by_test (is_invite r && is_failure status) where
     by_test : (t : Bool) → AllByRecursion (IsOf number) (cond t (ack_packets server false r b (first_value Name.To m.fields)) [])
     by_test true = of_branch r b 0 (ack_with (first_value Name.To m.fields) (request_of server r b)) is
@@ -127,8 +139,10 @@ module _ (number : ℕ) where
   target_of : (server : Server) (now : ℕ) (r : OpenRequest) (b : Branch) (status : ℕ) (m : Message) → r.number ≡ number
       → AllByRecursion (IsOf number) (change_packets (target_responded server now r b status m))
   target_of server now r b status m is = by_tests (is_provisional status) (is_final b.phase) where
-    by_tests : (s t : Bool) → AllByRecursion (IsOf number) (change_packets (cond s (settled server now [] (relayed_provisional r b status m) (with_phase b (heard r now status b.phase) r))
-        (cond t (settled server now [] (further r b b.phase status m) r) (settled server now (acks_of server r b status m) (relayed_success r b status m) (with_answer r b now status m)))))
+    by_tests : (s t : Bool) → AllByRecursion (IsOf number) (change_packets (cond s (settled server now [] (relayed_provisional r b status m)
+        (with_phase b (heard r now status b.phase) r))
+        (cond t (settled server now [] (further r b b.phase status m) r) (settled server now (acks_of server r b status m) (relayed_success r b status m)
+        (with_answer r b now status m)))))
     by_tests true t = settled_of server now [] (relayed_provisional r b status m) (with_phase b (heard r now status b.phase) r) is tt
     by_tests false true = settled_of server now [] (further r b b.phase status m) r is tt
     by_tests false false =

@@ -1,5 +1,6 @@
 -- Two requests have the same key where they are of one transaction.
-use Rattle.std.proofs.Common.{◌≡◌, ◌↔◌, ℕ, Bool, true, false, cond, ◌&&◌, ◌==◌, List, ◌++◌, codes, Option, Some, None, IsSome, refl, sym, ap, subst, ◌∙◌, inl, inr, bytes_eq, unwrap_or}
+use Rattle.std.proofs.Common.{◌≡◌, ◌↔◌, ℕ, Bool, true, false, cond, ◌&&◌, ◌==◌, List, ◌++◌, codes, Option, Some, None, IsSome, refl, sym, ap, subst, ◌∙◌, inl, inr}
+use Rattle.std.proofs.Common.{bytes_eq, unwrap_or}
 use Rattle.std.specs.Option.{option_and_then}
 use Rattle.std.proofs.lemmas.Bool.Decides.{Decides-eqb}
 use Rattle.std.proofs.lemmas.Slice.Eq.{bytes_eq-Decides}
@@ -97,7 +98,8 @@ same_method left right (inr both) = counts_as_invite left both.0 ∙ sym (counts
 -- and no others do
 pub one_method : (left right : List ℕ) → key_method left ≡ key_method right → AreOneMethod left right
 one_method left right e = by_tests (bytes_eq left (codes "ACK")) (bytes_eq right (codes "ACK")) refl refl e where
-  by_tests : (s t : Bool) → bytes_eq left (codes "ACK") ≡ s → bytes_eq right (codes "ACK") ≡ t → cond s (codes "INVITE") left ≡ cond t (codes "INVITE") right → AreOneMethod left right
+  by_tests : (s t : Bool) → bytes_eq left (codes "ACK") ≡ s → bytes_eq right (codes "ACK") ≡ t → cond s (codes "INVITE") left ≡ cond t (codes "INVITE") right
+      → AreOneMethod left right
   by_tests true true l r e = inr (inr (equal_by left (codes "ACK") l), inr (equal_by right (codes "ACK") r))
   by_tests true false l r e = inr (inr (equal_by left (codes "ACK") l), inl (sym e))
   by_tests false true l r e = inr (inl e, inr (equal_by right (codes "ACK") r))
@@ -131,7 +133,8 @@ module _ (method : List ℕ) (via : Via) (branch : List ℕ) (other_method : Lis
   -- and requests of one transaction have equal keys
   equal_made : AreOneTransaction method via branch other_method other_via other_branch → made_of method via branch ≡ made_of other_method other_via other_branch
   equal_made h =
-      of_parts (made_of method via branch) (made_of other_method other_via other_branch) h.branches (equal_by (without_case via.host) (without_case other_via.host) h.hosts)
+      of_parts (made_of method via branch) (made_of other_method other_via other_branch) h.branches
+      (equal_by (without_case via.host) (without_case other_via.host) h.hosts)
       (port_same via.port other_via.port h.ports) (same_method method other_method h.methods)
 
   pub same_where_one : (m other : Message) (left right : Key) → SaysOnTop m method via branch → SaysOnTop other other_method other_via other_branch

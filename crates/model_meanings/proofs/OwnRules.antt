@@ -39,7 +39,8 @@ abbrev known : ProxyState
 known = before_call (knowing (codes "5082" ∷ []))
 
 -- the verdict denies it, by rule 3
-is_denied : sent_at_once denying (arrival_of known 62000 9 (local 5070)) Onward.invite (message_verdict denying known (arrival_of known 62000 9 (local 5070)) Onward.invite false) ≡ denial_by 3 ∷ []
+is_denied : sent_at_once denying (arrival_of known 62000 9 (local 5070)) Onward.invite
+    (message_verdict denying known (arrival_of known 62000 9 (local 5070)) Onward.invite false) ≡ denial_by 3 ∷ []
 unfolding digits encode_with rest_of reading_of core_in nonce_text
 is_denied = refl
 
@@ -83,7 +84,8 @@ abbrev judged_as : Message × Verdict → Judged
 judged_as x = record { arrival = arrival_of known 62000 9 (local 5070); message = x.0; verdict = x.1 }
 
 -- what is recorded of the INVITE, by the verdict on it
-its_records : records_at denying known invite_comes ≡ records_of denying (arrival_of known 62000 9 (local 5070)) Onward.invite (message_verdict denying known (arrival_of known 62000 9 (local 5070)) Onward.invite false)
+its_records : records_at denying known invite_comes ≡ records_of denying (arrival_of known 62000 9 (local 5070)) Onward.invite
+    (message_verdict denying known (arrival_of known 62000 9 (local 5070)) Onward.invite false)
 its_records =
     ap (λ (said : Option (Message × Bool)).
     option_map_or (λ j. records_of denying j.arrival j.message j.verdict)
@@ -95,7 +97,8 @@ first_rule : List Record → ℕ
 first_rule [] = 0
 first_rule (r ∷ rs) = rule_of r.outcome
 
-by_rule_3 : first_rule (records_of denying (arrival_of known 62000 9 (local 5070)) Onward.invite (message_verdict denying known (arrival_of known 62000 9 (local 5070)) Onward.invite false)) ≡ 3
+by_rule_3 : first_rule (records_of denying (arrival_of known 62000 9 (local 5070)) Onward.invite
+    (message_verdict denying known (arrival_of known 62000 9 (local 5070)) Onward.invite false)) ≡ 3
 unfolding first_rule digits encode_with rest_of reading_of core_in nonce_text
 by_rule_3 = refl
 

@@ -1,5 +1,6 @@
 -- To what each packet of a step belongs.
-use Rattle.std.proofs.Common.{◌≡◌, ◌∙◌, ℕ, Bool, true, false, cond, not, ◌&&◌, List, [], ◌∷◌, flat_map, codes, bytes_eq, Contains, Option, Some, None, refl, sym, ap, subst, true≢false}
+use Rattle.std.proofs.Common.{◌≡◌, ◌∙◌, ℕ, Bool, true, false, cond, not, ◌&&◌, List, [], ◌∷◌, flat_map, codes, bytes_eq, Contains, Option, Some, None, refl, sym, ap}
+use Rattle.std.proofs.Common.{subst, true≢false}
 use Rattle.std.specs.Option.{option_map_or}
 use Rattle.std.specs.List.{AllByRecursion}
 use Rattle.sip_uri.specs.declared.addr.Addr.{Addr}
@@ -34,7 +35,8 @@ use Rattle.sip_model.specs.steps_model.Effect.{method_of}
 use Rattle.sip_model.specs.steps_model.Step.{Act, originals, retransmissions}
 use Rattle.sip_model.specs.Run.{Link}
 use Rattle.sip_model.specs.Lives.{first_sending}
-use Rattle.sip_model.specs.Access.{IsServed as GetsIts, Serves, IsSaidAt, IsNewRequest, IsOpen, Before, Brought, IsOwed, ToTarget, Answers, Forwards, Acknowledges, Cancels, InKnownDialog, targets_on, requests_to}
+use Rattle.sip_model.specs.Access.{IsServed as GetsIts, Serves, IsSaidAt, IsNewRequest, IsOpen, Before, Brought, IsOwed, ToTarget, Answers, Forwards, Acknowledges}
+use Rattle.sip_model.specs.Access.{Cancels, InKnownDialog, targets_on, requests_to}
 use Rattle.model_meanings.specs.Headline.{Belongs, WentBefore}
 use Rattle.model_meanings.specs.Headline as Whose
 use Rattle.sip_model.proofs.Places.{contains_from_in, all_weaker}
@@ -71,10 +73,16 @@ module _ (server : Server) (rows : List Binding) (link : Link) where
   -- ---- an open request
 
   -- a message to a branch of it
-  of_branch : (r : OpenRequest) (b : Branch) (target : ℕ) (again : Bool) (m : Message) → Contains link.before.requests r → Contains r.branches b → AllByRecursion Owner (to_branch r b target again m)
+  of_branch : (r : OpenRequest) (b : Branch) (target : ℕ) (again : Bool) (m : Message) → Contains link.before.requests r → Contains r.branches b
+      → AllByRecursion Owner (to_branch r b target again m)
   of_branch r b target again m stands its = by_address b.address refl where
     by_address : (o : Option Addr) → b.address ≡ o
-        → AllByRecursion Owner (option_map_or (λ address. record { to = address; bytes = text_of m; ticket = record { datagram = r.number; branch = target }; again = again } ∷ []) o [])
+        → AllByRecursion Owner (option_map_or (λ address. record {
+          to = address;
+          bytes = text_of m;
+          ticket = record { datagram = r.number; branch = target };
+          again = again;
+        } ∷ []) o [])
     by_address None is = tt
     by_address (Some address) is = (Whose.ToBranch r b stands its is refl, tt)
 
@@ -100,7 +108,8 @@ module _ (server : Server) (rows : List Binding) (link : Link) where
   -- what goes again of a branch
   of_again : (r : OpenRequest) (b : Branch) → Contains link.before.requests r → Contains r.branches b → AllByRecursion Owner (branch_again server r b)
   of_again r b stands its =
-      all_append Owner (cond (goes_again r b) (branch_packets server true r b) []) (acks_again server r b b.phase) (by_test (goes_again r b)) (of_acks r b b.phase stands its) where
+      all_append Owner (cond (goes_again r b) (branch_packets server true r b) []) (acks_again server r b b.phase) (by_test (goes_again r b))
+      (of_acks r b b.phase stands its) where
         by_test : (t : Bool) → AllByRecursion Owner (cond t (branch_packets server true r b) [])
         by_test true = of_branch r b (ticket_branch b) true (sent_of server r b) stands its
         by_test false = tt
@@ -112,7 +121,8 @@ module _ (server : Server) (rows : List Binding) (link : Link) where
       holds_of Owner (retransmissions_of server r) p
       (all_append Owner (answers_again r r.answer) (flat_map (branch_again server r) r.branches) (of_answer r r.answer is.is_open)
       (all_flat_map Owner (branch_again server r) r.branches
-      (all_from_in (λ (b : Branch). AllByRecursion Owner (branch_again server r b)) r.branches (λ b there. of_again r b is.is_open (contains_from_in r.branches b there)))))
+      (all_from_in (λ (b : Branch). AllByRecursion Owner (branch_again server r b)) r.branches
+      (λ b there. of_again r b is.is_open (contains_from_in r.branches b there)))))
       is.is_one
 
   -- ---- what is sent for the first time
@@ -140,7 +150,8 @@ module _ (server : Server) (rows : List Binding) (link : Link) where
 
   pub of_owed : Serves server rows link.before link.act link.out → (history : List Link) (p : Packet) → IsOwed server history link.before link.act rows p → Owner p
   of_owed serves history p (ToTarget a bytes m method core said new there) = of_target serves a bytes m method core p said new there
-  of_owed serves history p (Answers number m from status extras stands denied e) = subst Owner (sym e) (of_made number m from (text_of (made_answer server number m from status extras)) stands)
+  of_owed serves history p (Answers number m from status extras stands denied e) = subst Owner (sym e)
+      (of_made number m from (text_of (made_answer server number m from status extras)) stands)
   of_owed serves history p (Forwards r status response challenges stands came taken_along none e) = subst Owner (sym e) (Whose.ToCaller r stands refl refl)
   of_owed serves history p (Acknowledges a bytes r b status reason response said is_response is_for invite failure there) =
       let its = taken server link.before.requests response.fields r b is_for in
@@ -151,8 +162,10 @@ module _ (server : Server) (rows : List Binding) (link : Link) where
   of_owed serves history p (InKnownDialog a m address within to bytes ticket) =
       let named : NamesDialog m within.id = names_dialog m within.id (core_of m) refl within.dialog_is in
       Whose.InDialog (came_in a m within.method named.core) within.id
-      (valid_of server link a within.bytes m within.method within.uri within.version named.core within.is_said within.is_request named.core_is within.is_valid) named.names
-      (subst (λ (x : Addr). IsInDialog a.now link.before.dialogs within.id x) (sym to) within.is_known) (ticket ∙ ap (λ (x : Arrival). x.number) within.is_said.is_arrival)
+      (valid_of server link a within.bytes m within.method within.uri within.version named.core within.is_said within.is_request named.core_is within.is_valid)
+      named.names
+      (subst (λ (x : Addr). IsInDialog a.now link.before.dialogs within.id x) (sym to) within.is_known)
+      (ticket ∙ ap (λ (x : Arrival). x.number) within.is_said.is_arrival)
 
 -- ---- all packets of a step
 
@@ -171,7 +184,8 @@ pub all_went : (sent : List Packet) (ps : List Packet) → AllByRecursion (λ (p
 all_went sent [] a = tt
 all_went sent (p ∷ ps) a = by_test p.again refl a (all_went sent ps) where
   by_test : (t : Bool) → p.again ≡ t → AllByRecursion (λ (p : Packet). Contains sent (first_sending p)) (cond t (p ∷ retransmissions ps) (retransmissions ps))
-      → (AllByRecursion (λ (p : Packet). Contains sent (first_sending p)) (retransmissions ps) → AllByRecursion (WentBefore sent) ps) → WentBefore sent p × AllByRecursion (WentBefore sent) ps
+      → (AllByRecursion (λ (p : Packet). Contains sent (first_sending p)) (retransmissions ps) → AllByRecursion (WentBefore sent) ps)
+      → WentBefore sent p × AllByRecursion (WentBefore sent) ps
   by_test true is a rest = ((λ e. a.0), rest a.1)
   by_test false is a rest = ((λ e. absurd (true≢false (sym e ∙ is))), rest a)
 

@@ -51,7 +51,8 @@ module _ (server : Server) (rows : List Binding) (now : ℕ) where
   abbrev given : Decision → Aor → Option Uri → List Target
   given decision aor uri =
       target_list
-      (targets_for decision (is_users_address server.config.users server.config.own.domains aor) uri (contacts_of rows now aor) server.config.hops server.config.addresses)
+      (targets_for decision (is_users_address server.config.users server.config.own.domains aor) uri (contacts_of rows now aor) server.config.hops
+      server.config.addresses)
 
   spots_are : (contacts : List Uri) → filter_map spot_of (map (target_for server.config.addresses) contacts) ≡ filter_map (place_of server.config.addresses) contacts
   spots_are [] = refl
@@ -60,7 +61,8 @@ module _ (server : Server) (rows : List Binding) (now : ℕ) where
   by_decision : (decision : Decision) (uri : Uri) → filter_map spot_of (given decision (aor_of uri) (Some uri)) ≡ led_by server rows now decision uri
   by_decision (Decision.Allow id) uri = by_known (is_users_address server.config.users server.config.own.domains (aor_of uri)) (contacts_of rows now (aor_of uri)) where
     by_known : (t : Bool) (contacts : List Uri)
-        → filter_map spot_of (target_list (cond t (targets_at server.config.addresses contacts) Targets.NotFound)) ≡ cond t (filter_map (place_of server.config.addresses) contacts) []
+        → filter_map spot_of (target_list (cond t (targets_at server.config.addresses contacts) Targets.NotFound))
+        ≡ cond t (filter_map (place_of server.config.addresses) contacts) []
     by_known true [] = refl
     by_known true (c ∷ cs) = spots_are (c ∷ cs)
     by_known false contacts = refl
@@ -81,7 +83,8 @@ pub same_places : (server : Server) (rows : List Binding) (link : Link) (q : Cam
 same_places server rows link q = by_test (decided by_digest server link q) (is_register q.method) where
   by_test : (decision : Decision) (t : Bool)
       → filter_map spot_of
-      (cond t [] (given server rows q.now decision (cond t (to_aor q.core) (aor_or_nobody (request_uri_of server.config.own q.message))) (request_uri_of server.config.own q.message)))
+      (cond t [] (given server rows q.now decision (cond t (to_aor q.core) (aor_or_nobody (request_uri_of server.config.own q.message)))
+      (request_uri_of server.config.own q.message)))
       ≡ cond t [] (option_map_or (led_by server rows q.now decision) (request_uri_of server.config.own q.message) [])
   by_test decision true = refl
   by_test decision false = by_uri server rows q.now decision (request_uri_of server.config.own q.message)

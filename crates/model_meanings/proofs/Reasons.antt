@@ -1,5 +1,6 @@
 -- What a verdict on a message tells of the answer that it makes.
-use Rattle.std.proofs.Common.{◌≡◌, ◌≢◌, ℕ, ◌≤◌, ◌<◌, ◌^◌, Bool, true, false, cond, ◌&&◌, ◌||◌, List, [], codes, find, Contains, Option, Some, None, Result, Ok, Err, option_map, refl, ap, subst, ◌∙◌, arith, bytes_eq, is_some}
+use Rattle.std.proofs.Common.{◌≡◌, ◌≢◌, ℕ, ◌≤◌, ◌<◌, ◌^◌, Bool, true, false, cond, ◌&&◌, ◌||◌, List, [], codes, find, Contains, Option, Some, None, Result, Ok, Err}
+use Rattle.std.proofs.Common.{option_map, refl, ap, subst, ◌∙◌, arith, bytes_eq, is_some}
 use Rattle.std.specs.Option.{option_map_or}
 use Rattle.std.specs.Result.{result_ok}
 use Rattle.std.specs.List.{AllByRecursion}
@@ -35,7 +36,11 @@ use Rattle.sip_model.specs.state.Dialogs.{dialog_of}
 use Rattle.sip_model.specs.state.Arrival.{Arrival}
 use Rattle.sip_model.specs.context_model.Branches.{is_accepted}
 use Rattle.sip_model.specs.verdict_model.declared.question.Question.{Question}
-use Rattle.sip_model.specs.verdict_model.Verdict.{Registered, Bound, Refused, Verdict, Drop, Respond, Copy, AckOn, Cancel, Answer, InDialog, Challenge, Deny, Send, Register, is_many, response_verdict, responding, next_address, within_at, within, ack_verdict, is_full, found_for_cancel, cancel_verdict, is_register, question_of, registered_by, is_own_uri, registration_by, request_targets, let_through, decided, policy_verdict, is_outside, core_verdict, checked_verdict, new_verdict, by_open, by_key, by_start, message_verdict}
+use Rattle.sip_model.specs.verdict_model.Verdict.{Registered, Bound, Refused, Verdict, Drop, Respond, Copy, AckOn, Cancel, Answer, InDialog, Challenge, Deny, Send}
+use Rattle.sip_model.specs.verdict_model.Verdict.{Register, is_many, response_verdict, responding, next_address, within_at, within, ack_verdict, is_full}
+use Rattle.sip_model.specs.verdict_model.Verdict.{found_for_cancel, cancel_verdict, is_register, question_of, registered_by, is_own_uri, registration_by, request_targets}
+use Rattle.sip_model.specs.verdict_model.Verdict.{let_through, decided, policy_verdict, is_outside, core_verdict, checked_verdict, new_verdict, by_open, by_key, by_start}
+use Rattle.sip_model.specs.verdict_model.Verdict.{message_verdict}
 use Rattle.sip_message_fields.specs.declared.field_name.FieldName.TheVariants as Name
 use Rattle.sip_message_fields.specs.Values.{values_of}
 use Rattle.sip_model.specs.Access.{rule_of, decision_on}
@@ -72,7 +77,8 @@ row_other c x e = by_row (find (λ (row : Row). row.applies c) checks) refl e wh
   by_row None is e = absurd (cc)
   by_row (Some row) is e =
       let there : Contains checks row = (is_found (λ (r : Row). r.applies c) checks row is).is_there in
-      let other : IsOther row.status = All-contains (λ (r : Row). IsOther r.status) checks row (All-from_recursion (λ (r : Row). IsOther r.status) checks rows_other) there in
+      let other : IsOther row.status = All-contains (λ (r : Row). IsOther r.status) checks row (All-from_recursion (λ (r : Row). IsOther r.status) checks rows_other)
+      there in
       subst IsOther (ap (λ (o : Option (ℕ × List ℕ)). (option_map_or (λ (y : ℕ × List ℕ). y) o (0, [])).0) e) other
 
 pub refusal_other : (o : Option Candidate) (x : ℕ × List ℕ) → option_map_or refusal o None ≡ Some x → IsOther x.0
@@ -163,13 +169,15 @@ module _ (server : Server) (state : ProxyState) (a : Arrival) (m : Message) (sho
     by_test true = tt
     by_test false = within_tells AckOn Drop (λ address id. is) tt (dialog_of m) (next_address server m)
 
-  found_tells : (uri version : List ℕ) (key : Key) → m.start ≡ Request (codes "CANCEL") uri version → key_of m ≡ Some key → Tells (Cancel (found_for_cancel state key a.from))
+  found_tells : (uri version : List ℕ) (key : Key) → m.start ≡ Request (codes "CANCEL") uri version → key_of m ≡ Some key
+      → Tells (Cancel (found_for_cancel state key a.from))
   found_tells uri version key is key_is = by_found (found_for_cancel state key a.from) refl where
     by_found : (o : Option OpenRequest) → found_for_cancel state key a.from ≡ o → Tells (Cancel o)
     by_found None e = tt
     by_found (Some r) e = record { uri = uri; version = version; key = key; is_cancel = is; key_is = key_is; names = e }
 
-  cancel_tells : (uri version : List ℕ) (key : Key) → m.start ≡ Request (codes "CANCEL") uri version → key_of m ≡ Some key → Tells (cancel_verdict server state a m short key)
+  cancel_tells : (uri version : List ℕ) (key : Key) → m.start ≡ Request (codes "CANCEL") uri version → key_of m ≡ Some key
+      → Tells (cancel_verdict server state a m short key)
   cancel_tells uri version key is key_is = by_tests (is_bad_request server.config.own m short) (is_full state) where
     by_tests : (s t : Bool) → Tells (cond s (Answer 400 []) (cond t (Answer 503 []) (Cancel (found_for_cancel state key a.from))))
     by_tests true t = above 400 (omega arith) (omega arith)
@@ -187,7 +195,8 @@ module _ (server : Server) (state : ProxyState) (a : Arrival) (m : Message) (sho
         → Tells (Register (question_of server state.nonces a.now m method core) id (registration_by server state.bindings a.now m core))
     registers_tells core id valid core_is registers rule =
         by_outcome (registration_by server state.bindings a.now m core) refl (registration_other server state.bindings a.now m core) where
-          by_outcome : (o : Registered) → registration_by server state.bindings a.now m core ≡ o → RefusesOther o → Tells (Register (question_of server state.nonces a.now m method core) id o)
+          by_outcome : (o : Registered) → registration_by server state.bindings a.now m core ≡ o → RefusesOther o
+              → Tells (Register (question_of server state.nonces a.now m method core) id o)
           by_outcome (Bound rows) e other =
               record {
                 uri = uri;
@@ -197,7 +206,8 @@ module _ (server : Server) (state : ProxyState) (a : Arrival) (m : Message) (sho
                 is_register = line_with (codes "REGISTER") registers;
                 is_valid = valid;
                 core_is = core_is;
-                is_let_through = subst (λ (x : List ℕ). rule_of (decision_on server state a.now m x core) ≡ Some id) ((bytes_eq-Decides method (codes "REGISTER")).0 registers) rule;
+                is_let_through = subst (λ (x : List ℕ). rule_of (decision_on server state a.now m x core) ≡ Some id)
+                    ((bytes_eq-Decides method (codes "REGISTER")).0 registers) rule;
                 binds = e;
                 target = ap (λ (t : Bool). cond t (to_aor core) (aor_or_nobody (request_uri_of server.config.own m))) registers;
               }
@@ -209,7 +219,8 @@ module _ (server : Server) (state : ProxyState) (a : Arrival) (m : Message) (sho
     let_tells core id d valid core_is is rule = by_test (is_register method) refl where
       by_test : (t : Bool) → is_register method ≡ t
           → Tells (cond t (Register (question_of server state.nonces a.now m method core) id (registration_by server state.bindings a.now m core))
-          (Send (question_of server state.nonces a.now m method core) id (request_targets server state.bindings a.now m (question_of server state.nonces a.now m method core) d)))
+          (Send (question_of server state.nonces a.now m method core) id (request_targets server state.bindings a.now m
+          (question_of server state.nonces a.now m method core) d)))
       by_test true e = registers_tells core id valid core_is e (ap rule_of is ∙ rule)
       by_test false e = tt
 
@@ -222,7 +233,8 @@ module _ (server : Server) (state : ProxyState) (a : Arrival) (m : Message) (sho
       by_decision (Decision.Allow id) e = let_tells core id (Decision.Allow id) valid core_is e refl
       by_decision (Decision.Via id hop) e = let_tells core id (Decision.Via id hop) valid core_is e refl
 
-    core_tells : refusal_of server.config.own m short ≡ None → (o : Result CoreFields HeaderError) → core_of m ≡ o → Tells (core_verdict server state a.now m method (result_ok o))
+    core_tells : refusal_of server.config.own m short ≡ None → (o : Result CoreFields HeaderError) → core_of m ≡ o
+        → Tells (core_verdict server state a.now m method (result_ok o))
     core_tells valid (Err error) e = tt
     core_tells valid (Ok core) e = by_test (is_outside method core) where
       by_test : (t : Bool) → Tells (cond t (policy_verdict server state a.now m method core) (within server state a.now m InDialog (Answer 481 [])))

@@ -43,10 +43,11 @@ one_record server state act = by_found (judged_at server state act) where
 
 -- so a lawful one does
 pub at_most_one : (server : Server) (earlier : List Link) (link : Link) → Access server (link ∷ earlier) → length link.out.records ≤ 1
-at_most_one server earlier link access = by_list link.out.records (ap (λ (rs : List Record). drop 1 rs) access.0.records ∙ one_record (under server link.config) link.before link.act) where
-  by_list : (rs : List Record) → drop 1 rs ≡ [] → length rs ≤ 1
-  by_list [] e = omega (arith)
-  by_list (x ∷ rest) e = subst (λ (ys : List Record). suc (length ys) ≤ 1) (sym e) (omega (arith))
+at_most_one server earlier link access = by_list link.out.records (ap (λ (rs : List Record). drop 1 rs) access.0.records
+    ∙ one_record (under server link.config) link.before link.act) where
+      by_list : (rs : List Record) → drop 1 rs ≡ [] → length rs ≤ 1
+      by_list [] e = omega (arith)
+      by_list (x ∷ rest) e = subst (λ (ys : List Record). suc (length ys) ≤ 1) (sym e) (omega (arith))
 
 -- the denial has one, and the wrong step two
 pub denial_has_one : length vault_effect.records ≡ 1

@@ -1,5 +1,6 @@
 -- What the law refuses, over plain variables: a step in which an open request has nothing to send sends what its datagram gets.
-use Rattle.std.proofs.Common.{◌≡◌, ◌⊎◌, inl, inr, ℕ, Bool, true, false, cond, List, [], ◌∷◌, ◌++◌, filter, flat_map, Contains, Some, refl, sym, ap, ap₂, ◌∙◌, true≢false, append-nil}
+use Rattle.std.proofs.Common.{◌≡◌, ◌⊎◌, inl, inr, ℕ, Bool, true, false, cond, List, [], ◌∷◌, ◌++◌, filter, flat_map, Contains, Some, refl, sym, ap, ap₂, ◌∙◌, true≢false}
+use Rattle.std.proofs.Common.{append-nil}
 use Rattle.std.specs.List.{AllByRecursion}
 use Rattle.std.proofs.lemmas.List.Elements.{All-from_recursion, All-contains}
 use Rattle.sip_message_form.specs.declared.message.Message.{Message}
@@ -17,7 +18,9 @@ use Rattle.sip_model.specs.context_model.Branches.{is_ready, is_unheard}
 use Rattle.sip_model.specs.context_model.Sending.{request_of, to_branch}
 use Rattle.sip_model.specs.steps_model.Step.{Act, Given, Passing, originals}
 use Rattle.sip_model.specs.Run.{Link, under}
-use Rattle.sip_model.specs.Access.{IsSaidAt, ComesNow, IsAckNow, NoAck, Acks, IsPassedOn, IsAnswerNow, NoAnswer, PassedOn, Best, EndsNow, ByResponse, BySilence, ByLaterSilence, ByCancel, ByFault, OthersEnded, IsHeardNow, IsCancelledNow, AreCancelsNow, IsForOpen, ForNone, ForOne, IsAllSent, sent_for, Access}
+use Rattle.sip_model.specs.Access.{IsSaidAt, ComesNow, IsAckNow, NoAck, Acks, IsPassedOn, IsAnswerNow, NoAnswer, PassedOn, Best, EndsNow, ByResponse, BySilence}
+use Rattle.sip_model.specs.Access.{ByLaterSilence, ByCancel, ByFault, OthersEnded, IsHeardNow, IsCancelledNow, AreCancelsNow, IsForOpen, ForNone, ForOne, IsAllSent}
+use Rattle.sip_model.specs.Access.{sent_for, Access}
 
 -- ---- lists
 
@@ -48,7 +51,8 @@ module _ (server : Server) (history : List Link) (state : ProxyState) (act : Act
   -- an open request has no answer in a step
   pub record HasNoAnswer (r : OpenRequest) : Type 0 where
     pub not_passed : (b : Branch) (status : ℕ) (response : Message) → ComesNow server state act r b status response → IsPassedOn r b status → ⊥
-    pub no_best : (b : Branch) (last : Final) → Contains r.branches b → is_final b.phase ≡ false → EndsNow server state act at r b last → OthersEnded r b → is_answering r.side ≡ true → ⊥
+    pub no_best : (b : Branch) (last : Final) → Contains r.branches b → is_final b.phase ≡ false → EndsNow server state act at r b last → OthersEnded r b
+        → is_answering r.side ≡ true → ⊥
 
   -- it has nothing to send
   pub record IsIdle (r : OpenRequest) : Type 0 where
@@ -140,7 +144,8 @@ module _ (server : Server) (state : ProxyState) (act : Act) where
   nothing_comes e r b status response comes = not_said e comes.a comes.bytes response false comes.is_said
 
   -- where nothing comes and no send failed, a branch ends by its deadline alone
-  pub ends_by_deadline : (at : ℕ) → NothingComes → is_fault act ≡ false → (r : OpenRequest) (b : Branch) (last : Final) → EndsNow server state act at r b last → phase_deadline b.phase ≡ Some at
+  pub ends_by_deadline : (at : ℕ) → NothingComes → is_fault act ≡ false → (r : OpenRequest) (b : Branch) (last : Final) → EndsNow server state act at r b last
+      → phase_deadline b.phase ≡ Some at
   ends_by_deadline at none no_fault r b _ (ByResponse status response comes final) = absurd (none r b status response comes)
   ends_by_deadline at none no_fault r b _ (BySilence e) = ap phase_deadline e
   ends_by_deadline at none no_fault r b _ (ByLaterSilence e other) = ap phase_deadline e

@@ -1,5 +1,6 @@
 -- Each open request of a history came in it.
-use Rattle.std.proofs.Common.{◌≡◌, ◌∙◌, inl, inr, append-nil, ℕ, ◌≤◌, ◌+◌, ◌==◌, Bool, true, false, ◌&&◌, cond, List, [], ◌∷◌, ◌++◌, flat_map, Contains, Some, None, refl, sym, subst, arith, ap, bytes_eq, codes}
+use Rattle.std.proofs.Common.{◌≡◌, ◌∙◌, inl, inr, append-nil, ℕ, ◌≤◌, ◌+◌, ◌==◌, Bool, true, false, ◌&&◌, cond, List, [], ◌∷◌, ◌++◌, flat_map, Contains, Some, None, refl}
+use Rattle.std.proofs.Common.{sym, subst, arith, ap, bytes_eq, codes}
 use Rattle.std.specs.List.{AllByRecursion}
 use Rattle.std.proofs.lemmas.List.Elements.{Contains-append_left, Contains-append_right}
 use Rattle.sip_message_form.specs.declared.message.Message.{Message}
@@ -27,7 +28,8 @@ use Rattle.sip_model.specs.steps_model.Step.{Act, IsStep, originals}
 use Rattle.sip_model.specs.Access.{IsSaidAt}
 use Rattle.sip_model.specs.Run.{Link, under, IsChain}
 use Rattle.sip_model.specs.Lives.{sent_first}
-use Rattle.sip_model.specs.Parts.{AreBegun, made_text, IsOpening, Answered, Sent, IsChangeAt, IsPart, Stays, Passes, Copies, TurnsAway, Opens, Changes, Resends, Acknowledges, AreParts, One, Two, HasParts}
+use Rattle.sip_model.specs.Parts.{AreBegun, made_text, IsOpening, Answered, Sent, IsChangeAt, IsPart, Stays, Passes, Copies, TurnsAway, Opens, Changes, Resends}
+use Rattle.sip_model.specs.Parts.{Acknowledges, AreParts, One, Two, HasParts}
 use Rattle.model_meanings.specs.Requests.{IsBrought, WentToCaller, HasCome}
 use Rattle.sip_model.proofs.Places.{IsIn, in_from_contains, all_in, all_weaker, contains_from_in}
 use Rattle.model_meanings.proofs.Lists.{all_append, all_left, all_right, all_every, all_mapped, all_from_in}
@@ -47,7 +49,10 @@ all_replaced P new (x ∷ xs) all h = by_test (x.number == new.number) (has_left
 -- branches that are first sent have numbers from theirs on
 begun_numbered : (now number : ℕ) (bs : List Branch) → 1 ≤ number → AreBegun now number bs → AllByRecursion (λ (b : Branch). 1 ≤ b.number) bs
 begun_numbered now number [] from begun = tt
-begun_numbered now number (b ∷ bs) from begun = let is = begun.0.is_numbered in (omega (arith, is, from), begun_numbered now (number + 1) bs (omega (arith, from)) begun.1)
+begun_numbered now number (b ∷ bs) from begun = let is = begun.0.is_numbered in (
+  omega (arith, is, from),
+  begun_numbered now (number + 1) bs (omega (arith, from)) begun.1,
+)
 
 -- a request is of a number, says a message, and came from a source
 pub record IsAs (number : ℕ) (m : Message) (from : Addr) (s : OpenRequest) : Type 0 where
@@ -70,7 +75,8 @@ pub change_as : (server : Server) (state : ProxyState) (act : Act) (now : ℕ) (
     → IsChangeAt server state act now r change again
     → IsAs r.number r.request r.source change.request
 change_as server state act now r change again is =
-    change_kept (IsAs r.number r.request r.source) (as_kept r.number r.request r.source) server state act now r change again is (record { is_number = refl; is_request = refl; is_source = refl })
+    change_kept (IsAs r.number r.request r.source) (as_kept r.number r.request r.source) server state act now r change again is
+    (record { is_number = refl; is_request = refl; is_source = refl })
     (all_every (Tells (IsAs r.number r.request r.source) (as_kept r.number r.request r.source) now) (as_told r.number r.request r.source now) change.upward)
 
 -- a message is no ACK
@@ -84,14 +90,22 @@ module _ (history : List Link) where
 
   -- an answer was sent
   pub answer_went : (number : ℕ) (m : Message) (from : Addr) (text : List ℕ) → WasSent (answer_packet false number m from text) → WentToCaller history number m from text
-  answer_went number m from text there = record { packet = answer_packet false number m from text; is_there = there; is_to_caller = refl; is_text = refl; is_of_datagram = refl; is_of_no_branch = refl }
+  answer_went number m from text there = record {
+    packet = answer_packet false number m from text;
+    is_there = there;
+    is_to_caller = refl;
+    is_text = refl;
+    is_of_datagram = refl;
+    is_of_no_branch = refl;
+  }
 
   -- to the caller of a request
   pub at_caller : (number : ℕ) (m : Message) (from : Addr) (s : OpenRequest) (text : List ℕ) → IsAs number m from s → WentToCaller history number m from text
       → WentToCaller history s.number s.request s.source text
   at_caller number m from s text is went =
       subst (λ (n : ℕ). WentToCaller history n s.request s.source text) (sym is.is_number)
-      (subst (λ (r : Message). WentToCaller history number r s.source text) (sym is.is_request) (subst (λ (f : Addr). WentToCaller history number m f text) (sym is.is_source) went))
+      (subst (λ (r : Message). WentToCaller history number r s.source text) (sym is.is_request)
+      (subst (λ (f : Addr). WentToCaller history number m f text) (sym is.is_source) went))
 
   -- the answers of a change went
   pub upward_went : (change : Change) (number : ℕ) (m : Message) (from : Addr) → IsAs number m from change.request → AllByRecursion WasSent (change_packets change)
@@ -100,7 +114,8 @@ module _ (history : List Link) where
       all_weaker (λ (u : Upward). WasSent (answer_to false change.request (text_of u.message))) (λ (u : Upward). WentToCaller history number m from (text_of u.message))
       change.upward (λ u there. from_packet u (answer_went change.request.number change.request.request change.request.source (text_of u.message) there))
       (all_mapped WasSent (λ (u : Upward). answer_to false change.request (text_of u.message)) change.upward
-      (all_right WasSent change.acks (upward_packets change.request change.upward) (all_left WasSent (change.acks ++ upward_packets change.request change.upward) change.cancels packets))) where
+      (all_right WasSent change.acks (upward_packets change.request change.upward) (all_left WasSent (change.acks ++ upward_packets change.request change.upward)
+      change.cancels packets))) where
         from_packet : (u : Upward) → WentToCaller history change.request.number change.request.request change.request.source (text_of u.message)
             → WentToCaller history number m from (text_of u.message)
         from_packet u went =
@@ -135,7 +150,8 @@ module _ (history : List Link) where
   }
 
   -- and so where an answer went to the caller
-  come_told : (number : ℕ) (m : Message) (from : Addr) (now : ℕ) (u : Upward) → WentToCaller history number m from (text_of u.message) → (r : OpenRequest) → IsCome number m from r
+  come_told : (number : ℕ) (m : Message) (from : Addr) (now : ℕ) (u : Upward) → WentToCaller history number m from (text_of u.message) → (r : OpenRequest)
+      → IsCome number m from r
       → IsCome number m from (answered now u r)
   come_told number m from now u went r h = record {
     come = record {
@@ -159,13 +175,16 @@ module _ (history : List Link) where
         → WentToCaller history r.number r.request r.source last.text
     has_gone last e other =
         let same : last_answer r u.status (text_of u.message) ≡ last = cc in
-        subst (λ (x : LastAnswer). (is_invite r && is_success x.status) ≡ false → WentToCaller history r.number r.request r.source x.text) same (kept (is_invite r && is_success u.status)) other
+        subst (λ (x : LastAnswer). (is_invite r && is_success x.status) ≡ false → WentToCaller history r.number r.request r.source x.text) same
+        (kept (is_invite r && is_success u.status)) other
 
   -- any answer of a change went
-  answers_told : (number : ℕ) (m : Message) (from : Addr) (now : ℕ) (us : List Upward) → AllByRecursion (λ (u : Upward). WentToCaller history number m from (text_of u.message)) us
+  answers_told : (number : ℕ) (m : Message) (from : Addr) (now : ℕ) (us : List Upward)
+      → AllByRecursion (λ (u : Upward). WentToCaller history number m from (text_of u.message)) us
       → AllByRecursion (Tells (IsCome number m from) (come_kept number m from) now) us
   answers_told number m from now us went =
-      all_weaker (λ (u : Upward). WentToCaller history number m from (text_of u.message)) (Tells (IsCome number m from) (come_kept number m from) now) us (come_told number m from now) went
+      all_weaker (λ (u : Upward). WentToCaller history number m from (text_of u.message)) (Tells (IsCome number m from) (come_kept number m from) now) us
+      (come_told number m from now) went
 
   -- a request as it is, which came
   come_as : (r : OpenRequest) → HasCome history r → IsCome r.number r.request r.source r
@@ -214,7 +233,8 @@ module _ (history : List Link) where
     is_source = refl;
     is_arrival = refl;
     are_numbered = tt;
-    has_gone = λ last e kept. let same : record { status = status; text = text } ≡ last = cc in subst (λ (x : LastAnswer). WentToCaller history a.number m a.from x.text) same went;
+    has_gone = λ last e kept. let same : record { status = status; text = text } ≡ last = cc in
+        subst (λ (x : LastAnswer). WentToCaller history a.number m a.from x.text) same went;
   }
 
   -- its 100 goes first
@@ -237,7 +257,8 @@ module _ (history : List Link) where
       let first : OpenRequest = tried now (trying server r) r in
       let own : IsAs r.number r.request r.source r = record { is_number = refl; is_request = refl; is_source = refl } in
       let is : IsAs r.number r.request r.source change.request =
-      settled_kept (IsAs r.number r.request r.source) (as_kept r.number r.request r.source) server now [] None first (tried_as r.number r.request r.source now (trying server r) r own)
+      settled_kept (IsAs r.number r.request r.source) (as_kept r.number r.request r.source) server now [] None first
+      (tried_as r.number r.request r.source now (trying server r) r own)
       (all_every (Tells (IsAs r.number r.request r.source) (as_kept r.number r.request r.source) now) (as_told r.number r.request r.source now) change.upward)
       in
       let answers : AllByRecursion WasSent (upward_packets r (trying server r) ++ change_packets change) =
@@ -260,13 +281,15 @@ module _ (history : List Link) where
       after.come
 
   -- either
-  opening_come : (server : Server) (a : Arrival) (m : Message) (r : OpenRequest) (packets : List Packet) → IsOpening server a m r packets → IsBrought history a m → IsNoAck m
+  opening_come : (server : Server) (a : Arrival) (m : Message) (r : OpenRequest) (packets : List Packet) → IsOpening server a m r packets → IsBrought history a m
+      → IsNoAck m
       → key_of m ≡ Some (arriving a m).key
       → AllByRecursion WasSent packets → HasCome history r
   opening_come server a m _ _ (Answered status extras final) brought other key packets =
       closing_come a m status (made_text server a m status extras) brought other key (answer_went a.number m a.from (made_text server a m status extras) packets.0)
   opening_come server a m _ _ (Sent first others begun) brought other key packets =
-      forking_come server a.now (forking a m (first ∷ others)) packets (arriving_come a m _ (first ∷ others) brought other key (begun_numbered a.now 1 (first ∷ others) (omega arith) begun))
+      forking_come server a.now (forking a m (first ∷ others)) packets (arriving_come a m _ (first ∷ others) brought other key
+      (begun_numbered a.now 1 (first ∷ others) (omega arith) begun))
 
   -- the key of a request that is opened
   opening_key : (server : Server) (a : Arrival) (m : Message) (r : OpenRequest) (packets : List Packet) → IsOpening server a m r packets → r.key ≡ (arriving a m).key
@@ -278,7 +301,8 @@ module _ (history : List Link) where
 
     sent_key : (server : Server) (now : ℕ) (s : OpenRequest) → (opening server now s).request.key ≡ s.key
     sent_key server now s =
-        settled_kept (λ x. x.key ≡ s.key) (λ x side again finals branches numbers h. h) server now [] None (tried now (trying server s) s) (tried_key now (trying server s) s)
+        settled_kept (λ x. x.key ≡ s.key) (λ x side again finals branches numbers h. h) server now [] None (tried now (trying server s) s)
+        (tried_key now (trying server s) s)
         (all_every (Tells (λ x. x.key ≡ s.key) (λ x side again finals branches numbers h. h) now) (λ u x h. h) (opening server now s).upward)
 
   -- ---- a step
@@ -287,7 +311,8 @@ module _ (history : List Link) where
   abbrev pub HaveCome : List OpenRequest → Type 0
   HaveCome requests = AllByRecursion (HasCome history) requests
 
-  module _ (server : Server) (state : ProxyState) (act : Act) (now : ℕ) (said : (a : Arrival) (bytes : List ℕ) (m : Message) (short : Bool) → IsSaidAt state act a bytes m short → IsBrought history a m) where
+  module _ (server : Server) (state : ProxyState) (act : Act) (now : ℕ) (said : (a : Arrival) (bytes : List ℕ) (m : Message) (short : Bool)
+      → IsSaidAt state act a bytes m short → IsBrought history a m) where
     -- after a part of a step
     part_come : (requests after : List OpenRequest) (firsts again : List Packet) → IsPart server state act now requests after firsts again → AllByRecursion WasSent firsts
         → HaveCome requests → HaveCome after
@@ -301,20 +326,24 @@ module _ (history : List Link) where
     part_come requests after firsts again (Changes r change there is e f) sent h =
         subst HaveCome (sym e)
         (all_replaced (HasCome history) change.request requests h
-        (change_come server state act now r change again is (subst (AllByRecursion WasSent) f sent) (all_in (HasCome history) requests r h (in_from_contains requests r there))))
+        (change_come server state act now r change again is (subst (AllByRecursion WasSent) f sent)
+        (all_in (HasCome history) requests r h (in_from_contains requests r there))))
     part_come requests after firsts again (Resends r later there goes e f) sent h =
         let own : IsCome r.number r.request r.source later =
-        resent_kept (IsCome r.number r.request r.source) (come_kept r.number r.request r.source) server now r again later goes (come_as r (all_in (HasCome history) requests r h (in_from_contains requests r there)))
+        resent_kept (IsCome r.number r.request r.source) (come_kept r.number r.request r.source) server now r again later goes
+        (come_as r (all_in (HasCome history) requests r h (in_from_contains requests r there)))
         in
         subst HaveCome (sym e) (all_replaced (HasCome history) later requests h own.come)
     part_come requests after firsts again (Acknowledges r there e f g) sent h =
         let own : IsCome r.number r.request r.source (acknowledged now r) =
-        acknowledged_kept (IsCome r.number r.request r.source) (come_kept r.number r.request r.source) now r (come_as r (all_in (HasCome history) requests r h (in_from_contains requests r there)))
+        acknowledged_kept (IsCome r.number r.request r.source) (come_kept r.number r.request r.source) now r
+        (come_as r (all_in (HasCome history) requests r h (in_from_contains requests r there)))
         in
         subst HaveCome (sym e) (all_replaced (HasCome history) (acknowledged now r) requests h own.come)
 
     -- after one part, or two
-    parts_come : (requests after : List OpenRequest) (firsts again : List Packet) → AreParts server state act now requests after firsts again → AllByRecursion WasSent firsts
+    parts_come : (requests after : List OpenRequest) (firsts again : List Packet) → AreParts server state act now requests after firsts again
+        → AllByRecursion WasSent firsts
         → HaveCome requests → HaveCome after
     parts_come requests after firsts again (One part) sent h = part_come requests after firsts again part sent h
     parts_come requests after firsts again (Two middle earlier r change first there still is e f g) sent h =
@@ -389,7 +418,13 @@ later_come link history r h = record {
 -- the message of a step's datagram came in the history that ends with the step
 abbrev pub brought_now : (link : Link) (history : List Link) (a : Arrival) (bytes : List ℕ) (m : Message) (short : Bool) → IsSaidAt link.before link.act a bytes m short
     → IsBrought (link ∷ history) a m
-brought_now link history a bytes m short said = record { link = link; bytes = bytes; short = short; is_there = Contains-append_left (link ∷ []) history link (0, omega arith, refl); is_said = said }
+brought_now link history a bytes m short said = record {
+  link = link;
+  bytes = bytes;
+  short = short;
+  is_there = Contains-append_left (link ∷ []) history link (0, omega arith, refl);
+  is_said = said;
+}
 
 -- what a step sends for the first time was sent
 pub sent_now : (link : Link) (history : List Link) → AllByRecursion (Contains (sent_first (link ∷ history))) (originals link.out.packets)
@@ -405,5 +440,6 @@ chain_come parts server first [] last h = subst (λ (s : ProxyState). AllByRecur
 chain_come parts server first (link ∷ history) last h =
     let has = parts (under server link.config) link.before link.act link.out link.after h.1 in
     subst (λ (s : ProxyState). AllByRecursion (HasCome (link ∷ history)) s.requests) (sym h.0)
-    (parts_come (link ∷ history) (under server link.config) link.before link.act link.after.moment (brought_now link history) link.before.requests link.after.requests (originals link.out.packets) _ has.parts (sent_now link history)
+    (parts_come (link ∷ history) (under server link.config) link.before link.act link.after.moment (brought_now link history) link.before.requests link.after.requests
+    (originals link.out.packets) _ has.parts (sent_now link history)
     (all_weaker (HasCome history) (HasCome (link ∷ history)) link.before.requests (later_come link history) (chain_come parts server first history link.before h.2)))

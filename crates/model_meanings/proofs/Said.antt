@@ -18,7 +18,8 @@ use Rattle.sip_model.specs.state.declared.open_request.OpenRequest.{OpenRequest}
 use Rattle.sip_model.specs.state.declared.proxy_state.ProxyState.{ProxyState}
 use Rattle.sip_model.specs.state.Arrival.{Arrival}
 use Rattle.sip_model.specs.state.State.{has_key}
-use Rattle.sip_model.specs.verdict_model.Verdict.{Verdict, Drop, Respond, Copy, response_verdict, is_many, responding, message_in, message_verdict, by_start, by_key, by_open, ack_verdict, verdict_in}
+use Rattle.sip_model.specs.verdict_model.Verdict.{Verdict, Drop, Respond, Copy, response_verdict, is_many, responding, message_in, message_verdict, by_start, by_key}
+use Rattle.sip_model.specs.verdict_model.Verdict.{by_open, ack_verdict, verdict_in}
 use Rattle.sip_model.specs.context_model.Branches.{is_accepted}
 use Rattle.sip_model.specs.steps_model.Step.{Act, Given, arrival_of}
 use Rattle.sip_model.specs.Access.{IsSaidAt, ComesNow, sent_for, sent_at_once}
@@ -63,7 +64,8 @@ module _ (server : Server) (state : ProxyState) (at word : ℕ) (from : Addr) (b
       → ComesNow server state comes r b status response → (b ≡ branch) × (status ≡ status_or m.start)
   response_comes_for r one b branch status response is now =
       let same : response ≡ m = said_is now.a now.bytes response false now.is_said in (
-        ap (λ (x : OpenRequest × Branch). x.1) (found_same (r, b) (one, branch) (sym now.is_for ∙ ap (λ (n : Message). responding server state.requests n.fields) same ∙ is)),
+        ap (λ (x : OpenRequest × Branch). x.1) (found_same (r, b) (one, branch) (sym now.is_for ∙ ap (λ (n : Message). responding server state.requests n.fields) same
+            ∙ is)),
         ap status_or (sym now.is_response) ∙ ap (λ (n : Message). status_or n.start) same,
       )
 
@@ -83,12 +85,14 @@ module _ (server : Server) (state : ProxyState) (at word : ℕ) (from : Addr) (b
       by_test true = refl
       by_test false = refl
 
-    by_line : (start : Start) → is_request start ≡ false → sent_at_once server (arrival_of state at word from) m (by_start server state (arrival_of state at word from) m false start) ≡ []
+    by_line : (start : Start) → is_request start ≡ false → sent_at_once server (arrival_of state at word from) m
+        (by_start server state (arrival_of state at word from) m false start) ≡ []
     by_line (Status status reason) is = by_found status (responding server state.requests m.fields)
     by_line (Request method uri version) is = absurd (true≢false is)
 
   -- a request whose key is open gets nothing, if it is no ACK
-  pub open_gets_nothing : (method uri version : List ℕ) (key : Key) (r : OpenRequest) → m.start ≡ Request method uri version → bytes_eq method (codes "ACK") ≡ false → key_of m ≡ Some key
+  pub open_gets_nothing : (method uri version : List ℕ) (key : Key) (r : OpenRequest) → m.start ≡ Request method uri version → bytes_eq method (codes "ACK") ≡ false
+      → key_of m ≡ Some key
       → find (has_key key) state.requests ≡ Some r → sent_for server state comes ≡ []
   open_gets_nothing method uri version key r start no_ack key_is is_open = gets ∙ ap sends is_copy where
     a : Arrival

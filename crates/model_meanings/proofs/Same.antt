@@ -1,5 +1,6 @@
 -- Lists that say the same of the known dialogs know the same dialogs.
-use Rattle.std.proofs.Common.{◌≡◌, ◌∙◌, inl, inr, ℕ, ◌+◌, ◌-◌, ◌≤◌, ◌<◌, ◌==◌, Bool, true, false, not, ◌&&◌, cond, List, [], ◌∷◌, filter, bytes_eq, refl, sym, ap, subst, arith, count_by}
+use Rattle.std.proofs.Common.{◌≡◌, ◌∙◌, inl, inr, ℕ, ◌+◌, ◌-◌, ◌≤◌, ◌<◌, ◌==◌, Bool, true, false, not, ◌&&◌, cond, List, [], ◌∷◌, filter, bytes_eq, refl, sym, ap, subst}
+use Rattle.std.proofs.Common.{arith, count_by}
 use Rattle.std.specs.Bool.{Decides}
 use Rattle.std.specs.Cmp.Lexicographic.{pointwise}
 use Rattle.std.specs.List.{AllByRecursion}
@@ -49,11 +50,13 @@ addr_decides x y = (forward, backward) where
   forward : is_same_addr x y ≡ true → x ≡ y
   forward e =
       let both = and_parts (bytes_eq x.ip y.ip) (x.port == y.port) e in
-      ap (λ (v : List ℕ). record { ip = v; port = x.port }) ((bytes_eq-Decides x.ip y.ip).0 both.0) ∙ ap (λ (v : ℕ). record { ip = y.ip; port = v }) ((number_decides x.port y.port).0 both.1)
+      ap (λ (v : List ℕ). record { ip = v; port = x.port }) ((bytes_eq-Decides x.ip y.ip).0 both.0)
+      ∙ ap (λ (v : ℕ). record { ip = y.ip; port = v }) ((number_decides x.port y.port).0 both.1)
 
   backward : x ≡ y → is_same_addr x y ≡ true
   backward e =
-      and_holds (bytes_eq x.ip y.ip) (x.port == y.port) ((bytes_eq-Decides x.ip y.ip).1 (ap (λ (v : Addr). v.ip) e)) ((number_decides x.port y.port).1 (ap (λ (v : Addr). v.port) e))
+      and_holds (bytes_eq x.ip y.ip) (x.port == y.port) ((bytes_eq-Decides x.ip y.ip).1 (ap (λ (v : Addr). v.ip) e))
+      ((number_decides x.port y.port).1 (ap (λ (v : Addr). v.port) e))
 
 -- whether lists of addresses are one
 same_addresses : List Addr → List Addr → Bool
@@ -69,7 +72,8 @@ abbrev is_it : Dialog → Dialog → Bool
 is_it d x =
     bytes_eq d.id.call_id x.id.call_id
     && (bytes_eq d.id.from_tag x.id.from_tag
-    && (bytes_eq d.id.to_tag x.id.to_tag && ((d.number == x.number) && (same_truth d.has_success x.has_success && ((d.since == x.since) && same_addresses d.addresses x.addresses)))))
+    && (bytes_eq d.id.to_tag x.id.to_tag && ((d.number == x.number) && (same_truth d.has_success x.has_success
+    && ((d.since == x.since) && same_addresses d.addresses x.addresses)))))
 
 -- a dialog of these parts
 abbrev with_parts : List ℕ → List ℕ → List ℕ → ℕ → Bool → ℕ → List Addr → Dialog
@@ -83,7 +87,8 @@ is_itself d =
     (and_holds _ _ ((bytes_eq-Decides d.id.from_tag d.id.from_tag).1 refl)
     (and_holds _ _ ((bytes_eq-Decides d.id.to_tag d.id.to_tag).1 refl)
     (and_holds _ _ ((number_decides d.number d.number).1 refl)
-    (and_holds _ _ ((truth_decides d.has_success d.has_success).1 refl) (and_holds _ _ ((number_decides d.since d.since).1 refl) ((addresses_decide d.addresses d.addresses).1 refl))))))
+    (and_holds _ _ ((truth_decides d.has_success d.has_success).1 refl) (and_holds _ _ ((number_decides d.since d.since).1 refl)
+    ((addresses_decide d.addresses d.addresses).1 refl))))))
 
 -- one that passes the test is it
 it_is : (d x : Dialog) → is_it d x ≡ true → d ≡ x

@@ -1,5 +1,6 @@
 -- What is made of the known dialogs keeps that each was told.
-use Rattle.std.proofs.Common.{◌≡◌, ◌⊎◌, ◌∙◌, inl, inr, ℕ, ◌≤◌, Bool, true, false, ◌&&◌, ◌||◌, cond, List, [], ◌∷◌, ◌++◌, length, bytes_eq, Contains, Option, Some, None, option_and_then, refl, sym, subst}
+use Rattle.std.proofs.Common.{◌≡◌, ◌⊎◌, ◌∙◌, inl, inr, ℕ, ◌≤◌, Bool, true, false, ◌&&◌, ◌||◌, cond, List, [], ◌∷◌, ◌++◌, length, bytes_eq, Contains, Option, Some, None}
+use Rattle.std.proofs.Common.{option_and_then, refl, sym, subst}
 use Rattle.std.specs.Prelude.{option_map, Result, Ok, Err, nat_le}
 use Rattle.std.specs.Option.{unwrap_or}
 use Rattle.std.specs.Result.{result_ok}
@@ -32,7 +33,8 @@ use Rattle.sip_model.specs.state.declared.open_request.OpenRequest.{OpenRequest}
 use Rattle.sip_model.specs.state.Dialogs.{dialog_of, addresses_of, answered_dialog}
 use Rattle.sip_model.specs.state.Arrival.{Arrival}
 use Rattle.sip_model.specs.Run.{Link, under}
-use Rattle.model_meanings.specs.Dialogs.{IsNamed, Names, NamesFor, Begins, WentThrough, Invite, AnswerToInvite, AnswerWithin, Within, Gives, ByContact, ByRecordRoute, IsAddressOf, OfCaller, OfBranch, OfMessage, HadRequest, AtFirst, Later, WasAccepted, WasTold}
+use Rattle.model_meanings.specs.Dialogs.{IsNamed, Names, NamesFor, Begins, WentThrough, Invite, AnswerToInvite, AnswerWithin, Within, Gives, ByContact, ByRecordRoute}
+use Rattle.model_meanings.specs.Dialogs.{IsAddressOf, OfCaller, OfBranch, OfMessage, HadRequest, AtFirst, Later, WasAccepted, WasTold}
 use Rattle.sip_model.proofs.Places.{IsIn, contains_from_in, all_weaker}
 use Rattle.model_meanings.proofs.Lists.{all_append}
 
@@ -67,13 +69,17 @@ named_alike d id call_id one other same named = (text_is d.call_id id.call_id pa
   by_order : (straight ≡ true) ⊎ (crossed ≡ true) → ((id.from_tag ≡ one) × (id.to_tag ≡ other)) ⊎ ((id.from_tag ≡ other) × (id.to_tag ≡ one))
       → ((d.from_tag ≡ one) × (d.to_tag ≡ other)) ⊎ ((d.from_tag ≡ other) × (d.to_tag ≡ one))
   by_order (inl e) (inl tags) =
-      let both = and_parts (bytes_eq d.from_tag id.from_tag) (bytes_eq d.to_tag id.to_tag) e in inl (text_is d.from_tag id.from_tag both.0 ∙ tags.0, text_is d.to_tag id.to_tag both.1 ∙ tags.1)
+      let both = and_parts (bytes_eq d.from_tag id.from_tag) (bytes_eq d.to_tag id.to_tag) e in
+      inl (text_is d.from_tag id.from_tag both.0 ∙ tags.0, text_is d.to_tag id.to_tag both.1 ∙ tags.1)
   by_order (inl e) (inr tags) =
-      let both = and_parts (bytes_eq d.from_tag id.from_tag) (bytes_eq d.to_tag id.to_tag) e in inr (text_is d.from_tag id.from_tag both.0 ∙ tags.0, text_is d.to_tag id.to_tag both.1 ∙ tags.1)
+      let both = and_parts (bytes_eq d.from_tag id.from_tag) (bytes_eq d.to_tag id.to_tag) e in
+      inr (text_is d.from_tag id.from_tag both.0 ∙ tags.0, text_is d.to_tag id.to_tag both.1 ∙ tags.1)
   by_order (inr e) (inl tags) =
-      let both = and_parts (bytes_eq d.from_tag id.to_tag) (bytes_eq d.to_tag id.from_tag) e in inr (text_is d.from_tag id.to_tag both.0 ∙ tags.1, text_is d.to_tag id.from_tag both.1 ∙ tags.0)
+      let both = and_parts (bytes_eq d.from_tag id.to_tag) (bytes_eq d.to_tag id.from_tag) e in
+      inr (text_is d.from_tag id.to_tag both.0 ∙ tags.1, text_is d.to_tag id.from_tag both.1 ∙ tags.0)
   by_order (inr e) (inr tags) =
-      let both = and_parts (bytes_eq d.from_tag id.to_tag) (bytes_eq d.to_tag id.from_tag) e in inl (text_is d.from_tag id.to_tag both.0 ∙ tags.1, text_is d.to_tag id.from_tag both.1 ∙ tags.0)
+      let both = and_parts (bytes_eq d.from_tag id.to_tag) (bytes_eq d.to_tag id.from_tag) e in
+      inl (text_is d.from_tag id.to_tag both.0 ∙ tags.1, text_is d.to_tag id.from_tag both.1 ∙ tags.0)
 
 -- a From and a To with a tag name a dialog
 with_names : (call_id : List ℕ) (from to : NameAddr) (id : DialogId) → id_with call_id from to ≡ Some id
@@ -92,7 +98,8 @@ pub dialog_names : (m : Message) (id : DialogId) → dialog_of m ≡ Some id →
 dialog_names m id e = by_core (core_of m) refl e where
   by_core : (read : Result CoreFields HeaderError) → core_of m ≡ read → option_and_then (λ core. id_of core) (result_ok read) ≡ Some id → Names m id
   by_core (Err x) is f = absurd (cc)
-  by_core (Ok core) is f = let named = with_names core.call_id core.from core.to id f in record { core = core; tag = named.0; core_is = is; to_tag_is = named.1; name_is = named.2 }
+  by_core (Ok core) is f = let named = with_names core.call_id core.from core.to id f in
+      record { core = core; tag = named.0; core_is = is; to_tag_is = named.1; name_is = named.2 }
 
 -- an answer that does for an INVITE
 pub answer_names : (r : OpenRequest) (answer : Message) (id : DialogId) → answered_dialog r answer ≡ Some id → NamesFor r.request answer id
@@ -101,7 +108,15 @@ answer_names r answer id e = by_core (core_of r.request) refl e where
       → option_and_then (id_with core.call_id core.from) (result_ok read) ≡ Some id → NamesFor r.request answer id
   by_to core read_is (Err x) is f = absurd (cc)
   by_to core read_is (Ok to) is f =
-      let named = with_names core.call_id core.from to id f in record { core = core; to = to; tag = named.0; core_is = read_is; to_is = is; to_tag_is = named.1; name_is = named.2 }
+      let named = with_names core.call_id core.from to id f in record {
+        core = core;
+        to = to;
+        tag = named.0;
+        core_is = read_is;
+        to_is = is;
+        to_tag_is = named.1;
+        name_is = named.2;
+      }
 
   by_core : (read : Result CoreFields HeaderError) → core_of r.request ≡ read → option_and_then (λ core. answer_id core answer.fields) (result_ok read) ≡ Some id
       → NamesFor r.request answer id
@@ -134,7 +149,8 @@ field_gives server m field address there e = by_names (is_same_name field.name N
   by_route name (Some item) is f = by_uri item (λ uri uri_is at. ByRecordRoute field item uri there name is uri_is at) item.uri refl f
 
   by_names : (t : Bool) → is_same_name field.name Name.Contact ≡ t → (u : Bool) → is_same_name field.name Name.RecordRoute ≡ u
-      → option_and_then (λ (item : NameAddr). by item.uri) (cond t (name_addr_of field.value) (cond u (route_of field.value) None)) ≡ Some address → Gives server m address
+      → option_and_then (λ (item : NameAddr). by item.uri) (cond t (name_addr_of field.value) (cond u (route_of field.value) None)) ≡ Some address
+      → Gives server m address
   by_names true contact u route f = by_contact contact (name_addr_of field.value) refl f
   by_names false contact true route f = by_route route (route_of field.value) refl f
   by_names false contact false route f = absurd (cc)
@@ -143,11 +159,13 @@ field_gives server m field address there e = by_names (is_same_name field.name N
 fields_give : (server : Server) (m : Message) (fields : List Field) → ((field : Field) → IsIn field fields → Contains m.fields field)
     → AllByRecursion (Gives server m) (filter_map (address_in (address_of server.config.addresses)) fields)
 fields_give server m [] there = tt
-fields_give server m (x ∷ xs) there = by_address (fields_give server m xs (λ field later. there field (inr later))) (address_in (address_of server.config.addresses) x) refl where
-  by_address : AllByRecursion (Gives server m) (filter_map (address_in (address_of server.config.addresses)) xs) → (o : Option Addr)
-      → address_in (address_of server.config.addresses) x ≡ o → AllByRecursion (Gives server m) (cons_option o (filter_map (address_in (address_of server.config.addresses)) xs))
-  by_address rest None is = rest
-  by_address rest (Some address) is = (field_gives server m x address (there x (inl refl)) is, rest)
+fields_give server m (x ∷ xs) there = by_address (fields_give server m xs (λ field later. there field (inr later))) (address_in (address_of server.config.addresses) x)
+    refl where
+      by_address : AllByRecursion (Gives server m) (filter_map (address_in (address_of server.config.addresses)) xs) → (o : Option Addr)
+          → address_in (address_of server.config.addresses) x ≡ o → AllByRecursion (Gives server m)
+          (cons_option o (filter_map (address_in (address_of server.config.addresses)) xs))
+      by_address rest None is = rest
+      by_address rest (Some address) is = (field_gives server m x address (there x (inl refl)) is, rest)
 
 -- and so each that is read from the message
 pub message_gives : (server : Server) (m : Message) → AllByRecursion (Gives server m) (addresses_of server m)
@@ -202,16 +220,20 @@ module _ (server : Server) (history : List Link) where
   -- a message of one is one of the other
   through_alike : (d id : DialogId) (link : Link) (m : Message) → is_same_dialog d id ≡ true → WentThrough server history id link m → WentThrough server history d link m
   unfolding begins_alike
-  through_alike d id link _ same (Invite a invite status response begins now) = Invite a invite status response (begins_alike d id same a invite status response begins) now
-  through_alike d id link _ same (AnswerToInvite a invite answer there brought is gone names) = AnswerToInvite a invite answer there brought is gone (names_for_alike d id invite answer same names)
+  through_alike d id link _ same (Invite a invite status response begins now) = Invite a invite status response (begins_alike d id same a invite status response begins)
+      now
+  through_alike d id link _ same (AnswerToInvite a invite answer there brought is gone names) =
+      AnswerToInvite a invite answer there brought is gone (names_for_alike d id invite answer same names)
   through_alike d id link _ same (AnswerWithin a m answer there brought names gone) = AnswerWithin a m answer there brought (names_alike d id m same names) gone
   through_alike d id link _ same (Within a m brought now names sent) = Within a m brought now (names_alike d id m same names) sent
 
   -- an address of one is one of the other
   pub address_alike : (d id : DialogId) → is_same_dialog d id ≡ true → (address : Addr) → IsAddressOf server history id address → IsAddressOf server history d address
   unfolding begins_alike
-  address_alike d id same address (OfCaller a invite status response begins e) = OfCaller a invite status response (begins_alike d id same a invite status response begins) e
-  address_alike d id same address (OfBranch a invite status response begins e) = OfBranch a invite status response (begins_alike d id same a invite status response begins) e
+  address_alike d id same address (OfCaller a invite status response begins e) = OfCaller a invite status response
+      (begins_alike d id same a invite status response begins) e
+  address_alike d id same address (OfBranch a invite status response begins e) = OfBranch a invite status response
+      (begins_alike d id same a invite status response begins) e
   address_alike d id same address (OfMessage link m through gives) = OfMessage link m (through_alike d id link m same through) gives
 
   -- a request of one is one of the other
@@ -225,9 +247,11 @@ module _ (server : Server) (history : List Link) where
     pub is_by : under server link.config ≡ server
 
   -- a message's addresses are the dialog's
-  pub addresses_told : (link : Link) → IsTakenIn link → (id : DialogId) (m : Message) → WentThrough server history id link m → AllByRecursion (IsAddressOf server history id) (addresses_of server m)
+  pub addresses_told : (link : Link) → IsTakenIn link → (id : DialogId) (m : Message) → WentThrough server history id link m
+      → AllByRecursion (IsAddressOf server history id) (addresses_of server m)
   addresses_told link taken id m through =
-      all_weaker (Gives server m) (IsAddressOf server history id) (addresses_of server m) (λ address gives. OfMessage link m through (subst (λ (s : Server). Gives s m address) (sym taken.is_by) gives))
+      all_weaker (Gives server m) (IsAddressOf server history id) (addresses_of server m)
+      (λ address gives. OfMessage link m through (subst (λ (s : Server). Gives s m address) (sym taken.is_by) gives))
       (message_gives server m)
 
   -- ---- a dialog that was told
@@ -241,7 +265,8 @@ module _ (server : Server) (history : List Link) where
       (all_weaker (IsAddressOf server history id) (IsAddressOf server history d.id) more (address_alike d.id id same) own)
 
   -- it was, once an answer told it addresses
-  pub taught_told : (id : DialogId) (addresses : List Addr) (d : Dialog) → is_named id d ≡ true → AllByRecursion (IsAddressOf server history id) addresses → WasTold server history d
+  pub taught_told : (id : DialogId) (addresses : List Addr) (d : Dialog) → is_named id d ≡ true → AllByRecursion (IsAddressOf server history id) addresses
+      → WasTold server history d
       → WasTold server history (told addresses d)
   taught_told id addresses d same own was = record {
     a = was.a;

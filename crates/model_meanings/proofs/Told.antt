@@ -25,9 +25,11 @@ use Rattle.sip_model.specs.steps_model.Step.{Act, IsStep, originals}
 use Rattle.sip_model.specs.Access.{CameFor}
 use Rattle.sip_model.specs.Run.{Link, under, IsChain}
 use Rattle.sip_model.specs.Histories.{step_dialogs, history_dialogs}
-use Rattle.sip_model.specs.Parts.{IsOpening, Answered, Sent, IsChangeAt, ByResponse, ByDeadline, ByFault, ByCancel, IsPart, Stays, Passes, Copies, TurnsAway, Opens, Changes, Resends, Acknowledges, AreParts, One, Two, HasParts}
+use Rattle.sip_model.specs.Parts.{IsOpening, Answered, Sent, IsChangeAt, ByResponse, ByDeadline, ByFault, ByCancel, IsPart, Stays, Passes, Copies, TurnsAway, Opens}
+use Rattle.sip_model.specs.Parts.{Changes, Resends, Acknowledges, AreParts, One, Two, HasParts}
 use Rattle.model_meanings.specs.Requests.{HasCome}
-use Rattle.model_meanings.specs.Dialogs.{Begins, WasSentOn, WentThrough, Invite, AnswerToInvite, AnswerWithin, Within, IsAddressOf, OfCaller, OfBranch, OfMessage, HadRequest, AtFirst, Later, WasAccepted, WasTold}
+use Rattle.model_meanings.specs.Dialogs.{Begins, WasSentOn, WentThrough, Invite, AnswerToInvite, AnswerWithin, Within, IsAddressOf, OfCaller, OfBranch, OfMessage}
+use Rattle.model_meanings.specs.Dialogs.{HadRequest, AtFirst, Later, WasAccepted, WasTold}
 use Rattle.sip_model.proofs.Places.{in_from_contains, all_in, all_weaker}
 use Rattle.model_meanings.proofs.Lists.{all_append}
 use Rattle.model_meanings.proofs.Requests.{all_replaced, later_there, later_sent, later_brought, later_went, later_come, brought_now, sent_now, chain_come}
@@ -51,7 +53,8 @@ anything u is = tt
 -- a change leaves failures alone
 change_fails : (server : Server) (state : ProxyState) (act : Act) (now : ℕ) (r : OpenRequest) (change : Change) (again : List Packet)
     → IsChangeAt server state act now r change again → KeepsFailures r → KeepsFailures change.request
-change_fails server state act now r _ _ (ByResponse a bytes m status reason b said start is there) h = (responded_honest Anything anything server now r b status m (λ target. tt) h).keeps
+change_fails server state act now r _ _ (ByResponse a bytes m status reason b said start is there) h =
+    (responded_honest Anything anything server now r b status m (λ target. tt) h).keeps
 change_fails server state act now r _ _ (ByDeadline change is) h = (overdue_honest Anything anything server now r change is h).keeps
 change_fails server state act now r _ _ (ByFault at ticket b is number found) h = (failed_honest Anything anything server now r b h).keeps
 change_fails server state act now r _ _ (ByCancel a bytes m short key said method key_is found) h = (cancelled_honest Anything anything server now r h).keeps
@@ -59,7 +62,8 @@ change_fails server state act now r _ _ (ByCancel a bytes m short key said metho
 -- and so does a request that is opened
 opening_fails : (server : Server) (a : Arrival) (m : Message) (r : OpenRequest) (packets : List Packet) → IsOpening server a m r packets → KeepsFailures r
 opening_fails server a m _ _ (Answered status extras final) = tt
-opening_fails server a m _ _ (Sent first others begun) = (opening_honest Anything anything server a.now (forking a m (first ∷ others)) (unsent_fail Anything anything (first ∷ others))).keeps
+opening_fails server a m _ _ (Sent first others begun) = (opening_honest Anything anything server a.now (forking a m (first ∷ others))
+    (unsent_fail Anything anything (first ∷ others))).keeps
 
 -- what goes again
 resent_fails : (server : Server) (now : ℕ) (r : OpenRequest) (packets : List Packet) (later : OpenRequest) → IsResent server now r packets later → KeepsFailures r
@@ -89,18 +93,22 @@ part_fails server state act now requests after firsts again (Opens a bytes m sho
     subst AllKeep (sym e) (all_append KeepsFailures requests (r ∷ []) h (opening_fails server a m r firsts opens, tt))
 part_fails server state act now requests after firsts again (Changes r change there is e f) h =
     subst AllKeep (sym e)
-    (all_replaced KeepsFailures change.request requests h (change_fails server state act now r change again is (all_in KeepsFailures requests r h (in_from_contains requests r there))))
+    (all_replaced KeepsFailures change.request requests h (change_fails server state act now r change again is
+    (all_in KeepsFailures requests r h (in_from_contains requests r there))))
 part_fails server state act now requests after firsts again (Resends r later there goes e f) h =
-    subst AllKeep (sym e) (all_replaced KeepsFailures later requests h (resent_fails server now r again later goes (all_in KeepsFailures requests r h (in_from_contains requests r there))))
+    subst AllKeep (sym e) (all_replaced KeepsFailures later requests h (resent_fails server now r again later goes
+    (all_in KeepsFailures requests r h (in_from_contains requests r there))))
 part_fails server state act now requests after firsts again (Acknowledges r there e f g) h =
-    subst AllKeep (sym e) (all_replaced KeepsFailures (acknowledged now r) requests h (acknowledged_fails now r (all_in KeepsFailures requests r h (in_from_contains requests r there))))
+    subst AllKeep (sym e) (all_replaced KeepsFailures (acknowledged now r) requests h
+    (acknowledged_fails now r (all_in KeepsFailures requests r h (in_from_contains requests r there))))
 
 -- after one, or two
 parts_fail : (server : Server) (state : ProxyState) (act : Act) (now : ℕ) (requests after : List OpenRequest) (firsts again : List Packet)
     → AreParts server state act now requests after firsts again → AllKeep requests → AllKeep after
 parts_fail server state act now requests after firsts again (One part) h = part_fails server state act now requests after firsts again part h
 parts_fail server state act now requests after firsts again (Two middle earlier r change first there still is e f g) h =
-    part_fails server state act now middle after (change_packets change) [] (Changes r change still is e refl) (part_fails server state act now requests middle earlier [] first h)
+    part_fails server state act now middle after (change_packets change) [] (Changes r change still is e refl)
+    (part_fails server state act now requests middle earlier [] first h)
 
 -- ---- longer histories
 
@@ -197,14 +205,16 @@ module _ (server : Server) (link : Link) (history : List Link) where
 pub taken_now : (server : Server) (link : Link) (history : List Link) → IsTakenIn (under server link.config) (link ∷ history) link
 taken_now server link history = record { is_there = Contains-append_left (link ∷ []) history link (0, omega arith, refl); is_by = refl }
 
-module _ (parts : (server : Server) (old : ProxyState) (act : Act) (out : StepOut) (new : ProxyState) → IsStep server old act out new → HasParts server old act out new) where
+module _ (parts : (server : Server) (old : ProxyState) (act : Act) (out : StepOut) (new : ProxyState) → IsStep server old act out new
+    → HasParts server old act out new) where
   -- open requests keep failures alone
   chain_fails : (server : Server) (first : ℕ) (history : List Link) (last : ProxyState) → IsChain server (first_state first) history last → AllKeep last.requests
   chain_fails server first [] last h = subst (λ (s : ProxyState). AllKeep s.requests) (sym h) tt
   chain_fails server first (link ∷ history) last h =
       let has = parts (under server link.config) link.before link.act link.out link.after h.1 in
       subst (λ (s : ProxyState). AllKeep s.requests) (sym h.0)
-      (parts_fail (under server link.config) link.before link.act link.after.moment link.before.requests link.after.requests (originals link.out.packets) _ has.parts (chain_fails server first history link.before h.2))
+      (parts_fail (under server link.config) link.before link.act link.after.moment link.before.requests link.after.requests (originals link.out.packets) _ has.parts
+      (chain_fails server first history link.before h.2))
 
   -- the state before a step
   pub chain_here : (server : Server) (first : ℕ) (link : Link) (history : List Link) → IsChain server (first_state first) history link.before
@@ -230,7 +240,8 @@ module _ (parts : (server : Server) (old : ProxyState) (act : Act) (out : StepOu
       refl,
       refl,
     );
-    requests = all_weaker (HasCome history) (HasCome (link ∷ history)) link.before.requests (later_come link history) (chain_come parts server first history link.before h);
+    requests = all_weaker (HasCome history) (HasCome (link ∷ history)) link.before.requests (later_come link history)
+        (chain_come parts server first history link.before h);
     failures = chain_fails server first history link.before h;
   }
 
@@ -241,10 +252,13 @@ module _ (parts : (server : Server) (old : ProxyState) (act : Act) (out : StepOu
   chain_told server first (link ∷ history) last h =
       let by : Server = under server link.config in
       let dialogs : List Dialog = history_dialogs server (first_state first) history link.before h.2 in
-      all_weaker (WasTold by (link ∷ history)) (WasTold server (link ∷ history)) (step_dialogs by link.before link.act link.out link.after h.1 dialogs) (told_under by server.config (link ∷ history))
-      (step_told by (link ∷ history) link (WasTold by (link ∷ history)) (told_closed by (link ∷ history) link) (taken_now server link history) link.before link.act link.out link.after h.1 dialogs
+      all_weaker (WasTold by (link ∷ history)) (WasTold server (link ∷ history)) (step_dialogs by link.before link.act link.out link.after h.1 dialogs)
+      (told_under by server.config (link ∷ history))
+      (step_told by (link ∷ history) link (WasTold by (link ∷ history)) (told_closed by (link ∷ history) link) (taken_now server link history) link.before link.act
+      link.out link.after h.1 dialogs
       (chain_here server first link history h.2) (sent_now link [])
-      (all_weaker (WasTold server history) (WasTold by (link ∷ history)) dialogs (λ d was. told_under server link.config (link ∷ history) d (later_told server link history d was))
+      (all_weaker (WasTold server history) (WasTold by (link ∷ history)) dialogs (λ d was.
+      told_under server link.config (link ∷ history) d (later_told server link history d was))
       (chain_told server first history link.before h.2)))
 
   -- each known dialog was
@@ -254,5 +268,6 @@ module _ (parts : (server : Server) (old : ProxyState) (act : Act) (out : StepOu
       → last.moment - d.since < 43200000
       → WasTold server history d
   known_told taught server first history last h d there recent =
-      known_in_both (WasTold server history) last.moment last.dialogs (history_dialogs server (first_state first) history last h) (taught server first history last h) (chain_told server first history last h) d
+      known_in_both (WasTold server history) last.moment last.dialogs (history_dialogs server (first_state first) history last h) (taught server first history last h)
+      (chain_told server first history last h) d
       (in_from_contains last.dialogs d there) recent

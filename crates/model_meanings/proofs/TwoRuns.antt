@@ -27,7 +27,8 @@ use Rattle.sip_model.specs.steps_model.Step.{Given, IsStep, NoneBy, NoneAgainBy,
 use Rattle.sip_model.specs.Run.{IsChain, under, IsRun}
 use Rattle.sip_model.specs.Periods.{IsRunUnder}
 use Rattle.model_meanings.specs.TwoConfigurations.{closed, after_help, help_again, from_pc}
-use Rattle.model_meanings.specs.TwoPeriods.{first_second, next_second, two_seconds, both_outs, two_periods, first_asked, next_asked, while_gone, once_back, gone_and_back, outs_of_both, periods_of_both}
+use Rattle.model_meanings.specs.TwoPeriods.{first_second, next_second, two_seconds, both_outs, two_periods, first_asked, next_asked, while_gone, once_back, gone_and_back}
+use Rattle.model_meanings.specs.TwoPeriods.{outs_of_both, periods_of_both}
 use Rattle.model_meanings.proofs.Coming.{differ}
 
 -- a state is the same as itself
@@ -111,7 +112,8 @@ module _ (server : Server) (old : ProxyState) (at : ℕ) (m : Message) (says : m
   -- that is what the datagram does
   is_done : datagram_effect server old arrival (text_of m) ≡ done
   is_done =
-      ap (λ (said : Option (Message × Bool)). option_map_or (λ x. effect_of server arrival x.0 x.1 (counted arrival old)) (verdict_in server old arrival said) (nothing (counted arrival old))) says
+      ap (λ (said : Option (Message × Bool)). option_map_or (λ x. effect_of server arrival x.0 x.1 (counted arrival old)) (verdict_in server old arrival said)
+      (nothing (counted arrival old))) says
 
   -- so a step that does it, and sends nothing again, is one of the datagram
   pub delivers : NoneBy (moment_of old at) old.requests → NoneAgainBy (moment_of old at) old.requests → moment_of old at ≡ at → originals done.originals ≡ done.originals

@@ -9,7 +9,8 @@ use Rattle.sip_model.specs.state.declared.server.Server.{Server}
 use Rattle.sip_model.specs.state.Arrival.{Arrival}
 use Rattle.sip_model.specs.Access.{CameFor}
 use Rattle.sip_model.specs.Run.{Link, under}
-use Rattle.model_meanings.specs.Dialogs.{Begins, WentThrough, Invite, AnswerToInvite, AnswerWithin, Within, IsAddressOf, OfCaller, OfBranch, OfMessage, HadRequest, AtFirst, Later, WasAccepted, WasTold}
+use Rattle.model_meanings.specs.Dialogs.{Begins, WentThrough, Invite, AnswerToInvite, AnswerWithin, Within, IsAddressOf, OfCaller, OfBranch, OfMessage, HadRequest}
+use Rattle.model_meanings.specs.Dialogs.{AtFirst, Later, WasAccepted, WasTold}
 use Rattle.sip_model.proofs.Places.{all_weaker}
 
 -- Under its own configuration the server under another one is what it was, so each of these leads back, too.

@@ -80,13 +80,15 @@ module _ (expires_at port : ℕ) (after : ProxyState) where
       })
 
   -- it goes to the live bindings of help@host.com
-  call_places : (rows : List Binding) → places by_digest sample rows call caller ≡ filter_map (place_of sample.config.addresses) (map (λ (b : Binding). b.uri) (live help 62000 rows))
+  call_places : (rows : List Binding) → places by_digest sample rows call caller ≡ filter_map (place_of sample.config.addresses)
+      (map (λ (b : Binding). b.uri) (live help 62000 rows))
   unfolding digits Uris.rest_of Uris.reading_of
   call_places rows = refl
 
   -- as they are in the state
   call_goes : (earlier : List Link) → Headline by_digest sample (call ∷ earlier)
-      → AllZip (GoesTo (codes "INVITE")) call.out.packets (filter_map (place_of sample.config.addresses) (map (λ (b : Binding). b.uri) (live help 62000 (before_call expires_at).bindings)))
+      → AllZip (GoesTo (codes "INVITE")) call.out.packets (filter_map (place_of sample.config.addresses)
+      (map (λ (b : Binding). b.uri) (live help 62000 (before_call expires_at).bindings)))
   call_goes earlier headline =
       let kept : Kept sample call earlier = kept_by sample call earlier headline.bindings headline.leads in
       let served : IsServed by_digest sample kept.rows call caller = kept.is_kept.serves caller call_is_new in
@@ -139,12 +141,22 @@ module _ (extras : List Field) (after : ProxyState) where
       let answered : IsAnswered denied denial.out.packets 403 Name.Warning (denial_warning sample.config.own 3 ∷ []) = served.denies 3 by_rule_3 in
       let packet : denial_with extras ≡ answered.packet = ap (λ (ps : List Packet). get_or ps 0 answered.packet) answered.is_alone in
       let front : List ℕ = codes "SIP/2.0 " ++ decimal 403 ++ codes " " in
-      let start : passing is_three (start_text answered.response.start) ≡ passing is_three (front ++ answered.reason) = ap (λ (s : Start). passing is_three (start_text s)) answered.has_status in
+      let start : passing is_three (start_text answered.response.start) ≡ passing is_three (front ++ answered.reason) =
+      ap (λ (s : Start). passing is_three (start_text s)) answered.has_status in
       let one : passing is_three front ≡ 1 = refl in
       let two : passing is_three (field_text (denial_warning sample.config.own 3)) ≡ 2 = refl in
       let text : passing is_three (denial_with extras).bytes ≡ passing is_three (text_of answered.response) =
       ap (λ (p : Packet). passing is_three p.bytes) packet ∙ ap (passing is_three) answered.is_text in
-      omega (arith, start, one, two, text, of_both is_three front answered.reason, text_has is_three answered.response Name.Warning (denial_warning sample.config.own 3) answered.has)
+      omega (
+        arith,
+        start,
+        one,
+        two,
+        text,
+        of_both is_three front answered.reason,
+        text_has is_three answered.response Name.Warning (denial_warning sample.config.own 3)
+            answered.has,
+      )
 
 pub without_rule : (after : ProxyState) (earlier : List Link) → Headline by_digest sample (denied_without_rule after ∷ earlier) → ⊥
 unfolding is_three digits encode_with Uris.rest_of Uris.reading_of

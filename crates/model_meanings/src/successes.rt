@@ -1,4 +1,4 @@
-ghost use Rattle.std.specs.Prelude.{◌≡◌, ◌⊎◌, ◌∷◌, ℕ, Bool, List, Contains};
+ghost use Rattle.std.specs.Prelude.{◌⊎◌, ◌∷◌, ℕ, Bool, List, Contains};
 ghost use Rattle.sip_message_fields.specs.declared.field.Field.{Field};
 ghost use Rattle.sip_message_form.specs.declared.message.Message.{Message};
 ghost use Rattle.sip_model.specs.state.declared.server.Server.{Server};

@@ -18,7 +18,8 @@ use Rattle.sip_model.specs.steps_model.Effect.{replaced}
 use Rattle.sip_model.specs.steps_model.Step.{Act, IsStep, IsOverdue, OfSide, OfBranch, originals, retransmissions}
 use Rattle.sip_model.specs.Order.{AreRising}
 use Rattle.sip_model.specs.Run.{Link, under, IsChain}
-use Rattle.sip_model.specs.Parts.{AreBegun, IsOpening, Answered, Sent, IsChangeAt, ByResponse, ByDeadline, ByFault, ByCancel, IsPart, Stays, Passes, Copies, TurnsAway, Opens, Changes, Resends, Acknowledges, AreParts, One, Two, HasParts}
+use Rattle.sip_model.specs.Parts.{AreBegun, IsOpening, Answered, Sent, IsChangeAt, ByResponse, ByDeadline, ByFault, ByCancel, IsPart, Stays, Passes, Copies, TurnsAway}
+use Rattle.sip_model.specs.Parts.{Opens, Changes, Resends, Acknowledges, AreParts, One, Two, HasParts}
 use Rattle.sip_model.proofs.Places.{in_from_contains, all_in, all_push}
 use Rattle.model_transactions.specs.Matching.{AreBranched, IsNewNumber, NoBranch, OneBranch, WithCancel, may_be_cancelled}
 use Rattle.model_transactions.specs.Queue.{AreApart}
@@ -55,7 +56,8 @@ still_new : (b : Branch) (next : Resend) (number : ℕ) (bs : List Branch) → I
 still_new b next number [] new = tt
 still_new b next number (x ∷ bs) new = ((λ e. new.0 (sym (same_number b next x) ∙ e)), still_new b next number bs new.1)
 
-its_new : (b : Branch) (next : Resend) (x : Branch) (bs : List Branch) → IsNewNumber x.number bs → IsNewNumber (resent_branch b next x).number (map (resent_branch b next) bs)
+its_new : (b : Branch) (next : Resend) (x : Branch) (bs : List Branch) → IsNewNumber x.number bs
+    → IsNewNumber (resent_branch b next x).number (map (resent_branch b next) bs)
 its_new b next x bs new = subst (λ (n : ℕ). IsNewNumber n (map (resent_branch b next) bs)) (sym (same_number b next x)) (still_new b next x.number bs new)
 
 resent_branched : (b : Branch) (next : Resend) (bs : List Branch) → AreBranched bs → AreBranched (map (resent_branch b next) bs)
@@ -67,7 +69,8 @@ resent_branched b next bs (WithCancel x c rest is c_is numbers is_past new branc
     (same_number b next c ∙ numbers ∙ sym (same_number b next x)) (ap may_be_cancelled (same_phase b next x) ∙ is_past) (its_new b next x rest new)
     (resent_branched b next rest branched)
 
-goes_branched : (server : Server) (now : ℕ) (r : OpenRequest) (packets : List Packet) (next : OpenRequest) → IsResent server now r packets next → IsBranched r → IsBranched next
+goes_branched : (server : Server) (now : ℕ) (r : OpenRequest) (packets : List Packet) (next : OpenRequest) → IsResent server now r packets next → IsBranched r
+    → IsBranched next
 goes_branched server now r _ _ (OfAnswer is) h = h
 goes_branched server now r _ _ (OfRequest b there is) h = resent_branched b (branch_next r b) r.branches h
 
@@ -76,12 +79,16 @@ goes_branched server now r _ _ (OfRequest b there is) h = resent_branched b (bra
 -- branches that begin have rising numbers
 begun_new : (now from number : ℕ) (bs : List Branch) → AreBegun now from bs → number < from → IsNewNumber number bs
 begun_new now from number [] begun low = tt
-begun_new now from number (b ∷ bs) begun low = let is = begun.0.is_numbered in ((λ e. omega (arith, e, is, low)), begun_new now (from + 1) number bs begun.1 (omega (arith, low)))
+begun_new now from number (b ∷ bs) begun low = let is = begun.0.is_numbered in (
+  (λ e. omega (arith, e, is, low)),
+  begun_new now (from + 1) number bs begun.1 (omega (arith, low)),
+)
 
 begun_branched : (now from : ℕ) (bs : List Branch) → AreBegun now from bs → AreBranched bs
 begun_branched now from [] begun = NoBranch
 begun_branched now from (b ∷ bs) begun =
-    OneBranch b bs begun.0.is_target (subst (λ (n : ℕ). IsNewNumber n bs) (sym begun.0.is_numbered) (begun_new now (from + 1) from bs begun.1 (omega arith))) (begun_branched now (from + 1) bs begun.1)
+    OneBranch b bs begun.0.is_target (subst (λ (n : ℕ). IsNewNumber n bs) (sym begun.0.is_numbered) (begun_new now (from + 1) from bs begun.1 (omega arith)))
+    (begun_branched now (from + 1) bs begun.1)
 
 opening_branched : (server : Server) (a : Arrival) (m : Message) (r : OpenRequest) (firsts : List Packet) → IsOpening server a m r firsts → IsBranched r
 opening_branched server a m _ _ (Answered status extras final) = NoBranch
@@ -93,7 +100,8 @@ overdue_branched : (server : Server) (now : ℕ) (r : OpenRequest) (change : Cha
 overdue_branched server now r _ (OfSide is) h = (side_is_overdue server now r h).branched
 overdue_branched server now r _ (OfBranch b there is) h = (is_overdue server now r b h).branched
 
-change_branched : (server : Server) (state : ProxyState) (act : Act) (now : ℕ) (r : OpenRequest) (change : Change) (again : List Packet) → IsChangeAt server state act now r change again → IsBranched r → IsBranched change.request
+change_branched : (server : Server) (state : ProxyState) (act : Act) (now : ℕ) (r : OpenRequest) (change : Change) (again : List Packet)
+    → IsChangeAt server state act now r change again → IsBranched r → IsBranched change.request
 change_branched server state act now r _ _ (ByResponse a bytes m status reason b said start responding there) h = (responds server now status r b m h there).branched
 change_branched server state act now r _ _ (ByDeadline change over) h = overdue_branched server now r change over h
 change_branched server state act now r _ _ (ByFault at ticket b given number found) h = (fails server now r b h).branched
@@ -115,23 +123,30 @@ replaced_branched new (x ∷ xs) all h = by_test (x.number == new.number) (has_l
 
 -- ---- steps
 
-part_branched : (server : Server) (state : ProxyState) (act : Act) (now : ℕ) (requests after : List OpenRequest) (firsts again : List Packet) → IsPart server state act now requests after firsts again
+part_branched : (server : Server) (state : ProxyState) (act : Act) (now : ℕ) (requests after : List OpenRequest) (firsts again : List Packet)
+    → IsPart server state act now requests after firsts again
     → AllByRecursion IsBranched requests → AllByRecursion IsBranched after
 part_branched server state act now requests after firsts again (Stays same none nothing) all = subst (AllByRecursion IsBranched) (sym same) all
 part_branched server state act now requests after firsts again (Passes a m address within ack same sent nothing) all = subst (AllByRecursion IsBranched) (sym same) all
-part_branched server state act now requests after firsts again (Copies a bytes m short key r said other keyed found same none goes) all = subst (AllByRecursion IsBranched) (sym same) all
-part_branched server state act now requests after firsts again (TurnsAway a bytes m short r said keyed other opening full same nothing) all = subst (AllByRecursion IsBranched) (sym same) all
+part_branched server state act now requests after firsts again (Copies a bytes m short key r said other keyed found same none goes) all =
+    subst (AllByRecursion IsBranched) (sym same) all
+part_branched server state act now requests after firsts again (TurnsAway a bytes m short r said keyed other opening full same nothing) all =
+    subst (AllByRecursion IsBranched) (sym same) all
 part_branched server state act now requests after firsts again (Opens a bytes m short r said keyed other moment opening room alone same nothing) all =
     subst (AllByRecursion IsBranched) (sym same) (all_push IsBranched requests r all (opening_branched server a m r firsts opening))
 part_branched server state act now requests after firsts again (Changes r change there is same sent) all =
     subst (AllByRecursion IsBranched) (sym same)
-    (replaced_branched change.request requests all (change_branched server state act now r change again is (all_in IsBranched requests r all (in_from_contains requests r there))))
+    (replaced_branched change.request requests all (change_branched server state act now r change again is
+    (all_in IsBranched requests r all (in_from_contains requests r there))))
 part_branched server state act now requests after firsts again (Resends r later there goes same none) all =
-    subst (AllByRecursion IsBranched) (sym same) (replaced_branched later requests all (goes_branched server now r again later goes (all_in IsBranched requests r all (in_from_contains requests r there))))
+    subst (AllByRecursion IsBranched) (sym same) (replaced_branched later requests all
+    (goes_branched server now r again later goes (all_in IsBranched requests r all (in_from_contains requests r there))))
 part_branched server state act now requests after firsts again (Acknowledges r there same none nothing) all =
-    subst (AllByRecursion IsBranched) (sym same) (replaced_branched (acknowledged now r) requests all (acknowledged_branched now r (all_in IsBranched requests r all (in_from_contains requests r there))))
+    subst (AllByRecursion IsBranched) (sym same) (replaced_branched (acknowledged now r) requests all
+    (acknowledged_branched now r (all_in IsBranched requests r all (in_from_contains requests r there))))
 
-parts_branched : (server : Server) (state : ProxyState) (act : Act) (now : ℕ) (requests after : List OpenRequest) (firsts again : List Packet) → AreParts server state act now requests after firsts again
+parts_branched : (server : Server) (state : ProxyState) (act : Act) (now : ℕ) (requests after : List OpenRequest) (firsts again : List Packet)
+    → AreParts server state act now requests after firsts again
     → AllByRecursion IsBranched requests → AllByRecursion IsBranched after
 parts_branched server state act now requests after firsts again (One part) all = part_branched server state act now requests after firsts again part all
 parts_branched server state act now requests after firsts again (Two middle earlier r change part there kept is same sent nothing) all =
@@ -144,12 +159,15 @@ abbrev pub HaveParts : Type 0
 HaveParts = (server : Server) (old : ProxyState) (act : Act) (out : StepOut) (new : ProxyState) → IsStep server old act out new → HasParts server old act out new
 
 -- so all are after a history
-pub chain_branched : HaveParts → (server : Server) (first : ℕ) (history : List Link) (last : ProxyState) → IsChain server (first_state first) history last → AllByRecursion IsBranched last.requests
+pub chain_branched : HaveParts → (server : Server) (first : ℕ) (history : List Link) (last : ProxyState) → IsChain server (first_state first) history last
+    → AllByRecursion IsBranched last.requests
 chain_branched parts server first [] last chain = subst (λ (s : ProxyState). AllByRecursion IsBranched s.requests) (sym chain) tt
 chain_branched parts server first (link ∷ history) last chain =
-    let has : HasParts (under server link.config) link.before link.act link.out link.after = parts (under server link.config) link.before link.act link.out link.after chain.1 in
+    let has : HasParts (under server link.config) link.before link.act link.out link.after =
+    parts (under server link.config) link.before link.act link.out link.after chain.1 in
     subst (λ (s : ProxyState). AllByRecursion IsBranched s.requests) (sym chain.0)
-    (parts_branched (under server link.config) link.before link.act link.after.moment link.before.requests link.after.requests (originals link.out.packets) (retransmissions link.out.packets) has.parts
+    (parts_branched (under server link.config) link.before link.act link.after.moment link.before.requests link.after.requests (originals link.out.packets)
+    (retransmissions link.out.packets) has.parts
     (chain_branched parts server first history link.before chain.2))
 
 -- ---- their timers

@@ -62,7 +62,8 @@ itself_there es = every es (λ e there. has_by_count e es there) (all_there es)
 has_left : (p : Entry → Bool) (e : Entry) (es : List Entry) → has e es ≡ true → p e ≡ true → has e (filter p es) ≡ true
 has_left p e [] there is = absurd (cc)
 has_left p e (x ∷ xs) there is = by_tests (same_entry e x) refl (p x) refl there (λ later. has_left p e xs later is) where
-  by_tests : (t : Bool) → same_entry e x ≡ t → (u : Bool) → p x ≡ u → (t || has e xs) ≡ true → (has e xs ≡ true → has e (filter p xs) ≡ true) → has e (cond u (x ∷ filter p xs) (filter p xs)) ≡ true
+  by_tests : (t : Bool) → same_entry e x ≡ t → (u : Bool) → p x ≡ u → (t || has e xs) ≡ true → (has e xs ≡ true → has e (filter p xs) ≡ true)
+      → has e (cond u (x ∷ filter p xs) (filter p xs)) ≡ true
   by_tests true same true stays there rest = ap (λ (v : Bool). v || has e (filter p xs)) same
   by_tests true same false goes there rest = absurd (let stays : p x ≡ true = subst (λ (y : Entry). p y ≡ true) (entry_is e x same) is in cc)
   by_tests false same true stays there rest = or_right (same_entry e x) (has e (filter p xs)) (rest there)
@@ -71,7 +72,8 @@ has_left p e (x ∷ xs) there is = by_tests (same_entry e x) refl (p x) refl the
 has_behind : (e x : Entry) (es : List Entry) → has e (behind x es) ≡ (same_entry e x || has e es)
 has_behind e x [] = refl
 has_behind e x (y ∷ ys) = by_due (nat_lt x.due y.due) (same_entry e x) (same_entry e y) (has_behind e x ys) where
-  by_due : (b s t : Bool) → has e (behind x ys) ≡ (same_entry e x || has e ys) → has e (cond b (x ∷ y ∷ ys) (y ∷ behind x ys)) ≡ (same_entry e x || (same_entry e y || has e ys))
+  by_due : (b s t : Bool) → has e (behind x ys) ≡ (same_entry e x || has e ys) → has e (cond b (x ∷ y ∷ ys) (y ∷ behind x ys))
+      ≡ (same_entry e x || (same_entry e y || has e ys))
   by_due true s t rest = refl
   by_due false s t rest = ap (λ (v : Bool). same_entry e y || v) rest ∙ swap (same_entry e y) (same_entry e x) (has e ys) where
     swap : (a b c : Bool) → (a || (b || c)) ≡ (b || (a || c))
@@ -88,7 +90,8 @@ stays_behind e es (x ∷ xs) there = stays_behind e (behind x es) xs (has_behind
 comes_behind : (e : Entry) (es xs : List Entry) → has e xs ≡ true → has e (all_behind es xs) ≡ true
 comes_behind e es [] there = absurd (cc)
 comes_behind e es (x ∷ xs) there = by_test (same_entry e x) refl there (λ later. comes_behind e (behind x es) xs later) where
-  by_test : (t : Bool) → same_entry e x ≡ t → (t || has e xs) ≡ true → (has e xs ≡ true → has e (all_behind (behind x es) xs) ≡ true) → has e (all_behind (behind x es) xs) ≡ true
+  by_test : (t : Bool) → same_entry e x ≡ t → (t || has e xs) ≡ true → (has e xs ≡ true → has e (all_behind (behind x es) xs) ≡ true)
+      → has e (all_behind (behind x es) xs) ≡ true
   by_test true same there rest = stays_behind e (behind x es) xs (has_behind e x es ∙ ap (λ (v : Bool). v || has e es) same)
   by_test false same there rest = rest there
 
@@ -117,7 +120,8 @@ module _ (queue standing : List Entry) where
 
   pub settled_queue : queue_after (queue_after queue standing) standing ≡ queue_after queue standing
   settled_queue =
-      ap (λ (es : List Entry). all_behind es (filter (λ (e : Entry). not (has e (all_behind stayed came))) standing)) (all_left (λ (e : Entry). has e standing) (all_behind stayed came) all_stand)
+      ap (λ (es : List Entry). all_behind es (filter (λ (e : Entry). not (has e (all_behind stayed came))) standing))
+      (all_left (λ (e : Entry). has e standing) (all_behind stayed came) all_stand)
       ∙ ap (λ (es : List Entry). all_behind (all_behind stayed came) es) (none_left (λ (e : Entry). has e (all_behind stayed came)) standing all_are_there)
 
 -- a step behind which nothing changes leaves the queue

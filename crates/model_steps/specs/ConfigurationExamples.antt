@@ -70,7 +70,8 @@ answered_by value = effect_on keyed challenged_twice.state 2 2000 5062 (authoriz
 
 -- what help's credentials begin with
 abbrev pub helps_credential : List ℕ → List ℕ
-helps_credential rest = codes "Digest username=\"help\", realm=\"testrealm@host.com\", nonce=\"00000000000000000000000000000001\", uri=\"sip:host.com\", response=" ++ rest
+helps_credential rest = codes "Digest username=\"help\", realm=\"testrealm@host.com\", nonce=\"00000000000000000000000000000001\", uri=\"sip:host.com\", response="
+    ++ rest
 
 -- help's, by MD5 with the first count
 abbrev pub first_by_md5 : List ℕ

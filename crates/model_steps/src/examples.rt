@@ -1,6 +1,5 @@
 //! Worked examples of steps, as contracts that compute to the byte: registrations, calls and their forks, CANCELs, dialogs.
-ghost use Rattle.std.specs.Prelude.{◌≡◌, ◌∷◌, [], codes, length, map, None, Some};
-ghost use Rattle.sip_audit.specs.declared.record.Outcome.TheVariants.{Challenge, Deny, Sent, Answer};
+ghost use Rattle.std.specs.Prelude.{◌≡◌, ◌∷◌, [], codes, length, map};
 ghost use Rattle.sip_audit.specs.Lines.{line_of};
 ghost use Rattle.sip_edit_response.specs.Examples as Replies;
 ghost use Rattle.sip_edit_response.specs.ExtrasExamples as Extras;

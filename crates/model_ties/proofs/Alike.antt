@@ -51,7 +51,8 @@ OfEntries h k = (entry : Entry) → IsOfEntry entry h → IsOfEntry entry k
 
 module _ (laws : Sameness) (server : Server) where
   -- what does an effect does each that leaves a state that is the same
-  does_so : (left right : ProxyState) (at : ℕ) (one other : Effect) (out : StepOut) (new : ProxyState) → one.originals ≡ other.originals → one.again ≡ other.again → one.records ≡ other.records
+  does_so : (left right : ProxyState) (at : ℕ) (one other : Effect) (out : StepOut) (new : ProxyState) → one.originals ≡ other.originals → one.again ≡ other.again
+      → one.records ≡ other.records
       → SameState one.state other.state → Does server left at one out new → Does server right at other out new
   does_so left right at one other out new firsts again records same does =
       record {
@@ -75,7 +76,8 @@ module _ (laws : Sameness) (server : Server) where
       is_due = passed.is_due;
       is_first = passed.is_first;
       none_again = passed.none_again;
-      does = does_so s (with_others s rows dialogs) out.at (changed server out.at s passed.change) (changed server out.at (with_others s rows dialogs) passed.change) out new refl refl refl
+      does = does_so s (with_others s rows dialogs) out.at (changed server out.at s passed.change) (changed server out.at (with_others s rows dialogs) passed.change) out
+          new refl refl refl
           (record {
             moment = refl;
             next = refl;
@@ -98,7 +100,8 @@ module _ (laws : Sameness) (server : Server) where
       is_due = gone.is_due;
       is_first = gone.is_first;
       none_again = gone.none_again;
-      does = does_so s (with_others s rows dialogs) out.at (resent out.at s gone.packets gone.next) (resent out.at (with_others s rows dialogs) gone.packets gone.next) out new refl refl refl
+      does = does_so s (with_others s rows dialogs) out.at (resent out.at s gone.packets gone.next) (resent out.at (with_others s rows dialogs) gone.packets gone.next)
+          out new refl refl refl
           (record {
             moment = refl;
             next = refl;
@@ -117,17 +120,20 @@ module _ (laws : Sameness) (server : Server) where
       → (h : IsDeadline server left at out new ⊎ IsResend server left at out new)
       → (k : IsDeadline server right at out new ⊎ IsResend server right at out new) × (due_of k ≡ due_of h) × OfEntries h k
   happens_alike left right same at out new later h =
-      subst (λ (s : ProxyState). (k : IsDeadline server s at out new ⊎ IsResend server s at out new) × (due_of k ≡ due_of h) × OfEntries h k) (others_alone left right same)
+      subst (λ (s : ProxyState). (k : IsDeadline server s at out new ⊎ IsResend server s at out new) × (due_of k ≡ due_of h) × OfEntries h k)
+      (others_alone left right same)
       (with_others_so left right.bindings right.dialogs same.bindings same.dialogs at out new later h)
 
   -- ---- one effect
 
   -- two steps that do one effect are one
-  pub one_effect : (state : ProxyState) (at when : ℕ) (one other : Effect) (out another : StepOut) (new newer : ProxyState) → at ≡ when → one ≡ other → GoesOneWay out.packets
+  pub one_effect : (state : ProxyState) (at when : ℕ) (one other : Effect) (out another : StepOut) (new newer : ProxyState) → at ≡ when → one ≡ other
+      → GoesOneWay out.packets
       → Does server state at one out new → Does server state when other another newer → (out ≡ another) × SameState new newer
   one_effect state at when one other out another new newer moments same way h k = (
     one_step out another (h.at_moment ∙ moments ∙ sym k.at_moment)
-        (one_packets out.packets another.packets (h.sends ∙ ap (λ (e : Effect). e.originals) same ∙ sym k.sends) (h.repeats ∙ ap (λ (e : Effect). e.again) same ∙ sym k.repeats) way)
+        (one_packets out.packets another.packets (h.sends ∙ ap (λ (e : Effect). e.originals) same ∙ sym k.sends)
+        (h.repeats ∙ ap (λ (e : Effect). e.again) same ∙ sym k.repeats) way)
         (h.records ∙ ap (λ (e : Effect). e.records) same ∙ sym k.records),
     laws.joined new one.state newer h.leaves
         (laws.joined one.state other.state newer (subst (λ (s : ProxyState). SameState one.state s) (ap (λ (e : Effect). e.state) same) (laws.itself one.state))
@@ -148,7 +154,8 @@ module _ (laws : Sameness) (server : Server) where
       ∙ ap (overdue server when s) (at_one_place r.branches s.branches b c (ap (λ (q : OpenRequest). q.branches) same) there here place)
 
   -- and what goes again of one part is one
-  one_resent : (due when : ℕ) (r s : OpenRequest) (packets others : List Packet) (next after : OpenRequest) → r ≡ s → (h : IsResent server due r packets next) (k : IsResent server when s others after)
+  one_resent : (due when : ℕ) (r s : OpenRequest) (packets others : List Packet) (next after : OpenRequest) → r ≡ s
+      → (h : IsResent server due r packets next) (k : IsResent server when s others after)
       → resent_branch h ≡ resent_branch k → (packets ≡ others) × (next ≡ after)
   one_resent due when r s _ _ _ _ same (OfAnswer is) (OfAnswer it) e =
       (ap (λ (q : OpenRequest). answers_again q q.answer) same, ap (λ (q : OpenRequest). record q { again = answer_next q }) same)
@@ -161,11 +168,13 @@ module _ (laws : Sameness) (server : Server) where
 
   -- in one state what happens of one part is one step
   pub one_due : (state : ProxyState) (at when : ℕ) (out another : StepOut) (new newer : ProxyState) → out.at ≡ another.at
-      → (h : IsDeadline server state at out new ⊎ IsResend server state at out new) (k : IsDeadline server state when another newer ⊎ IsResend server state when another newer)
+      → (h : IsDeadline server state at out new ⊎ IsResend server state at out new) (k : IsDeadline server state when another newer
+      ⊎ IsResend server state when another newer)
       → due_of h ≡ due_of k → (out ≡ another) × SameState new newer
   one_due state at when out another new newer moments (inl h) (inl k) e =
       let request : h.request ≡ k.request = at_one_place state.requests state.requests h.request k.request refl h.is_open k.is_open (ap (λ (d : Due). d.request) e) in
-      let change : h.change ≡ k.change = one_change out.at another.at h.request k.request h.change k.change moments request h.passes k.passes (ap (λ (d : Due). d.branch) e) in
+      let change : h.change ≡ k.change = one_change out.at another.at h.request k.request h.change k.change moments request h.passes k.passes
+      (ap (λ (d : Due). d.branch) e) in
       one_effect state out.at another.at (changed server out.at state h.change) (changed server another.at state k.change) out another new newer moments
       (ap₂ (λ (m : ℕ) (c : Change). changed server m state c) moments change) (inr h.does.repeats) h.does k.does
   one_due state at when out another new newer moments (inl h) (inr k) e = absurd (let kinds : true ≡ false = ap (λ (d : Due). d.is_deadline) e in cc)
@@ -174,4 +183,5 @@ module _ (laws : Sameness) (server : Server) where
       let request : h.request ≡ k.request = at_one_place state.requests state.requests h.request k.request refl h.is_open k.is_open (ap (λ (d : Due). d.request) e) in
       let goes = one_resent out.at another.at h.request k.request h.packets k.packets h.next k.next request h.goes k.goes (ap (λ (d : Due). d.branch) e) in
       one_effect state out.at another.at (resent out.at state h.packets h.next) (resent another.at state k.packets k.next) out another new newer moments
-      (ap₂ (λ (m : ℕ) (n : OpenRequest). resent m state h.packets n) moments goes.1 ∙ ap (λ (ps : List Packet). resent another.at state ps k.next) goes.0) (inl h.does.sends) h.does k.does
+      (ap₂ (λ (m : ℕ) (n : OpenRequest). resent m state h.packets n) moments goes.1 ∙ ap (λ (ps : List Packet). resent another.at state ps k.next) goes.0)
+      (inl h.does.sends) h.does k.does

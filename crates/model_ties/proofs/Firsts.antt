@@ -17,7 +17,8 @@ use Rattle.model_ties.proofs.Lists.{in_from_contains, all_left, all_right, made_
 -- what holds of a request's deadlines holds of the one that passes
 of_overdue : (P : ℕ → Type 0) (server : Server) (due : ℕ) (r : OpenRequest) (change : Change) → IsOverdue server due r change → AllByRecursion P (deadlines_of r) → P due
 of_overdue P server due r _ (OfSide is) all =
-    let own : AllByRecursion P (option_to_list (side_deadline r.side)) = all_left P (option_to_list (side_deadline r.side)) (filter_map (λ (b : Branch). phase_deadline b.phase) r.branches) all in
+    let own : AllByRecursion P (option_to_list (side_deadline r.side)) = all_left P (option_to_list (side_deadline r.side))
+    (filter_map (λ (b : Branch). phase_deadline b.phase) r.branches) all in
     let one : AllByRecursion P (option_to_list (Some due)) = subst (λ (o : Option ℕ). AllByRecursion P (option_to_list o)) is own in
     one.0
 of_overdue P server due r _ (OfBranch b there is) all =
@@ -25,21 +26,26 @@ of_overdue P server due r _ (OfBranch b there is) all =
     (all_right P (option_to_list (side_deadline r.side)) (filter_map (λ (x : Branch). phase_deadline x.phase) r.branches) all)
 
 -- and what holds of the moments at which something goes again holds of that at which it does
-of_resent : (P : ℕ → Type 0) (server : Server) (due : ℕ) (r : OpenRequest) (packets : List Packet) (next : OpenRequest) → IsResent server due r packets next → AllByRecursion P (resends_of r) → P due
+of_resent : (P : ℕ → Type 0) (server : Server) (due : ℕ) (r : OpenRequest) (packets : List Packet) (next : OpenRequest) → IsResent server due r packets next
+    → AllByRecursion P (resends_of r) → P due
 of_resent P server due r _ _ (OfAnswer is) all =
     let own : AllByRecursion P (option_to_list (answer_due r)) = all_left P (option_to_list (answer_due r)) (filter_map (branch_due r) r.branches) all in
     let one : AllByRecursion P (option_to_list (Some due)) = subst (λ (o : Option ℕ). AllByRecursion P (option_to_list o)) is own in
     one.0
 of_resent P server due r _ _ (OfRequest b there is) all =
-    chosen_of P (branch_due r) r.branches b due (in_from_contains r.branches b there) is (all_right P (option_to_list (answer_due r)) (filter_map (branch_due r) r.branches) all)
+    chosen_of P (branch_due r) r.branches b due (in_from_contains r.branches b there) is
+    (all_right P (option_to_list (answer_due r)) (filter_map (branch_due r) r.branches) all)
 
 -- what holds of all that is due holds of what happens
-of_due : (P : ℕ → Type 0) (server : Server) (old : ProxyState) (at : ℕ) (out : StepOut) (new : ProxyState) → IsDeadline server old at out new ⊎ IsResend server old at out new
+of_due : (P : ℕ → Type 0) (server : Server) (old : ProxyState) (at : ℕ) (out : StepOut) (new : ProxyState)
+    → IsDeadline server old at out new ⊎ IsResend server old at out new
     → AllByRecursion P (deadlines old.requests) → AllByRecursion P (resends old.requests) → P out.at
 of_due P server old at out new (inl passed) all again =
-    of_overdue P server out.at passed.request passed.change passed.passes (made_of P deadlines_of old.requests passed.request (in_from_contains old.requests passed.request passed.is_open) all)
+    of_overdue P server out.at passed.request passed.change passed.passes (made_of P deadlines_of old.requests passed.request
+    (in_from_contains old.requests passed.request passed.is_open) all)
 of_due P server old at out new (inr gone) all again =
-    of_resent P server out.at gone.request gone.packets gone.next gone.goes (made_of P resends_of old.requests gone.request (in_from_contains old.requests gone.request gone.is_open) again)
+    of_resent P server out.at gone.request gone.packets gone.next gone.goes (made_of P resends_of old.requests gone.request
+    (in_from_contains old.requests gone.request gone.is_open) again)
 
 -- nothing is due before what happens
 none_before : (server : Server) (old : ProxyState) (at : ℕ) (out : StepOut) (new : ProxyState) → IsDeadline server old at out new ⊎ IsResend server old at out new
@@ -48,27 +54,31 @@ none_before server old at out new (inl passed) = (passed.is_first, passed.none_a
 none_before server old at out new (inr gone) = (gone.is_first, gone.none_again)
 
 -- it happens by the moment that was handed in
-pub in_time : (server : Server) (old : ProxyState) (at : ℕ) (out : StepOut) (new : ProxyState) → IsDeadline server old at out new ⊎ IsResend server old at out new → out.at ≤ moment_of old at
+pub in_time : (server : Server) (old : ProxyState) (at : ℕ) (out : StepOut) (new : ProxyState) → IsDeadline server old at out new ⊎ IsResend server old at out new
+    → out.at ≤ moment_of old at
 in_time server old at out new (inl passed) = passed.is_due
 in_time server old at out new (inr gone) = gone.is_due
 
 -- no earlier than what happens where the open requests are the same
 no_earlier : (server : Server) (old other : ProxyState) (at when : ℕ) (out another : StepOut) (new newer : ProxyState) → old.requests ≡ other.requests
-    → IsDeadline server old at out new ⊎ IsResend server old at out new → IsDeadline server other when another newer ⊎ IsResend server other when another newer → out.at ≤ another.at
+    → IsDeadline server old at out new ⊎ IsResend server old at out new → IsDeadline server other when another newer ⊎ IsResend server other when another newer
+    → out.at ≤ another.at
 no_earlier server old other at when out another new newer same h k =
     let first = none_before server old at out new h in
     of_due (λ (due : ℕ). out.at ≤ due) server other when another newer k (subst (NoneBefore out.at) same first.0) (subst (NoneAgainBefore out.at) same first.1)
 
 -- so both happen at one moment
 pub at_one_moment : (server : Server) (old other : ProxyState) (at when : ℕ) (out another : StepOut) (new newer : ProxyState) → old.requests ≡ other.requests
-    → IsDeadline server old at out new ⊎ IsResend server old at out new → IsDeadline server other when another newer ⊎ IsResend server other when another newer → out.at ≡ another.at
+    → IsDeadline server old at out new ⊎ IsResend server old at out new → IsDeadline server other when another newer ⊎ IsResend server other when another newer
+    → out.at ≡ another.at
 at_one_moment server old other at when out another new newer same h k =
     let forth = no_earlier server old other at when out another new newer same h k in
     let back = no_earlier server other old when at another out newer new (sym same) k h in
     omega (arith, forth, back)
 
 -- by a moment by which nothing is due nothing happens
-pub nothing_happens : (server : Server) (old : ProxyState) (at moment : ℕ) (out : StepOut) (new : ProxyState) → NoneBy moment old.requests → NoneAgainBy moment old.requests → moment_of old at ≤ moment
+pub nothing_happens : (server : Server) (old : ProxyState) (at moment : ℕ) (out : StepOut) (new : ProxyState) → NoneBy moment old.requests
+    → NoneAgainBy moment old.requests → moment_of old at ≤ moment
     → IsDeadline server old at out new ⊎ IsResend server old at out new → ⊥
 nothing_happens server old at moment out new none none_again le h =
     let late = of_due (λ (due : ℕ). moment < due) server old at out new h none none_again in

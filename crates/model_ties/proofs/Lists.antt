@@ -1,5 +1,6 @@
 -- Lists: what stands at one place, what holds of some elements, and a history that is turned round.
-use Rattle.std.proofs.Common.{◌≡◌, ◌⊎◌, inl, inr, ◌∙◌, ℕ, zero, suc, ◌<◌, List, [], ◌∷◌, ◌++◌, length, flat_map, filter_map, reverse, Option, Some, None, refl, sym, ap, subst, arith, append_assoc, slice_index_or, Contains}
+use Rattle.std.proofs.Common.{◌≡◌, ◌⊎◌, inl, inr, ◌∙◌, ℕ, zero, suc, ◌<◌, List, [], ◌∷◌, ◌++◌, length, flat_map, filter_map, reverse, Option, Some, None, refl, sym, ap}
+use Rattle.std.proofs.Common.{subst, arith, append_assoc, slice_index_or, Contains}
 use Rattle.std.specs.List.{AllByRecursion, cons_option}
 use Rattle.std.proofs.lemmas.List.{reverse-append}
 
@@ -61,7 +62,8 @@ made_of P f (z ∷ zs) x (inr later) all = made_of P f zs x later (all_right P (
 pub chosen_of : {X Y : Type 0} (P : Y → Type 0) (f : X → Option Y) (xs : List X) (x : X) (y : Y) → IsIn x xs → f x ≡ Some y → AllByRecursion P (filter_map f xs) → P y
 chosen_of P f [] x y there is all = absurd there
 chosen_of {X} {Y} P f (z ∷ zs) x y there is all = by_head (λ later rest. chosen_of P f zs x y later is rest) (f z) refl all there where
-  by_head : (IsIn x zs → AllByRecursion P (filter_map f zs) → P y) → (o : Option Y) → f z ≡ o → AllByRecursion P (cons_option o (filter_map f zs)) → (z ≡ x) ⊎ IsIn x zs → P y
+  by_head : (IsIn x zs → AllByRecursion P (filter_map f zs) → P y) → (o : Option Y) → f z ≡ o → AllByRecursion P (cons_option o (filter_map f zs)) → (z ≡ x) ⊎ IsIn x zs
+      → P y
   by_head rest None e others (inl here) = absurd (let none : f x ≡ None = ap f (sym here) ∙ e in cc)
   by_head rest None e others (inr later) = rest later others
   by_head rest (Some w) e others (inl here) = let same : w ≡ y = (let some : f x ≡ Some w = ap f (sym here) ∙ e in cc) in subst P same others.0

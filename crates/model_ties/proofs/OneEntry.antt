@@ -1,5 +1,6 @@
 -- What happens of what one timer names is one thing: the open requests have numbers of their own, and the parts of one their owners.
-use Rattle.std.proofs.Common.{◌≡◌, ◌≢◌, ◌⊎◌, inl, inr, ◌∙◌, ℕ, zero, suc, ◌<◌, Bool, true, false, cond, List, [], ◌∷◌, length, Option, Some, refl, sym, ap, ap₂, subst, arith, slice_index_or, Contains}
+use Rattle.std.proofs.Common.{◌≡◌, ◌≢◌, ◌⊎◌, inl, inr, ◌∙◌, ℕ, zero, suc, ◌<◌, Bool, true, false, cond, List, [], ◌∷◌, length, Option, Some, refl, sym, ap, ap₂, subst}
+use Rattle.std.proofs.Common.{arith, slice_index_or, Contains}
 use Rattle.std.specs.List.{AllByRecursion}
 use Rattle.sip_event.specs.declared.packet.Packet.{Packet}
 use Rattle.sip_event.specs.declared.event.StepOut.{StepOut}
@@ -29,7 +30,8 @@ Differ name [] = Unit {0}
 Differ name (x ∷ xs) = AllByRecursion (λ y. name y ≢ name x) xs × Differ name xs
 
 -- so what has one name stands at one place
-one_place : {X Y : Type 0} (name : X → Y) (xs : List X) (x y : X) (j k : ℕ) → Differ name xs → j < length xs → slice_index_or xs j x ≡ x → k < length xs → slice_index_or xs k y ≡ y → name x ≡ name y → j ≡ k
+one_place : {X Y : Type 0} (name : X → Y) (xs : List X) (x y : X) (j k : ℕ) → Differ name xs → j < length xs → slice_index_or xs j x ≡ x → k < length xs
+    → slice_index_or xs k y ≡ y → name x ≡ name y → j ≡ k
 one_place name [] x y j k differ lt e lt_too f same = absurd (omega (arith, lt))
 one_place name (z ∷ zs) x y zero zero differ lt e lt_too f same = refl
 one_place name (z ∷ zs) x y zero (suc k) differ lt e lt_too f same =
@@ -39,7 +41,8 @@ one_place name (z ∷ zs) x y (suc j) zero differ lt e lt_too f same =
 one_place name (z ∷ zs) x y (suc j) (suc k) differ lt e lt_too f same = ap suc (one_place name zs x y j k differ.1 (omega (arith, lt)) e (omega (arith, lt_too)) f same)
 
 -- also in lists that are one
-in_one_list : {X Y : Type 0} (name : X → Y) (xs ys : List X) (x y : X) → xs ≡ ys → Differ name xs → (one : Contains xs x) (other : Contains ys y) → name x ≡ name y → one.0 ≡ other.0
+in_one_list : {X Y : Type 0} (name : X → Y) (xs ys : List X) (x y : X) → xs ≡ ys → Differ name xs → (one : Contains xs x) (other : Contains ys y) → name x ≡ name y
+    → one.0 ≡ other.0
 in_one_list {X} name xs ys x y same differ one other e =
     one_place name xs x y one.0 other.0 differ one.1 one.2 (subst (λ (zs : List X). other.0 < length zs) (sym same) other.1)
     (subst (λ (zs : List X). slice_index_or zs other.0 y ≡ y) (sym same) other.2) e
@@ -70,27 +73,31 @@ not_side b e = by_kind b.is_cancel b.number e where
 module _ (server : Server) (due when : ℕ) (r s : OpenRequest) (owner : Owner) (moments : due ≡ when) (same : r ≡ s) (branched : AreBranched r.branches) where
   -- two branches of one owner
   branch_place : (b c : Branch) (there : Contains r.branches b) (here : Contains s.branches c) → owner ≡ owner_of b → owner ≡ owner_of c → there.0 ≡ here.0
-  branch_place b c there here is it = in_one_list owner_of r.branches s.branches b c (ap (λ (q : OpenRequest). q.branches) same) (owners_differ r.branches branched) there here (sym is ∙ it)
+  branch_place b c there here is it = in_one_list owner_of r.branches s.branches b c (ap (λ (q : OpenRequest). q.branches) same) (owners_differ r.branches branched) there
+      here (sym is ∙ it)
 
   one_branch : (b c : Branch) (there : Contains r.branches b) (here : Contains s.branches c) → owner ≡ owner_of b → owner ≡ owner_of c → b ≡ c
   one_branch b c there here is it = at_one_place r.branches s.branches b c (ap (λ (q : OpenRequest). q.branches) same) there here (branch_place b c there here is it)
 
   -- two deadlines are one
-  pub one_overdue : (one other : Change) (h : IsOverdue server due r one) (k : IsOverdue server when s other) → IsOverdueOf owner h → IsOverdueOf owner k → overdue_branch h ≡ overdue_branch k
+  pub one_overdue : (one other : Change) (h : IsOverdue server due r one) (k : IsOverdue server when s other) → IsOverdueOf owner h → IsOverdueOf owner k
+      → overdue_branch h ≡ overdue_branch k
   one_overdue _ _ (OfSide is) (OfSide it) mine theirs = refl
   one_overdue _ _ (OfSide is) (OfBranch c here it) mine theirs = absurd (not_side c (sym mine.0 ∙ theirs.0))
   one_overdue _ _ (OfBranch b there is) (OfSide it) mine theirs = absurd (not_side b (sym theirs.0 ∙ mine.0))
   one_overdue _ _ (OfBranch b there is) (OfBranch c here it) mine theirs = ap (λ (k : ℕ). Some k) (branch_place b c there here mine.0 theirs.0)
 
   -- and so are two that go again
-  pub one_resent : (packets others : List Packet) (next after : OpenRequest) (h : IsResent server due r packets next) (k : IsResent server when s others after) → IsResentOf owner h → IsResentOf owner k → resent_branch h ≡ resent_branch k
+  pub one_resent : (packets others : List Packet) (next after : OpenRequest) (h : IsResent server due r packets next) (k : IsResent server when s others after)
+      → IsResentOf owner h → IsResentOf owner k → resent_branch h ≡ resent_branch k
   one_resent _ _ _ _ (OfAnswer is) (OfAnswer it) mine theirs = refl
   one_resent _ _ _ _ (OfAnswer is) (OfRequest c here it) mine theirs = absurd (not_side c (sym mine ∙ theirs))
   one_resent _ _ _ _ (OfRequest b there is) (OfAnswer it) mine theirs = absurd (not_side b (sym theirs ∙ mine))
   one_resent _ _ _ _ (OfRequest b there is) (OfRequest c here it) mine theirs = ap (λ (k : ℕ). Some k) (branch_place b c there here mine theirs)
 
   -- where something goes again no deadline passes
-  pub goes_first : (change : Change) (packets : List Packet) (next : OpenRequest) (h : IsOverdue server due r change) (k : IsResent server when s packets next) → IsOverdueOf owner h → IsResentOf owner k → ⊥
+  pub goes_first : (change : Change) (packets : List Packet) (next : OpenRequest) (h : IsOverdue server due r change) (k : IsResent server when s packets next)
+      → IsOverdueOf owner h → IsResentOf owner k → ⊥
   goes_first _ _ _ (OfSide is) (OfAnswer it) mine theirs = mine.1 (ap answer_due same ∙ it ∙ ap (λ (m : ℕ). Some m) (sym moments))
   goes_first _ _ _ (OfSide is) (OfRequest c here it) mine theirs = not_side c (sym mine.0 ∙ theirs)
   goes_first _ _ _ (OfBranch b there is) (OfAnswer it) mine theirs = not_side b (sym theirs ∙ mine.0)
@@ -102,8 +109,10 @@ module _ (server : Server) (due when : ℕ) (r s : OpenRequest) (owner : Owner) 
 abbrev due_with : Bool → ℕ → Option ℕ → Due
 due_with kind request branch = record { is_deadline = kind; request = request; branch = branch }
 
-module _ (server : Server) (state : ProxyState) (rising : AreRising state.requests) (all_branched : AllByRecursion (λ (r : OpenRequest). AreBranched r.branches) state.requests) where
-  request_place : (r s : OpenRequest) (number : ℕ) (one : Contains state.requests r) (other : Contains state.requests s) → r.number ≡ number → s.number ≡ number → one.0 ≡ other.0
+module _ (server : Server) (state : ProxyState) (rising : AreRising state.requests) (all_branched : AllByRecursion (λ (r : OpenRequest). AreBranched r.branches)
+    state.requests) where
+  request_place : (r s : OpenRequest) (number : ℕ) (one : Contains state.requests r) (other : Contains state.requests s) → r.number ≡ number → s.number ≡ number
+      → one.0 ≡ other.0
   request_place r s number one other is it =
       in_one_list (λ (q : OpenRequest). q.number) state.requests state.requests r s refl (numbers_differ state.requests rising) one other (is ∙ sym it)
 
@@ -114,13 +123,15 @@ module _ (server : Server) (state : ProxyState) (rising : AreRising state.reques
   its_branches r there = all_in (λ (q : OpenRequest). AreBranched q.branches) state.requests r all_branched (in_from_contains state.requests r there)
 
   -- what happens of it at a moment is one thing
-  pub one_happens : (entry : Entry) (at when : ℕ) (out another : StepOut) (new newer : ProxyState) → out.at ≡ another.at → (h : IsDeadline server state at out new ⊎ IsResend server state at out new)
+  pub one_happens : (entry : Entry) (at when : ℕ) (out another : StepOut) (new newer : ProxyState) → out.at ≡ another.at
+      → (h : IsDeadline server state at out new ⊎ IsResend server state at out new)
       → (k : IsDeadline server state when another newer ⊎ IsResend server state when another newer) → IsOfEntry entry h → IsOfEntry entry k → due_of h ≡ due_of k
   one_happens entry at when out another new newer moments (inl h) (inl k) mine theirs =
       let request = request_place h.request k.request entry.name.request h.is_open k.is_open mine.0 theirs.0 in
       let same = one_request h.request k.request entry.name.request h.is_open k.is_open mine.0 theirs.0 in
       ap₂ (λ (n : ℕ) (o : Option ℕ). due_with true n o) request
-      (one_overdue server out.at another.at h.request k.request entry.name.owner moments same (its_branches h.request h.is_open) h.change k.change h.passes k.passes mine.1 theirs.1)
+      (one_overdue server out.at another.at h.request k.request entry.name.owner moments same (its_branches h.request h.is_open) h.change k.change h.passes k.passes
+      mine.1 theirs.1)
   one_happens entry at when out another new newer moments (inl h) (inr k) mine theirs =
       absurd (goes_first server out.at another.at h.request k.request entry.name.owner moments
       (one_request h.request k.request entry.name.request h.is_open k.is_open mine.0 theirs.0) (its_branches h.request h.is_open)
@@ -133,4 +144,5 @@ module _ (server : Server) (state : ProxyState) (rising : AreRising state.reques
       let request = request_place h.request k.request entry.name.request h.is_open k.is_open mine.0 theirs.0 in
       let same = one_request h.request k.request entry.name.request h.is_open k.is_open mine.0 theirs.0 in
       ap₂ (λ (n : ℕ) (o : Option ℕ). due_with false n o) request
-      (one_resent server out.at another.at h.request k.request entry.name.owner moments same (its_branches h.request h.is_open) h.packets k.packets h.next k.next h.goes k.goes mine.1 theirs.1)
+      (one_resent server out.at another.at h.request k.request entry.name.owner moments same (its_branches h.request h.is_open) h.packets k.packets h.next k.next h.goes
+      k.goes mine.1 theirs.1)

@@ -1,29 +1,17 @@
 -- Orderly histories, one behind the other, and what follows of one.
 use Rattle.std.proofs.Common.{◌≡◌, List, ◌++◌, subst}
-use Rattle.sip_event.specs.declared.event.StepOut.{StepOut}
 use Rattle.sip_model.specs.state.declared.server.Server.{Server}
-use Rattle.sip_model.specs.state.declared.proxy_state.ProxyState.{ProxyState}
-use Rattle.sip_model.specs.steps_model.Step.{Act, Given, Passing}
 use Rattle.sip_model.specs.Run.{Link, under}
 use Rattle.model_transactions.specs.Queue.{Entry}
 use Rattle.model_order.specs.Order.{Standing, queue_from}
-use Rattle.model_order.proofs.Along.{queued_alone, queued_joined}
-use Rattle.model_ties.specs.Ties.{AreOrderly, ArePrompt, IsOrderly, IsPrompt}
+use Rattle.model_order.proofs.Along.{queued_joined}
+use Rattle.model_ties.specs.Ties.{AreOrderly, IsOrderly}
 
 -- a step of such a history
 abbrev pub Orderly : Server → List Entry → Link → Type 0
 Orderly server standing link = IsOrderly (under server link.config) standing link.before link.act link.out link.after
 
-pub orderly_joined : (server : Server) (old mid : Standing) (earlier later : List Link) → mid.queue ≡ queue_from old.queue earlier → AreOrderly server old.queue earlier → AreOrderly server mid.queue later
+pub orderly_joined : (server : Server) (old mid : Standing) (earlier later : List Link) → mid.queue ≡ queue_from old.queue earlier → AreOrderly server old.queue earlier
+    → AreOrderly server mid.queue later
     → AreOrderly server old.queue (later ++ earlier)
 orderly_joined server old mid earlier later is h k = queued_joined (Orderly server) old.queue earlier later h (subst (λ (q : List Entry). AreOrderly server q later) is k)
-
--- it is prompt
-prompt_step : (server : Server) (queue : List Entry) (before after : ProxyState) (act : Act) (out : StepOut) → IsOrderly server queue before act out after → IsPrompt server before act out after
-prompt_step server queue before after (Given event) out h = h
-prompt_step server queue before after (Passing at) out h = h.happens
-
-pub orderly_prompt : (server : Server) (queue : List Entry) (history : List Link) → AreOrderly server queue history → ArePrompt server history
-orderly_prompt server =
-    queued_alone (Orderly server) (λ (link : Link). IsPrompt (under server link.config) link.before link.act link.out link.after)
-    (λ queue link. prompt_step (under server link.config) queue link.before link.after link.act link.out)

@@ -1,6 +1,7 @@
 -- In states that steps of the model led to no CANCEL is outstanding that could be sent at once; so each step from there hands out for the first time alone, or again
 -- alone.
-use Rattle.std.proofs.Common.{◌≡◌, ◌⊎◌, inl, inr, ◌∙◌, ℕ, ◌+◌, ◌≤◌, ◌==◌, Bool, true, false, not, ◌&&◌, cond, nat_le, List, [], ◌∷◌, ◌++◌, map, filter, flat_map, Option, None, option_map, refl, sym, ap, subst, arith}
+use Rattle.std.proofs.Common.{◌≡◌, ◌⊎◌, inl, inr, ◌∙◌, ℕ, ◌+◌, ◌≤◌, ◌==◌, Bool, true, false, not, ◌&&◌, cond, nat_le, List, [], ◌∷◌, ◌++◌, map, filter, flat_map, Option}
+use Rattle.std.proofs.Common.{None, option_map, refl, sym, ap, subst, arith}
 use Rattle.std.proofs.lemmas.Bool.Decides.{nat_tests}
 use Rattle.std.specs.List.{AllByRecursion}
 use Rattle.sip_message_form.specs.declared.message.Message.{Message}
@@ -19,14 +20,18 @@ use Rattle.sip_model.specs.state.declared.resend.Resend.{Resend}
 use Rattle.sip_model.specs.state.State.{first_state, has_left, is_answering, is_failure, is_final, is_invite, is_provisional, is_success}
 use Rattle.sip_model.specs.state.Arrival.{Arrival}
 use Rattle.sip_model.specs.context_model.Sending.{ack_packets, branch_packets}
-use Rattle.sip_model.specs.context_model.Branches.{Change, acknowledged, acknowledged_side, acks_of, after_upward, all_final, best_upward, branch_overdue, cancel_branch, further, given_up, heard, held_branch, is_cancellable, is_same_branch, marked, new_cancels, other_heard, relayed_provisional, relayed_success, responded, settled, target_responded, cancel_responded, upward_list, upward_of, was_refused, with_answer, with_cancel, with_cancels, with_phase}
+use Rattle.sip_model.specs.context_model.Branches.{Change, acknowledged, acknowledged_side, acks_of, after_upward, all_final, best_upward, branch_overdue, cancel_branch}
+use Rattle.sip_model.specs.context_model.Branches.{further, given_up, heard, held_branch, is_cancellable, is_same_branch, marked, new_cancels, other_heard}
+use Rattle.sip_model.specs.context_model.Branches.{relayed_provisional, relayed_success, responded, settled, target_responded, cancel_responded, upward_list, upward_of}
+use Rattle.sip_model.specs.context_model.Branches.{was_refused, with_answer, with_cancel, with_cancels, with_phase}
 use Rattle.sip_model.specs.context_model.Opening.{forking, tried, trying}
 use Rattle.sip_model.specs.context_model.Retransmission.{IsResent, OfAnswer, OfRequest, acked_again, acks_again, branch_next, resent_branch}
 use Rattle.sip_model.specs.steps_model.Effect.{change_packets, replaced, upward_packets}
 use Rattle.sip_model.specs.steps_model.Step.{Act, IsStep, IsOverdue, OfSide, OfBranch, originals, retransmissions}
 use Rattle.sip_model.specs.Order.{AreRising}
 use Rattle.sip_model.specs.Run.{Link, under, IsChain}
-use Rattle.sip_model.specs.Parts.{IsOpening, Answered, Sent, IsChangeAt, ByResponse, ByDeadline, ByFault, ByCancel, IsPart, Stays, Passes, Copies, TurnsAway, Opens, Changes, Resends, Acknowledges, AreParts, One, Two, HasParts}
+use Rattle.sip_model.specs.Parts.{IsOpening, Answered, Sent, IsChangeAt, ByResponse, ByDeadline, ByFault, ByCancel, IsPart, Stays, Passes, Copies, TurnsAway, Opens}
+use Rattle.sip_model.specs.Parts.{Changes, Resends, Acknowledges, AreParts, One, Two, HasParts}
 use Rattle.model_transactions.specs.Matching.{AreBranched}
 use Rattle.model_ties.proofs.Lists.{in_from_contains, all_in, all_push}
 use Rattle.model_ties.proofs.Sent.{GoesOneWay}
@@ -95,11 +100,13 @@ overdue_done server now r _ (OfSide is) = settled_done server now [] None (recor
 overdue_done server now r _ (OfBranch b there is) = settled_done server now [] None (branch_overdue r b)
 
 -- each change does
-change_done : (server : Server) (state : ProxyState) (act : Act) (now : ℕ) (r : OpenRequest) (change : Change) (again : List Packet) → IsChangeAt server state act now r change again → LeavesDone change
+change_done : (server : Server) (state : ProxyState) (act : Act) (now : ℕ) (r : OpenRequest) (change : Change) (again : List Packet)
+    → IsChangeAt server state act now r change again → LeavesDone change
 change_done server state act now r _ _ (ByResponse a bytes m status reason b said start responding there) = responded_done server now r b status m
 change_done server state act now r _ _ (ByDeadline change over) = overdue_done server now r change over
 change_done server state act now r _ _ (ByFault at ticket b given number found) = settled_done server now [] None (given_up b 503 r)
-change_done server state act now r _ _ (ByCancel a bytes m short key said method keyed found) = settled_done server now [] None (cond (is_invite r && is_answering r.side) (marked r) r)
+change_done server state act now r _ _ (ByCancel a bytes m short key said method keyed found) =
+    settled_done server now [] None (cond (is_invite r && is_answering r.side) (marked r) r)
 
 -- ---- open requests
 
@@ -139,22 +146,28 @@ replaced_done new (x ∷ xs) all h = by_test (x.number == new.number) (has_left 
   by_test false left rest = (all.0, rest)
 
 -- a part of a step leaves none
-part_done : (server : Server) (state : ProxyState) (act : Act) (now : ℕ) (requests after : List OpenRequest) (firsts again : List Packet) → IsPart server state act now requests after firsts again
+part_done : (server : Server) (state : ProxyState) (act : Act) (now : ℕ) (requests after : List OpenRequest) (firsts again : List Packet)
+    → IsPart server state act now requests after firsts again
     → AllByRecursion AreDone requests → AllByRecursion AreDone after
 part_done server state act now requests after firsts again (Stays same none nothing) all = subst (AllByRecursion AreDone) (sym same) all
 part_done server state act now requests after firsts again (Passes a m address within ack same sent nothing) all = subst (AllByRecursion AreDone) (sym same) all
-part_done server state act now requests after firsts again (Copies a bytes m short key r said other keyed found same none goes) all = subst (AllByRecursion AreDone) (sym same) all
-part_done server state act now requests after firsts again (TurnsAway a bytes m short r said keyed other opening full same nothing) all = subst (AllByRecursion AreDone) (sym same) all
+part_done server state act now requests after firsts again (Copies a bytes m short key r said other keyed found same none goes) all =
+    subst (AllByRecursion AreDone) (sym same) all
+part_done server state act now requests after firsts again (TurnsAway a bytes m short r said keyed other opening full same nothing) all =
+    subst (AllByRecursion AreDone) (sym same) all
 part_done server state act now requests after firsts again (Opens a bytes m short r said keyed other moment opening room alone same nothing) all =
     subst (AllByRecursion AreDone) (sym same) (all_push AreDone requests r all (opening_done server a m r firsts opening))
 part_done server state act now requests after firsts again (Changes r change there is same sent) all =
     subst (AllByRecursion AreDone) (sym same) (replaced_done change.request requests all (change_done server state act now r change again is))
 part_done server state act now requests after firsts again (Resends r later there goes same none) all =
-    subst (AllByRecursion AreDone) (sym same) (replaced_done later requests all (resent_done server now r again later goes (all_in AreDone requests r all (in_from_contains requests r there))))
+    subst (AllByRecursion AreDone) (sym same) (replaced_done later requests all (resent_done server now r again later goes
+    (all_in AreDone requests r all (in_from_contains requests r there))))
 part_done server state act now requests after firsts again (Acknowledges r there same none nothing) all =
-    subst (AllByRecursion AreDone) (sym same) (replaced_done (acknowledged now r) requests all (acknowledged_done now r (all_in AreDone requests r all (in_from_contains requests r there))))
+    subst (AllByRecursion AreDone) (sym same) (replaced_done (acknowledged now r) requests all
+    (acknowledged_done now r (all_in AreDone requests r all (in_from_contains requests r there))))
 
-parts_done : (server : Server) (state : ProxyState) (act : Act) (now : ℕ) (requests after : List OpenRequest) (firsts again : List Packet) → AreParts server state act now requests after firsts again
+parts_done : (server : Server) (state : ProxyState) (act : Act) (now : ℕ) (requests after : List OpenRequest) (firsts again : List Packet)
+    → AreParts server state act now requests after firsts again
     → AllByRecursion AreDone requests → AllByRecursion AreDone after
 parts_done server state act now requests after firsts again (One part) all = part_done server state act now requests after firsts again part all
 parts_done server state act now requests after firsts again (Two middle earlier r change part there kept is same sent nothing) all =
@@ -190,10 +203,13 @@ sent_with server now r best =
     upward_packets (with_cancels now after) (upward_list best) ++ flat_map (branch_packets server false after) (new_cancels now after)
 
 -- where nothing goes up and nobody is to be cancelled, that is nothing
-settled_sends_nothing : (server : Server) (now : ℕ) (r : OpenRequest) → best_upward server r ≡ None → filter is_cancellable r.branches ≡ [] → change_packets (settled server now [] None r) ≡ []
-settled_sends_nothing server now r none done = ap (sent_with server now r) none ∙ ap (λ (bs : List Branch). flat_map (branch_packets server false r) (map (cancel_branch now) bs)) done
+settled_sends_nothing : (server : Server) (now : ℕ) (r : OpenRequest) → best_upward server r ≡ None → filter is_cancellable r.branches ≡ []
+    → change_packets (settled server now [] None r) ≡ []
+settled_sends_nothing server now r none done = ap (sent_with server now r) none ∙ ap (λ (bs : List Branch).
+    flat_map (branch_packets server false r) (map (cancel_branch now) bs)) done
 
-module _ (server : Server) (now : ℕ) (r : OpenRequest) (b : Branch) (status : ℕ) (m : Message) (none : best_upward server r ≡ None) (done : filter is_cancellable r.branches ≡ []) where
+module _ (server : Server) (now : ℕ) (r : OpenRequest) (b : Branch) (status : ℕ) (m : Message) (none : best_upward server r ≡ None)
+    (done : filter is_cancellable r.branches ≡ []) where
   -- what a final answer makes of it, where the branch has one, and where it has none
   abbrev further_change : Change
   further_change = settled server now [] (further r b b.phase status m) r
@@ -202,10 +218,12 @@ module _ (server : Server) (now : ℕ) (r : OpenRequest) (b : Branch) (status : 
   first_change = settled server now (acks_of server r b status m) (relayed_success r b status m) (with_answer r b now status m)
 
   -- a further final answer that is no 2xx sends nothing for the first time
-  further_nothing : (due first : ℕ) → b.phase ≡ Done due first → is_failure status ≡ true → b.is_cancel ≡ false → is_failure first ≡ true → change_packets (responded server now r b status m) ≡ []
+  further_nothing : (due first : ℕ) → b.phase ≡ Done due first → is_failure status ≡ true → b.is_cancel ≡ false → is_failure first ≡ true
+      → change_packets (responded server now r b status m) ≡ []
   further_nothing due first is failed target was =
       ap (λ (t : Bool). change_packets (cond t (cancel_responded server now r b status m) (target_responded server now r b status m))) target
-      ∙ ap (λ (t : Bool). change_packets (cond t (settled server now [] (relayed_provisional r b status m) (with_phase b (heard r now status b.phase) r)) (cond (is_final b.phase) further_change first_change))) (below_final status failed)
+      ∙ ap (λ (t : Bool). change_packets (cond t (settled server now [] (relayed_provisional r b status m) (with_phase b (heard r now status b.phase) r))
+      (cond (is_final b.phase) further_change first_change))) (below_final status failed)
       ∙ ap (λ (t : Bool). change_packets (cond t further_change first_change)) (ap is_final is)
       ∙ ap (λ (phase : Phase). change_packets (settled server now [] (further r b phase status m) r)) is
       ∙ ap (λ (o : Option Upward). change_packets (settled server now [] o r)) unsent
@@ -225,7 +243,8 @@ module _ (server : Server) (now : ℕ) (r : OpenRequest) (b : Branch) (status : 
     by_acked due first is failed true e = let both = three_true (is_invite r) b.is_cancel (is_failure first) e in inl (further_nothing due first is failed both.0 both.1)
     by_acked due first is failed false e = inr refl
 
-    by_phase : (phase : Phase) → b.phase ≡ phase → is_failure status ≡ true → (change_packets (responded server now r b status m) ≡ []) ⊎ (acks_again server r b phase ≡ [])
+    by_phase : (phase : Phase) → b.phase ≡ phase → is_failure status ≡ true → (change_packets (responded server now r b status m) ≡ [])
+        ⊎ (acks_again server r b phase ≡ [])
     by_phase (Unheard due) is failed = inr refl
     by_phase (Heard due) is failed = inr refl
     by_phase (Cancelled due) is failed = inr refl
@@ -246,7 +265,8 @@ none_goes_up server r waits = ap (λ (t : Bool). cond t (option_map (upward_of s
 -- ---- steps
 
 -- a change does
-change_one_way : (server : Server) (state : ProxyState) (act : Act) (now : ℕ) (r : OpenRequest) (change : Change) (again : List Packet) → IsChangeAt server state act now r change again
+change_one_way : (server : Server) (state : ProxyState) (act : Act) (now : ℕ) (r : OpenRequest) (change : Change) (again : List Packet)
+    → IsChangeAt server state act now r change again
     → (is_answering r.side ≡ true → all_final r ≡ false) → AreDone r → (change_packets change ≡ []) ⊎ (again ≡ [])
 change_one_way server state act now r _ _ (ByResponse a bytes m status reason b said start responding there) waits done =
     response_one_way server now r b status m (none_goes_up server r waits) (none_done r.branches done)
@@ -255,7 +275,8 @@ change_one_way server state act now r _ _ (ByFault at ticket b given number foun
 change_one_way server state act now r _ _ (ByCancel a bytes m short key said method keyed found) waits done = inr refl
 
 -- each part of a step does
-part_one_way : (server : Server) (state : ProxyState) (act : Act) (now : ℕ) (requests after : List OpenRequest) (firsts again : List Packet) → IsPart server state act now requests after firsts again
+part_one_way : (server : Server) (state : ProxyState) (act : Act) (now : ℕ) (requests after : List OpenRequest) (firsts again : List Packet)
+    → IsPart server state act now requests after firsts again
     → AllByRecursion (λ (r : OpenRequest). is_answering r.side ≡ true → all_final r ≡ false) requests → AllByRecursion AreDone requests → (firsts ≡ []) ⊎ (again ≡ [])
 part_one_way server state act now requests after firsts again (Stays same none nothing) waits done = inl none
 part_one_way server state act now requests after firsts again (Passes a m address within ack same sent nothing) waits done = inr nothing
@@ -263,14 +284,16 @@ part_one_way server state act now requests after firsts again (Copies a bytes m 
 part_one_way server state act now requests after firsts again (TurnsAway a bytes m short r said keyed other opening full same nothing) waits done = inr nothing
 part_one_way server state act now requests after firsts again (Opens a bytes m short r said keyed other moment opening room alone same nothing) waits done = inr nothing
 part_one_way server state act now requests after firsts again (Changes r change there is same sent) waits done =
-    by_change (change_one_way server state act now r change again is (all_in _ requests r waits (in_from_contains requests r there)) (all_in AreDone requests r done (in_from_contains requests r there))) where
+    by_change (change_one_way server state act now r change again is (all_in _ requests r waits (in_from_contains requests r there))
+    (all_in AreDone requests r done (in_from_contains requests r there))) where
       by_change : (change_packets change ≡ []) ⊎ (again ≡ []) → (firsts ≡ []) ⊎ (again ≡ [])
       by_change (inl none) = inl (sent ∙ none)
       by_change (inr nothing) = inr nothing
 part_one_way server state act now requests after firsts again (Resends r later there goes same none) waits done = inl none
 part_one_way server state act now requests after firsts again (Acknowledges r there same none nothing) waits done = inl none
 
-parts_one_way : (server : Server) (state : ProxyState) (act : Act) (now : ℕ) (requests after : List OpenRequest) (firsts again : List Packet) → AreParts server state act now requests after firsts again
+parts_one_way : (server : Server) (state : ProxyState) (act : Act) (now : ℕ) (requests after : List OpenRequest) (firsts again : List Packet)
+    → AreParts server state act now requests after firsts again
     → AllByRecursion (λ (r : OpenRequest). is_answering r.side ≡ true → all_final r ≡ false) requests → AllByRecursion AreDone requests → (firsts ≡ []) ⊎ (again ≡ [])
 parts_one_way server state act now requests after firsts again (One part) waits done = part_one_way server state act now requests after firsts again part waits done
 parts_one_way server state act now requests after firsts again (Two middle earlier r change part there kept is same sent nothing) waits done = inr nothing
@@ -289,14 +312,18 @@ module _ (laws : Histories) (server : Server) (first : ℕ) where
   chain_done : (history : List Link) (last : ProxyState) → IsChain server (first_state first) history last → AllByRecursion AreDone last.requests
   chain_done [] last chain = subst (λ (s : ProxyState). AllByRecursion AreDone s.requests) (sym chain) tt
   chain_done (link ∷ history) last chain =
-      let has : HasParts (under server link.config) link.before link.act link.out link.after = laws.parts (under server link.config) link.before link.act link.out link.after chain.1 in
+      let has : HasParts (under server link.config) link.before link.act link.out link.after =
+      laws.parts (under server link.config) link.before link.act link.out link.after chain.1 in
       subst (λ (s : ProxyState). AllByRecursion AreDone s.requests) (sym chain.0)
-      (parts_done (under server link.config) link.before link.act link.after.moment link.before.requests link.after.requests (originals link.out.packets) (retransmissions link.out.packets) has.parts
+      (parts_done (under server link.config) link.before link.act link.after.moment link.before.requests link.after.requests (originals link.out.packets)
+      (retransmissions link.out.packets) has.parts
       (chain_done history link.before chain.2))
 
   -- so a step goes one way
-  pub step_one_way : (history : List Link) (state : ProxyState) → IsChain server (first_state first) history state → (act : Act) (out : StepOut) (new : ProxyState) → IsStep server state act out new
+  pub step_one_way : (history : List Link) (state : ProxyState) → IsChain server (first_state first) history state → (act : Act) (out : StepOut) (new : ProxyState)
+      → IsStep server state act out new
       → GoesOneWay out.packets
   step_one_way history state chain act out new step =
       let has : HasParts server state act out new = laws.parts server state act out new step in
-      parts_one_way server state act new.moment state.requests new.requests (originals out.packets) (retransmissions out.packets) has.parts (laws.waits server first history state chain) (chain_done history state chain)
+      parts_one_way server state act new.moment state.requests new.requests (originals out.packets) (retransmissions out.packets) has.parts
+      (laws.waits server first history state chain) (chain_done history state chain)

@@ -52,8 +52,10 @@ next_is (Given event) events = refl
 next_is (Passing at) events = refl
 
 -- a history, turned round
-turned : (server : Server) (queue : List Entry) (first middle last : ProxyState) (history later : List Link) → IsChain server first history middle → AllByRecursion (IsUnder server.config) history → AreOrderly server queue history
-    → IsPaced (first_moment (events_of later) None) history → Follows server (queue_from queue history) middle later last → Follows server queue first (onto history later) last
+turned : (server : Server) (queue : List Entry) (first middle last : ProxyState) (history later : List Link) → IsChain server first history middle
+    → AllByRecursion (IsUnder server.config) history → AreOrderly server queue history
+    → IsPaced (first_moment (events_of later) None) history → Follows server (queue_from queue history) middle later last
+    → Follows server queue first (onto history later) last
 turned server queue first middle last [] later chain configured orderly paced follows = subst (λ (s : ProxyState). Follows server queue s later last) chain follows
 turned server queue first middle last (link ∷ history) later chain configured orderly paced follows =
     turned server queue first link.before last history (link ∷ later) chain.2 configured.1 orderly.1
@@ -87,17 +89,24 @@ steps_turned [] later = refl
 steps_turned (link ∷ history) later = steps_turned history (link ∷ later) ∙ sym (turned_round link.out (steps_of history) (steps_of later))
 
 -- a chain behind another one
-pub joined_chain : (server : Server) (first middle last : ProxyState) (history later : List Link) → IsChain server first history middle → IsChain server middle later last → IsChain server first (later ++ history) last
+pub joined_chain : (server : Server) (first middle last : ProxyState) (history later : List Link) → IsChain server first history middle → IsChain server middle later last
+    → IsChain server first (later ++ history) last
 joined_chain server first middle last history [] before behind = subst (λ (s : ProxyState). IsChain server first history s) (sym behind) before
-joined_chain server first middle last history (link ∷ later) before behind = (behind.0, behind.1, joined_chain server first middle link.before history later before behind.2)
+joined_chain server first middle last history (link ∷ later) before behind = (
+  behind.0,
+  behind.1,
+  joined_chain server first middle link.before history later before behind.2,
+)
 
 -- a chain is one under another configuration
-pub chain_under : (server : Server) (config : Config) (first : ProxyState) (history : List Link) (last : ProxyState) → IsChain server first history last → IsChain (under server config) first history last
+pub chain_under : (server : Server) (config : Config) (first : ProxyState) (history : List Link) (last : ProxyState) → IsChain server first history last
+    → IsChain (under server config) first history last
 chain_under server config first [] last h = h
 chain_under server config first (link ∷ history) last h = (h.0, h.1, chain_under server config first history link.before h.2)
 
 -- the step of a link, under its own configuration
-own_step : (server : Server) (link : Link) → IsUnder server.config link → IsStep server link.before link.act link.out link.after → IsStep (under server link.config) link.before link.act link.out link.after
+own_step : (server : Server) (link : Link) → IsUnder server.config link → IsStep server link.before link.act link.out link.after
+    → IsStep (under server link.config) link.before link.act link.out link.after
 own_step server link is step = subst (λ (c : Config). IsStep (under server c) link.before link.act link.out link.after) (sym is) step
 
 -- ---- what comes next in both
@@ -108,14 +117,16 @@ one_moment [] at when h k = absurd h
 one_moment (event ∷ left) at when h k = h ∙ sym k
 
 -- nothing is due by the moment of an event that comes next
-none_due : (server : Server) (old : ProxyState) (event : Event) (out : StepOut) (new : ProxyState) → IsStep server old (Given event) out new → IsPrompt server old (Given event) out new
+none_due : (server : Server) (old : ProxyState) (event : Event) (out : StepOut) (new : ProxyState) → IsStep server old (Given event) out new
+    → IsPrompt server old (Given event) out new
     → NoneBy (moment_of old (event_moment event)) old.requests × NoneAgainBy (moment_of old (event_moment event)) old.requests
 none_due server old (Datagram at word from bytes) out new h prompt = (h.none_due, h.none_again)
 none_due server old (Time at) out new h prompt = (h.none_due, h.none_again_due)
 none_due server old (Fault at ticket) out new h prompt = prompt
 
 -- so time doesn't pass before it
-no_passing : (server : Server) (left right : ProxyState) → SameState left right → (event : Event) (at : ℕ) (out another : StepOut) (new newer : ProxyState) → IsStep server left (Given event) out new
+no_passing : (server : Server) (left right : ProxyState) → SameState left right → (event : Event) (at : ℕ) (out another : StepOut) (new newer : ProxyState)
+    → IsStep server left (Given event) out new
     → IsPrompt server left (Given event) out new → at ≡ event_moment event → IsDeadline server right at another newer ⊎ IsResend server right at another newer → ⊥
 no_passing server left right same event at out another new newer step prompt moment happens =
     let none = none_due server left event out new step prompt in
@@ -130,7 +141,8 @@ one_first : {X : Type 0} {x y : X} {xs ys : List X} → x ∷ xs ≡ y ∷ ys �
 one_first e = cc
 
 -- two things that are of the first timer of one queue are of one
-first_entry : (server : Server) (queue : List Entry) (old other : ProxyState) (at when : ℕ) (out another : StepOut) (new newer : ProxyState) → (h : IsFirstOf server queue old at out new)
+first_entry : (server : Server) (queue : List Entry) (old other : ProxyState) (at when : ℕ) (out another : StepOut) (new newer : ProxyState)
+    → (h : IsFirstOf server queue old at out new)
     → (k : IsFirstOf server queue other when another newer) → h.entry ≡ k.entry
 first_entry server queue old other at when out another new newer h k = one_first (sym h.stands ∙ k.stands)
 
@@ -152,13 +164,16 @@ record Same (queue : List Entry) (one other : List Link) (last end : ProxyState)
   queues : queue_along queue one ≡ queue_along queue other
 
 module _ (sameness : Sameness)
-    (steps_same : (server : Server) (left right : ProxyState) (act : Act) (out : StepOut) (new : ProxyState) → SameState left right → left.moment ≤ out.at → IsStep server left act out new → IsStep server right act out new)
+    (steps_same : (server : Server) (left right : ProxyState) (act : Act) (out : StepOut) (new : ProxyState) → SameState left right → left.moment ≤ out.at
+    → IsStep server left act out new → IsStep server right act out new)
     (histories : Histories)
     (stands : (server : Server) (old new : ProxyState) (act : Act) (out : StepOut) → IsStep server old act out new → new.moment ≡ out.at)
-    (rises : (server : Server) (first : ℕ) (link : Link) (history : List Link) (last : ProxyState) → IsChain server (first_state first) (link ∷ history) last → link.before.moment ≤ last.moment)
+    (rises : (server : Server) (first : ℕ) (link : Link) (history : List Link) (last : ProxyState) → IsChain server (first_state first) (link ∷ history) last
+    → link.before.moment ≤ last.moment)
     (server : Server) (first : ℕ) (past : List Link) (start : ProxyState) (reached : IsChain server (first_state first) past start) where
   -- one more step, which was the same
-  with_one : (queue : List Entry) (link twin : Link) (one other : List Link) (last end : ProxyState) → link.out ≡ twin.out → SameState link.after twin.after → Same (queue_then queue link) one other last end
+  with_one : (queue : List Entry) (link twin : Link) (one other : List Link) (last end : ProxyState) → link.out ≡ twin.out → SameState link.after twin.after
+      → Same (queue_then queue link) one other last end
       → Same queue (link ∷ one) (twin ∷ other) last end
   with_one queue link twin one other last end out states same = record {
     are = record { steps_are = ap₂ (λ (x : StepOut) (xs : List StepOut). x ∷ xs) out same.are.steps_are; state = same.are.state };
@@ -166,48 +181,61 @@ module _ (sameness : Sameness)
   }
 
   -- a step on the way
-  walked_on : (queue : List Entry) (walked : List Link) (state : ProxyState) (link : Link) (left : List Event) → IsChain server start walked state → ComesNext server queue state link left → IsChain server start (link ∷ walked) link.after
-  walked_on queue walked state link left chain next = (refl, own_step server link next.configured next.step, subst (λ (s : ProxyState). IsChain server start walked s) (sym next.begins) chain)
+  walked_on : (queue : List Entry) (walked : List Link) (state : ProxyState) (link : Link) (left : List Event) → IsChain server start walked state
+      → ComesNext server queue state link left → IsChain server start (link ∷ walked) link.after
+  walked_on queue walked state link left chain next = (
+    refl,
+    own_step server link next.configured next.step,
+    subst (λ (s : ProxyState). IsChain server start walked s) (sym next.begins) chain,
+  )
 
   -- from a first state on
   from_first : (walked : List Link) (state : ProxyState) → IsChain server start walked state → IsChain server (first_state first) (walked ++ past) state
   from_first walked state chain = joined_chain server (first_state first) start state past walked reached chain
 
   -- two steps with one label are one
-  one_label : (config : Config) (left right : ProxyState) (act its : Act) (out another : StepOut) (new newer : ProxyState) (walked : List Link) → IsChain server start walked left → SameState left right
+  one_label : (config : Config) (left right : ProxyState) (act its : Act) (out another : StepOut) (new newer : ProxyState) (walked : List Link)
+      → IsChain server start walked left → SameState left right
       → IsStep (under server config) left act out new → IsStep (under server config) right its another newer
       → (prompt : IsPrompt (under server config) left act out new) (prompted : IsPrompt (under server config) right its another newer)
       → label_of (under server config) left act out new prompt ≡ label_of (under server config) right its another newer prompted → (out ≡ another) × SameState new newer
   one_label config left right (Given event) (Given its) out another new newer walked chain same mine theirs prompt prompted e =
       let events : event ≡ its = cc in
       one_given sameness steps_same (under server config) left right same event out another new newer
-      (step_one_way histories (under server config) first (walked ++ past) left (chain_under server config (first_state first) (walked ++ past) left (from_first walked left chain)) (Given event) out new mine)
+      (step_one_way histories (under server config) first (walked ++ past) left (chain_under server config (first_state first) (walked ++ past) left
+      (from_first walked left chain)) (Given event) out new mine)
       mine (subst (λ (x : Event). IsStep (under server config) right (Given x) another newer) (sym events) theirs)
   one_label config left right (Given event) (Passing when) out another new newer walked chain same mine theirs prompt prompted e = absurd (cc)
   one_label config left right (Passing at) (Given its) out another new newer walked chain same mine theirs prompt prompted e = absurd (cc)
   one_label config left right (Passing at) (Passing when) out another new newer walked chain same mine theirs prompt prompted e =
       let at_once : out.at ≡ another.at = at_one_moment (under server config) left right at when out another new newer same.requests prompt prompted in
-      let risen = rises server first (record { config = config; before = left; act = Passing at; out = out; after = new }) (walked ++ past) new (refl, mine, from_first walked left chain) in
+      let risen = rises server first (record { config = config; before = left; act = Passing at; out = out; after = new }) (walked ++ past) new
+      (refl, mine, from_first walked left chain) in
       let stood = stands (under server config) left new (Passing at) out mine in
       let moment = same.moment in
-      let moved = happens_alike sameness (under server config) right left (sameness.turned left right same) when another newer (omega (arith, at_once, risen, stood, moment)) prompted in
+      let moved = happens_alike sameness (under server config) right left (sameness.turned left right same) when another newer
+      (omega (arith, at_once, risen, stood, moment)) prompted in
       let dues : due_of prompt ≡ due_of prompted = cc in
       one_due sameness (under server config) left at when out another new newer at_once prompt moved.0 (dues ∙ sym moved.1)
 
   -- also where the configuration of the other one is said in other words
-  abbrev OneLabel : Config → (config : Config) (left right : ProxyState) (act its : Act) (out another : StepOut) (new newer : ProxyState) → IsPrompt (under server config) left act out new → Type 0
+  abbrev OneLabel : Config → (config : Config) (left right : ProxyState) (act its : Act) (out another : StepOut) (new newer : ProxyState)
+      → IsPrompt (under server config) left act out new → Type 0
   OneLabel other config left right act its out another new newer prompt =
       IsStep (under server other) right its another newer → (prompted : IsPrompt (under server other) right its another newer)
       → label_of (under server config) left act out new prompt ≡ label_of (under server other) right its another newer prompted → (out ≡ another) × SameState new newer
 
-  one_label_too : (config other : Config) (left right : ProxyState) (act its : Act) (out another : StepOut) (new newer : ProxyState) (walked : List Link) → IsChain server start walked left → SameState left right
-      → config ≡ other → IsStep (under server config) left act out new → (prompt : IsPrompt (under server config) left act out new) → OneLabel other config left right act its out another new newer prompt
+  one_label_too : (config other : Config) (left right : ProxyState) (act its : Act) (out another : StepOut) (new newer : ProxyState) (walked : List Link)
+      → IsChain server start walked left → SameState left right
+      → config ≡ other → IsStep (under server config) left act out new → (prompt : IsPrompt (under server config) left act out new)
+      → OneLabel other config left right act its out another new newer prompt
   one_label_too config other left right act its out another new newer walked chain same is mine prompt =
       subst (λ (c : Config). OneLabel c config left right act its out another new newer prompt) is
       (λ theirs prompted e. one_label config left right act its out another new newer walked chain same mine theirs prompt prompted e)
 
   -- the steps that come next in both, and what is left of both behind them if they are the same
-  module _ (queue : List Entry) (walked : List Link) (link twin : Link) (one other : List Link) (last end : ProxyState) (here : IsChain server start walked link.before) (begin : SameState link.before twin.before)
+  module _ (queue : List Entry) (walked : List Link) (link twin : Link) (one other : List Link) (last end : ProxyState) (here : IsChain server start walked link.before)
+      (begin : SameState link.before twin.before)
       (step : IsStep server link.before link.act link.out link.after) (is_under : IsUnder server.config link)
       (further : SameState link.after twin.after → events_of one ≡ events_of other → Same (queue_then queue link) one other last end) where
     -- both are the same
@@ -222,7 +250,8 @@ module _ (sameness : Sameness)
         omega (arith, risen, at)
 
     -- what is due first happens in both
-    by_due : (at : ℕ) → IsFirstOf server queue link.before at link.out link.after → IsFirstOf server queue twin.before at twin.out twin.after → (link.out ≡ twin.out) × SameState link.after twin.after
+    by_due : (at : ℕ) → IsFirstOf server queue link.before at link.out link.after → IsFirstOf server queue twin.before at twin.out twin.after
+        → (link.out ≡ twin.out) × SameState link.after twin.after
     by_due at d its = one_due sameness server link.before at at link.out twin.out link.after twin.after at_once d.happens moved.0 (dues ∙ sym moved.1) where
       entries : d.entry ≡ its.entry
       entries = first_entry server queue link.before twin.before at at link.out twin.out link.after twin.after d its
@@ -240,12 +269,15 @@ module _ (sameness : Sameness)
       dues =
           one_happens server link.before (histories.rising server first (walked ++ past) link.before (from_first walked link.before here))
           (histories.branched server first (walked ++ past) link.before (from_first walked link.before here))
-          its.entry at at link.out twin.out link.after twin.after at_once d.happens moved.0 (subst (λ (e : Entry). IsOfEntry e d.happens) entries d.is_its) (moved.2 its.entry its.is_its)
+          its.entry at at link.out twin.out link.after twin.after at_once d.happens moved.0 (subst (λ (e : Entry). IsOfEntry e d.happens) entries d.is_its)
+          (moved.2 its.entry its.is_its)
           ∙ moved.1
 
     -- whatever comes next
-    by_acts : (act its : Act) → event_of act (events_of one) ≡ event_of its (events_of other) → IsStep server link.before act link.out link.after → IsStep server twin.before its twin.out twin.after
-        → IsOrderly server queue link.before act link.out link.after → IsOrderly server queue twin.before its twin.out twin.after → IsUpTo (first_moment (events_of one) None) act → IsUpTo (first_moment (events_of other) None) its
+    by_acts : (act its : Act) → event_of act (events_of one) ≡ event_of its (events_of other) → IsStep server link.before act link.out link.after
+        → IsStep server twin.before its twin.out twin.after
+        → IsOrderly server queue link.before act link.out link.after → IsOrderly server queue twin.before its twin.out twin.after
+        → IsUpTo (first_moment (events_of one) None) act → IsUpTo (first_moment (events_of other) None) its
         → Same queue (link ∷ one) (twin ∷ other) last end
     by_acts (Given event) (Given its) e mine theirs orderly ordered up upon =
         let events : event ≡ its = cc in
@@ -270,7 +302,8 @@ module _ (sameness : Sameness)
   goes_no_further (Passing at) left e up = subst (λ (es : List Event). IsUpTo (first_moment es None) (Passing at)) (sym e) up
 
   -- both, step by step
-  side_by_side : (queue : List Entry) (one other walked : List Link) (left right last end : ProxyState) → IsChain server start walked left → SameState left right → Follows server queue left one last
+  side_by_side : (queue : List Entry) (one other walked : List Link) (left right last end : ProxyState) → IsChain server start walked left → SameState left right
+      → Follows server queue left one last
       → Follows server queue right other end → events_of one ≡ events_of other → Same queue one other last end
   side_by_side queue [] [] walked left right last end chain same h k e = record {
     are = record { steps_are = refl; state = subst (λ (s : ProxyState). SameState s end) (sym h) (subst (λ (s : ProxyState). SameState left s) (sym k) same) };
@@ -283,15 +316,18 @@ module _ (sameness : Sameness)
       (subst (λ (s : ProxyState). IsChain server start walked s) (sym h.0.begins) chain)
       (subst (λ (s : ProxyState). SameState s twin.before) (sym h.0.begins) (subst (λ (s : ProxyState). SameState left s) (sym k.0.begins) same))
       h.0.step h.0.configured
-      (λ states rest. side_by_side (queue_then queue link) one other (link ∷ walked) link.after twin.after last end (walked_on queue walked left link (events_of one) chain h.0) states h.1
+      (λ states rest. side_by_side (queue_then queue link) one other (link ∷ walked) link.after twin.after last end
+      (walked_on queue walked left link (events_of one) chain h.0) states h.1
       (subst (λ (rs : List OpenRequest). Follows server (queue_after queue (entries_of rs)) twin.after other end) (sym states.requests) k.1) rest)
       link.act twin.act e h.0.step k.0.step h.0.orderly k.0.orderly h.0.paced k.0.paced
 
   -- ---- where both let the same happen
 
   -- two histories with the same labels took the same steps
-  pub labels_decide : (history its : List Link) (other_start last end : ProxyState) → SameState start other_start → IsChain server start history last → IsChain server other_start its end → (prompt : ArePrompt server history)
-      → (other_prompt : ArePrompt server its) → configurations_of history ≡ configurations_of its → labels_of server history prompt ≡ labels_of server its other_prompt → AreOne (steps_of history) (steps_of its) last end
+  pub labels_decide : (history its : List Link) (other_start last end : ProxyState) → SameState start other_start → IsChain server start history last
+      → IsChain server other_start its end → (prompt : ArePrompt server history)
+      → (other_prompt : ArePrompt server its) → configurations_of history ≡ configurations_of its → labels_of server history prompt ≡ labels_of server its other_prompt
+      → AreOne (steps_of history) (steps_of its) last end
   labels_decide [] [] other_start last end same chain other_chain prompt other_prompt configs e =
       record { steps_are = refl; state = subst (λ (s : ProxyState). SameState s end) (sym chain) (subst (λ (s : ProxyState). SameState start s) (sym other_chain) same) }
   labels_decide [] (twin ∷ its) other_start last end same chain other_chain prompt other_prompt configs e = absurd (cc)
@@ -300,15 +336,18 @@ module _ (sameness : Sameness)
       let before : AreOne (steps_of history) (steps_of its) link.before twin.before =
       labels_decide history its other_start link.before twin.before same chain.2 other_chain.2 prompt.1 other_prompt.1 (ap (drop 1) configs) (ap (drop 1) e) in
       let is : link.config ≡ twin.config = cc in
-      let step = one_label_too link.config twin.config link.before twin.before link.act twin.act link.out twin.out link.after twin.after history chain.2 before.state is chain.1 prompt.0 other_chain.1 other_prompt.0 (label_first (ap head_label e)) in
+      let step = one_label_too link.config twin.config link.before twin.before link.act twin.act link.out twin.out link.after twin.after history chain.2 before.state is
+      chain.1 prompt.0 other_chain.1 other_prompt.0 (label_first (ap head_label e)) in
       record {
         steps_are = ap₂ (λ (x : StepOut) (xs : List StepOut). x ∷ xs) step.0 before.steps_are;
         state = subst (λ (s : ProxyState). SameState s end) (sym chain.0) (subst (λ (s : ProxyState). SameState link.after s) (sym other_chain.0) step.1);
       }
 
   -- two whole runs took the same steps, after which the same timers stand
-  pub runs_one : (queue : List Entry) (other_start last end : ProxyState) (events : List Event) (steps others : List StepOut) (history its : List Link) → SameState start other_start
-      → IsRun server start events None steps history last → IsRun server other_start events None others its end → AreOrderly server queue history → AreOrderly server queue its
+  pub runs_one : (queue : List Entry) (other_start last end : ProxyState) (events : List Event) (steps others : List StepOut) (history its : List Link)
+      → SameState start other_start
+      → IsRun server start events None steps history last → IsRun server other_start events None others its end → AreOrderly server queue history
+      → AreOrderly server queue its
       → AreOne steps others last end × (queue_from queue history ≡ queue_from queue its)
   runs_one queue other_start last end events steps others history its same run other_run orderly ordered = (
     record { steps_are = sym (taken history steps run.of_steps) ∙ both.are.steps_are ∙ taken its others other_run.of_steps; state = both.are.state },

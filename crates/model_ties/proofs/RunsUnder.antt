@@ -21,7 +21,8 @@ use Rattle.model_ties.proofs.Runs.{chain_under, joined_chain, runs_one}
 -- ---- histories
 
 -- a chain under a configuration is one of the server
-chain_back : (server : Server) (config : Config) (first : ProxyState) (history : List Link) (last : ProxyState) → IsChain (under server config) first history last → IsChain server first history last
+chain_back : (server : Server) (config : Config) (first : ProxyState) (history : List Link) (last : ProxyState) → IsChain (under server config) first history last
+    → IsChain server first history last
 chain_back server config first [] last h = h
 chain_back server config first (link ∷ history) last h = (h.0, h.1, chain_back server config first history link.before h.2)
 
@@ -37,14 +38,18 @@ run_alone server first events periods steps history last h = subst (λ (o : Opti
 -- ---- both, period by period
 
 module _ (sameness : Sameness)
-    (steps_same : (server : Server) (left right : ProxyState) (act : Act) (out : StepOut) (new : ProxyState) → SameState left right → left.moment ≤ out.at → IsStep server left act out new → IsStep server right act out new)
+    (steps_same : (server : Server) (left right : ProxyState) (act : Act) (out : StepOut) (new : ProxyState) → SameState left right → left.moment ≤ out.at
+    → IsStep server left act out new → IsStep server right act out new)
     (histories : Histories)
     (stands : (server : Server) (old new : ProxyState) (act : Act) (out : StepOut) → IsStep server old act out new → new.moment ≡ out.at)
-    (rises : (server : Server) (first : ℕ) (link : Link) (history : List Link) (last : ProxyState) → IsChain server (first_state first) (link ∷ history) last → link.before.moment ≤ last.moment)
+    (rises : (server : Server) (first : ℕ) (link : Link) (history : List Link) (last : ProxyState) → IsChain server (first_state first) (link ∷ history) last
+    → link.before.moment ≤ last.moment)
     (server : Server) (first : ℕ) where
-  pub runs_under_one : (periods : List Period) (queue : List Entry) (past : List Link) (start other_start last end : ProxyState) (steps others : List StepOut) (history its : List Link)
+  pub runs_under_one : (periods : List Period) (queue : List Entry) (past : List Link) (start other_start last end : ProxyState) (steps others : List StepOut)
+      (history its : List Link)
       → IsChain server (first_state first) past start → SameState start other_start
-      → IsRunUnder server start periods None steps history last → IsRunUnder server other_start periods None others its end → AreOrderly server queue history → AreOrderly server queue its
+      → IsRunUnder server start periods None steps history last → IsRunUnder server other_start periods None others its end → AreOrderly server queue history
+      → AreOrderly server queue its
       → AreOne steps others last end
   runs_under_one [] queue past start other_start last end steps others history its reached same h k orderly ordered = record {
     steps_are = h.no_steps ∙ sym k.no_steps;
@@ -53,7 +58,8 @@ module _ (sameness : Sameness)
   runs_under_one (period ∷ periods) queue past start other_start last end steps others history its reached same h k orderly ordered =
       both
       (runs_under_one periods (queue_from queue h.earlier) (h.earlier ++ past) h.middle k.middle last end h.further k.further h.later k.later
-      (joined_chain server (first_state first) start h.middle past h.earlier reached chain) own.0.state h.behind k.behind (queued_later Orderly queue h.earlier h.later mine)
+      (joined_chain server (first_state first) start h.middle past h.earlier reached chain) own.0.state h.behind k.behind
+      (queued_later Orderly queue h.earlier h.later mine)
       (subst (λ (q : List Entry). AreOrderly server q k.later) (sym own.1) (queued_later Orderly queue k.earlier k.later theirs))) where
         Orderly : List Entry → Link → Type 0
         Orderly standing link = IsOrderly (under server link.config) standing link.before link.act link.out link.after
@@ -66,7 +72,8 @@ module _ (sameness : Sameness)
 
         own : AreOne h.own k.own h.middle k.middle × (queue_from queue h.earlier ≡ queue_from queue k.earlier)
         own =
-            runs_one sameness steps_same histories stands rises (under server period.config) first past start (chain_under server period.config (first_state first) past start reached) queue other_start h.middle k.middle period.events
+            runs_one sameness steps_same histories stands rises (under server period.config) first past start
+            (chain_under server period.config (first_state first) past start reached) queue other_start h.middle k.middle period.events
             h.own k.own h.earlier k.earlier same (run_alone (under server period.config) start period.events periods h.own h.earlier h.middle h.is_run)
             (run_alone (under server period.config) other_start period.events periods k.own k.earlier k.middle k.is_run)
             (queued_earlier Orderly queue h.earlier h.later mine) (queued_earlier Orderly queue k.earlier k.later theirs)

@@ -1,5 +1,5 @@
 -- Lists by how many of their elements pass a test.
-use Rattle.std.proofs.Common.{◌≡◌, ℕ, ◌+◌, ◌≤◌, Bool, List, [], ◌∷◌, ◌++◌, cond, true, refl, arith}
+use Rattle.std.proofs.Common.{◌≡◌, ◌+◌, Bool, List, ◌∷◌, ◌++◌, cond}
 use Rattle.std.specs.Prelude.{count_by}
 use Rattle.std.proofs.lemmas.List.Sums.{sum_by-cons, sum_by-append}
 

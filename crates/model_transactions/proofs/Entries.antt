@@ -84,7 +84,8 @@ name_is a b e =
     let rest = both-true (same_owner a.owner b.owner) (number_of a.letter == number_of b.letter) first.1 in
     ap (λ (n : ℕ). record { request = n; owner = a.owner; letter = a.letter }) (equal a.request b.request first.0)
     ∙ ap (λ (o : Owner). record { request = b.request; owner = o; letter = a.letter }) (owner_is a.owner b.owner rest.0)
-    ∙ ap (λ (l : Letter). record { request = b.request; owner = b.owner; letter = l }) (letter_is a.letter b.letter (equal (number_of a.letter) (number_of b.letter) rest.1))
+    ∙ ap (λ (l : Letter). record { request = b.request; owner = b.owner; letter = l })
+    (letter_is a.letter b.letter (equal (number_of a.letter) (number_of b.letter) rest.1))
 
 name_itself : (a : Name) → same_name a a ≡ true
 name_itself a =

@@ -15,8 +15,14 @@ use Rattle.sip_context_branches.specs.state.declared.open_request.Side.TheVarian
 use Rattle.sip_context_branches.specs.state.declared.open_request.Upward.{Upward}
 use Rattle.sip_context_branches.specs.state.declared.resend.Resend.{Resend}
 use Rattle.sip_context_branches.specs.state.declared.server.Server.{Server}
-use Rattle.sip_context_branches.specs.context_model.Branches.{is_same_branch, turned, with_phase, with_final, marked_branch, marked, given_up, answered, best_upward, is_cancellable, cancel_branch, held_branch, with_cancel, with_cancels, after_upward, settled, invite_heard, other_heard, heard, relayed_provisional, relayed_success, linger, final_of, search_ended, told_to, with_answer, acks_of, further, target_responded, cancel_responded, responded, target_overdue, branch_overdue, overdue, side_overdue, is_unheard, send_failed, cancelled, acknowledged_side, was_refused, acknowledged}
-use Rattle.sip_context_branches.specs.context_model.Retransmission.{resend_after, branch_next, answer_next, insists, goes_again, answer_due, branch_due, resent_branch, with_resend, IsResent, OfAnswer, OfRequest}
+use Rattle.sip_context_branches.specs.context_model.Branches.{is_same_branch, turned, with_phase, with_final, marked_branch, marked, given_up, answered, best_upward}
+use Rattle.sip_context_branches.specs.context_model.Branches.{is_cancellable, cancel_branch, held_branch, with_cancel, with_cancels, after_upward, settled, invite_heard}
+use Rattle.sip_context_branches.specs.context_model.Branches.{other_heard, heard, relayed_provisional, relayed_success, linger, final_of, search_ended, told_to}
+use Rattle.sip_context_branches.specs.context_model.Branches.{with_answer, acks_of, further, target_responded, cancel_responded, responded, target_overdue}
+use Rattle.sip_context_branches.specs.context_model.Branches.{branch_overdue, overdue, side_overdue, is_unheard, send_failed, cancelled, acknowledged_side, was_refused}
+use Rattle.sip_context_branches.specs.context_model.Branches.{acknowledged}
+use Rattle.sip_context_branches.specs.context_model.Retransmission.{resend_after, branch_next, answer_next, insists, goes_again, answer_due, branch_due, resent_branch}
+use Rattle.sip_context_branches.specs.context_model.Retransmission.{with_resend, IsResent, OfAnswer, OfRequest}
 use Rattle.model_transactions.specs.Near.{IsNear, IsPhaseNear, IsSideNear, IsBranchWithin, IsWithin}
 use Rattle.model_transactions.proofs.Lists.{all_map, all_flat_map, all_weaker}
 use Rattle.model_transactions.proofs.Near.{near_earlier}
@@ -48,16 +54,19 @@ module _ (now : ℕ) where
   -- ---- a request, part by part
 
   -- a change of each branch
-  with_branches : (edit : Branch → Branch) → ((x : Branch) → IsBranchWithin now x → IsBranchWithin now (edit x)) → (r : OpenRequest) → IsWithin now r → IsWithin now (record r { branches = map edit r.branches })
+  with_branches : (edit : Branch → Branch) → ((x : Branch) → IsBranchWithin now x → IsBranchWithin now (edit x)) → (r : OpenRequest) → IsWithin now r
+      → IsWithin now (record r { branches = map edit r.branches })
   with_branches edit keeps r w =
       record {
         side_near = w.side_near;
         again_near = w.again_near;
-        branches_within = all_map (IsBranchWithin now) edit r.branches (all_weaker (IsBranchWithin now) (λ x. IsBranchWithin now (edit x)) keeps r.branches w.branches_within);
+        branches_within = all_map (IsBranchWithin now) edit r.branches (all_weaker (IsBranchWithin now) (λ x. IsBranchWithin now (edit x)) keeps r.branches
+            w.branches_within);
       }
 
   -- a branch in another phase
-  turned_near : (b : Branch) (phase : Phase) → IsPhaseNear now phase → IsNear now b.again.due → (x : Branch) (t : Bool) → IsBranchWithin now x → IsBranchWithin now (cond t (turned b phase x) x)
+  turned_near : (b : Branch) (phase : Phase) → IsPhaseNear now phase → IsNear now b.again.due → (x : Branch) (t : Bool) → IsBranchWithin now x
+      → IsBranchWithin now (cond t (turned b phase x) x)
   turned_near b phase e a x true w = record { phase_near = e; again_near = a }
   turned_near b phase e a x false w = w
 
@@ -109,10 +118,12 @@ module _ (now : ℕ) where
         again_near = w.again_near;
         branches_within =
             all_flat_map (IsBranchWithin now) (with_cancel now) r.branches
-            (all_weaker (IsBranchWithin now) (λ b. AllByRecursion (IsBranchWithin now) (with_cancel now b)) (λ b. cancel_near b (is_cancellable b)) r.branches w.branches_within);
+            (all_weaker (IsBranchWithin now) (λ b. AllByRecursion (IsBranchWithin now) (with_cancel now b)) (λ b. cancel_near b (is_cancellable b)) r.branches
+            w.branches_within);
       }
 
-  pub settled_kept : (server : Server) (acks : List Packet) (relayed : Option Upward) (r : OpenRequest) → IsWithin now r → IsWithin now (settled server now acks relayed r).request
+  pub settled_kept : (server : Server) (acks : List Packet) (relayed : Option Upward) (r : OpenRequest) → IsWithin now r
+      → IsWithin now (settled server now acks relayed r).request
   settled_kept server acks relayed r w =
       let told : OpenRequest = after_upward now relayed r in
       cancels_kept (after_upward now (best_upward server told) told) (upward_kept (best_upward server told) told (upward_kept relayed r w))
@@ -162,27 +173,34 @@ module _ (now : ℕ) where
   answer_kept r b status m h w =
       let phase : Phase = Done (now + linger r) status in
       let done : OpenRequest = with_phase (told_to r b status m) phase r in
-      search_kept r status (with_final (final_of status m) done) (final_kept (final_of status m) done (phase_kept (told_to r b status m) phase (linger_near r) h.again_near r w))
+      search_kept r status (with_final (final_of status m) done) (final_kept (final_of status m) done
+      (phase_kept (told_to r b status m) phase (linger_near r) h.again_near r w))
 
-  target_kept : (server : Server) (r : OpenRequest) (b : Branch) (status : ℕ) (m : Message) → IsBranchWithin now b → IsWithin now r → IsWithin now (target_responded server now r b status m).request
+  target_kept : (server : Server) (r : OpenRequest) (b : Branch) (status : ℕ) (m : Message) → IsBranchWithin now b → IsWithin now r
+      → IsWithin now (target_responded server now r b status m).request
   target_kept server r b status m h w = by_tests (is_provisional status) (is_final b.phase) where
     by_tests : (t u : Bool)
         → IsWithin now (cond t (settled server now [] (relayed_provisional r b status m) (with_phase b (heard r now status b.phase) r))
-        (cond u (settled server now [] (further r b b.phase status m) r) (settled server now (acks_of server r b status m) (relayed_success r b status m) (with_answer r b now status m)))).request
-    by_tests true u = settled_kept server [] (relayed_provisional r b status m) (with_phase b (heard r now status b.phase) r) (phase_kept b (heard r now status b.phase) (heard_near r status b.phase h.phase_near) h.again_near r w)
+        (cond u (settled server now [] (further r b b.phase status m) r) (settled server now (acks_of server r b status m) (relayed_success r b status m)
+        (with_answer r b now status m)))).request
+    by_tests true u = settled_kept server [] (relayed_provisional r b status m) (with_phase b (heard r now status b.phase) r)
+        (phase_kept b (heard r now status b.phase) (heard_near r status b.phase h.phase_near) h.again_near r w)
     by_tests false true = settled_kept server [] (further r b b.phase status m) r w
     by_tests false false = settled_kept server (acks_of server r b status m) (relayed_success r b status m) (with_answer r b now status m) (answer_kept r b status m h w)
 
-  cancel_kept : (server : Server) (r : OpenRequest) (b : Branch) (status : ℕ) (m : Message) → IsBranchWithin now b → IsWithin now r → IsWithin now (cancel_responded server now r b status m).request
+  cancel_kept : (server : Server) (r : OpenRequest) (b : Branch) (status : ℕ) (m : Message) → IsBranchWithin now b → IsWithin now r
+      → IsWithin now (cancel_responded server now r b status m).request
   cancel_kept server r b status m h w = by_tests (is_provisional status) (is_final b.phase) where
     by_tests : (t u : Bool)
         → IsWithin now (cond t (settled server now [] None (with_phase b (other_heard b.phase) r))
         (cond u (settled server now [] None r) (settled server now [] None (with_phase b (Done (now + 5000) status) r)))).request
-    by_tests true u = settled_kept server [] None (with_phase b (other_heard b.phase) r) (phase_kept b (other_heard b.phase) (other_heard_near b.phase h.phase_near) h.again_near r w)
+    by_tests true u = settled_kept server [] None (with_phase b (other_heard b.phase) r)
+        (phase_kept b (other_heard b.phase) (other_heard_near b.phase h.phase_near) h.again_near r w)
     by_tests false true = settled_kept server [] None r w
     by_tests false false = settled_kept server [] None (with_phase b (Done (now + 5000) status) r) (phase_kept b (Done (now + 5000) status) at_5000 h.again_near r w)
 
-  pub responded_kept : (server : Server) (r : OpenRequest) (b : Branch) (status : ℕ) (m : Message) → IsBranchWithin now b → IsWithin now r → IsWithin now (responded server now r b status m).request
+  pub responded_kept : (server : Server) (r : OpenRequest) (b : Branch) (status : ℕ) (m : Message) → IsBranchWithin now b → IsWithin now r
+      → IsWithin now (responded server now r b status m).request
   responded_kept server r b status m h w = by_kind b.is_cancel where
     by_kind : (t : Bool) → IsWithin now (cond t (cancel_responded server now r b status m) (target_responded server now r b status m)).request
     by_kind true = cancel_kept server r b status m h w
@@ -198,7 +216,8 @@ module _ (now : ℕ) where
   target_passed : (r : OpenRequest) (b : Branch) (phase : Phase) → IsBranchWithin now b → IsWithin now r → IsWithin now (target_overdue r b phase)
   target_passed r b (Unheard due) h w = given_up_kept b 408 h r w
   target_passed r b (Heard due) h w = by_kind (is_invite r) where
-    by_kind : (t : Bool) → IsWithin now (cond t (record r { branches = map (λ (x : Branch). cond (is_same_branch x b) (record x { wants_cancel = true }) x) r.branches }) (given_up b 408 r))
+    by_kind : (t : Bool) → IsWithin now (cond t (record r { branches = map (λ (x : Branch). cond (is_same_branch x b) (record x { wants_cancel = true }) x) r.branches })
+        (given_up b 408 r))
     by_kind true = with_branches (λ x. cond (is_same_branch x b) (record x { wants_cancel = true }) x) (λ x. this_near x (is_same_branch x b)) r w
     by_kind false = given_up_kept b 408 h r w
   target_passed r b (Cancelled due) h w = given_up_kept b 487 h r w
@@ -215,7 +234,8 @@ module _ (now : ℕ) where
   overdue_kept server r b h w = settled_kept server [] None (branch_overdue r b) (branch_passed r b h w)
 
   pub side_overdue_kept : (server : Server) (r : OpenRequest) → IsWithin now r → IsWithin now (side_overdue server now r).request
-  side_overdue_kept server r w = settled_kept server [] None (record r { side = Closed }) (record { side_near = tt; again_near = w.again_near; branches_within = w.branches_within })
+  side_overdue_kept server r w = settled_kept server [] None (record r { side = Closed })
+      (record { side_near = tt; again_near = w.again_near; branches_within = w.branches_within })
 
   -- ---- a fault, and what the caller sends
 
@@ -269,13 +289,18 @@ module _ (now : ℕ) where
 
   pub answer_again_kept : (due : ℕ) (r : OpenRequest) → due ≤ now → answer_due r ≡ Some due → IsWithin now r → IsWithin now (record r { again = answer_next r })
   answer_again_kept due r came is w =
-      record { side_near = w.side_near; again_near = next_near 4000 r.again (omega arith) (same_moment due r.again.due (insists r) is came); branches_within = w.branches_within }
+      record {
+        side_near = w.side_near;
+        again_near = next_near 4000 r.again (omega arith) (same_moment due r.again.due (insists r) is came);
+        branches_within = w.branches_within;
+      }
 
   pub branch_again_kept : (due : ℕ) (r : OpenRequest) (b : Branch) → due ≤ now → branch_due r b ≡ Some due → IsWithin now r → IsWithin now (with_resend b r)
   branch_again_kept due r b came is w =
       let e : IsNear now (branch_next r b).due = branch_next_near r b (same_moment due b.again.due (goes_again r b) is came) in
       with_branches (resent_branch b (branch_next r b)) (λ x. again_near (branch_next r b) e x (is_same_branch x b)) r w
 
-  pub again_kept : (server : Server) (due : ℕ) (r next : OpenRequest) (packets : List Packet) → due ≤ now → IsResent server due r packets next → IsWithin now r → IsWithin now next
+  pub again_kept : (server : Server) (due : ℕ) (r next : OpenRequest) (packets : List Packet) → due ≤ now → IsResent server due r packets next → IsWithin now r
+      → IsWithin now next
   again_kept server due r _ _ came (OfAnswer is) w = answer_again_kept due r came is w
   again_kept server due r _ _ came (OfRequest b there is) w = branch_again_kept due r b came is w

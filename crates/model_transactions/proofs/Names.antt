@@ -1,5 +1,5 @@
 -- The timers that the parts of a request name.
-use Rattle.std.proofs.Common.{◌≡◌, ℕ, ◌+◌, ◌<◌, ◌≤◌, Bool, true, false, cond, List, [], ◌∷◌, ◌++◌, map, Option, Some, None, refl, arith, eqb}
+use Rattle.std.proofs.Common.{◌≡◌, ℕ, ◌+◌, ◌≤◌, Bool, true, false, cond, List, [], ◌∷◌, ◌++◌, Option, Some, None, refl, arith, eqb}
 use Rattle.std.specs.Prelude.{◌&&◌, not, count_by}
 use Rattle.std.specs.List.{AllByRecursion}
 use Rattle.std.proofs.lemmas.Bool.Decides.{nat_tests}
@@ -47,7 +47,8 @@ some_same a b e = cc
 -- ---- a branch
 
 pub invite_deadline : (phase : Phase) (again : Resend) (due : ℕ) → phase_deadline phase ≡ Some due → 1 ≤ due_at due (invite_timers phase again ++ call_timers phase)
-invite_deadline (Unheard until) again due e = there (By.A, again.due) due ((By.B, until) ∷ (By.C, until + 153000) ∷ []) (here By.B until due ((By.C, until + 153000) ∷ []) (some_same until due e))
+invite_deadline (Unheard until) again due e = there (By.A, again.due) due ((By.B, until) ∷ (By.C, until + 153000) ∷ [])
+    (here By.B until due ((By.C, until + 153000) ∷ []) (some_same until due e))
 invite_deadline (Heard until) again due e = here By.C until due [] (some_same until due e)
 invite_deadline (Cancelled until) again due e = here By.Cancelled until due [] (some_same until due e)
 invite_deadline (Done until status) again due e = by_test (is_success status) where
@@ -56,13 +57,15 @@ invite_deadline (Done until status) again due e = by_test (is_success status) wh
   by_test false = here By.D until due [] (some_same until due e)
 invite_deadline Ended again due e = absurd (cc)
 
-pub other_deadline : (phase : Phase) (again : Resend) (due : ℕ) (state : ClientOther) → RunsOtherClient phase again state → phase_deadline phase ≡ Some due → 1 ≤ due_at due (other_timers phase again)
+pub other_deadline : (phase : Phase) (again : Resend) (due : ℕ) (state : ClientOther) → RunsOtherClient phase again state → phase_deadline phase ≡ Some due
+    → 1 ≤ due_at due (other_timers phase again)
 other_deadline _ _ due _ (Other.WhileUnheard until again) e = there (By.E, again.due) due ((By.F, until) ∷ []) (here By.F until due [] (some_same until due e))
 other_deadline _ _ due _ (Other.WhileHeard until again) e = there (By.E, again.due) due ((By.F, until) ∷ []) (here By.F until due [] (some_same until due e))
 other_deadline _ _ due _ (Other.AfterFinal until status again) e = here By.K until due [] (some_same until due e)
 other_deadline _ _ due _ (Other.WhenEnded again) e = absurd (cc)
 
-pub branch_moment : (invite cancel : Bool) (phase : Phase) (again : Resend) (due : ℕ) → cond (cond cancel (is_cancelled_again phase) (is_sent_again invite phase)) (Some again.due) None ≡ Some due
+pub branch_moment : (invite cancel : Bool) (phase : Phase) (again : Resend) (due : ℕ)
+    → cond (cond cancel (is_cancelled_again phase) (is_sent_again invite phase)) (Some again.due) None ≡ Some due
     → 1 ≤ due_at due (cond (invite && not cancel) (invite_timers phase again ++ call_timers phase) (other_timers phase again))
 branch_moment true false (Unheard until) again due e = here By.A again.due due ((By.B, until) ∷ (By.C, until + 153000) ∷ []) (some_same again.due due e)
 branch_moment true false (Heard until) again due e = absurd (cc)
@@ -87,7 +90,8 @@ branch_moment false false Ended again due e = absurd (cc)
 
 -- ---- the answering side
 
-pub invite_side_deadline : (side : Side) (answer : Option LastAnswer) (again : Resend) (due : ℕ) → side_deadline side ≡ Some due → 1 ≤ due_at due (invite_side_timers side answer again)
+pub invite_side_deadline : (side : Side) (answer : Option LastAnswer) (again : Resend) (due : ℕ) → side_deadline side ≡ Some due
+    → 1 ≤ due_at due (invite_side_timers side answer again)
 invite_side_deadline Answering answer again due e = absurd (cc)
 invite_side_deadline (Closing until) answer again due e = by_test (was_refused answer) where
   by_test : (t : Bool) → 1 ≤ due_at due (cond t ((By.G, again.due) ∷ (By.H, until) ∷ []) ((By.L, until) ∷ []))
@@ -96,13 +100,15 @@ invite_side_deadline (Closing until) answer again due e = by_test (was_refused a
 invite_side_deadline (Acknowledged until) answer again due e = here By.I until due [] (some_same until due e)
 invite_side_deadline Closed answer again due e = absurd (cc)
 
-pub other_side_deadline : (side : Side) (answer : Option LastAnswer) (due : ℕ) (state : ServerOther) → RunsOtherServer side answer state → side_deadline side ≡ Some due → 1 ≤ due_at due (other_side_timers side)
+pub other_side_deadline : (side : Side) (answer : Option LastAnswer) (due : ℕ) (state : ServerOther) → RunsOtherServer side answer state → side_deadline side ≡ Some due
+    → 1 ≤ due_at due (other_side_timers side)
 other_side_deadline _ _ due _ Served.BeforeAnswer e = absurd (cc)
 other_side_deadline _ _ due _ (Served.WhileProvisional a is) e = absurd (cc)
 other_side_deadline _ _ due _ (Served.AfterFinal until a late) e = here By.J until due [] (some_same until due e)
 other_side_deadline _ _ due _ (Served.WhenClosed answer) e = absurd (cc)
 
-pub answer_moment : (invite : Bool) (side : Side) (answer : Option LastAnswer) (again : Resend) (due : ℕ) → cond (invite && is_closing side && was_refused answer) (Some again.due) None ≡ Some due
+pub answer_moment : (invite : Bool) (side : Side) (answer : Option LastAnswer) (again : Resend) (due : ℕ)
+    → cond (invite && is_closing side && was_refused answer) (Some again.due) None ≡ Some due
     → 1 ≤ due_at due (cond invite (invite_side_timers side answer again) (other_side_timers side))
 answer_moment false side answer again due e = absurd (cc)
 answer_moment true Answering answer again due e = absurd (cc)
@@ -116,7 +122,8 @@ answer_moment true Closed answer again due e = absurd (cc)
 -- ---- why a timer stands
 
 pub branch_reasons : (invite cancel : Bool) (phase : Phase) (again : Resend)
-    → AllByRecursion (IsFor (cond (cond cancel (is_cancelled_again phase) (is_sent_again invite phase)) (Some again.due) None) (phase_deadline phase)) (cond (invite && not cancel) (invite_timers phase again ++ call_timers phase) (other_timers phase again))
+    → AllByRecursion (IsFor (cond (cond cancel (is_cancelled_again phase) (is_sent_again invite phase)) (Some again.due) None) (phase_deadline phase))
+    (cond (invite && not cancel) (invite_timers phase again ++ call_timers phase) (other_timers phase again))
 branch_reasons true false (Unheard until) again = (GoesAgain By.A again.due refl, (Ends By.B until refl, (Behind By.C (until + 153000) until refl (omega arith), tt)))
 branch_reasons true false (Heard until) again = (Ends By.C until refl, tt)
 branch_reasons true false (Cancelled until) again = (Ends By.Cancelled until refl, tt)
@@ -142,7 +149,8 @@ branch_reasons false false (Done until status) again = (Ends By.K until refl, tt
 branch_reasons false false Ended again = tt
 
 pub side_reasons : (invite : Bool) (side : Side) (answer : Option LastAnswer) (again : Resend)
-    → AllByRecursion (IsFor (cond (invite && is_closing side && was_refused answer) (Some again.due) None) (side_deadline side)) (cond invite (invite_side_timers side answer again) (other_side_timers side))
+    → AllByRecursion (IsFor (cond (invite && is_closing side && was_refused answer) (Some again.due) None) (side_deadline side))
+    (cond invite (invite_side_timers side answer again) (other_side_timers side))
 side_reasons true Answering answer again = tt
 side_reasons true (Closing until) answer again = by_test (was_refused answer) where
   by_test : (t : Bool) → AllByRecursion (IsFor (cond t (Some again.due) None) (Some until)) (cond t ((By.G, again.due) ∷ (By.H, until) ∷ []) ((By.L, until) ∷ []))
@@ -157,6 +165,12 @@ side_reasons false Closed answer again = tt
 
 -- ---- counts
 
-pub count_part : (p : Timer → Bool) (number : ℕ) (owner : Owner) (keys : TimerKeys) (ts : List (Letter × ℕ)) → count_by p (part_timers number owner keys ts) ≡ count_by (λ (t : Letter × ℕ). p (named number owner keys t)) ts
+pub count_part : (p : Timer → Bool) (number : ℕ) (owner : Owner) (keys : TimerKeys) (ts : List (Letter × ℕ))
+    → count_by p (part_timers number owner keys ts) ≡ count_by (λ (t : Letter × ℕ). p (named number owner keys t)) ts
 count_part p number owner keys [] = refl
-count_part p number owner keys (t ∷ ts) = omega (arith, count_part p number owner keys ts, count-cons p (named number owner keys t) (part_timers number owner keys ts), count-cons (λ (u : Letter × ℕ). p (named number owner keys u)) t ts)
+count_part p number owner keys (t ∷ ts) = omega (
+  arith,
+  count_part p number owner keys ts,
+  count-cons p (named number owner keys t) (part_timers number owner keys ts),
+  count-cons (λ (u : Letter × ℕ). p (named number owner keys u)) t ts,
+)

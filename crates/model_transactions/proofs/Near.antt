@@ -65,9 +65,11 @@ side_moments bound Closed e = tt
 
 pub deadlines_near : (bound : ℕ) (r : OpenRequest) → IsWithin bound r → AllByRecursion (IsNear bound) (deadlines_of r)
 deadlines_near bound r w =
-    all_append (IsNear bound) (option_to_list (side_deadline r.side)) (filter_map (λ (b : Branch). phase_deadline b.phase) r.branches) (side_moments bound r.side w.side_near)
+    all_append (IsNear bound) (option_to_list (side_deadline r.side)) (filter_map (λ (b : Branch). phase_deadline b.phase) r.branches)
+    (side_moments bound r.side w.side_near)
     (all_given (IsNear bound) (λ (b : Branch). phase_deadline b.phase) r.branches
-    (all_weaker (IsBranchWithin bound) (λ (b : Branch). IfSome (phase_deadline b.phase) (IsNear bound)) (λ b h. phase_moment bound b.phase h.phase_near) r.branches w.branches_within))
+    (all_weaker (IsBranchWithin bound) (λ (b : Branch). IfSome (phase_deadline b.phase) (IsNear bound)) (λ b h. phase_moment bound b.phase h.phase_near) r.branches
+    w.branches_within))
 
 -- a near moment, if it counts
 if_near : (bound due : ℕ) (t : Bool) → IsNear bound due → IfSome (cond t (Some due) None) (IsNear bound)
@@ -82,7 +84,8 @@ pub resends_near : (bound : ℕ) (r : OpenRequest) → IsWithin bound r → AllB
 resends_near bound r w =
     all_append (IsNear bound) (option_to_list (answer_due r)) (filter_map (branch_due r) r.branches) (listed_near bound r.again.due (insists r) w.again_near)
     (all_given (IsNear bound) (branch_due r) r.branches
-    (all_weaker (IsBranchWithin bound) (λ (b : Branch). IfSome (branch_due r b) (IsNear bound)) (λ b h. if_near bound b.again.due (goes_again r b) h.again_near) r.branches w.branches_within))
+    (all_weaker (IsBranchWithin bound) (λ (b : Branch). IfSome (branch_due r b) (IsNear bound)) (λ b h. if_near bound b.again.due (goes_again r b) h.again_near)
+    r.branches w.branches_within))
 
 -- ---- room
 

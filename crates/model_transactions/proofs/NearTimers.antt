@@ -60,7 +60,8 @@ module _ (bound : ℕ) where
 
   -- ---- the answering side
 
-  invite_side_near : (side : Side) (answer : Option LastAnswer) (again : Resend) → IsSideNear bound side → IsNear bound again.due → AreNear (invite_side_timers side answer again)
+  invite_side_near : (side : Side) (answer : Option LastAnswer) (again : Resend) → IsSideNear bound side → IsNear bound again.due
+      → AreNear (invite_side_timers side answer again)
   invite_side_near Answering answer again e a = tt
   invite_side_near (Closing until) answer again e a = by_test (was_refused answer) where
     by_test : (t : Bool) → AreNear (cond t ((By.G, again.due) ∷ (By.H, until) ∷ []) ((By.L, until) ∷ []))
@@ -114,5 +115,7 @@ none_later bound ts near = none_passes (λ (t : Timer). IsNear bound t.due) (λ 
 pub allowed : (bound reached due : ℕ) → bound ≤ reached + 1 → due ≤ bound + 185000 → due < reached + 2 ^ 30
 allowed bound reached due h e = omega arith
 
-pub all_allowed : (bound reached : ℕ) (ts : List Timer) → bound ≤ reached + 1 → AllByRecursion (λ (t : Timer). IsNear bound t.due) ts → AllByRecursion (λ (t : Timer). t.due < reached + 2 ^ 30) ts
-all_allowed bound reached ts h near = all_weaker (λ (t : Timer). IsNear bound t.due) (λ (t : Timer). t.due < reached + 2 ^ 30) (λ t. allowed bound reached t.due h) ts near
+pub all_allowed : (bound reached : ℕ) (ts : List Timer) → bound ≤ reached + 1 → AllByRecursion (λ (t : Timer). IsNear bound t.due) ts
+    → AllByRecursion (λ (t : Timer). t.due < reached + 2 ^ 30) ts
+all_allowed bound reached ts h near = all_weaker (λ (t : Timer). IsNear bound t.due) (λ (t : Timer). t.due < reached + 2 ^ 30) (λ t. allowed bound reached t.due h) ts
+    near

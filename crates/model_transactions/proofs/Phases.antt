@@ -1,22 +1,18 @@
 -- Branches that fit their transactions, one at a time and all of them.
-use Rattle.std.proofs.Common.{◌≡◌, ℕ, ◌+◌, ◌==◌, Bool, true, false, not, cond, List, [], ◌∷◌, ◌++◌, map, flat_map, refl, sym, ap, subst, Contains, true≢false, arith}
+use Rattle.std.proofs.Common.{◌≡◌, ℕ, ◌+◌, ◌==◌, Bool, true, false, not, cond, List, [], ◌∷◌, ◌++◌, map, flat_map, refl, sym, subst, Contains, true≢false, arith}
 use Rattle.std.proofs.lemmas.Bool.Decides.{nat_tests}
 use Rattle.std.specs.Prelude.{◌&&◌, ◌||◌}
-use Rattle.std.specs.List.{AllByRecursion}
 use Rattle.std.proofs.lemmas.List.Elements.{All-from_recursion, All-contains}
 use Rattle.sip_context_branches.specs.state.declared.branch.Branch.{Branch}
 use Rattle.sip_context_branches.specs.state.declared.branch.Phase.{Phase}
 use Rattle.sip_context_branches.specs.state.declared.branch.Phase.TheVariants.{Unheard, Heard, Cancelled, Done, Ended}
 use Rattle.sip_context_branches.specs.state.declared.resend.Resend.{Resend}
 use Rattle.sip_context_branches.specs.state.State.{is_final, is_success, is_failure, is_provisional, first_resend}
-use Rattle.sip_client.specs.declared.client_invite.ClientInvite.{ClientInvite}
 use Rattle.sip_client.specs.declared.client_invite.ClientInvite.TheVariants as Call
-use Rattle.sip_client.specs.declared.client_other.ClientOther.{ClientOther}
 use Rattle.sip_client.specs.declared.client_other.ClientOther.TheVariants as Other
-use Rattle.sip_context_branches.specs.context_model.Branches.{is_same_branch, turned, phased, marked_branch, is_cancellable, is_ready, cancel_branch, held_branch, with_cancel, invite_heard, other_heard}
-use Rattle.model_transactions.specs.InviteClient.{RunsInviteClient}
+use Rattle.sip_context_branches.specs.context_model.Branches.{is_same_branch, turned, phased, marked_branch, is_cancellable, is_ready, cancel_branch, held_branch}
+use Rattle.sip_context_branches.specs.context_model.Branches.{with_cancel, invite_heard, other_heard}
 use Rattle.model_transactions.specs.InviteClient as ForCall
-use Rattle.model_transactions.specs.OtherClient.{RunsOtherClient}
 use Rattle.model_transactions.specs.OtherClient as ForOther
 use Rattle.model_transactions.specs.Fits.{is_call, PhaseFits, OfCall, OfOther, BranchFits, BranchesFit}
 
@@ -80,18 +76,22 @@ pub again_fits : (call : Bool) (phase : Phase) (before after : Resend) → Phase
 again_fits _ _ before after (OfCall _ _ _ (ForCall.WhileUnheard until _)) = unheard_fits true until after
 again_fits _ _ before after (OfCall _ _ _ (ForCall.WhileHeard until _)) = heard_fits true until after
 again_fits _ _ before after (OfCall _ _ _ (ForCall.WhileCancelled until _)) = cancelled_fits until after
-again_fits _ _ before after (OfCall _ _ _ (ForCall.AfterSuccess until status _ is)) = OfCall (Done until status) after Call.Accepted (ForCall.AfterSuccess until status after is)
-again_fits _ _ before after (OfCall _ _ _ (ForCall.AfterFailure until status _ is)) = OfCall (Done until status) after Call.Completed (ForCall.AfterFailure until status after is)
+again_fits _ _ before after (OfCall _ _ _ (ForCall.AfterSuccess until status _ is)) =
+    OfCall (Done until status) after Call.Accepted (ForCall.AfterSuccess until status after is)
+again_fits _ _ before after (OfCall _ _ _ (ForCall.AfterFailure until status _ is)) =
+    OfCall (Done until status) after Call.Completed (ForCall.AfterFailure until status after is)
 again_fits _ _ before after (OfCall _ _ _ (ForCall.WhenEnded _)) = ended_fits true after
 again_fits _ _ before after (OfOther _ _ _ (ForOther.WhileUnheard until _)) = unheard_fits false until after
 again_fits _ _ before after (OfOther _ _ _ (ForOther.WhileHeard until _)) = heard_fits false until after
-again_fits _ _ before after (OfOther _ _ _ (ForOther.AfterFinal until status _)) = OfOther (Done until status) after Other.Completed (ForOther.AfterFinal until status after)
+again_fits _ _ before after (OfOther _ _ _ (ForOther.AfterFinal until status _)) = OfOther (Done until status) after Other.Completed
+    (ForOther.AfterFinal until status after)
 again_fits _ _ before after (OfOther _ _ _ (ForOther.WhenEnded _)) = ended_fits false after
 
 -- ---- lists of branches
 
 -- each branch fits after a function of one that leaves each fitting
-pub map_fits : (invite : Bool) (f : Branch → Branch) (bs : List Branch) → ((x : Branch) → BranchFits invite x → BranchFits invite (f x)) → BranchesFit invite bs → BranchesFit invite (map f bs)
+pub map_fits : (invite : Bool) (f : Branch → Branch) (bs : List Branch) → ((x : Branch) → BranchFits invite x → BranchFits invite (f x)) → BranchesFit invite bs
+    → BranchesFit invite (map f bs)
 map_fits invite f [] each all = tt
 map_fits invite f (b ∷ bs) each all = (each b all.0, map_fits invite f bs each all.1)
 
@@ -110,12 +110,17 @@ same_kind first second x y e = by_test (first == second) x y e where
   by_test false x y e = absurd (cc)
 
 -- a branch in another phase, which fits its kind
-pub phased_fits : (invite : Bool) (b : Branch) (phase : Phase) (bs : List Branch) → PhaseFits (is_call invite b.is_cancel) phase b.again → BranchesFit invite bs → BranchesFit invite (map (phased b phase) bs)
+pub phased_fits : (invite : Bool) (b : Branch) (phase : Phase) (bs : List Branch) → PhaseFits (is_call invite b.is_cancel) phase b.again → BranchesFit invite bs
+    → BranchesFit invite (map (phased b phase) bs)
 phased_fits invite b phase bs fits all = map_fits invite (phased b phase) bs each all where
   each : (x : Branch) → BranchFits invite x → BranchFits invite (phased b phase x)
   each x before = by_test (is_same_branch x b) refl where
     by_test : (t : Bool) → is_same_branch x b ≡ t → BranchFits invite (cond t (turned b phase x) x)
-    by_test true is = record { runs = subst (λ (c : Bool). PhaseFits (is_call invite c) phase b.again) (sym (same_kind x.number b.number x.is_cancel b.is_cancel is)) fits; spared = before.spared }
+    by_test true is = record {
+      runs = subst (λ (c : Bool). PhaseFits (is_call invite c) phase b.again) (sym (same_kind x.number b.number x.is_cancel b.is_cancel is))
+          fits;
+      spared = before.spared;
+    }
     by_test false is = before
 
 -- branches of an INVITE that are to be cancelled
@@ -132,7 +137,8 @@ marked_fits bs all = map_fits true marked_branch bs each all where
   each x before = wanted x x.is_cancel refl before
 
 -- one branch of an INVITE that is to be cancelled, as far as it is one to a target
-pub wanted_fits : (b : Branch) (bs : List Branch) → b.is_cancel ≡ false → BranchesFit true bs → BranchesFit true (map (λ (x : Branch). cond (is_same_branch x b) (record x { wants_cancel = true }) x) bs)
+pub wanted_fits : (b : Branch) (bs : List Branch) → b.is_cancel ≡ false → BranchesFit true bs
+    → BranchesFit true (map (λ (x : Branch). cond (is_same_branch x b) (record x { wants_cancel = true }) x) bs)
 wanted_fits b bs target all = map_fits true (λ (x : Branch). cond (is_same_branch x b) (record x { wants_cancel = true }) x) bs each all where
   each : (x : Branch) → BranchFits true x → BranchFits true (cond (is_same_branch x b) (record x { wants_cancel = true }) x)
   each x before = by_test (is_same_branch x b) refl where
@@ -159,6 +165,7 @@ cancels_fit invite now (b ∷ bs) all = by_test (is_cancellable b) refl (cancels
   held is = let kind : (is_call invite b.is_cancel ≡ true) × (b.is_cancel ≡ false) = is_of_call invite b.is_cancel b.wants_cancel (is_ready b.phase) all.0.spared is in
       record { runs = subst (λ (k : Bool). PhaseFits k (Cancelled (now + 32000)) b.again) (sym kind.0) (cancelled_fits (now + 32000) b.again); spared = all.0.spared }
 
-  by_test : (t : Bool) → is_cancellable b ≡ t → BranchesFit invite (flat_map (with_cancel now) bs) → BranchesFit invite (cond t (held_branch now b ∷ cancel_branch now b ∷ []) (b ∷ []) ++ flat_map (with_cancel now) bs)
+  by_test : (t : Bool) → is_cancellable b ≡ t → BranchesFit invite (flat_map (with_cancel now) bs)
+      → BranchesFit invite (cond t (held_branch now b ∷ cancel_branch now b ∷ []) (b ∷ []) ++ flat_map (with_cancel now) bs)
   by_test true is rest = (held is, (record { runs = unheard_fits false (now + 32000) (first_resend now); spared = λ other. refl }, rest))
   by_test false is rest = (all.0, rest)

@@ -38,7 +38,8 @@ goes_in_front q e (x ∷ xs) all = by_test (q x) (goes_in_front q e xs all.1) wh
   by_test true rest = ap (λ b. cond b (e ∷ x ∷ filter q xs) (x ∷ behind e (filter q xs))) early
   by_test false rest = rest
 
-goes_past : (e x : Entry) (a b : Bool) (rest whole : List Entry) → ltb e.due x.due ≡ false → whole ≡ cond b (behind e rest) rest → cond a (x ∷ whole) whole ≡ cond b (behind e (cond a (x ∷ rest) rest)) (cond a (x ∷ rest) rest)
+goes_past : (e x : Entry) (a b : Bool) (rest whole : List Entry) → ltb e.due x.due ≡ false → whole ≡ cond b (behind e rest) rest
+    → cond a (x ∷ whole) whole ≡ cond b (behind e (cond a (x ∷ rest) rest)) (cond a (x ∷ rest) rest)
 goes_past e x true true rest whole late is = ap (λ xs. x ∷ xs) is ∙ sym (ap (λ b. cond b (e ∷ x ∷ rest) (x ∷ behind e rest)) late)
 goes_past e x true false rest whole late is = ap (λ xs. x ∷ xs) is
 goes_past e x false b rest whole late is = is
@@ -53,10 +54,12 @@ filter-behind q e (x ∷ xs) h = by_due (ltb e.due x.due) refl (filter-behind q 
       ap (λ es. cond (q e) es (filter q (x ∷ xs))) (sym (goes_in_front q e (x ∷ xs) (less, all_behind_it e x xs less h.0)))
   by_due false late rest = goes_past e x (q x) (q e) (filter q xs) (filter q (behind e xs)) late rest
 
-all_later : (e x : Entry) (es : List Entry) → x.due ≤ e.due → AllByRecursion (λ (y : Entry). x.due ≤ y.due) es → AllByRecursion (λ (y : Entry). x.due ≤ y.due) (behind e es)
+all_later : (e x : Entry) (es : List Entry) → x.due ≤ e.due → AllByRecursion (λ (y : Entry). x.due ≤ y.due) es
+    → AllByRecursion (λ (y : Entry). x.due ≤ y.due) (behind e es)
 all_later e x [] late all = (late, tt)
 all_later e x (y ∷ ys) late all = by_test (ltb e.due y.due) (all_later e x ys late all.1) where
-  by_test : (b : Bool) → AllByRecursion (λ (z : Entry). x.due ≤ z.due) (behind e ys) → AllByRecursion (λ (z : Entry). x.due ≤ z.due) (cond b (e ∷ y ∷ ys) (y ∷ behind e ys))
+  by_test : (b : Bool) → AllByRecursion (λ (z : Entry). x.due ≤ z.due) (behind e ys) →
+      AllByRecursion (λ (z : Entry). x.due ≤ z.due) (cond b (e ∷ y ∷ ys) (y ∷ behind e ys))
   by_test true rest = (late, all)
   by_test false rest = (all.0, rest)
 
@@ -97,7 +100,8 @@ has-append e (x ∷ xs) ys = by_test (same_entry e x) (has-append e xs ys) where
 has-behind : (e x : Entry) (es : List Entry) → has e (behind x es) ≡ (same_entry e x || has e es)
 has-behind e x [] = refl
 has-behind e x (y ∷ ys) = by_due (ltb x.due y.due) (same_entry e x) (same_entry e y) (has-behind e x ys) where
-  by_due : (b s t : Bool) → has e (behind x ys) ≡ (same_entry e x || has e ys) → has e (cond b (x ∷ y ∷ ys) (y ∷ behind x ys)) ≡ (same_entry e x || (same_entry e y || has e ys))
+  by_due : (b s t : Bool) → has e (behind x ys) ≡ (same_entry e x || has e ys) → has e (cond b (x ∷ y ∷ ys) (y ∷ behind x ys))
+      ≡ (same_entry e x || (same_entry e y || has e ys))
   by_due true s t rest = refl
   by_due false s t rest = ap (λ v. same_entry e y || v) rest ∙ swap (same_entry e y) (same_entry e x) (has e ys) where
     swap : (a b c : Bool) → (a || (b || c)) ≡ (b || (a || c))
@@ -138,7 +142,8 @@ none_of e (o ∷ os) rest there none = by_test (same_entry e o) refl (none_of e 
       absurd (cc)
   by_test false is others = others
 
-module _ (queue opened before after : List Entry) (ordered : AreDueInOrder queue) (exact : (e : Entry) → has e queue ≡ has e before) (new : AllByRecursion (λ (o : Entry). has o before ≡ false) opened) (apart : AllByRecursion (λ (o : Entry). has o after ≡ false) opened) where
+module _ (queue opened before after : List Entry) (ordered : AreDueInOrder queue) (exact : (e : Entry) → has e queue ≡ has e before)
+    (new : AllByRecursion (λ (o : Entry). has o before ≡ false) opened) (apart : AllByRecursion (λ (o : Entry). has o after ≡ false) opened) where
   abbrev left : List Entry
   left = filter (λ e. has e (opened ++ after)) queue
 

@@ -1,5 +1,5 @@
 -- How often something was sent, and when it goes next.
-use Rattle.std.proofs.Common.{◌≡◌, ℕ, suc, ◌+◌, ◌-◌, ◌*◌, ◌^◌, ◌<◌, ◌≤◌, Bool, true, false, refl, arith, add-one, leb}
+use Rattle.std.proofs.Common.{◌≡◌, ℕ, ◌+◌, ◌-◌, ◌*◌, ◌^◌, ◌<◌, ◌≤◌, Bool, true, false, refl, arith, add-one, leb}
 use Rattle.std.specs.Prelude.{min}
 use Rattle.std.proofs.lemmas.Bool.Decides.{nat_tests}
 use Rattle.std.proofs.Math.Nat.{pow-suc}
@@ -57,7 +57,10 @@ invite_bound first times again sent early = by_test (leb times 6) refl where
       absurd (omega arith)
 
 pub fourth : (first : ℕ) (again : Resend) → IsSent first 4 again → IsSteady first 4 again
-fourth first again sent = record { due = (let e : again.due ≡ first + 500 * (16 - 1) = sent.due in omega arith); wait = (let e : 2 * again.wait ≡ 500 * 16 = sent.wait in omega arith) }
+fourth first again sent = record {
+  due = (let e : again.due ≡ first + 500 * (16 - 1) = sent.due in omega arith);
+  wait = (let e : 2 * again.wait ≡ 500 * 16 = sent.wait in omega arith);
+}
 
 pub steady_again : (first times : ℕ) (again : Resend) → IsSteady first times again → IsSteady first (times + 1) (resend_after 4000 again)
 steady_again first times again sent =

@@ -1,5 +1,5 @@
 -- What follows every event of an open request leaves its parts fitting.
-use Rattle.std.proofs.Common.{◌≡◌, ℕ, ◌+◌, ◌==◌, Bool, true, false, not, cond, List, Option, Some, None, option_map, refl, ap, sym, ◌∙◌, true≢false}
+use Rattle.std.proofs.Common.{◌≡◌, ℕ, ◌+◌, ◌==◌, Bool, true, false, not, cond, List, Option, Some, None, option_map, refl}
 use Rattle.std.specs.Prelude.{◌&&◌, ◌||◌}
 use Rattle.sip_event.specs.declared.packet.Packet.{Packet}
 use Rattle.sip_message_form.specs.Text.{text_of}
@@ -13,12 +13,14 @@ use Rattle.sip_context_branches.specs.state.declared.open_request.Upward.{Upward
 use Rattle.sip_context_branches.specs.state.declared.open_request.Side.{Side}
 use Rattle.sip_context_branches.specs.state.declared.open_request.LastAnswer.{LastAnswer}
 use Rattle.sip_context_branches.specs.state.State.{is_invite, is_answering, is_final, is_success, first_resend}
-use Rattle.sip_context_branches.specs.context_model.Branches.{Change, last_answer, answered, upward_of, all_final, best_upward, after_upward, settled, relayed_from, relayed_provisional, relayed_success, is_accepted, is_closing, has_success}
+use Rattle.sip_context_branches.specs.context_model.Branches.{last_answer, upward_of, all_final, best_upward, after_upward, settled, relayed_from, relayed_provisional}
+use Rattle.sip_context_branches.specs.context_model.Branches.{relayed_success, is_accepted, is_closing, has_success}
 use Rattle.model_transactions.specs.Fits.{Fits}
 use Rattle.model_transactions.proofs.Phases.{cancels_fit}
 use Rattle.model_transactions.proofs.Sides.{answered_fits, accepted_fits}
 
--- An answer may go to the caller, by whether the request is an INVITE, its answering side and its last answer: the first final one and those before it, and each 2xx of an INVITE that was
+-- An answer may go to the caller, by whether the request is an INVITE, its answering side and its last answer: the first final one and those before it, and each 2xx of
+-- an INVITE that was
 -- accepted.
 pub data GoesUp (invite : Bool) (side : Side) (answer : Option LastAnswer) : Option Upward → Type 0 where
   Nothing : GoesUp invite side answer None
@@ -51,7 +53,8 @@ best_goes server r = by_tests (is_answering r.side) (all_final r) (best_of r.fin
   by_tests false u best is = Nothing
 
 -- settling leaves the parts fitting
-pub settled_fits : (server : Server) (now : ℕ) (acks : List Packet) (relayed : Option Upward) (r : OpenRequest) → MayGo r relayed → Fits r → Fits (settled server now acks relayed r).request
+pub settled_fits : (server : Server) (now : ℕ) (acks : List Packet) (relayed : Option Upward) (r : OpenRequest) → MayGo r relayed → Fits r
+    → Fits (settled server now acks relayed r).request
 settled_fits server now acks relayed r goes fits =
     let told : OpenRequest = after_upward now relayed r in
     let after : OpenRequest = after_upward now (best_upward server told) told in

@@ -1,12 +1,12 @@
 -- The answering side fits its transaction after an answer, an ACK and its end.
-use Rattle.std.proofs.Common.{◌≡◌, ℕ, ◌+◌, Bool, true, false, not, cond, List, Option, Some, None, refl, arith, leb}
+use Rattle.std.proofs.Common.{◌≡◌, ℕ, ◌+◌, Bool, true, false, not, cond, Option, Some, None, refl, arith, leb}
 use Rattle.std.proofs.lemmas.Bool.Decides.{nat_tests}
 use Rattle.std.specs.Prelude.{◌&&◌}
 use Rattle.sip_context_branches.specs.state.declared.resend.Resend.{Resend}
 use Rattle.sip_context_branches.specs.state.declared.open_request.LastAnswer.{LastAnswer}
 use Rattle.sip_context_branches.specs.state.declared.open_request.Side.{Side}
 use Rattle.sip_context_branches.specs.state.declared.open_request.Side.TheVariants.{Answering, Closing, Acknowledged, Closed}
-use Rattle.sip_context_branches.specs.state.State.{is_answering, is_success, is_failure, is_provisional}
+use Rattle.sip_context_branches.specs.state.State.{is_answering, is_success, is_provisional}
 use Rattle.sip_server.specs.declared.server_invite.ServerInvite.TheVariants as OfInviteState
 use Rattle.sip_server.specs.declared.server_other.ServerOther.TheVariants as OfOtherState
 use Rattle.sip_context_branches.specs.context_model.Branches.{is_closing, has_success, was_refused, acknowledged_side}
@@ -57,7 +57,8 @@ late_success s ok = by_test (leb 200 s) refl ok where
   by_test false e ok = absurd (cc)
 
 -- one more 2xx of an INVITE that was accepted
-pub accepted_fits : (invite : Bool) (side : Side) (answer : Option LastAnswer) (until : ℕ) (a : LastAnswer) (again : Resend) → (invite && is_closing side && has_success answer) ≡ true → is_success a.status ≡ true
+pub accepted_fits : (invite : Bool) (side : Side) (answer : Option LastAnswer) (until : ℕ) (a : LastAnswer) (again : Resend)
+    → (invite && is_closing side && has_success answer) ≡ true → is_success a.status ≡ true
     → SideFits invite (cond (is_answering side && not (is_provisional a.status)) (Closing until) side) (Some a) again
 accepted_fits true (Closing due) answer until a again is ok = closing_fits true due a again (late_success a.status ok)
 accepted_fits true Answering answer until a again is ok = absurd (cc)
@@ -66,19 +67,25 @@ accepted_fits true Closed answer until a again is ok = absurd (cc)
 accepted_fits false side answer until a again is ok = absurd (cc)
 
 -- an ACK of a final answer to an INVITE that is no 2xx
-pub acknowledged_fits : (now : ℕ) (side : Side) (answer : Option LastAnswer) (again : Resend) → was_refused answer ≡ true → SideFits true side answer again → SideFits true (acknowledged_side now side) answer again
+pub acknowledged_fits : (now : ℕ) (side : Side) (answer : Option LastAnswer) (again : Resend) → was_refused answer ≡ true → SideFits true side answer again
+    → SideFits true (acknowledged_side now side) answer again
 acknowledged_fits now Answering answer again refused fits = fits
 acknowledged_fits now (Closing due) None again refused fits = absurd (cc)
-acknowledged_fits now (Closing due) (Some a) again refused fits = OfInvite (Acknowledged (now + 5000)) (Some a) again OfInviteState.Confirmed (ForInvite.AfterAck (now + 5000) a again refused)
+acknowledged_fits now (Closing due) (Some a) again refused fits = OfInvite (Acknowledged (now + 5000)) (Some a) again OfInviteState.Confirmed
+    (ForInvite.AfterAck (now + 5000) a again refused)
 acknowledged_fits now (Acknowledged due) answer again refused fits = fits
 acknowledged_fits now Closed answer again refused fits = fits
 
 -- it fits also when what goes again does so later
-pub later_fits : (invite : Bool) (side : Side) (answer : Option LastAnswer) (before after : Resend) → SideFits invite side answer before → SideFits invite side answer after
+pub later_fits : (invite : Bool) (side : Side) (answer : Option LastAnswer) (before after : Resend) → SideFits invite side answer before
+    → SideFits invite side answer after
 later_fits _ _ _ before after (OfInvite _ _ _ _ (ForInvite.BeforeAnswer _)) = coming_fits true after
 later_fits _ _ _ before after (OfInvite _ _ _ _ (ForInvite.WhileProvisional a _ early)) = provisional_fits true a after early
-later_fits _ _ _ before after (OfInvite _ _ _ _ (ForInvite.AfterSuccess until a _ is)) = OfInvite (Closing until) (Some a) after OfInviteState.Accepted (ForInvite.AfterSuccess until a after is)
-later_fits _ _ _ before after (OfInvite _ _ _ _ (ForInvite.AfterFailure until a _ is)) = OfInvite (Closing until) (Some a) after (OfInviteState.Completed after.wait) (ForInvite.AfterFailure until a after is)
-later_fits _ _ _ before after (OfInvite _ _ _ _ (ForInvite.AfterAck until a _ is)) = OfInvite (Acknowledged until) (Some a) after OfInviteState.Confirmed (ForInvite.AfterAck until a after is)
+later_fits _ _ _ before after (OfInvite _ _ _ _ (ForInvite.AfterSuccess until a _ is)) =
+    OfInvite (Closing until) (Some a) after OfInviteState.Accepted (ForInvite.AfterSuccess until a after is)
+later_fits _ _ _ before after (OfInvite _ _ _ _ (ForInvite.AfterFailure until a _ is)) =
+    OfInvite (Closing until) (Some a) after (OfInviteState.Completed after.wait) (ForInvite.AfterFailure until a after is)
+later_fits _ _ _ before after (OfInvite _ _ _ _ (ForInvite.AfterAck until a _ is)) = OfInvite (Acknowledged until) (Some a) after OfInviteState.Confirmed
+    (ForInvite.AfterAck until a after is)
 later_fits _ _ _ before after (OfInvite _ _ _ _ (ForInvite.WhenClosed answer _)) = closed_fits true answer after
 later_fits _ _ _ before after (OfRequest side answer _ state runs) = OfRequest side answer after state runs

@@ -1,5 +1,5 @@
 -- Statuses, as each of the four machines tells them apart.
-use Rattle.std.proofs.Common.{◌≡◌, ℕ, ◌<◌, ◌≤◌, Bool, true, false, cond, refl, sym, arith, leb}
+use Rattle.std.proofs.Common.{◌≡◌, ℕ, ◌<◌, ◌≤◌, Bool, true, false, cond, refl, arith, leb}
 use Rattle.std.specs.Prelude.{◌&&◌}
 use Rattle.std.proofs.lemmas.Bool.Decides.{nat_tests}
 use Rattle.sip_client.specs.ClientInvite as InviteClient
@@ -57,7 +57,8 @@ provisional_early s is = let a : leb 200 s ≡ false = grind (arith, nat_tests) 
 
 -- a table of statuses that begins at 100
 three : {X : Type 0} (s : ℕ) (provisional success failure other : X) → X
-three s provisional success failure other = cond (leb 100 s && leb s 199) provisional (cond (leb 200 s && leb s 299) success (cond (leb 300 s && leb s 699) failure other))
+three s provisional success failure other = cond (leb 100 s && leb s 199) provisional
+    (cond (leb 200 s && leb s 299) success (cond (leb 300 s && leb s 699) failure other))
 
 three_provisional : {X : Type 0} (s : ℕ) (p q r o : X) → 100 ≤ s → is_provisional s ≡ true → three s p q r o ≡ p
 unfolding three

@@ -1,5 +1,5 @@
 -- Every event of an open request, and its opening, leaves its parts fitting.
-use Rattle.std.proofs.Common.{◌≡◌, ℕ, ◌+◌, ◌==◌, Bool, true, false, not, cond, List, [], ◌∷◌, map, Option, Some, None, is_some, refl, sym, ap, subst, Contains}
+use Rattle.std.proofs.Common.{◌≡◌, ℕ, ◌+◌, Bool, true, false, cond, List, [], ◌∷◌, map, Some, None, is_some, refl, sym, subst, Contains}
 use Rattle.std.specs.Prelude.{◌&&◌, ◌||◌}
 use Rattle.sip_uri.specs.declared.addr.Addr.{Addr}
 use Rattle.sip_message_form.specs.declared.message.Message.{Message}
@@ -9,17 +9,20 @@ use Rattle.sip_context_branches.specs.state.declared.server.Server.{Server}
 use Rattle.sip_context_branches.specs.state.declared.branch.Branch.{Branch}
 use Rattle.sip_context_branches.specs.state.declared.branch.Phase.{Phase}
 use Rattle.sip_context_branches.specs.state.declared.branch.Phase.TheVariants.{Unheard, Heard, Cancelled, Done, Ended}
-use Rattle.sip_context_branches.specs.state.declared.resend.Resend.{Resend}
 use Rattle.sip_context_branches.specs.state.declared.open_request.OpenRequest.{OpenRequest}
 use Rattle.sip_context_branches.specs.state.State.{is_invite, is_answering, is_final, is_provisional, is_success, is_decline, first_resend}
-use Rattle.sip_context_branches.specs.context_model.Branches.{is_same_branch, linger, with_phase, marked, search_ended, with_answer, heard, invite_heard, other_heard, further, relayed_provisional, relayed_success, target_responded, cancel_responded, responded, given_up, target_overdue, branch_overdue, overdue, side_overdue, send_failed, cancelled, acknowledged, was_refused, told_to, final_of, with_final, acks_of, acknowledged_side, settled}
+use Rattle.sip_context_branches.specs.context_model.Branches.{is_same_branch, linger, with_phase, marked, search_ended, with_answer, heard, invite_heard, other_heard}
+use Rattle.sip_context_branches.specs.context_model.Branches.{further, relayed_provisional, relayed_success, target_responded, cancel_responded, responded, given_up}
+use Rattle.sip_context_branches.specs.context_model.Branches.{target_overdue, branch_overdue, overdue, side_overdue, send_failed, cancelled, acknowledged, was_refused}
+use Rattle.sip_context_branches.specs.context_model.Branches.{told_to, final_of, with_final, acks_of, acknowledged_side, settled}
 use Rattle.sip_context_branches.specs.context_model.Sending.{made_answer}
 use Rattle.sip_context_branches.specs.state.declared.open_request.Upward.{Upward}
 use Rattle.sip_context_branches.specs.state.declared.open_request.Side.TheVariants as To
 use Rattle.sip_context_branches.specs.context_model.Opening.{closing, arriving, branch_to, branches_from, dialog_branch, forking, is_tried, trying, tried, opening}
 use Rattle.sip_context_branches.specs.context_model.Retransmission.{branch_next, answer_next, resent_branch, with_resend}
 use Rattle.model_transactions.specs.Fits.{is_call, PhaseFits, BranchFits, BranchesFit, Fits, IsFinalAnswer, SideFits}
-use Rattle.model_transactions.proofs.Phases.{unheard_fits, ended_fits, done_fits, invite_heard_fits, other_heard_fits, again_fits, map_fits, one_fits, phased_fits, marked_fits, wanted_fits}
+use Rattle.model_transactions.proofs.Phases.{unheard_fits, ended_fits, done_fits, invite_heard_fits, other_heard_fits, again_fits, map_fits, one_fits, phased_fits}
+use Rattle.model_transactions.proofs.Phases.{marked_fits, wanted_fits}
 use Rattle.model_transactions.proofs.Sides.{coming_fits, closing_fits, closed_fits, acknowledged_fits, later_fits}
 use Rattle.model_transactions.proofs.Settled.{MayGo, Nothing, Answers, upward_fits, settled_fits, provisional_goes, success_goes}
 
@@ -50,7 +53,8 @@ marked_all r is all = by_invite (is_invite r) r refl is all
 heard_phase : (r : OpenRequest) (now status : ℕ) (b : Branch) → b.is_cancel ≡ false → PhaseFits (is_call (is_invite r) b.is_cancel) b.phase b.again
     → PhaseFits (is_call (is_invite r) b.is_cancel) (heard r now status b.phase) b.again
 heard_phase r now status b target fits = by_kind (is_invite r) b.is_cancel target fits where
-  by_kind : (k c : Bool) → c ≡ false → PhaseFits (is_call k c) b.phase b.again → PhaseFits (is_call k c) (cond k (invite_heard now status b.phase) (other_heard b.phase)) b.again
+  by_kind : (k c : Bool) → c ≡ false → PhaseFits (is_call k c) b.phase b.again → PhaseFits (is_call k c) (cond k (invite_heard now status b.phase) (other_heard b.phase))
+      b.again
   by_kind true false e fits = invite_heard_fits now status b.phase b.again fits
   by_kind false false e fits = other_heard_fits false b.phase b.again fits
   by_kind k true e fits = absurd (cc)
@@ -67,7 +71,8 @@ answer_fits : (r : OpenRequest) (b : Branch) (now status : ℕ) (m : Message) �
 answer_fits r b now status m late all =
     let done : Fits (with_phase (told_to r b status m) (Done (now + linger r) status) r) =
     with_phase_fits r (told_to r b status m) (Done (now + linger r) status) (done_fits (is_call (is_invite r) b.is_cancel) (now + linger r) status b.again late) all in
-    ended_search r status (with_final (final_of status m) (with_phase (told_to r b status m) (Done (now + linger r) status) r)) refl (record { side = done.side; branches = done.branches })
+    ended_search r status (with_final (final_of status m) (with_phase (told_to r b status m) (Done (now + linger r) status) r)) refl
+    (record { side = done.side; branches = done.branches })
 
 -- a further final response goes up only as a 2xx may
 further_goes : (r : OpenRequest) (b : Branch) (phase : Phase) (status : ℕ) (m : Message) → MayGo r (further r b phase status m)
@@ -80,7 +85,8 @@ further_goes r b (Done due first) status m = by_test (is_invite r && is_success 
   by_test false = Nothing
 further_goes r b Ended status m = Nothing
 
-target_fits : (server : Server) (now status : ℕ) (r : OpenRequest) (b : Branch) (m : Message) → b.is_cancel ≡ false → BranchFits (is_invite r) b → Fits r → Fits (target_responded server now r b status m).request
+target_fits : (server : Server) (now status : ℕ) (r : OpenRequest) (b : Branch) (m : Message) → b.is_cancel ≡ false → BranchFits (is_invite r) b → Fits r
+    → Fits (target_responded server now r b status m).request
 target_fits server now status r b m target one all = by_tests (is_provisional status) (is_final b.phase) refl where
   heard_all : Fits (settled server now [] (relayed_provisional r b status m) (with_phase b (heard r now status b.phase) r)).request
   heard_all = settled_fits server now [] (relayed_provisional r b status m) (with_phase b (heard r now status b.phase) r) (provisional_goes r b status m)
@@ -88,27 +94,33 @@ target_fits server now status r b m target one all = by_tests (is_provisional st
 
   by_tests : (t u : Bool) → is_provisional status ≡ t
       → Fits (cond t (settled server now [] (relayed_provisional r b status m) (with_phase b (heard r now status b.phase) r))
-      (cond u (settled server now [] (further r b b.phase status m) r) (settled server now (acks_of server r b status m) (relayed_success r b status m) (with_answer r b now status m)))).request
+      (cond u (settled server now [] (further r b b.phase status m) r) (settled server now (acks_of server r b status m) (relayed_success r b status m)
+      (with_answer r b now status m)))).request
   by_tests true u is = heard_all
   by_tests false true is = settled_fits server now [] (further r b b.phase status m) r (further_goes r b b.phase status m) all
   by_tests false false is = settled_fits server now (acks_of server r b status m) (relayed_success r b status m) (with_answer r b now status m)
       (answered_goes is) (answer_fits r b now status m is all) where
         answered_goes : is_provisional status ≡ false → MayGo (with_answer r b now status m) (relayed_success r b status m)
         answered_goes is = by_search (is_invite r && (is_success status || is_decline status)) where
-          by_search : (t : Bool) → MayGo (cond t (marked (with_final (final_of status m) (with_phase (told_to r b status m) (Done (now + linger r) status) r))) (with_final (final_of status m) (with_phase (told_to r b status m) (Done (now + linger r) status) r))) (relayed_success r b status m)
+          by_search : (t : Bool) → MayGo (cond t (marked (with_final (final_of status m) (with_phase (told_to r b status m) (Done (now + linger r) status) r)))
+              (with_final (final_of status m) (with_phase (told_to r b status m) (Done (now + linger r) status) r))) (relayed_success r b status m)
           by_search true = success_goes r b status m
           by_search false = success_goes r b status m
 
-cancel_fits : (server : Server) (now status : ℕ) (r : OpenRequest) (b : Branch) (m : Message) → BranchFits (is_invite r) b → Fits r → Fits (cancel_responded server now r b status m).request
+cancel_fits : (server : Server) (now status : ℕ) (r : OpenRequest) (b : Branch) (m : Message) → BranchFits (is_invite r) b → Fits r
+    → Fits (cancel_responded server now r b status m).request
 cancel_fits server now status r b m one all = by_tests (is_provisional status) (is_final b.phase) refl where
   by_tests : (t u : Bool) → is_provisional status ≡ t
-      → Fits (cond t (settled server now [] None (with_phase b (other_heard b.phase) r)) (cond u (settled server now [] None r) (settled server now [] None (with_phase b (Done (now + 5000) status) r)))).request
-  by_tests true u is = settled_fits server now [] None (with_phase b (other_heard b.phase) r) Nothing (with_phase_fits r b (other_heard b.phase) (other_heard_fits (is_call (is_invite r) b.is_cancel) b.phase b.again one.runs) all)
+      → Fits (cond t (settled server now [] None (with_phase b (other_heard b.phase) r))
+      (cond u (settled server now [] None r) (settled server now [] None (with_phase b (Done (now + 5000) status) r)))).request
+  by_tests true u is = settled_fits server now [] None (with_phase b (other_heard b.phase) r) Nothing
+      (with_phase_fits r b (other_heard b.phase) (other_heard_fits (is_call (is_invite r) b.is_cancel) b.phase b.again one.runs) all)
   by_tests false true is = settled_fits server now [] None r Nothing all
   by_tests false false is = settled_fits server now [] None (with_phase b (Done (now + 5000) status) r) Nothing
       (with_phase_fits r b (Done (now + 5000) status) (done_fits (is_call (is_invite r) b.is_cancel) (now + 5000) status b.again is) all)
 
-pub responded_fits : (server : Server) (now status : ℕ) (r : OpenRequest) (b : Branch) (m : Message) → Fits r → Contains r.branches b → Fits (responded server now r b status m).request
+pub responded_fits : (server : Server) (now status : ℕ) (r : OpenRequest) (b : Branch) (m : Message) → Fits r → Contains r.branches b
+    → Fits (responded server now r b status m).request
 responded_fits server now status r b m all there = by_kind b.is_cancel refl where
   one : BranchFits (is_invite r) b
   one = one_fits (is_invite r) r.branches b all.branches there
@@ -121,7 +133,8 @@ responded_fits server now status r b m all there = by_kind b.is_cancel refl wher
 
 -- the deadline of a branch to a target that was heard: an INVITE is to be cancelled
 wanting_fits : (r : OpenRequest) (b : Branch) → b.is_cancel ≡ false → Fits r
-    → Fits (cond (is_invite r) (record r { branches = map (λ (x : Branch). cond (is_same_branch x b) (record x { wants_cancel = true }) x) r.branches }) (given_up b 408 r))
+    → Fits (cond (is_invite r) (record r { branches = map (λ (x : Branch). cond (is_same_branch x b) (record x { wants_cancel = true }) x) r.branches })
+    (given_up b 408 r))
 wanting_fits r b target all = by_kind (is_invite r) refl where
   wanting : OpenRequest
   wanting = record r { branches = map (λ (x : Branch). cond (is_same_branch x b) (record x { wants_cancel = true }) x) r.branches }
@@ -129,7 +142,8 @@ wanting_fits r b target all = by_kind (is_invite r) refl where
   by_kind : (k : Bool) → is_invite r ≡ k → Fits (cond k wanting (given_up b 408 r))
   by_kind true is = record {
     side = all.side;
-    branches = subst (λ (k : Bool). BranchesFit k wanting.branches) (sym is) (wanted_fits b r.branches target (subst (λ (k : Bool). BranchesFit k r.branches) is all.branches));
+    branches = subst (λ (k : Bool). BranchesFit k wanting.branches) (sym is) (wanted_fits b r.branches target
+        (subst (λ (k : Bool). BranchesFit k r.branches) is all.branches));
   }
   by_kind false is = given_up_fits r b 408 all
 
@@ -182,7 +196,11 @@ acknowledged_all now r all = by_tests (is_invite r) (was_refused r.answer) refl 
 -- ---- opening
 
 pub closing_all : (a : Arrival) (m : Message) (status : ℕ) (text : List ℕ) → IsFinalAnswer status → Fits (closing a m status text)
-closing_all a m status text late = record { side = closing_fits (is_invite (arriving a m)) (a.now + 32000) (record { status = status; text = text }) (first_resend a.now) late; branches = tt }
+closing_all a m status text late = record {
+  side = closing_fits (is_invite (arriving a m)) (a.now + 32000) (record { status = status; text = text }) (first_resend a.now)
+      late;
+  branches = tt;
+}
 
 -- a branch to a target
 branch_to_fits : (invite : Bool) (now number : ℕ) (t : Target) → BranchFits invite (branch_to now number t)
@@ -196,7 +214,10 @@ branches_from_fit invite now number [] = tt
 branches_from_fit invite now number (t ∷ ts) = (branch_to_fits invite now number t, branches_from_fit invite now (number + 1) ts)
 
 pub sent_fits : (a : Arrival) (m : Message) (targets : List Target) → Fits (forking a m (branches_from a.now 1 targets))
-sent_fits a m targets = record { side = coming_fits (is_invite (arriving a m)) (first_resend a.now); branches = branches_from_fit (is_invite (arriving a m)) a.now 1 targets }
+sent_fits a m targets = record {
+  side = coming_fits (is_invite (arriving a m)) (first_resend a.now);
+  branches = branches_from_fit (is_invite (arriving a m)) a.now 1 targets;
+}
 
 pub within_fits : (server : Server) (a : Arrival) (m : Message) (address : Addr) → Fits (forking a m (dialog_branch server a.now m address ∷ []))
 within_fits server a m address = record {
@@ -217,13 +238,14 @@ tried_fits now (u ∷ []) r short is all = upward_fits now (Some u) r (Answers u
 tried_fits now (u ∷ v ∷ us) r short is all = absurd short
 
 pub begun_fits : (server : Server) (now : ℕ) (r : OpenRequest) → is_answering r.side ≡ true → Fits r → Fits (opening server now r).request
-begun_fits server now r is all = settled_fits server now [] None (tried now (trying server r) r) Nothing (tried_fits now (trying server r) r (by_test (is_tried r)) is all) where
-  first : Upward
-  first = record { status = 100; message = made_answer server r.number r.request r.source 100 []; target = None }
+begun_fits server now r is all = settled_fits server now [] None (tried now (trying server r) r) Nothing
+    (tried_fits now (trying server r) r (by_test (is_tried r)) is all) where
+      first : Upward
+      first = record { status = 100; message = made_answer server r.number r.request r.source 100 []; target = None }
 
-  by_test : (t : Bool) → IsShort (cond t (first ∷ []) [])
-  by_test true = tt
-  by_test false = tt
+      by_test : (t : Bool) → IsShort (cond t (first ∷ []) [])
+      by_test true = tt
+      by_test false = tt
 
 -- ---- what goes again
 

@@ -10,8 +10,7 @@ ghost use Rattle.sip_context_branches.specs.context_model.Opening.{closing, bran
 ghost use Rattle.sip_context_branches.specs.context_model.Retransmission.{answer_next, with_resend};
 ghost use Rattle.sip_targets.specs.declared.target.Target.{Target};
 ghost use Rattle.sip_uri.specs.declared.addr.Addr.{Addr};
-ghost use Rattle.model_transactions.specs.Fits.{Fits, BranchesFit, IsFinalAnswer};
-
+ghost use Rattle.model_transactions.specs.Fits.{Fits, IsFinalAnswer};
 /// A request that comes fits: one that is answered at once, with a final answer; one that is sent to its targets, or
 /// on in its dialog; and what it is once its first packets went (RFC 3261 16.6, 17.2).
 pub fn opens_fitting()

@@ -1,5 +1,5 @@
 //! That the answering side of an INVITE fits the server transaction of RFC 3261 17.2.1 and RFC 6026 7.1 at every event.
-ghost use Rattle.std.specs.Prelude.{◌≡◌, ◌≤◌, ◌<◌, ◌+◌, ℕ, map, true, false, List, [], ◌∷◌, Option, None};
+ghost use Rattle.std.specs.Prelude.{◌≡◌, ◌≤◌, ◌<◌, ℕ, map, true, false, [], ◌∷◌, Option, None};
 ghost use Rattle.std.specs.List.{list_all};
 ghost use Rattle.sip_timers.specs.Machine.{IsOneOf};
 ghost use Rattle.sip_timers.specs.declared.letter.Letter.{Letter};

@@ -1,11 +1,7 @@
-ghost use Rattle.std.specs.Prelude.{◌≡◌, ◌&&◌, not, true, false, Option};
+ghost use Rattle.std.specs.Prelude.{◌≡◌, ◌&&◌, not, true, false};
 ghost use Rattle.sip_context_branches.specs.state.declared.branch.Branch.{Branch};
 ghost use Rattle.sip_context_branches.specs.state.declared.open_request.OpenRequest.{OpenRequest};
 ghost use Rattle.sip_context_branches.specs.state.State.{is_invite};
-ghost use Rattle.model_transactions.specs.InviteClient.{RunsInviteClient};
-ghost use Rattle.model_transactions.specs.OtherClient.{RunsOtherClient};
-ghost use Rattle.model_transactions.specs.InviteServer.{RunsInviteServer};
-ghost use Rattle.model_transactions.specs.OtherServer.{RunsOtherServer};
 ghost use Rattle.model_transactions.specs.Fits.{Fits, BranchFits, HasInviteClient, HasOtherClient, HasInviteServer, HasOtherServer};
 
 /// A branch that fits has a state of its client transaction: of that of an INVITE, or of the other one.

@@ -31,7 +31,10 @@ use Rattle.model_context.specs.state.Dialogs.{dialog_of}
 use Rattle.model_context.specs.Branches.{is_accepted}
 use Rattle.model_context.specs.state.Arrival.{Arrival}
 use Rattle.model_verdict.specs.declared.question.Question.{Question}
-use Rattle.model_verdict.specs.Verdict.{Verdict, Drop, Copy, AckOn, Answer, InDialog, Challenge, Deny, Send, next_address, within_at, within, ack_verdict, is_full, cancel_verdict, is_register, question_of, answer_of, registration_by, let_through, decided, is_outside, core_verdict, refusal_fields, checked_verdict, new_verdict, by_open, by_key, by_start, response_verdict, responding, message_verdict, message_in, verdict_in, verdict_of}
+use Rattle.model_verdict.specs.Verdict.{Verdict, Drop, Copy, AckOn, Answer, InDialog, Challenge, Deny, Send, next_address, within_at, within, ack_verdict, is_full}
+use Rattle.model_verdict.specs.Verdict.{cancel_verdict, is_register, question_of, answer_of, registration_by, let_through, decided, is_outside, core_verdict}
+use Rattle.model_verdict.specs.Verdict.{refusal_fields, checked_verdict, new_verdict, by_open, by_key, by_start, response_verdict, responding, message_verdict}
+use Rattle.model_verdict.specs.Verdict.{message_in, verdict_in, verdict_of}
 use Rattle.model_verdict.specs.Sameness.{SameVerdict, Alike, AlikeRegister, SameSaid}
 use Rattle.model_verdict.proofs.Sameness.{request_targets_same, registration_same}
 
@@ -61,7 +64,8 @@ either_alike : (now : ℕ) (t : Bool) (one other one_right other_right : Verdict
 either_alike now true one other one_right other_right h k = h
 either_alike now false one other one_right other_right h k = k
 
-module _ (server : Server) (state : ProxyState) (rows : List Binding) (dialogs : List Dialog) (now : ℕ) (bound : SameBindings now state.bindings rows) (known : SameDialogs now state.dialogs dialogs) where
+module _ (server : Server) (state : ProxyState) (rows : List Binding) (dialogs : List Dialog) (now : ℕ) (bound : SameBindings now state.bindings rows)
+    (known : SameDialogs now state.dialogs dialogs) where
   abbrev other : ProxyState
   other = with_others state rows dialogs
 
@@ -82,30 +86,35 @@ module _ (server : Server) (state : ProxyState) (rows : List Binding) (dialogs :
       → SameVerdict now (let_through server state now m method core q id d) (let_through server other now m method core q id d)
   let_alike m method core q id d =
       either_alike now (is_register method) _ _ _ _
-      (AlikeRegister q id (registration_by server state.bindings now m core) (registration_by server rows now m core) (registration_same server state.bindings rows now m core bound))
+      (AlikeRegister q id (registration_by server state.bindings now m core) (registration_by server rows now m core)
+      (registration_same server state.bindings rows now m core bound))
       (alike now _ _ (ap (Send q id) (request_targets_same server state.bindings rows now m q d bound)))
 
   -- one that policy decided about
-  decided_alike : (m : Message) (method : List ℕ) (core : CoreFields) (q : Question) (d : Decision) → SameVerdict now (decided server state now m method core q d) (decided server other now m method core q d)
+  decided_alike : (m : Message) (method : List ℕ) (core : CoreFields) (q : Question) (d : Decision)
+      → SameVerdict now (decided server state now m method core q d) (decided server other now m method core q d)
   decided_alike m method core q Decision.Challenge = Alike (Challenge q)
   decided_alike m method core q (Decision.Deny id) = Alike (Deny q id)
   decided_alike m method core q (Decision.Allow id) = let_alike m method core q id (Decision.Allow id)
   decided_alike m method core q (Decision.Via id hop) = let_alike m method core q id (Decision.Via id hop)
 
   -- one whose core fields may be readable
-  core_alike : (m : Message) (method : List ℕ) (o : Option CoreFields) → SameVerdict now (core_verdict server state now m method o) (core_verdict server other now m method o)
+  core_alike : (m : Message) (method : List ℕ) (o : Option CoreFields) → SameVerdict now (core_verdict server state now m method o)
+      (core_verdict server other now m method o)
   core_alike m method None = Alike Drop
   core_alike m method (Some core) =
       let q : Question = question_of server state.nonces now m method core in
       either_alike now (is_outside method core) _ _ _ _ (decided_alike m method core q (answer_of server q)) (alike now _ _ (within_alike m InDialog (Answer 481 [])))
 
   -- one that the checks may refuse
-  checked_alike : (m : Message) (method : List ℕ) (o : Option (ℕ × List ℕ)) → SameVerdict now (checked_verdict server state now m method o) (checked_verdict server other now m method o)
+  checked_alike : (m : Message) (method : List ℕ) (o : Option (ℕ × List ℕ)) → SameVerdict now (checked_verdict server state now m method o)
+      (checked_verdict server other now m method o)
   checked_alike m method (Some refusal) = Alike (Answer refusal.0 (refusal_fields refusal))
   checked_alike m method None = either_alike now (is_full state) _ _ _ _ (Alike (Answer 503 [])) (core_alike m method (result_ok (core_of m)))
 
 -- a message
-message_alike : (server : Server) (state : ProxyState) (rows : List Binding) (dialogs : List Dialog) (a : Arrival) (m : Message) (short : Bool) → SameBindings a.now state.bindings rows → SameDialogs a.now state.dialogs dialogs
+message_alike : (server : Server) (state : ProxyState) (rows : List Binding) (dialogs : List Dialog) (a : Arrival) (m : Message) (short : Bool)
+    → SameBindings a.now state.bindings rows → SameDialogs a.now state.dialogs dialogs
     → SameVerdict a.now (message_verdict server state a m short) (message_verdict server (with_others state rows dialogs) a m short)
 message_alike server state rows dialogs a m short bound known = by_kind m.start where
   other : ProxyState
@@ -117,9 +126,11 @@ message_alike server state rows dialogs a m short bound known = by_kind m.start 
   new_alike : (method : List ℕ) (key : Key) → SameVerdict a.now (new_verdict server state a m short method key) (new_verdict server other a m short method key)
   new_alike method key =
       either_alike a.now (bytes_eq method (codes "ACK")) _ _ _ _ ack
-      (either_alike a.now (bytes_eq method (codes "CANCEL")) _ _ _ _ (Alike (cancel_verdict server state a m short key)) (checked_alike server state rows dialogs a.now bound known m method (refusal_of server.config.own m short)))
+      (either_alike a.now (bytes_eq method (codes "CANCEL")) _ _ _ _ (Alike (cancel_verdict server state a m short key))
+      (checked_alike server state rows dialogs a.now bound known m method (refusal_of server.config.own m short)))
 
-  by_found : (method : List ℕ) (key : Key) (o : Option OpenRequest) → SameVerdict a.now (by_open server state a m short method key o) (by_open server other a m short method key o)
+  by_found : (method : List ℕ) (key : Key) (o : Option OpenRequest) → SameVerdict a.now (by_open server state a m short method key o)
+      (by_open server other a m short method key o)
   by_found method key None = new_alike method key
   by_found method key (Some r) = either_alike a.now (bytes_eq method (codes "ACK") && is_accepted r) _ _ _ _ ack (Alike (Copy r))
 
@@ -133,13 +144,15 @@ message_alike server state rows dialogs a m short bound known = by_kind m.start 
 
 -- ---- a datagram
 
-said_alike : (server : Server) (state : ProxyState) (rows : List Binding) (dialogs : List Dialog) (a : Arrival) (o : Option (Message × Bool)) → SameBindings a.now state.bindings rows → SameDialogs a.now state.dialogs dialogs
+said_alike : (server : Server) (state : ProxyState) (rows : List Binding) (dialogs : List Dialog) (a : Arrival) (o : Option (Message × Bool))
+    → SameBindings a.now state.bindings rows → SameDialogs a.now state.dialogs dialogs
     → SameSaid a.now (verdict_in server state a o) (verdict_in server (with_others state rows dialogs) a o)
 said_alike server state rows dialogs a None bound known = refl
 said_alike server state rows dialogs a (Some x) bound known = (refl, message_alike server state rows dialogs a x.0 x.1 bound known)
 
 -- states that are the same give the same verdict on what comes at their moment, or later
-pub verdicts_alike : (server : Server) (left right : ProxyState) (a : Arrival) (bytes : List ℕ) → SameState left right → left.moment ≤ a.now → SameSaid a.now (verdict_of server left a bytes) (verdict_of server right a bytes)
+pub verdicts_alike : (server : Server) (left right : ProxyState) (a : Arrival) (bytes : List ℕ) → SameState left right → left.moment ≤ a.now
+    → SameSaid a.now (verdict_of server left a bytes) (verdict_of server right a bytes)
 verdicts_alike server left right a bytes h later =
     subst (λ (state : ProxyState). SameSaid a.now (verdict_of server left a bytes) (verdict_of server state a bytes)) (sym (others_alone left right h))
     (said_alike server left right.bindings right.dialogs a (message_in (reading_of bytes)) (same_later left.moment a.now left.bindings right.bindings later h.bindings)

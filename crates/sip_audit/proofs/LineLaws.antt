@@ -15,7 +15,8 @@ use Rattle.sip_audit.specs.declared.record.Record.{Record}
 use Rattle.sip_audit.specs.Names.{is_name_or_none}
 use Rattle.sip_audit.specs.Lines.{user_byte_text, target_text, who_text, operation_text, outcome_text, line_of, is_minute_of, IsOfRequest, IsLineOf, IsInRange}
 use Rattle.sip_audit.specs.Reading.{◌>>=◌, Gives, word_before, method_of, who_of, target_of, operation_of, outcome_of, parts_of, user_of, with_user, record_of}
-use Rattle.sip_audit.proofs.Words.{bind_some, word_is, word_again, number_others, method_is, method_again, method_others, who_is, who_again, who_others, target_is, target_again, target_others, operation_is, operation_again, operation_others}
+use Rattle.sip_audit.proofs.Words.{bind_some, word_is, word_again, number_others, method_is, method_again, method_others, who_is, who_again, who_others, target_is}
+use Rattle.sip_audit.proofs.Words.{target_again, target_others, operation_is, operation_again, operation_others}
 use Rattle.sip_audit.proofs.Users.{user_is, user_again, user_no_space, user_no_at}
 use Rattle.sip_audit.proofs.Outcomes.{outcome_is, outcome_again}
 
@@ -30,15 +31,18 @@ in_words : (at number method who target operation end : List ℕ)
     ≡ words_text at number method who target operation end
 in_words at number method who target operation end = simp append_assoc
 
-record_words : (r : Record) → line_of r ≡ words_text (decimal r.at) (decimal r.number) r.method (who_text r.who) (target_text r.target) (operation_text r.operation) (outcome_text r.minute r.outcome)
-record_words r = in_words (decimal r.at) (decimal r.number) r.method (who_text r.who) (target_text r.target) (operation_text r.operation) (outcome_text r.minute r.outcome)
+record_words : (r : Record) → line_of r ≡ words_text (decimal r.at) (decimal r.number) r.method (who_text r.who) (target_text r.target) (operation_text r.operation)
+    (outcome_text r.minute r.outcome)
+record_words r = in_words (decimal r.at) (decimal r.number) r.method (who_text r.who) (target_text r.target) (operation_text r.operation)
+    (outcome_text r.minute r.outcome)
 
 -- the same of a record whose user is as it is written
 abbrev written_target : Aor → List ℕ
 written_target aor = aor.user ++ 64 ∷ aor.host
 
 abbrev written_words : Record → List ℕ
-written_words r = words_text (decimal r.at) (decimal r.number) r.method (who_text r.who) (written_target r.target) (operation_text r.operation) (outcome_text r.minute r.outcome)
+written_words r = words_text (decimal r.at) (decimal r.number) r.method (who_text r.who) (written_target r.target) (operation_text r.operation)
+    (outcome_text r.minute r.outcome)
 
 -- ---- reading, step by step
 
@@ -87,7 +91,8 @@ record AreParts (line : List ℕ) (r : Record) : Type 0 where
 
 all_words : (line r1 r2 r3 r4 r5 r6 at number method who target operation at2 number2 method2 who2 target2 operation2 end : List ℕ)
     → line ≡ at ++ 32 ∷ r1 → at ≡ at2 → r1 ≡ number ++ 32 ∷ r2 → number ≡ number2 → r2 ≡ method ++ 32 ∷ r3 → method ≡ method2 → r3 ≡ who ++ 32 ∷ r4 → who ≡ who2
-    → r4 ≡ target ++ 32 ∷ r5 → target ≡ target2 → r5 ≡ operation ++ 32 ∷ r6 → operation ≡ operation2 → r6 ≡ end → line ≡ words_text at2 number2 method2 who2 target2 operation2 end
+    → r4 ≡ target ++ 32 ∷ r5 → target ≡ target2 → r5 ≡ operation ++ 32 ∷ r6 → operation ≡ operation2 → r6 ≡ end
+    → line ≡ words_text at2 number2 method2 who2 target2 operation2 end
 all_words line r1 r2 r3 r4 r5 r6 at number method who target operation at2 number2 method2 who2 target2 operation2 end e1 f1 e2 f2 e3 f3 e4 f4 e5 f5 e6 f6 e7 =
     rw (e1, f1, e2, f2, e3, f3, e4, f4, e5, f5, e6, f6, e7) refl
 
@@ -113,8 +118,10 @@ parts_is line r e =
     let read : Record = record_with at.0 number.0 method.0 who.0 target.0 operation.0 end.0 in
     subst (AreParts line) {x = read} (some_is read r end.2) (record {
       written = all_words line at.0.1 number.0.1 method.0.1 who.0.1 target.0.1 operation.0.1 w1.word w2.word w3.word w4.word w5.word w6.word
-          (decimal at.0.0) (decimal number.0.0) method.0.0 (who_text who.0.0) (target.0.0.0 ++ 64 ∷ target.0.0.1) (operation_text operation.0.0) (outcome_text end.0.0 end.0.1)
-          w1.whole (plain_written w1.word at.0.0 w1.meant) w2.whole (plain_written w2.word number.0.0 w2.meant) w3.whole m.0 w4.whole n.0 w5.whole t.0 w6.whole (operation_is w6.word operation.0.0 w6.meant) o.written;
+          (decimal at.0.0) (decimal number.0.0) method.0.0 (who_text who.0.0) (target.0.0.0 ++ 64 ∷ target.0.0.1) (operation_text operation.0.0)
+          (outcome_text end.0.0 end.0.1)
+          w1.whole (plain_written w1.word at.0.0 w1.meant) w2.whole (plain_written w2.word number.0.0 w2.meant) w3.whole m.0 w4.whole n.0 w5.whole t.0 w6.whole
+          (operation_is w6.word operation.0.0 w6.meant) o.written;
       method = m.1;
       who = n.1;
       host = t.1;
@@ -153,11 +160,13 @@ as_written r = record r { target = record { user = flat_map user_byte_text r.tar
 
 target_read : (r : Record) → IsInRange r → IsOfRequest r → target_of (target_text r.target) ≡ Some (flat_map user_byte_text r.target.user, r.target.host)
 target_read r fits good =
-    ap target_of (sym (grouped (flat_map user_byte_text r.target.user) r.target.host)) ∙ target_again (flat_map user_byte_text r.target.user) r.target.host (user_no_at r.target.user fits.user) good.host
+    ap target_of (sym (grouped (flat_map user_byte_text r.target.user) r.target.host))
+    ∙ target_again (flat_map user_byte_text r.target.user) r.target.host (user_no_at r.target.user fits.user) good.host
 
 target_spaceless : (r : Record) → IsInRange r → IsOfRequest r → list_all (is_not 32) (target_text r.target) ≡ true
 target_spaceless r fits good =
-    ap (list_all (is_not 32)) (sym (grouped (flat_map user_byte_text r.target.user) r.target.host)) ∙ target_others (flat_map user_byte_text r.target.user) r.target.host (user_no_space r.target.user fits.user) good.host
+    ap (list_all (is_not 32)) (sym (grouped (flat_map user_byte_text r.target.user) r.target.host))
+    ∙ target_others (flat_map user_byte_text r.target.user) r.target.host (user_no_space r.target.user fits.user) good.host
 
 parts_again : (r : Record) → IsInRange r → IsOfRequest r → parts_of (line_of r) ≡ Some (as_written r)
 parts_again r fits good =
@@ -171,12 +180,18 @@ parts_again r fits good =
     ap parts_of (record_words r)
     ∙ parts_in_steps (decimal r.at ++ 32 ∷ r1)
     ∙ ap (λ o. o >>= after_at) (word_again plain_decimal_of (decimal r.at) r1 r.at (number_others 32 refl r.at fits.at) (plain_read r.at fits.at))
-    ∙ ap (λ o. o >>= after_number (r.at, r1)) (word_again plain_decimal_of (decimal r.number) r2 r.number (number_others 32 refl r.number fits.number) (plain_read r.number fits.number))
-    ∙ ap (λ o. o >>= after_method (r.at, r1) (r.number, r2)) (word_again method_of r.method r3 r.method (method_others r.method good.method) (method_again r.method good.method))
-    ∙ ap (λ o. o >>= after_who (r.at, r1) (r.number, r2) (r.method, r3)) (word_again who_of (who_text r.who) r4 r.who (who_others r.who good.who) (who_again r.who good.who))
-    ∙ ap (λ o. o >>= after_target (r.at, r1) (r.number, r2) (r.method, r3) (r.who, r4)) (word_again target_of (target_text r.target) r5 target (target_spaceless r fits good) (target_read r fits good))
-    ∙ ap (λ o. o >>= after_operation (r.at, r1) (r.number, r2) (r.method, r3) (r.who, r4) (target, r5)) (word_again operation_of (operation_text r.operation) end r.operation (operation_others r.operation) (operation_again r.operation))
-    ∙ ap (λ o. o >>= λ outcome. Some (record_with (r.at, r1) (r.number, r2) (r.method, r3) (r.who, r4) (target, r5) (r.operation, end) outcome)) (outcome_again r.minute r.outcome fits.outcome good.minute)
+    ∙ ap (λ o. o >>= after_number (r.at, r1)) (word_again plain_decimal_of (decimal r.number) r2 r.number (number_others 32 refl r.number fits.number)
+    (plain_read r.number fits.number))
+    ∙ ap (λ o. o >>= after_method (r.at, r1) (r.number, r2)) (word_again method_of r.method r3 r.method (method_others r.method good.method)
+    (method_again r.method good.method))
+    ∙ ap (λ o. o >>= after_who (r.at, r1) (r.number, r2) (r.method, r3)) (word_again who_of (who_text r.who) r4 r.who (who_others r.who good.who)
+    (who_again r.who good.who))
+    ∙ ap (λ o. o >>= after_target (r.at, r1) (r.number, r2) (r.method, r3) (r.who, r4))
+    (word_again target_of (target_text r.target) r5 target (target_spaceless r fits good) (target_read r fits good))
+    ∙ ap (λ o. o >>= after_operation (r.at, r1) (r.number, r2) (r.method, r3) (r.who, r4) (target, r5))
+    (word_again operation_of (operation_text r.operation) end r.operation (operation_others r.operation) (operation_again r.operation))
+    ∙ ap (λ o. o >>= λ outcome. Some (record_with (r.at, r1) (r.number, r2) (r.method, r3) (r.who, r4) (target, r5) (r.operation, end) outcome))
+    (outcome_again r.minute r.outcome fits.outcome good.minute)
 
 pub is_read : (r : Record) → IsInRange r → IsOfRequest r → record_of (line_of r) ≡ Some r
 unfolding record_of

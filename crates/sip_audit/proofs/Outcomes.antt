@@ -61,7 +61,8 @@ rule_by word x (Some cut) is e =
     let minute = below_is 1440 m.0 cut.1 m.1 in
     let w = within_by n.0 m.0 x (n.0 == 0) refl m.2 minute.1 in
     subst (IsRule word) w.0 (record {
-      written = split_is 64 word cut.0 cut.1 is ∙ ap (λ (w : List ℕ). w ++ 64 ∷ cut.1) rule.0 ∙ ap (λ (w : List ℕ). decimal n.0 ++ 64 ∷ w) minute.0 ∙ grouped (decimal n.0) (decimal m.0);
+      written = split_is 64 word cut.0 cut.1 is ∙ ap (λ (w : List ℕ). w ++ 64 ∷ cut.1) rule.0 ∙ ap (λ (w : List ℕ). decimal n.0 ++ 64 ∷ w) minute.0
+          ∙ grouped (decimal n.0) (decimal m.0);
       minute = w.1;
     })
 
@@ -70,7 +71,8 @@ rule_is word x e = rule_by word x (split_at_byte 64 word) refl e
 
 rule_again : (rule : ℕ) (minute : Option ℕ) → rule < 2 ^ 32 → is_minute_with rule minute ≡ true → rule_in (rule_text rule minute) ≡ Some (rule, minute)
 rule_again rule None lt e =
-    ap (rule_from (decimal rule)) (never_split 64 (decimal rule) (number_others 64 refl rule (omega arith))) ∙ ap (λ o. o >>= alone) (below_again (2 ^ 32) rule lt (omega arith))
+    ap (rule_from (decimal rule)) (never_split 64 (decimal rule) (number_others 64 refl rule (omega arith)))
+    ∙ ap (λ o. o >>= alone) (below_again (2 ^ 32) rule lt (omega arith))
 rule_again rule (Some minute) lt e =
     let both = and_both (nat_lt 0 rule) (nat_lt minute 1440) e in
     let below : minute < 1440 = ltb-true minute 1440 both.1 in
@@ -81,7 +83,8 @@ rule_again rule (Some minute) lt e =
     ∙ ap (λ o. o >>= rule_within rule) (below_again 1440 minute below (omega arith))
     ∙ rw some refl
 
-rule_others : (mark rule : ℕ) (minute : Option ℕ) → is_ascii_digit mark ≡ false → is_not mark 64 ≡ true → rule < 2 ^ 32 → is_minute_with rule minute ≡ true → list_all (is_not mark) (rule_text rule minute) ≡ true
+rule_others : (mark rule : ℕ) (minute : Option ℕ) → is_ascii_digit mark ≡ false → is_not mark 64 ≡ true → rule < 2 ^ 32 → is_minute_with rule minute ≡ true
+    → list_all (is_not mark) (rule_text rule minute) ≡ true
 rule_others mark rule None none at lt e = number_others mark none rule (omega arith)
 rule_others mark rule (Some minute) none at lt e =
     let both = and_both (nat_lt 0 rule) (nat_lt minute 1440) e in
@@ -111,24 +114,29 @@ record IsDecided (rule : ℕ) (text : List ℕ) (o : Outcome) : Type 0 where
 parted : (front middle back : List ℕ) → front ++ 32 ∷ (middle ++ 32 ∷ back) ≡ (front ++ 32 ∷ (middle ++ 32 ∷ [])) ++ back
 parted front middle back = simp append_assoc
 
-sent_is : (rule : ℕ) (word number : List ℕ) (o : Outcome) → word ≡ codes "sent" → option_map (λ targets. Sent rule targets) (number_of number) ≡ Some o → IsDecided rule (word ++ 32 ∷ number) o
+sent_is : (rule : ℕ) (word number : List ℕ) (o : Outcome) → word ≡ codes "sent" → option_map (λ targets. Sent rule targets) (number_of number) ≡ Some o
+    → IsDecided rule (word ++ 32 ∷ number) o
 sent_is rule word number o is e =
     let n = map_some (λ targets. Sent rule targets) (number_of number) o e in
     rw (← n.2) (record {
-      written = λ minute. rw is (ap (λ (w : List ℕ). rule_text rule minute ++ 32 ∷ (codes "sent" ++ 32 ∷ w)) (below_is (2 ^ 32) n.0 number n.1).0 ∙ parted (rule_text rule minute) (codes "sent") (decimal n.0));
+      written = λ minute. rw is (ap (λ (w : List ℕ). rule_text rule minute ++ 32 ∷ (codes "sent" ++ 32 ∷ w)) (below_is (2 ^ 32) n.0 number n.1).0
+          ∙ parted (rule_text rule minute) (codes "sent") (decimal n.0));
       by_rule = refl;
     })
 
-answer_is : (rule : ℕ) (word number : List ℕ) (o : Outcome) → word ≡ codes "answer" → option_map (λ status. Answer rule status) (status_of number) ≡ Some o → IsDecided rule (word ++ 32 ∷ number) o
+answer_is : (rule : ℕ) (word number : List ℕ) (o : Outcome) → word ≡ codes "answer" → option_map (λ status. Answer rule status) (status_of number) ≡ Some o
+    → IsDecided rule (word ++ 32 ∷ number) o
 answer_is rule word number o is e =
     let n = map_some (λ status. Answer rule status) (status_of number) o e in
     rw (← n.2) (record {
-      written = λ minute. rw is (ap (λ (w : List ℕ). rule_text rule minute ++ 32 ∷ (codes "answer" ++ 32 ∷ w)) (below_is (2 ^ 16) n.0 number n.1).0 ∙ parted (rule_text rule minute) (codes "answer") (decimal n.0));
+      written = λ minute. rw is (ap (λ (w : List ℕ). rule_text rule minute ++ 32 ∷ (codes "answer" ++ 32 ∷ w)) (below_is (2 ^ 16) n.0 number n.1).0
+          ∙ parted (rule_text rule minute) (codes "answer") (decimal n.0));
       by_rule = refl;
     })
 
 counted_by : (rule : ℕ) (word number : List ℕ) (o : Outcome) (s t : Bool) → bytes_eq word (codes "sent") ≡ s → bytes_eq word (codes "answer") ≡ t
-    → cond s (option_map (λ targets. Sent rule targets) (number_of number)) (cond t (option_map (λ status. Answer rule status) (status_of number)) None) ≡ Some o → IsDecided rule (word ++ 32 ∷ number) o
+    → cond s (option_map (λ targets. Sent rule targets) (number_of number)) (cond t (option_map (λ status. Answer rule status) (status_of number)) None) ≡ Some o
+    → IsDecided rule (word ++ 32 ∷ number) o
 counted_by rule word number o true t p q e = sent_is rule word number o (same_text word (codes "sent") p) e
 counted_by rule word number o false true p q e = answer_is rule word number o (same_text word (codes "answer") q) e
 counted_by rule word number o false false p q e = absurd cc
@@ -138,7 +146,8 @@ count_by_cut rule text o None is e = absurd cc
 count_by_cut rule text o (Some cut) is e =
     rw (split_is 32 text cut.0 cut.1 is) (counted_by rule cut.0 cut.1 o (bytes_eq cut.0 (codes "sent")) (bytes_eq cut.0 (codes "answer")) refl refl e)
 
-decided_by : (rule : ℕ) (text : List ℕ) (o : Outcome) (t : Bool) → bytes_eq text (codes "deny") ≡ t → cond t (Some (Deny rule)) (counted rule (split_at_byte 32 text)) ≡ Some o → IsDecided rule text o
+decided_by : (rule : ℕ) (text : List ℕ) (o : Outcome) (t : Bool) → bytes_eq text (codes "deny") ≡ t
+    → cond t (Some (Deny rule)) (counted rule (split_at_byte 32 text)) ≡ Some o → IsDecided rule text o
 decided_by rule text o true is e =
     rw (← some_is (Deny rule) o e) (record { written = λ minute. rw (same_text text (codes "deny") is) refl; by_rule = refl })
 decided_by rule text o false is e = count_by_cut rule text o (split_at_byte 32 text) refl e
@@ -146,7 +155,8 @@ decided_by rule text o false is e = count_by_cut rule text o (split_at_byte 32 t
 decided_is : (rule : ℕ) (text : List ℕ) (o : Outcome) → decided rule text ≡ Some o → IsDecided rule text o
 decided_is rule text o e = decided_by rule text o (bytes_eq text (codes "deny")) refl e
 
-challenge_by : (word status : List ℕ) (o : Outcome) (t : Bool) → bytes_eq word (codes "challenge") ≡ t → cond t (option_map (λ status. Challenge status) (status_of status)) None ≡ Some o
+challenge_by : (word status : List ℕ) (o : Outcome) (t : Bool) → bytes_eq word (codes "challenge") ≡ t
+    → cond t (option_map (λ status. Challenge status) (status_of status)) None ≡ Some o
     → codes "-" ++ 32 ∷ (word ++ 32 ∷ status) ≡ outcome_text None o
 challenge_by word status o true is e =
     let n = map_some (λ status. Challenge status) (status_of status) o e in
@@ -241,4 +251,5 @@ outcome_again minute (Sent rule targets) fits e =
     ∙ ruled_again rule minute (codes "sent " ++ decimal targets) (Sent rule targets) fits.0 (minute_comes minute (Sent rule targets) e) (sent_again rule targets fits.1)
 outcome_again minute (Answer rule status) fits e =
     ap outcome_of (sym (parted (rule_text rule minute) (codes "answer") (decimal status)))
-    ∙ ruled_again rule minute (codes "answer " ++ decimal status) (Answer rule status) fits.0 (minute_comes minute (Answer rule status) e) (answer_again rule status fits.1)
+    ∙ ruled_again rule minute (codes "answer " ++ decimal status) (Answer rule status) fits.0 (minute_comes minute (Answer rule status) e)
+    (answer_again rule status fits.1)

@@ -88,7 +88,8 @@ user_is text user e =
 
 -- ---- bytes that are not there
 
-byte_others : (mark b : ℕ) (t : Bool) → is_name_byte mark ≡ false → is_not mark 37 ≡ true → ((n : ℕ) → n < 16 → is_not mark (upper_digit n) ≡ true) → is_name_byte b ≡ t → b < 256
+byte_others : (mark b : ℕ) (t : Bool) → is_name_byte mark ≡ false → is_not mark 37 ≡ true → ((n : ℕ) → n < 16 → is_not mark (upper_digit n) ≡ true) → is_name_byte b ≡ t
+    → b < 256
     → list_all (is_not mark) (user_byte_text b) ≡ true
 byte_others mark b true none percent digits is lt =
     ap (list_all (is_not mark)) (byte_text_by b true is) ∙ and_is (is_not mark b) true (is_other is_name_byte mark none b is) refl
@@ -97,12 +98,14 @@ byte_others mark b false none percent digits is lt =
     let low = digits (b % 16) (low_small b) in
     ap (list_all (is_not mark)) (byte_text_by b false is) ∙ rw (percent, high, low) refl
 
-user_others : (mark : ℕ) → is_name_byte mark ≡ false → is_not mark 37 ≡ true → ((n : ℕ) → n < 16 → is_not mark (upper_digit n) ≡ true) → (user : List ℕ) → list_all is_byte user ≡ true
+user_others : (mark : ℕ) → is_name_byte mark ≡ false → is_not mark 37 ≡ true → ((n : ℕ) → n < 16 → is_not mark (upper_digit n) ≡ true) → (user : List ℕ)
+    → list_all is_byte user ≡ true
     → list_all (is_not mark) (flat_map user_byte_text user) ≡ true
 user_others mark none percent digits [] e = refl
 user_others mark none percent digits (b ∷ bs) e =
     let both = and_both (is_byte b) (list_all is_byte bs) e in
-    all_join (is_not mark) (user_byte_text b) (flat_map user_byte_text bs) (byte_others mark b (is_name_byte b) none percent digits refl (ltb-true b 256 both.0)) (user_others mark none percent digits bs both.1)
+    all_join (is_not mark) (user_byte_text b) (flat_map user_byte_text bs) (byte_others mark b (is_name_byte b) none percent digits refl (ltb-true b 256 both.0))
+    (user_others mark none percent digits bs both.1)
 
 pub user_no_space : (user : List ℕ) → list_all is_byte user ≡ true → list_all (is_not 32) (flat_map user_byte_text user) ≡ true
 user_no_space user e = user_others 32 refl refl digit_no_space user e

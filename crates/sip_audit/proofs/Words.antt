@@ -59,7 +59,8 @@ word_is {X} says text x e =
       meant = said.1 ∙ ap (λ (y : X). Some y) p.0;
     }
 
-pub word_again : {X : Type 0} (says : List ℕ → Option X) (word rest : List ℕ) (x : X) → list_all (is_not 32) word ≡ true → says word ≡ Some x → word_before says (word ++ 32 ∷ rest) ≡ Some (x, rest)
+pub word_again : {X : Type 0} (says : List ℕ → Option X) (word rest : List ℕ) (x : X) → list_all (is_not 32) word ≡ true → says word ≡ Some x
+    → word_before says (word ++ 32 ∷ rest) ≡ Some (x, rest)
 word_again says word rest x none e = ap (λ o. o >>= said_behind says) (split_again 32 word rest none refl) ∙ ap (λ o. o >>= λ said. Some (said, rest)) e
 
 -- ---- numbers
@@ -99,11 +100,13 @@ pub method_others : (method : List ℕ) → is_token_text method ≡ true → li
 method_others [] e = absurd cc
 method_others (b ∷ bs) e = others is_token_byte 32 refl (b ∷ bs) e
 
-named_by : (word : List ℕ) (who : Option (List ℕ)) (t : Bool) → is_name word ≡ t → cond t (Some (Some word)) None ≡ Some who → (word ≡ who_text who) × (is_name_or_none who ≡ true)
+named_by : (word : List ℕ) (who : Option (List ℕ)) (t : Bool) → is_name word ≡ t → cond t (Some (Some word)) None ≡ Some who
+    → (word ≡ who_text who) × (is_name_or_none who ≡ true)
 named_by word who true is e = rw (← some_is (Some word) who e) (refl, is)
 named_by word who false is e = absurd cc
 
-who_by : (word : List ℕ) (who : Option (List ℕ)) (t : Bool) → bytes_eq word (codes "-") ≡ t → cond t (Some None) (cond (is_name word) (Some (Some word)) None) ≡ Some who → (word ≡ who_text who) × (is_name_or_none who ≡ true)
+who_by : (word : List ℕ) (who : Option (List ℕ)) (t : Bool) → bytes_eq word (codes "-") ≡ t → cond t (Some None) (cond (is_name word) (Some (Some word)) None) ≡ Some who
+    → (word ≡ who_text who) × (is_name_or_none who ≡ true)
 who_by word who true is e = rw (← some_is None who e) (same_text word (codes "-") is, refl)
 who_by word who false is e = named_by word who (is_name word) refl e
 

@@ -1,5 +1,5 @@
 //! The end of an audit line, written and read: the rule, the minute at which it decided, and what became of the request.
-ghost use Rattle.std.specs.Prelude.{◌≡◌, ◌^◌, ◌++◌, codes, decimal, OnOk, option_map};
+ghost use Rattle.std.specs.Prelude.{◌≡◌, ◌++◌, decimal, OnOk};
 ghost use Rattle.sip_audit.specs.Lines.{rule_text, outcome_text};
 ghost use Rattle.sip_audit.specs.Reading as Readings;
 ghost use Rattle.sip_text.specs.Splits.{split_at_byte};

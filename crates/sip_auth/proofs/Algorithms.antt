@@ -12,7 +12,8 @@ use Rattle.sip_header_credentials.specs.declared.credentials.Credentials.{Creden
 use Rattle.sip_policy.specs.declared.user.User.{User}
 use Rattle.sip_policy.specs.User.{is_named}
 use Rattle.sip_auth.specs.Offer.{offers_sha256, HasMd5Alone, with_md5_alone}
-use Rattle.sip_auth.specs.Proof.{Proof, Claim, Wrong, algorithm_of, protection_of, claim_with, claim_by, claim_of, key_of, proof_with_key, proof_by, proof_from, is_equal_uri}
+use Rattle.sip_auth.specs.Proof.{Proof, Claim, Wrong, algorithm_of, protection_of, claim_with, claim_by, claim_of, key_of, proof_with_key, proof_by, proof_from}
+use Rattle.sip_auth.specs.Proof.{is_equal_uri}
 
 -- ---- MD5 alone
 
@@ -36,12 +37,14 @@ all_alone (user ∷ users) none = alone_by user users (is_some user.a1_sha256) r
 pub alone_is : (users : List User) → AllByRecursion HasMd5Alone users ↔ (offers_sha256 users ≡ false)
 alone_is users = (none_offers users, all_alone users)
 
-without_key : (nonces : List Nonce) (now : ℕ) (claim : Claim) (user : User) (algorithm : Algorithm) → HasMd5Alone user → (algorithm ≡ Md5 → ⊥) → proof_with_key nonces now claim (key_of user algorithm) ≡ Wrong
+without_key : (nonces : List Nonce) (now : ℕ) (claim : Claim) (user : User) (algorithm : Algorithm) → HasMd5Alone user → (algorithm ≡ Md5 → ⊥)
+    → proof_with_key nonces now claim (key_of user algorithm) ≡ Wrong
 without_key nonces now claim user Md5 alone other = absurd (other refl)
 without_key nonces now claim user Sha256 alone other = rw alone refl
 
 -- nobody answers by another algorithm
-nobody_by : (nonces : List Nonce) (now : ℕ) (claim : Claim) (users : List User) → AllByRecursion HasMd5Alone users → (claim.credential.algorithm ≡ Md5 → ⊥) → proof_by nonces now claim (find (is_named claim.name) users) ≡ Wrong
+nobody_by : (nonces : List Nonce) (now : ℕ) (claim : Claim) (users : List User) → AllByRecursion HasMd5Alone users → (claim.credential.algorithm ≡ Md5 → ⊥)
+    → proof_by nonces now claim (find (is_named claim.name) users) ≡ Wrong
 nobody_by nonces now claim [] alone other = refl
 nobody_by nonces now claim (user ∷ users) alone other =
     elim (is_named claim.name user) as (λ b. proof_by nonces now claim (cond b (Some user) (find (is_named claim.name) users)) ≡ Wrong) [

@@ -22,7 +22,8 @@ use Rattle.sip_digest.proofs.NonceTexts.{names_word}
 use Rattle.sip_policy.specs.declared.user.User.{User}
 use Rattle.sip_policy.specs.User.{is_named}
 use Rattle.sip_auth.specs.Proof as Proofs
-use Rattle.sip_auth.specs.Proof.{Claim, for_realm, or_else, first_for_realm, credentials_field, claim_of, is_equal_uri, key_of, proof_with_key, proof_by, proof_from, proof_in, proof_of}
+use Rattle.sip_auth.specs.Proof.{Claim, for_realm, or_else, first_for_realm, credentials_field, claim_of, is_equal_uri, key_of, proof_with_key, proof_by, proof_from}
+use Rattle.sip_auth.specs.Proof.{proof_in, proof_of}
 use Rattle.sip_auth.specs.RightAnswer.{IsRightAnswer}
 
 -- ---- lists
@@ -64,7 +65,8 @@ its_life word now row e = grind (arith, nat_tests)
 
 pub by_row : (rows : List Nonce) (now : ℕ) (c : Credential) → standing (row_of rows c.nonce now) (count_of c) ≡ Worths.Right → IsByRow rows now c
 by_row rows now c right = by_word (word_of c.nonce) refl right where
-  by_count : (word : ℕ) → word_of c.nonce ≡ Some word → (row : Nonce) → find (is_this word now) rows ≡ Some row → (o : Option ℕ) → count_of c ≡ o → standing (Some row) o ≡ Worths.Right → IsByRow rows now c
+  by_count : (word : ℕ) → word_of c.nonce ≡ Some word → (row : Nonce) → find (is_this word now) rows ≡ Some row → (o : Option ℕ) → count_of c ≡ o
+      → standing (Some row) o ≡ Worths.Right → IsByRow rows now c
   by_count word named row found None counts e = absurd (cc)
   by_count word named row found (Some count) counts e = by_test (nat_lt row.count count) refl e where
     by_test : (t : Bool) → nat_lt row.count count ≡ t → cond t Worths.Right Worths.Stale ≡ Worths.Right → IsByRow rows now c
@@ -82,7 +84,8 @@ by_row rows now c right = by_word (word_of c.nonce) refl right where
         }
     by_test false less right = absurd (cc)
 
-  by_found : (word : ℕ) → word_of c.nonce ≡ Some word → (o : Option Nonce) → find (is_this word now) rows ≡ o → standing o (count_of c) ≡ Worths.Right → IsByRow rows now c
+  by_found : (word : ℕ) → word_of c.nonce ≡ Some word → (o : Option Nonce) → find (is_this word now) rows ≡ o → standing o (count_of c) ≡ Worths.Right
+      → IsByRow rows now c
   by_found word named None found e = absurd (cc)
   by_found word named (Some row) found e = by_count word named row found (count_of c) refl e
 
@@ -98,7 +101,10 @@ pub record IsByAnswer (rows : List Nonce) (now : ℕ) (a1 : List ℕ) (c : Crede
 pub by_answer : (rows : List Nonce) (now : ℕ) (a1 : List ℕ) (c : Credential) → worth_of rows a1 c now ≡ Worths.Right → IsByAnswer rows now a1 c
 by_answer rows now a1 c right = by_test (is_answer a1 c) refl right where
   by_test : (t : Bool) → is_answer a1 c ≡ t → cond t (standing (row_of rows c.nonce now) (count_of c)) Worths.Wrong ≡ Worths.Right → IsByAnswer rows now a1 c
-  by_test true is e = record { is_answer = (bytes_eq-Decides c.response (answer_of c.algorithm a1 c.method c.uri c.nonce c.protection)).0 is; by_row = by_row rows now c e }
+  by_test true is e = record {
+    is_answer = (bytes_eq-Decides c.response (answer_of c.algorithm a1 c.method c.uri c.nonce c.protection)).0 is;
+    by_row = by_row rows now c e;
+  }
   by_test false is e = absurd (cc)
 
 -- ---- the field
@@ -116,11 +122,17 @@ of_value realm (value ∷ values) c e = by_read (credentials_of value) refl (of_
   later : IsOfValue realm values c → IsOfValue realm (value ∷ values) c
   later h = record { value = h.value; there = tail_there value h.value values h.there; is_read = h.is_read; is_for_realm = h.is_for_realm }
 
-  by_realm : (d : Credentials) → credentials_of value ≡ Some d → (t : Bool) → is_realm realm d.realm ≡ t → (first_for_realm realm values ≡ Some c → IsOfValue realm values c)
+  by_realm : (d : Credentials) → credentials_of value ≡ Some d → (t : Bool) → is_realm realm d.realm ≡ t
+      → (first_for_realm realm values ≡ Some c → IsOfValue realm values c)
       → or_else (cond t (Some d) None) (first_for_realm realm values) ≡ Some c → IsOfValue realm (value ∷ values) c
   by_realm d read true is rest found =
       let same : d ≡ c = cc in
-      record { value = value; there = head_there value values; is_read = read ∙ ap Some same; is_for_realm = subst (λ (x : Credentials). is_realm realm x.realm ≡ true) same is }
+      record {
+        value = value;
+        there = head_there value values;
+        is_read = read ∙ ap Some same;
+        is_for_realm = subst (λ (x : Credentials). is_realm realm x.realm ≡ true) same is;
+      }
   by_realm d read false is rest found = later (rest found)
 
   by_read : (o : Option Credentials) → credentials_of value ≡ o → (first_for_realm realm values ≡ Some c → IsOfValue realm values c)
@@ -141,7 +153,8 @@ record IsByUser (users : List User) (nonces : List Nonce) (now : ℕ) (uri : Lis
   by_answer : IsByAnswer nonces now key claim.credential
 
 -- it is what was proved
-judged_right : (claim : Claim) (worth : Worth) (name : List ℕ) (c : Credential) → Proofs.judged claim worth ≡ Proofs.Right name c → (worth ≡ Worths.Right) × (claim.name ≡ name) × (claim.credential ≡ c)
+judged_right : (claim : Claim) (worth : Worth) (name : List ℕ) (c : Credential) → Proofs.judged claim worth ≡ Proofs.Right name c
+    → (worth ≡ Worths.Right) × (claim.name ≡ name) × (claim.credential ≡ c)
 judged_right claim Worths.Right name c e =
     let plain : Proofs.Right claim.name claim.credential ≡ Proofs.Right name c = e in
     let same_name : claim.name ≡ name = cc in
@@ -150,10 +163,12 @@ judged_right claim Worths.Right name c e =
 judged_right claim Worths.Stale name c e = absurd (cc)
 judged_right claim Worths.Wrong name c e = absurd (cc)
 
-by_user : (users : List User) (nonces : List Nonce) (now : ℕ) (uri : List ℕ) (claim : Claim) (name : List ℕ) (c : Credential) → proof_from users nonces now uri (Some claim) ≡ Proofs.Right name c
+by_user : (users : List User) (nonces : List Nonce) (now : ℕ) (uri : List ℕ) (claim : Claim) (name : List ℕ) (c : Credential)
+    → proof_from users nonces now uri (Some claim) ≡ Proofs.Right name c
     → IsByUser users nonces now uri claim × (claim.name ≡ name) × (claim.credential ≡ c)
 by_user users nonces now uri claim name c right = by_tests (is_some (count_of claim.credential)) (is_equal_uri claim.credential.uri uri) refl right where
-  by_key : is_equal_uri claim.credential.uri uri ≡ true → (user : User) → find (is_named claim.name) users ≡ Some user → (o : Option (List ℕ)) → key_of user claim.credential.algorithm ≡ o
+  by_key : is_equal_uri claim.credential.uri uri ≡ true → (user : User) → find (is_named claim.name) users ≡ Some user → (o : Option (List ℕ))
+      → key_of user claim.credential.algorithm ≡ o
       → proof_with_key nonces now claim o ≡ Proofs.Right name c → IsByUser users nonces now uri claim × (claim.name ≡ name) × (claim.credential ≡ c)
   by_key equal user found None is e = absurd (cc)
   by_key equal user found (Some key) is e =
@@ -177,7 +192,8 @@ by_user users nonces now uri claim name c right = by_tests (is_some (count_of cl
   by_found equal None found e = absurd (cc)
   by_found equal (Some user) found e = by_key equal user found (key_of user claim.credential.algorithm) refl e
 
-  by_tests : (counts equal : Bool) → is_equal_uri claim.credential.uri uri ≡ equal → cond (counts && equal) (proof_by nonces now claim (find (is_named claim.name) users)) Proofs.Wrong ≡ Proofs.Right name c
+  by_tests : (counts equal : Bool) → is_equal_uri claim.credential.uri uri ≡ equal → cond (counts && equal) (proof_by nonces now claim (find (is_named claim.name) users))
+      Proofs.Wrong ≡ Proofs.Right name c
       → IsByUser users nonces now uri claim × (claim.name ≡ name) × (claim.credential ≡ c)
   by_tests true true is e = by_found is (find (is_named claim.name) users) refl e
   by_tests true false is e = absurd (cc)
@@ -186,10 +202,12 @@ by_user users nonces now uri claim name c right = by_tests (is_some (count_of cl
 -- ---- the whole
 
 -- A right proof rests on a right answer
-pub right_rests : (realm : List ℕ) (users : List User) (nonces : List Nonce) (now : ℕ) (m : Message) (name : List ℕ) (c : Credential) → proof_of realm users nonces now m ≡ Proofs.Right name c
+pub right_rests : (realm : List ℕ) (users : List User) (nonces : List Nonce) (now : ℕ) (m : Message) (name : List ℕ) (c : Credential)
+    → proof_of realm users nonces now m ≡ Proofs.Right name c
     → IsRightAnswer realm users nonces now m name c
 right_rests realm users nonces now m name c right = by_start m.start refl right where
-  by_claim : (method uri version : List ℕ) → m.start ≡ Request method uri version → (credentials : Credentials) → IsOfValue realm (values_of (credentials_field method) m.fields) credentials → (o : Option Claim)
+  by_claim : (method uri version : List ℕ) → m.start ≡ Request method uri version → (credentials : Credentials)
+      → IsOfValue realm (values_of (credentials_field method) m.fields) credentials → (o : Option Claim)
       → claim_of method credentials ≡ o → proof_from users nonces now uri o ≡ Proofs.Right name c → IsRightAnswer realm users nonces now m name c
   by_claim method uri version is credentials of None claims e = absurd (cc)
   by_claim method uri version is credentials of (Some claim) claims e =
@@ -207,7 +225,8 @@ right_rests realm users nonces now m name c right = by_start m.start refl right 
         credentials = credentials;
         is_read = of.is_read;
         is_for_realm = of.is_for_realm;
-        is_claim = claims ∙ ap (λ (x : List ℕ). Some (record { name = x; credential = claim.credential })) proved.1 ∙ ap (λ (x : Credential). Some (record { name = name; credential = x })) proved.2;
+        is_claim = claims ∙ ap (λ (x : List ℕ). Some (record { name = x; credential = claim.credential })) proved.1
+            ∙ ap (λ (x : Credential). Some (record { name = name; credential = x })) proved.2;
         is_for_uri = user.is_for_uri;
         user = user.user;
         is_configured = user.there;
@@ -224,7 +243,8 @@ right_rests realm users nonces now m name c right = by_start m.start refl right 
         is_fresh = user.by_answer.by_row.is_fresh;
       }
 
-  by_value : (method uri version : List ℕ) → m.start ≡ Request method uri version → (o : Option Credentials) → first_for_realm realm (values_of (credentials_field method) m.fields) ≡ o
+  by_value : (method uri version : List ℕ) → m.start ≡ Request method uri version → (o : Option Credentials)
+      → first_for_realm realm (values_of (credentials_field method) m.fields) ≡ o
       → proof_from users nonces now uri (option_and_then (claim_of method) o) ≡ Proofs.Right name c → IsRightAnswer realm users nonces now m name c
   by_value method uri version is None found e = absurd (cc)
   by_value method uri version is (Some credentials) found e =

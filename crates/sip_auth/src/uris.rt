@@ -2,7 +2,7 @@ ghost use Rattle.std.specs.Prelude.{◌≡◌, true, IfOk};
 ghost use Rattle.sip_uri_equality.specs.Equality.{same};
 ghost use Rattle.sip_auth.specs.Proof.{is_equal_uri};
 
-use sip_uri::{Uri, plain_uri_at, uri_in};
+use sip_uri::{Uri, UriRef, uri_in};
 use sip_uri_equality::laws::equality_is_reflexive;
 use sip_uri_equality::same;
 use std::alloc::{AllocError, Global};
@@ -20,8 +20,8 @@ fn equals_itself(uri: &Uri) -> bool
 fn is_plain_uri(text: &[u8]) -> bool
     ensures { result ≡ true → is_equal_uri text.now text.now ≡ true }
 {
-    match plain_uri_at(text) {
-        Some((_, _, behind)) => behind.is_empty(),
+    match UriRef::plain_of(text) {
+        Some(_) => true,
         None => false,
     }
 }

@@ -1,6 +1,5 @@
 //! The hash under a secret for maps whose keys peers choose: `Keyed` begins it with its secret.
 ghost use Rattle.std.specs.Prelude.{◌≡◌, fold};
-ghost use Rattle.std.specs.Hash as fed;
 ghost use Rattle.sip_base.specs.WordHasher as sip;
 
 use std::hash::Hasher;

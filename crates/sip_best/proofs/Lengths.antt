@@ -9,7 +9,8 @@ use Rattle.sip_message_form.specs.declared.message.Message.{Message}
 use Rattle.sip_message_form.specs.Text.{field_text, field_line, text_of}
 use Rattle.sip_best.specs.Best.{with_field, fits, taking_along}
 
-text_grows : (a b c d e : List ℕ) (fields : List Field) (field : Field) → length (a ++ flat_map field_text (fields ++ field ∷ []) ++ b ++ c ++ d ++ e) ≡ length (a ++ flat_map field_text fields ++ b ++ c ++ d ++ e) + length (field_text field)
+text_grows : (a b c d e : List ℕ) (fields : List Field) (field : Field) → length (a ++ flat_map field_text (fields ++ field ∷ []) ++ b ++ c ++ d ++ e)
+    ≡ length (a ++ flat_map field_text fields ++ b ++ c ++ d ++ e) + length (field_text field)
 text_grows a b c d e fields field =
     rw (flat_map-append field_text fields (field ∷ [])) (simp (length-append) (omega arith))
 
@@ -20,7 +21,8 @@ field_is_long : (field : Field) → 2 ≤ length (field_text field)
 field_is_long field = omega (arith, length-append (field_line field) (13 ∷ 10 ∷ []))
 
 -- a field that goes behind a message while there is room
-pub taken : (m : Message) (field : Field) (fields : List Field) (long room : ℕ) → long ≡ min (length (field_text field)) (2 ^ 64 - 1) → room ≡ 65507 - length (text_of m) → long ≤ room → taking_along (with_field m field) fields ≡ taking_along m (field ∷ fields)
+pub taken : (m : Message) (field : Field) (fields : List Field) (long room : ℕ) → long ≡ min (length (field_text field)) (2 ^ 64 - 1) → room ≡ 65507 - length (text_of m)
+    → long ≤ room → taking_along (with_field m field) fields ≡ taking_along m (field ∷ fields)
 taken m field fields long room is left le =
     let grows = length_with_field m field in
     let more = field_is_long field in
@@ -28,7 +30,8 @@ taken m field fields long room is left le =
     rw within refl
 
 -- the first that doesn't fit
-pub left_out : (m : Message) (field : Field) (fields : List Field) (long room : ℕ) → long ≡ min (length (field_text field)) (2 ^ 64 - 1) → room ≡ 65507 - length (text_of m) → room < long → taking_along m (field ∷ fields) ≡ m
+pub left_out : (m : Message) (field : Field) (fields : List Field) (long room : ℕ) → long ≡ min (length (field_text field)) (2 ^ 64 - 1)
+    → room ≡ 65507 - length (text_of m) → room < long → taking_along m (field ∷ fields) ≡ m
 left_out m field fields long room is left less =
     let grows = length_with_field m field in
     let without : fits (with_field m field) ≡ false = grind (arith, nat_tests) in
@@ -39,13 +42,17 @@ left_out m field fields long room is left less =
 next : (items : List Field) (i : ℕ) (x : Field) → i < length items → x ≡ get_or items i x → drop i items ≡ x ∷ drop (i + 1) items
 next items i x h is = rw (drop_more items i x h, ← is) refl
 
-pub stops : (m : Message) (items : List Field) (i : ℕ) (x : Field) (long room : ℕ) (whole : Message) → i < length items → x ≡ get_or items i x → taking_along m (drop i items) ≡ whole → long ≡ min (length (field_text x)) (2 ^ 64 - 1) → room ≡ 65507 - length (text_of m) → room < long → m ≡ whole
+pub stops : (m : Message) (items : List Field) (i : ℕ) (x : Field) (long room : ℕ) (whole : Message) → i < length items → x ≡ get_or items i x
+    → taking_along m (drop i items) ≡ whole → long ≡ min (length (field_text x)) (2 ^ 64 - 1) → room ≡ 65507 - length (text_of m) → room < long → m ≡ whole
 stops m items i x long room whole h is so_far long_is room_is less =
     sym (left_out m x (drop (i + 1) items) long room long_is room_is less) ∙ (ap (λ (v : List Field). taking_along m v) (sym (next items i x h is)) ∙ so_far)
 
-pub goes_on : (m : Message) (items : List Field) (i : ℕ) (x : Field) (long room : ℕ) (whole : Message) → i < length items → x ≡ get_or items i x → taking_along m (drop i items) ≡ whole → long ≡ min (length (field_text x)) (2 ^ 64 - 1) → room ≡ 65507 - length (text_of m) → long ≤ room → taking_along (with_field m x) (drop (i + 1) items) ≡ whole
+pub goes_on : (m : Message) (items : List Field) (i : ℕ) (x : Field) (long room : ℕ) (whole : Message) → i < length items → x ≡ get_or items i x
+    → taking_along m (drop i items) ≡ whole → long ≡ min (length (field_text x)) (2 ^ 64 - 1) → room ≡ 65507 - length (text_of m) → long ≤ room
+    → taking_along (with_field m x) (drop (i + 1) items) ≡ whole
 goes_on m items i x long room whole h is so_far long_is room_is le =
     taken m x (drop (i + 1) items) long room long_is room_is le ∙ (ap (λ (v : List Field). taking_along m v) (sym (next items i x h is)) ∙ so_far)
 
-pub room_left : (m : Message) (field : Field) (long room : ℕ) → long ≡ min (length (field_text field)) (2 ^ 64 - 1) → room ≡ 65507 - length (text_of m) → long ≤ room → room - long ≡ 65507 - length (text_of (with_field m field))
+pub room_left : (m : Message) (field : Field) (long room : ℕ) → long ≡ min (length (field_text field)) (2 ^ 64 - 1) → room ≡ 65507 - length (text_of m) → long ≤ room
+    → room - long ≡ 65507 - length (text_of (with_field m field))
 room_left m field long room long_is room_is le = omega (arith, length_with_field m field)

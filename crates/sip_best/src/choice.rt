@@ -1,5 +1,5 @@
 //! The best answer of a request all of whose branches have one (RFC 3261 16.7 steps 6 and 7). Which of two is the better is in `rank`.
-ghost use Rattle.std.specs.Prelude.{◌≡◌, ◌++◌, Some, None, map, if◌then◌else◌, IfOk, MatchOption};
+ghost use Rattle.std.specs.Prelude.{◌≡◌, ◌++◌, Some, None, if◌then◌else◌, IfOk, MatchOption};
 ghost use Rattle.std.specs.List.{list_any, flat_map};
 ghost use Rattle.sip_best.specs.Ranks.{outranks};
 ghost use Rattle.sip_best.specs.Best.{chosen_of, is_challenge_status, challenges_of, taking_along, going_up, best_of};

@@ -8,7 +8,8 @@ use Rattle.sip_client.specs.declared.client_invite.ClientInvite.{ClientInvite}
 use Rattle.sip_client.specs.declared.client_invite.ClientInvite.TheVariants.{Calling, Proceeding, Completed, Accepted, Terminated}
 
 -- a timer that runs after a row ran before it, or is started by it
-pub kept : (state : ClientInvite) (h : Heard) (letter : Letter) → runs (row state h).0 letter ≡ true → (runs state letter ≡ true) ⊎ Starts invite_machine (row state h).1 letter
+pub kept : (state : ClientInvite) (h : Heard) (letter : Letter) → runs (row state h).0 letter ≡ true
+    → (runs state letter ≡ true) ⊎ Starts invite_machine (row state h).1 letter
 kept (Calling interval) h A r = inl refl
 kept (Calling interval) h B r = inl refl
 kept Completed h D r = inl refl
@@ -60,4 +61,8 @@ own Accepted M r = inr (inr (inr (inl refl)))
 own state letter r = cc
 
 pub keeps : KeepsTimers invite_machine
-keeps = record { kept = λ state input letter r. kept state (heard input) letter r; started = λ state input letter s. started state (heard input) letter s; anew = λ state letter r. anew state letter r }
+keeps = record {
+  kept = λ state input letter r. kept state (heard input) letter r;
+  started = λ state input letter s. started state (heard input) letter s;
+  anew = λ state letter r. anew state letter r;
+}

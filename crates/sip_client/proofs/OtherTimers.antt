@@ -8,7 +8,8 @@ use Rattle.sip_client.specs.declared.client_other.ClientOther.{ClientOther}
 use Rattle.sip_client.specs.declared.client_other.ClientOther.TheVariants.{Trying, Proceeding, Completed, Terminated}
 
 -- a timer that runs after a row ran before it, or is started by it
-pub kept : (state : ClientOther) (h : Heard) (letter : Letter) → runs (row state h).0 letter ≡ true → (runs state letter ≡ true) ⊎ Starts other_machine (row state h).1 letter
+pub kept : (state : ClientOther) (h : Heard) (letter : Letter) → runs (row state h).0 letter ≡ true
+    → (runs state letter ≡ true) ⊎ Starts other_machine (row state h).1 letter
 kept (Trying interval) h E r = inl refl
 kept (Trying interval) h F r = inl refl
 kept Proceeding h E r = inl refl
@@ -58,4 +59,8 @@ own Completed K r = inr (inr (inl refl))
 own state letter r = cc
 
 pub keeps : KeepsTimers other_machine
-keeps = record { kept = λ state input letter r. kept state (heard input) letter r; started = λ state input letter s. started state (heard input) letter s; anew = λ state letter r. anew state letter r }
+keeps = record {
+  kept = λ state input letter r. kept state (heard input) letter r;
+  started = λ state input letter s. started state (heard input) letter s;
+  anew = λ state letter r. anew state letter r;
+}

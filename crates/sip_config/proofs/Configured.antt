@@ -1,5 +1,6 @@
 -- What holds of every configuration that a file states.
-use Rattle.std.proofs.Common.{◌≡◌, ℕ, ℤ, pos, negsuc, Bool, true, false, ◌&&◌, ◌||◌, ◌==◌, not, cond, position, suc, ◌+◌, ◌≤◌, nat_lt, nat_le, List, [], ◌∷◌, ◌++◌, length, codes, Option, Some, None, Result, Ok, Err, refl, sym, ap, ap₂, ◌∙◌, subst, if◌then◌else◌, arith}
+use Rattle.std.proofs.Common.{◌≡◌, ℕ, ℤ, pos, negsuc, Bool, true, false, ◌&&◌, ◌||◌, ◌==◌, not, cond, position, suc, ◌+◌, ◌≤◌, nat_lt, nat_le, List, [], ◌∷◌, ◌++◌}
+use Rattle.std.proofs.Common.{length, codes, Option, Some, None, Result, Ok, Err, refl, sym, ap, ap₂, ◌∙◌, subst, if◌then◌else◌, arith}
 use Rattle.std.specs.Str.{bytes_eq}
 use Rattle.std.specs.List.{list_all, list_any, position_or_len}
 use Rattle.std.proofs.lemmas.List.{map-append}
@@ -50,7 +51,8 @@ came (Ok value) next b e = record { value = value; is = refl; rest = e }
 came (Err refusal) next b e = absurd cc
 
 -- the same of a key that was read
-pub came_at : {A B : Type 0} (kind : TableKind) (before : ℕ) (key : Key) (r : Result A ConfigError) (next : A → Result B Refusal) (b : B) → (placed kind before key r >>= next) ≡ Ok b → Came r next b
+pub came_at : {A B : Type 0} (kind : TableKind) (before : ℕ) (key : Key) (r : Result A ConfigError) (next : A → Result B Refusal) (b : B)
+    → (placed kind before key r >>= next) ≡ Ok b → Came r next b
 came_at kind before key (Ok value) next b e = record { value = value; is = refl; rest = e }
 came_at kind before key (Err error) next b e = absurd cc
 
@@ -95,7 +97,8 @@ above_zero n e = grind (arith, nat_tests)
 
 between_low : (low most : ℕ) (z : ℤ) (n : ℕ) → between low most z ≡ Ok n → nat_le low n ≡ true
 between_low low most (pos m) n e =
-    subst (λ (x : ℕ). nat_le low x ≡ true) (kept_is (nat_le low m && nat_le m most) m n e) (first_of (nat_le low m) (nat_le m most) (kept_passes (nat_le low m && nat_le m most) m n e))
+    subst (λ (x : ℕ). nat_le low x ≡ true) (kept_is (nat_le low m && nat_le m most) m n e)
+    (first_of (nat_le low m) (nat_le m most) (kept_passes (nat_le low m && nat_le m most) m n e))
 between_low low most (negsuc m) n e = absurd cc
 
 id_is_above : (members : Members) (id : ℕ) → id_at members ≡ Ok id → nat_lt 0 id ≡ true
@@ -136,7 +139,8 @@ new_is before members id e =
     let same : number.value ≡ id = cc in
     record {
       read = number.is ∙ ap Ok same;
-      new = subst (λ (n : ℕ). list_any (λ (o : ℕ). o == n) before ≡ false) same (not_is (list_any (λ (o : ℕ). o == number.value) before) (confirmed_ok (not (list_any (λ (o : ℕ). o == number.value) before)) twice test.value test.is));
+      new = subst (λ (n : ℕ). list_any (λ (o : ℕ). o == n) before ≡ false) same (not_is (list_any (λ (o : ℕ). o == number.value) before)
+          (confirmed_ok (not (list_any (λ (o : ℕ). o == number.value) before)) twice test.value test.is));
     }
 
 ids_keep : (before : List ℕ) (members : Members) (id : ℕ) → numbers_differ before ≡ true → new_id before members ≡ Ok id → numbers_differ (before ++ id ∷ []) ≡ true
@@ -149,17 +153,22 @@ record IsRead (hops : List Hop) (members : Members) (rule : Rule) : Type 0 where
   id_is : id_at members ≡ Ok rule.id
   verdict_is : verdict_at hops members ≡ Ok rule.verdict
 
-rule_is : (version : ℕ) (users : List User) (hops : List Hop) (before : List Rule) (members : Members) (rule : Rule) → rule_at version users hops before members ≡ Ok rule → IsRead hops members rule
+rule_is : (version : ℕ) (users : List User) (hops : List Hop) (before : List Rule) (members : Members) (rule : Rule) → rule_at version users hops before members ≡ Ok rule
+    → IsRead hops members rule
 rule_is version users hops before members rule e =
     let n = length before in
     let id = came_at kinds.Rule n keys.Id (id_at members)
-    (λ id. placed kinds.Rule n keys.Verdict (verdict_at hops members) >>= λ verdict. window_at version n members >>= λ window. placed kinds.Rule n keys.WhoAsks (who_at users members) >>= λ who. placed kinds.Rule n keys.Operation (operation_at members) >>= λ operation. placed kinds.Rule n keys.Target (target_at members) >>= λ target.
+    (λ id. placed kinds.Rule n keys.Verdict (verdict_at hops members) >>= λ verdict. window_at version n members >>=
+    λ window. placed kinds.Rule n keys.WhoAsks (who_at users members) >>= λ who. placed kinds.Rule n keys.Operation (operation_at members) >>=
+    λ operation. placed kinds.Rule n keys.Target (target_at members) >>= λ target.
     Ok (record { id = id; who = who; operation = operation; target = target; window = window; verdict = verdict })) rule e in
     let verdict = came_at kinds.Rule n keys.Verdict (verdict_at hops members)
-    (λ verdict. window_at version n members >>= λ window. placed kinds.Rule n keys.WhoAsks (who_at users members) >>= λ who. placed kinds.Rule n keys.Operation (operation_at members) >>= λ operation. placed kinds.Rule n keys.Target (target_at members) >>= λ target.
+    (λ verdict. window_at version n members >>= λ window. placed kinds.Rule n keys.WhoAsks (who_at users members) >>=
+    λ who. placed kinds.Rule n keys.Operation (operation_at members) >>= λ operation. placed kinds.Rule n keys.Target (target_at members) >>= λ target.
     Ok (record { id = id.value; who = who; operation = operation; target = target; window = window; verdict = verdict })) rule id.rest in
     let window = came (window_at version n members)
-    (λ window. placed kinds.Rule n keys.WhoAsks (who_at users members) >>= λ who. placed kinds.Rule n keys.Operation (operation_at members) >>= λ operation. placed kinds.Rule n keys.Target (target_at members) >>= λ target.
+    (λ window. placed kinds.Rule n keys.WhoAsks (who_at users members) >>= λ who. placed kinds.Rule n keys.Operation (operation_at members) >>=
+    λ operation. placed kinds.Rule n keys.Target (target_at members) >>= λ target.
     Ok (record { id = id.value; who = who; operation = operation; target = target; window = window; verdict = verdict.value })) rule verdict.rest in
     let who = came_at kinds.Rule n keys.WhoAsks (who_at users members)
     (λ who. placed kinds.Rule n keys.Operation (operation_at members) >>= λ operation. placed kinds.Rule n keys.Target (target_at members) >>= λ target.
@@ -168,7 +177,8 @@ rule_is version users hops before members rule e =
     (λ operation. placed kinds.Rule n keys.Target (target_at members) >>= λ target.
     Ok (record { id = id.value; who = who.value; operation = operation; target = target; window = window.value; verdict = verdict.value })) rule who.rest in
     let target = came_at kinds.Rule n keys.Target (target_at members)
-    (λ target. Ok (record { id = id.value; who = who.value; operation = operation.value; target = target; window = window.value; verdict = verdict.value })) rule operation.rest in
+    (λ target. Ok (record { id = id.value; who = who.value; operation = operation.value; target = target; window = window.value; verdict = verdict.value })) rule
+    operation.rest in
     let made : Rule = record { id = id.value; who = who.value; operation = operation.value; target = target.value; window = window.value; verdict = verdict.value } in
     let same : made ≡ rule = cc in
     record {
@@ -177,7 +187,8 @@ rule_is version users hops before members rule e =
     }
 
 -- a hop that was found stands among the hops
-by_place : (place count : ℕ) (within : Bool) (verdict : RuleVerdict) → nat_lt place count ≡ within → via_place (cond within (Some place) None) ≡ Ok verdict → is_hop_below count verdict ≡ true
+by_place : (place count : ℕ) (within : Bool) (verdict : RuleVerdict) → nat_lt place count ≡ within → via_place (cond within (Some place) None) ≡ Ok verdict
+    → is_hop_below count verdict ≡ true
 by_place place count true verdict lt e = let same : RuleVerdict.Via place ≡ verdict = cc in subst (λ (v : RuleVerdict). is_hop_below count v ≡ true) same lt
 by_place place count false verdict lt e = absurd cc
 
@@ -205,7 +216,8 @@ ids_same version users hops no_items before ids rows rules same e f =
 ids_same version users hops (item first items) before ids rows rules same e f =
     let number = came (table_in keys.Rules first >>= new_id before) (λ n. rows_after keys.Rules new_id (before ++ n ∷ []) items) ids e in
     let its = came (table_in keys.Rules first) (new_id before) number.value number.is in
-    let rule = came (table_in keys.Rules first >>= rule_at version users hops rows) (λ r. rows_after keys.Rules (rule_at version users hops) (rows ++ r ∷ []) items) rules f in
+    let rule = came (table_in keys.Rules first >>= rule_at version users hops rows) (λ r. rows_after keys.Rules (rule_at version users hops) (rows ++ r ∷ []) items) rules
+    f in
     let table = came (table_in keys.Rules first) (rule_at version users hops rows) rule.value rule.is in
     let tables : table.value ≡ its.value = cc in
     let read : id_at table.value ≡ Ok rule.value.id = (rule_is version users hops rows table.value rule.value table.rest).id_is in
@@ -227,11 +239,13 @@ none_fails : {A : Type 0} (p : A → Bool) (xs : List A) → length xs ≤ posit
 none_fails p [] e = refl
 none_fails p (x ∷ xs) e = by (p x) e (none_fails p xs)
   where
-    by : (b : Bool) → suc (length xs) ≤ cond (not (not b)) (1 + position_or_len (λ x. not (p x)) xs) 0 → (length xs ≤ position_or_len (λ x. not (p x)) xs → list_all p xs ≡ true) → (b && list_all p xs) ≡ true
+    by : (b : Bool) → suc (length xs) ≤ cond (not (not b)) (1 + position_or_len (λ x. not (p x)) xs) 0
+        → (length xs ≤ position_or_len (λ x. not (p x)) xs → list_all p xs ≡ true) → (b && list_all p xs) ≡ true
     by true e rest = rest (omega (arith, e))
     by false e rest = absurd (omega (arith, e))
 
-not_found : (error : ConfigError) (kind : TableKind) (key : Key) (at count : ℕ) (within : Bool) (u : Unit {0}) → nat_lt at count ≡ within → none_found error kind key (cond within (Some at) None) ≡ Ok u → count ≤ at
+not_found : (error : ConfigError) (kind : TableKind) (key : Key) (at count : ℕ) (within : Bool) (u : Unit {0}) → nat_lt at count ≡ within
+    → none_found error kind key (cond within (Some at) None) ≡ Ok u → count ≤ at
 not_found error kind key at count true u lt e = absurd cc
 not_found error kind key at count false u lt e = ltb-false at count lt
 
@@ -240,18 +254,25 @@ pub rule_rows : (version : ℕ) (users : List User) (hops : List Hop) (items : I
     → rows_after keys.Rules (rule_at version users hops) [] items ≡ Ok rules
 rule_rows version users hops items rules e =
     let ids = came (rows_after keys.Rules new_id [] items)
-    (λ _. rows_after keys.Rules (rule_at version users hops) [] items >>= λ rows. none_found UnknownGroup kinds.Rule keys.WhoAsks (position (λ rule. not (names_known_group users rule)) rows) >>= λ _. Ok rows) rules e in
-    let rows = came (rows_after keys.Rules (rule_at version users hops) [] items) (λ rows. none_found UnknownGroup kinds.Rule keys.WhoAsks (position (λ rule. not (names_known_group users rule)) rows) >>= λ _. Ok rows) rules ids.rest in
-    let test = came (none_found UnknownGroup kinds.Rule keys.WhoAsks (position (λ rule. not (names_known_group users rule)) rows.value)) (λ _. Ok rows.value) rules rows.rest in
+    (λ _. rows_after keys.Rules (rule_at version users hops) [] items >>= λ rows. none_found UnknownGroup kinds.Rule keys.WhoAsks
+    (position (λ rule. not (names_known_group users rule)) rows) >>= λ _. Ok rows) rules e in
+    let rows = came (rows_after keys.Rules (rule_at version users hops) [] items) (λ rows.
+    none_found UnknownGroup kinds.Rule keys.WhoAsks (position (λ rule. not (names_known_group users rule)) rows) >>= λ _. Ok rows) rules ids.rest in
+    let test = came (none_found UnknownGroup kinds.Rule keys.WhoAsks (position (λ rule. not (names_known_group users rule)) rows.value)) (λ _. Ok rows.value) rules
+    rows.rest in
     let same : rows.value ≡ rules = cc in
     rows.is ∙ ap (λ (rs : List Rule). Ok rs) same
 
-rules_good : (version : ℕ) (users : List User) (hops : List Hop) (items : Items) (rules : List Rule) → rules_of version users hops items ≡ Ok rules → AreGood users hops rules
+rules_good : (version : ℕ) (users : List User) (hops : List Hop) (items : Items) (rules : List Rule) → rules_of version users hops items ≡ Ok rules
+    → AreGood users hops rules
 rules_good version users hops items rules e =
     let ids = came (rows_after keys.Rules new_id [] items)
-    (λ _. rows_after keys.Rules (rule_at version users hops) [] items >>= λ rows. none_found UnknownGroup kinds.Rule keys.WhoAsks (position (λ rule. not (names_known_group users rule)) rows) >>= λ _. Ok rows) rules e in
-    let rows = came (rows_after keys.Rules (rule_at version users hops) [] items) (λ rows. none_found UnknownGroup kinds.Rule keys.WhoAsks (position (λ rule. not (names_known_group users rule)) rows) >>= λ _. Ok rows) rules ids.rest in
-    let test = came (none_found UnknownGroup kinds.Rule keys.WhoAsks (position (λ rule. not (names_known_group users rule)) rows.value)) (λ _. Ok rows.value) rules rows.rest in
+    (λ _. rows_after keys.Rules (rule_at version users hops) [] items >>= λ rows. none_found UnknownGroup kinds.Rule keys.WhoAsks
+    (position (λ rule. not (names_known_group users rule)) rows) >>= λ _. Ok rows) rules e in
+    let rows = came (rows_after keys.Rules (rule_at version users hops) [] items) (λ rows.
+    none_found UnknownGroup kinds.Rule keys.WhoAsks (position (λ rule. not (names_known_group users rule)) rows) >>= λ _. Ok rows) rules ids.rest in
+    let test = came (none_found UnknownGroup kinds.Rule keys.WhoAsks (position (λ rule. not (names_known_group users rule)) rows.value)) (λ _. Ok rows.value) rules
+    rows.rest in
     let same : rows.value ≡ rules = cc in
     let good : AreGood users hops rows.value =
     record {
@@ -260,11 +281,15 @@ rules_good version users hops items rules e =
           ∙ rows_keep (λ ns. numbers_differ ns ≡ true) keys.Rules new_id ids_keep items [] ids.value refl ids.is;
       numbered =
           rows_keep (λ rs. list_all is_numbered rs ≡ true) keys.Rules (rule_at version users hops)
-          (λ before members rule all read. all_last is_numbered before rule all (id_is_above members rule.id (rule_is version users hops before members rule read).id_is)) items [] rows.value refl rows.is;
+          (λ before members rule all read. all_last is_numbered before rule all (id_is_above members rule.id (rule_is version users hops before members rule read).id_is))
+          items [] rows.value refl rows.is;
       hops_known =
           rows_keep (λ rs. list_all (names_known_hop hops) rs ≡ true) keys.Rules (rule_at version users hops)
-          (λ before members rule all read. all_last (names_known_hop hops) before rule all (verdict_known hops members rule.verdict (rule_is version users hops before members rule read).verdict_is)) items [] rows.value refl rows.is;
-      groups_known = none_fails (names_known_group users) rows.value (not_found UnknownGroup kinds.Rule keys.WhoAsks (position_or_len (λ rule. not (names_known_group users rule)) rows.value) (length rows.value) (nat_lt (position_or_len (λ rule. not (names_known_group users rule)) rows.value) (length rows.value)) test.value refl test.is);
+          (λ before members rule all read. all_last (names_known_hop hops) before rule all
+          (verdict_known hops members rule.verdict (rule_is version users hops before members rule read).verdict_is)) items [] rows.value refl rows.is;
+      groups_known = none_fails (names_known_group users) rows.value (not_found UnknownGroup kinds.Rule keys.WhoAsks
+          (position_or_len (λ rule. not (names_known_group users rule)) rows.value) (length rows.value)
+          (nat_lt (position_or_len (λ rule. not (names_known_group users rule)) rows.value) (length rows.value)) test.value refl test.is);
     } in
     subst (λ (rs : List Rule). AreGood users hops rs) same good
 
@@ -274,9 +299,11 @@ pub record AreRules (version : ℕ) (users : List User) (hops : List Hop) (membe
   pub items_are : items_at (codes "rule") members ≡ Ok items
   pub rules_are : rules_of version users hops items ≡ Ok rules
 
-pub are_rules : (version : ℕ) (users : List User) (hops : List Hop) (members : Members) (rules : List Rule) → rules_at version users hops members ≡ Ok rules → AreRules version users hops members rules
+pub are_rules : (version : ℕ) (users : List User) (hops : List Hop) (members : Members) (rules : List Rule) → rules_at version users hops members ≡ Ok rules
+    → AreRules version users hops members rules
 are_rules version users hops members rules e =
-    let items = came_at kinds.Whole 0 keys.Rules (items_at (codes "rule") members) (λ items. rule_lines version users items >>= λ _. all_known version members >>= λ _. rules_of version users hops items) rules e in
+    let items = came_at kinds.Whole 0 keys.Rules (items_at (codes "rule") members) (λ items. rule_lines version users items >>= λ _. all_known version members >>=
+    λ _. rules_of version users hops items) rules e in
     let lines = came (rule_lines version users items.value) (λ _. all_known version members >>= λ _. rules_of version users hops items.value) rules items.rest in
     let known = came (all_known version members) (λ _. rules_of version users hops items.value) rules lines.rest in
     record { items = items.value; items_are = items.is; rules_are = known.rest }
@@ -292,12 +319,16 @@ pub are_users : (list : Items) (users : List User) → users_of list ≡ Ok user
 are_users list users e =
     let bad = At BadValue (place kinds.Whole 0 keys.Users) in
     let names = came (rows_after keys.Users new_name [] list)
-    (λ _. all_pass keys.Users (user_line A1) 0 list >>= λ _. all_pass keys.Users (user_line A1Sha256) 0 list >>= λ _. all_pass keys.Users (user_line Groups) 0 list >>= λ _. rows_after keys.Users user_at [] list >>= λ rows. confirmed (have_own_names rows) bad >>= λ _. Ok rows) users e in
+    (λ _. all_pass keys.Users (user_line A1) 0 list >>= λ _. all_pass keys.Users (user_line A1Sha256) 0 list >>= λ _. all_pass keys.Users (user_line Groups) 0 list >>=
+    λ _. rows_after keys.Users user_at [] list >>= λ rows. confirmed (have_own_names rows) bad >>= λ _. Ok rows) users e in
     let first = came (all_pass keys.Users (user_line A1) 0 list)
-    (λ _. all_pass keys.Users (user_line A1Sha256) 0 list >>= λ _. all_pass keys.Users (user_line Groups) 0 list >>= λ _. rows_after keys.Users user_at [] list >>= λ rows. confirmed (have_own_names rows) bad >>= λ _. Ok rows) users names.rest in
+    (λ _. all_pass keys.Users (user_line A1Sha256) 0 list >>= λ _. all_pass keys.Users (user_line Groups) 0 list >>= λ _. rows_after keys.Users user_at [] list >>=
+    λ rows. confirmed (have_own_names rows) bad >>= λ _. Ok rows) users names.rest in
     let second = came (all_pass keys.Users (user_line A1Sha256) 0 list)
-    (λ _. all_pass keys.Users (user_line Groups) 0 list >>= λ _. rows_after keys.Users user_at [] list >>= λ rows. confirmed (have_own_names rows) bad >>= λ _. Ok rows) users first.rest in
-    let third = came (all_pass keys.Users (user_line Groups) 0 list) (λ _. rows_after keys.Users user_at [] list >>= λ rows. confirmed (have_own_names rows) bad >>= λ _. Ok rows) users second.rest in
+    (λ _. all_pass keys.Users (user_line Groups) 0 list >>= λ _. rows_after keys.Users user_at [] list >>= λ rows. confirmed (have_own_names rows) bad >>= λ _. Ok rows)
+    users first.rest in
+    let third = came (all_pass keys.Users (user_line Groups) 0 list) (λ _. rows_after keys.Users user_at [] list >>= λ rows. confirmed (have_own_names rows) bad >>=
+    λ _. Ok rows) users second.rest in
     let rows = came (rows_after keys.Users user_at [] list) (λ rows. confirmed (have_own_names rows) bad >>= λ _. Ok rows) users third.rest in
     let own = came (confirmed (have_own_names rows.value) bad) (λ _. Ok rows.value) users rows.rest in
     let same : rows.value ≡ users = cc in
@@ -328,19 +359,25 @@ pub record Parts (members : Members) (config : Config) : Type 0 where
 pub parts_of : (members : Members) (config : Config) → placed_by members ≡ Ok config → Parts members config
 parts_of members config e =
     let few = came (all_few members)
-    (λ _. head_of members >>= λ head. users_at members >>= λ users. hops_at members >>= λ hops. host_addresses_at members >>= λ addresses. rules_at head.version users hops members >>= λ rules.
+    (λ _. head_of members >>= λ head. users_at members >>= λ users. hops_at members >>= λ hops. host_addresses_at members >>=
+    λ addresses. rules_at head.version users hops members >>= λ rules.
     Ok (config_of head users hops addresses rules)) config e in
     let head = came (head_of members)
-    (λ head. users_at members >>= λ users. hops_at members >>= λ hops. host_addresses_at members >>= λ addresses. rules_at head.version users hops members >>= λ rules. Ok (config_of head users hops addresses rules))
+    (λ head. users_at members >>= λ users. hops_at members >>= λ hops. host_addresses_at members >>= λ addresses. rules_at head.version users hops members >>=
+    λ rules. Ok (config_of head users hops addresses rules))
     config few.rest in
     let users = came (users_at members)
-    (λ users. hops_at members >>= λ hops. host_addresses_at members >>= λ addresses. rules_at head.value.version users hops members >>= λ rules. Ok (config_of head.value users hops addresses rules)) config head.rest in
+    (λ users. hops_at members >>= λ hops. host_addresses_at members >>= λ addresses. rules_at head.value.version users hops members >>=
+    λ rules. Ok (config_of head.value users hops addresses rules)) config head.rest in
     let list = came_at kinds.Whole 0 keys.Users (some_items_at (codes "user") members) users_of users.value users.is in
     let hops = came (hops_at members)
-    (λ hops. host_addresses_at members >>= λ addresses. rules_at head.value.version users.value hops members >>= λ rules. Ok (config_of head.value users.value hops addresses rules)) config users.rest in
+    (λ hops. host_addresses_at members >>= λ addresses. rules_at head.value.version users.value hops members >>=
+    λ rules. Ok (config_of head.value users.value hops addresses rules)) config users.rest in
     let addresses = came (host_addresses_at members)
-    (λ addresses. rules_at head.value.version users.value hops.value members >>= λ rules. Ok (config_of head.value users.value hops.value addresses rules)) config hops.rest in
-    let rules = came (rules_at head.value.version users.value hops.value members) (λ rules. Ok (config_of head.value users.value hops.value addresses.value rules)) config addresses.rest in
+    (λ addresses. rules_at head.value.version users.value hops.value members >>= λ rules. Ok (config_of head.value users.value hops.value addresses rules)) config
+    hops.rest in
+    let rules = came (rules_at head.value.version users.value hops.value members) (λ rules. Ok (config_of head.value users.value hops.value addresses.value rules)) config
+    addresses.rest in
     let made : Config = config_of head.value users.value hops.value addresses.value rules.value in
     let same : made ≡ config = cc in
     record {

@@ -1,5 +1,6 @@
 -- The places of rows, and the keys of a set that they are.
-use Rattle.std.proofs.Common.{◌≡◌, ℕ, ◌+◌, ◌<◌, ◌≤◌, Bool, false, ◌&&◌, ◌||◌, ◌==◌, not, List, [], ◌∷◌, ◌++◌, length, drop, get_or, map, codes, Vec, Global, Option, Result, Ok, Err, refl, sym, ap, ap₂, ◌∙◌}
+use Rattle.std.proofs.Common.{◌≡◌, ℕ, ◌+◌, ◌<◌, ◌≤◌, Bool, false, ◌&&◌, ◌||◌, ◌==◌, not, List, [], ◌∷◌, ◌++◌, length, drop, get_or, map, codes, Vec, Global, Option}
+use Rattle.std.proofs.Common.{Result, Ok, Err, refl, sym, ap, ap₂, ◌∙◌}
 use Rattle.std.specs.List.{list_any}
 use Rattle.std.specs.Prelude.{is_some}
 use Rattle.std.specs.Str.{bytes_eq}
@@ -54,8 +55,10 @@ abbrev pub key_eq : Key → Key → Bool
 key_eq key other = is_key key.0.items key.1 other
 
 -- a new place goes last
-pub place_last : {S : Type 0} (places more : HashMap Key ℕ S) (host : List ℕ) (port : ℕ) (copy : Vec ℕ Global) (at : ℕ) (old : Option ℕ) → ArePlaced places.entries → at ≡ length places.entries
-    → copy.items ≡ without_case host → is_some (get key_eq places (copy, port)) ≡ false → old ≡ get key_eq places (copy, port) → PutsEntry key_eq places more (copy, port) at old
+pub place_last : {S : Type 0} (places more : HashMap Key ℕ S) (host : List ℕ) (port : ℕ) (copy : Vec ℕ Global) (at : ℕ) (old : Option ℕ) → ArePlaced places.entries
+    → at ≡ length places.entries
+    → copy.items ≡ without_case host → is_some (get key_eq places (copy, port)) ≡ false → old ≡ get key_eq places (copy, port)
+    → PutsEntry key_eq places more (copy, port) at old
     → (places_in_order more ≡ places_in_order places ++ (without_case host, port) ∷ []) × ArePlaced more.entries
 place_last places more host port copy at old placed last is new was puts =
     let both = new_last key_eq places more (copy, port) at old placed last new was puts in (
@@ -86,7 +89,8 @@ row_where n taken addressed host port = confirmed (not taken) (Twice (place kind
 
 -- a row, where a test of its host and port says that
 abbrev pub row_by : ℕ → (List ℕ → ℕ → Bool) → Members → Data → Data → List ℕ → Result HostAddress Refusal
-row_by n taken members named addressed host = placed kinds.HostAddress n keys.Port (port_in (get_member (codes "port") members)) >>= λ port. row_where n (taken host port) addressed host port
+row_by n taken members named addressed host = placed kinds.HostAddress n keys.Port (port_in (get_member (codes "port") members)) >>=
+    λ port. row_where n (taken host port) addressed host port
 
 besides : (before : List HostAddress) (members : Members) → new_row before members ≡ row_besides (length before) (map place_of before) members
 besides before members =
@@ -94,8 +98,10 @@ besides before members =
     let one = λ (host : List ℕ) (port : ℕ). list_any (is_row_for host port) before in
     let other = λ (host : List ℕ) (port : ℕ). list_any (is_place host port) (map place_of before) in
     same_next (placed kinds.HostAddress n keys.Host (needed (codes "host") members))
-    (λ named. placed kinds.HostAddress n keys.Address (needed (codes "address") members) >>= λ addressed. placed kinds.HostAddress n keys.Host (text_as Host named) >>= row_by n one members named addressed)
-    (λ named. placed kinds.HostAddress n keys.Address (needed (codes "address") members) >>= λ addressed. placed kinds.HostAddress n keys.Host (text_as Host named) >>= row_by n other members named addressed)
+    (λ named. placed kinds.HostAddress n keys.Address (needed (codes "address") members) >>= λ addressed. placed kinds.HostAddress n keys.Host (text_as Host named) >>=
+    row_by n one members named addressed)
+    (λ named. placed kinds.HostAddress n keys.Address (needed (codes "address") members) >>= λ addressed. placed kinds.HostAddress n keys.Host (text_as Host named) >>=
+    row_by n other members named addressed)
     (λ named. same_next (placed kinds.HostAddress n keys.Address (needed (codes "address") members))
     (λ addressed. placed kinds.HostAddress n keys.Host (text_as Host named) >>= row_by n one members named addressed)
     (λ addressed. placed kinds.HostAddress n keys.Host (text_as Host named) >>= row_by n other members named addressed)
@@ -105,18 +111,23 @@ besides before members =
     (λ port. row_where n (other host port) addressed host port)
     (λ port. ap (λ (b : Bool). row_where n b addressed host port) (any_row host port before)))))
 
-table_same : (before : List HostAddress) (places : List (List ℕ × ℕ)) (table : Result Members Refusal) → places ≡ map place_of before → (table >>= new_row before) ≡ (table >>= row_besides (length before) places)
+table_same : (before : List HostAddress) (places : List (List ℕ × ℕ)) (table : Result Members Refusal) → places ≡ map place_of before
+    → (table >>= new_row before) ≡ (table >>= row_besides (length before) places)
 table_same before places (Ok members) e = besides before members ∙ ap (λ (ps : List (List ℕ × ℕ)). row_besides (length before) ps members) (sym e)
 table_same before places (Err refusal) e = refl
 
-placed_more : (rows : List HostAddress) (places : List (List ℕ × ℕ)) (row : HostAddress) → places ≡ map place_of rows → places ++ place_of row ∷ [] ≡ map place_of (rows ++ row ∷ [])
+placed_more : (rows : List HostAddress) (places : List (List ℕ × ℕ)) (row : HostAddress) → places ≡ map place_of rows
+    → places ++ place_of row ∷ [] ≡ map place_of (rows ++ row ∷ [])
 placed_more rows places row e = ap (λ (ps : List (List ℕ × ℕ)). ps ++ place_of row ∷ []) e ∙ sym (map-append place_of rows (row ∷ []))
 
-rows_same : (rows : List HostAddress) (places : List (List ℕ × ℕ)) (items : Items) → places ≡ map place_of rows → rows_besides places rows items ≡ rows_after keys.HostAddresses new_row rows items
+rows_same : (rows : List HostAddress) (places : List (List ℕ × ℕ)) (items : Items) → places ≡ map place_of rows
+    → rows_besides places rows items ≡ rows_after keys.HostAddresses new_row rows items
 rows_same rows places no_items e = refl
 rows_same rows places (item first items) e =
-    ap (λ (r : Result HostAddress Refusal). r >>= λ row. rows_besides (places ++ place_of row ∷ []) (rows ++ row ∷ []) items) (sym (table_same rows places (table_in keys.HostAddresses first) e))
-    ∙ same_next (table_in keys.HostAddresses first >>= new_row rows) (λ row. rows_besides (places ++ place_of row ∷ []) (rows ++ row ∷ []) items) (λ row. rows_after keys.HostAddresses new_row (rows ++ row ∷ []) items)
+    ap (λ (r : Result HostAddress Refusal). r >>= λ row. rows_besides (places ++ place_of row ∷ []) (rows ++ row ∷ []) items)
+    (sym (table_same rows places (table_in keys.HostAddresses first) e))
+    ∙ same_next (table_in keys.HostAddresses first >>= new_row rows) (λ row. rows_besides (places ++ place_of row ∷ []) (rows ++ row ∷ []) items)
+    (λ row. rows_after keys.HostAddresses new_row (rows ++ row ∷ []) items)
     (λ row. rows_same (rows ++ row ∷ []) (places ++ place_of row ∷ []) items (placed_more rows places row e))
 
 -- rows besides the places of those before are rows whose host and port none before has
@@ -126,9 +137,11 @@ rows_are items = rows_same [] [] items refl
 -- one more row
 pub row_step : (values : List Value) (i : ℕ) (other : Value) (places : List (List ℕ × ℕ)) (rows : List HostAddress) → i < length values
     → rows_besides places rows (items_view (drop i values))
-    ≡ (table_in keys.HostAddresses (view (get_or values i other)) >>= row_besides (length rows) places >>= λ row. rows_besides (places ++ place_of row ∷ []) (rows ++ row ∷ []) (items_view (drop (i + 1) values)))
+    ≡ (table_in keys.HostAddresses (view (get_or values i other)) >>= row_besides (length rows) places >>=
+    λ row. rows_besides (places ++ place_of row ∷ []) (rows ++ row ∷ []) (items_view (drop (i + 1) values)))
 row_step values i other places rows within = ap (rows_besides places rows) (items_view-drop values i other within)
 
 -- no value is left
-pub row_end : (values : List Value) (i : ℕ) (places : List (List ℕ × ℕ)) (rows : List HostAddress) → length values ≤ i → rows_besides places rows (items_view (drop i values)) ≡ Ok rows
+pub row_end : (values : List Value) (i : ℕ) (places : List (List ℕ × ℕ)) (rows : List HostAddress) → length values ≤ i
+    → rows_besides places rows (items_view (drop i values)) ≡ Ok rows
 row_end values i places rows past = ap (λ (list : List Value). rows_besides places rows (items_view list)) (drop_all i values past)

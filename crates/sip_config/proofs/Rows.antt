@@ -15,7 +15,8 @@ use Rattle.sip_config.specs.Limits.{count_items, has_many_groups, many_groups_af
 -- one more row
 pub rows_step : {A : Type 0} (list : Key) (read : List A → Members → Result A Refusal) (values : List Value) (i : ℕ) (other : Value) (before : List A)
     → i < length values
-    → rows_after list read before (items_view (drop i values)) ≡ (table_in list (view (get_or values i other)) >>= read before >>= λ row. rows_after list read (before ++ row ∷ []) (items_view (drop (i + 1) values)))
+    → rows_after list read before (items_view (drop i values)) ≡ (table_in list (view (get_or values i other)) >>= read before >>=
+    λ row. rows_after list read (before ++ row ∷ []) (items_view (drop (i + 1) values)))
 rows_step list read values i other before within = ap (rows_after list read before) (items_view-drop values i other within)
 
 gathered : {A : Type 0} (before : List A) (next : List A → Result (List A) Refusal) (row : Result A Refusal)
@@ -32,9 +33,11 @@ grow_by read before next (Err refusal) = refl
 pub grow_step : {A : Type 0} (list : Key) (read : List A → Members → Result A Refusal) (values : List Value) (i : ℕ) (other : Value) (before : List A)
     → i < length values
     → rows_after list read before (items_view (drop i values))
-    ≡ ((table_in list (view (get_or values i other)) >>= λ members. (read before members >>= λ row. Ok (before ++ row ∷ []))) >>= λ rows. rows_after list read rows (items_view (drop (i + 1) values)))
+    ≡ ((table_in list (view (get_or values i other)) >>= λ members. (read before members >>= λ row. Ok (before ++ row ∷ []))) >>=
+    λ rows. rows_after list read rows (items_view (drop (i + 1) values)))
 grow_step list read values i other before within =
-    rows_step list read values i other before within ∙ grow_by read before (λ rows. rows_after list read rows (items_view (drop (i + 1) values))) (table_in list (view (get_or values i other)))
+    rows_step list read values i other before within ∙ grow_by read before (λ rows. rows_after list read rows (items_view (drop (i + 1) values)))
+    (table_in list (view (get_or values i other)))
 
 -- no value is left
 pub rows_end : {A : Type 0} (list : Key) (read : List A → Members → Result A Refusal) (values : List Value) (i : ℕ) (before : List A) → length values ≤ i
@@ -42,10 +45,12 @@ pub rows_end : {A : Type 0} (list : Key) (read : List A → Members → Result A
 rows_end list read values i before past = ap (λ (vs : List Value). rows_after list read before (items_view vs)) (drop_all i values past)
 
 pub pass_step : (list : Key) (line : ℕ → Members → Result (Unit {0}) Refusal) (at : ℕ) (values : List Value) (i : ℕ) (other : Value) → i < length values
-    → all_pass list line at (items_view (drop i values)) ≡ (table_in list (view (get_or values i other)) >>= line at >>= λ _. all_pass list line (at + 1) (items_view (drop (i + 1) values)))
+    → all_pass list line at (items_view (drop i values)) ≡ (table_in list (view (get_or values i other)) >>= line at >>=
+    λ _. all_pass list line (at + 1) (items_view (drop (i + 1) values)))
 pass_step list line at values i other within = ap (all_pass list line at) (items_view-drop values i other within)
 
-pub pass_end : (list : Key) (line : ℕ → Members → Result (Unit {0}) Refusal) (at : ℕ) (values : List Value) (i : ℕ) → length values ≤ i → all_pass list line at (items_view (drop i values)) ≡ Ok tt
+pub pass_end : (list : Key) (line : ℕ → Members → Result (Unit {0}) Refusal) (at : ℕ) (values : List Value) (i : ℕ) → length values ≤ i
+    → all_pass list line at (items_view (drop i values)) ≡ Ok tt
 pass_end list line at values i past = ap (λ (vs : List Value). all_pass list line at (items_view vs)) (drop_all i values past)
 
 -- ---- one turn of a loop
@@ -80,10 +85,12 @@ its_table list values i value table is read = ap (λ (v : Value). table_in list 
 -- a row is read from the table of its item
 pub row_at : {A : Type 0} (list : Key) (read : List A → Members → Result A Refusal) (values : List Value) (i : ℕ) (value : Value) (before : List A) (table : Members)
     → i < length values → value ≡ get_or values i value → table_in list (view value) ≡ Ok table
-    → rows_after list read before (items_view (drop i values)) ≡ (read before table >>= λ row. rows_after list read (before ++ row ∷ []) (items_view (drop (i + 1) values)))
+    → rows_after list read before (items_view (drop i values)) ≡ (read before table >>=
+    λ row. rows_after list read (before ++ row ∷ []) (items_view (drop (i + 1) values)))
 row_at {A} list read values i value before table within is it =
     rows_step list read values i value before within
-    ∙ ap (λ (t : Result Members Refusal). t >>= read before >>= λ row. rows_after list read (before ++ row ∷ []) (items_view (drop (i + 1) values))) (its_table list values i value table is it)
+    ∙ ap (λ (t : Result Members Refusal). t >>= read before >>= λ row. rows_after list read (before ++ row ∷ []) (items_view (drop (i + 1) values)))
+    (its_table list values i value table is it)
 
 -- the same of rows that a table's goes behind
 pub rows_at : {A : Type 0} (list : Key) (read : List A → Members → Result A Refusal) (values : List Value) (i : ℕ) (value : Value) (before : List A) (table : Members)
@@ -99,10 +106,12 @@ pub pass_at : (list : Key) (line : ℕ → Members → Result (Unit {0}) Refusal
     → all_pass list line at (items_view (drop i values)) ≡ (line at table >>= λ _. all_pass list line (at + 1) (items_view (drop (i + 1) values)))
 pass_at list line at values i value table within is it =
     pass_step list line at values i value within
-    ∙ ap (λ (t : Result Members Refusal). t >>= line at >>= λ _. all_pass list line (at + 1) (items_view (drop (i + 1) values))) (its_table list values i value table is it)
+    ∙ ap (λ (t : Result Members Refusal). t >>= line at >>= λ _. all_pass list line (at + 1) (items_view (drop (i + 1) values)))
+    (its_table list values i value table is it)
 
 pub groups_step : (values : List Value) (at : ℕ) (other : Value) → at < length values
-    → many_groups_after at (items_view (drop at values)) ≡ (if has_many_groups (as_table (view (get_or values at other))) then Some at else many_groups_after (at + 1) (items_view (drop (at + 1) values)))
+    → many_groups_after at (items_view (drop at values)) ≡ (if has_many_groups (as_table (view (get_or values at other))) then Some at else many_groups_after (at + 1)
+    (items_view (drop (at + 1) values)))
 groups_step values at other within = ap (many_groups_after at) (items_view-drop values at other within)
 
 pub groups_end : (values : List Value) (at : ℕ) → length values ≤ at → many_groups_after at (items_view (drop at values)) ≡ None

@@ -1,6 +1,6 @@
 -- Rules: the tables `[[rule]]`.
 use Rattle.std.specs.Prelude.{ℕ, Bool, true, ◌==◌, not, if◌then◌else◌, position, List, [], length, codes, Option, None, Some, Result, Ok, Err}
-use Rattle.std.specs.List.{list_all, list_any}
+use Rattle.std.specs.List.{list_any}
 use Rattle.std.specs.Str.{bytes_eq}
 use Rattle.toml.specs.Data.{Data, Items, Members, get_member}
 use Rattle.sip_hops.specs.declared.hop.Hop.{Hop}
@@ -21,7 +21,7 @@ use Rattle.sip_config_values.specs.declared.refusal.Refusal.{Refusal}
 use Rattle.sip_config_values.specs.declared.refusal.Refusal.TheVariants.{At}
 use Rattle.sip_config.specs.declared.rules.RuleLine.{RuleLine}
 use Rattle.sip_config.specs.declared.rules.RuleLine.TheVariants.{Id, WhoAsks, Operation, Target, Verdict, Minutes}
-use Rattle.sip_config_values.specs.Refusals.{◌>>=◌, kept_if, place, placed, passed, confirmed, none_found}
+use Rattle.sip_config_values.specs.Refusals.{◌>>=◌, place, placed, passed, confirmed, none_found}
 use Rattle.sip_config_values.specs.Values.{needed, text_of, number_between}
 use Rattle.sip_config_values.specs.Rows.{rows_after, all_pass}
 use Rattle.sip_config_values.specs.Words.{who_of, operation_of, target_of, is_verdict, verdict_of}

@@ -1,6 +1,5 @@
 //! Worked examples of configurations that are stated and refused, as contracts that compute: which keys, in which order, at which place.
 ghost use Rattle.std.specs.Prelude.{◌≡◌, ◌++◌, [], codes, pos, Some, Ok, Err};
-ghost use Rattle.toml.specs.Parse.{parse_document};
 ghost use Rattle.sip_policy.specs.Examples.{rules_with, by_day};
 ghost use Rattle.sip_config_types.specs.Sample.{sample};
 ghost use Rattle.sip_config_values.specs.declared.error.ConfigError.TheVariants as Refusal;

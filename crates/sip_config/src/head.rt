@@ -1,7 +1,7 @@
 //! The keys before all tables, each read by its grammar, and refused at its place, in their order.
 //! The tables are read in `users`, `hops`, `host_addresses` and `rules`.
 ghost use Rattle.std.specs.Prelude.{◌≡◌};
-ghost use Rattle.toml.specs.View.{view, table_view, items_view};
+ghost use Rattle.toml.specs.View.{table_view};
 ghost use Rattle.sip_config_values.specs.declared.table_kind.TableKind.TheVariants.{Whole};
 ghost use Rattle.sip_config_values.specs.Refusals.{Reads, ReadsAt, placed};
 ghost use Rattle.sip_config.specs.Head as Definitions;

@@ -1,5 +1,6 @@
 -- Keys that lead to places, in the order of these.
-use Rattle.std.proofs.Common.{◌≡◌, ℕ, zero, suc, ◌+◌, ◌≤◌, ◌<◌, Bool, true, false, ◌||◌, ◌==◌, if◌then◌else◌, List, [], ◌∷◌, ◌++◌, length, take, map, slice_get, Option, Some, None, Vec, Global, refl, sym, ap, ap₂, subst, ◌∙◌, arith}
+use Rattle.std.proofs.Common.{◌≡◌, ℕ, zero, suc, ◌+◌, ◌≤◌, ◌<◌, Bool, true, false, ◌||◌, ◌==◌, if◌then◌else◌, List, [], ◌∷◌, ◌++◌, length, take, map, slice_get, Option}
+use Rattle.std.proofs.Common.{Some, None, Vec, Global, refl, sym, ap, ap₂, subst, ◌∙◌, arith}
 use Rattle.std.specs.Prelude.{option_to_list, is_some, IsPermutation}
 use Rattle.std.specs.List.{list_any, AllByRecursion}
 use Rattle.std.specs.Str.{bytes_eq}
@@ -19,7 +20,8 @@ module _ {K : Type 0} where
   abbrev IsAt : List K → K × ℕ → Type 0
   IsAt keys entry = slice_get keys entry.1 ≡ Some entry.0
 
-  each_by : (keys : List K) (read : ℕ → Option K) (at : ℕ) → ((m : ℕ) → read (at + m) ≡ slice_get keys m) → AllByRecursion (λ entry. read entry.1 ≡ Some entry.0) (placed_from at keys)
+  each_by : (keys : List K) (read : ℕ → Option K) (at : ℕ) → ((m : ℕ) → read (at + m) ≡ slice_get keys m)
+      → AllByRecursion (λ entry. read entry.1 ≡ Some entry.0) (placed_from at keys)
   each_by [] read at h = tt
   each_by (key ∷ keys) read at h =
       (ap read (let e : at ≡ at + 0 = omega arith in e) ∙ h 0, each_by keys read (at + 1) (λ m. ap read (let e : at + 1 + m ≡ at + suc m = omega arith in e) ∙ h (suc m)))
@@ -47,7 +49,8 @@ module _ {K : Type 0} where
 
   -- ---- in any order
 
-  key_found : (keys : List K) (place : ℕ) (entries : List (K × ℕ)) → AllByRecursion (IsAt keys) entries → list_any (λ (entry : K × ℕ). place == entry.1) entries ≡ true → key_at place entries ≡ slice_get keys place
+  key_found : (keys : List K) (place : ℕ) (entries : List (K × ℕ)) → AllByRecursion (IsAt keys) entries → list_any (λ (entry : K × ℕ). place == entry.1) entries ≡ true
+      → key_at place entries ≡ slice_get keys place
   key_found keys place [] each there = absurd cc
   key_found keys place (entry ∷ entries) each there = by (place == entry.1) refl there (λ h. key_found keys place entries each.1 h)
     where
@@ -62,11 +65,14 @@ module _ {K : Type 0} where
   taken (key ∷ keys) zero lt = refl
   taken (key ∷ keys) (suc place) lt = ap (λ (rest : List K). key ∷ rest) (taken keys place (omega arith))
 
-  below_is : (keys : List K) (entries : List (K × ℕ)) → IsPermutation (placed_from 0 keys) entries → (place : ℕ) → place ≤ length keys → keys_below place entries ≡ take place keys
+  below_is : (keys : List K) (entries : List (K × ℕ)) → IsPermutation (placed_from 0 keys) entries → (place : ℕ) → place ≤ length keys
+      → keys_below place entries ≡ take place keys
   below_is keys entries same zero le = refl
   below_is keys entries same (suc place) le =
-      let each : AllByRecursion (IsAt keys) entries = recursion_from_All (IsAt keys) entries (All-permutation (IsAt keys) (placed_from 0 keys) entries same (All-from_recursion (IsAt keys) (placed_from 0 keys) (each_at keys))) in
-      let there : list_any (λ (entry : K × ℕ). place == entry.1) entries ≡ true = sym (list_any-IsPermutation (λ (entry : K × ℕ). place == entry.1) (placed_from 0 keys) entries same) ∙ there_from keys 0 place (omega arith) (omega arith) in
+      let each : AllByRecursion (IsAt keys) entries = recursion_from_All (IsAt keys) entries
+      (All-permutation (IsAt keys) (placed_from 0 keys) entries same (All-from_recursion (IsAt keys) (placed_from 0 keys) (each_at keys))) in
+      let there : list_any (λ (entry : K × ℕ). place == entry.1) entries ≡ true = sym
+      (list_any-IsPermutation (λ (entry : K × ℕ). place == entry.1) (placed_from 0 keys) entries same) ∙ there_from keys 0 place (omega arith) (omega arith) in
       ap₂ (λ (front : List K) (key : Option K). front ++ option_to_list key) (below_is keys entries same place (omega arith)) (key_found keys place entries each there)
       ∙ taken keys place (omega arith)
 
@@ -83,8 +89,13 @@ module _ {K : Type 0} where
 
   pub none_placed : (entries : List (K × ℕ)) → entries ≡ [] → (in_order entries ≡ []) × ArePlaced entries
   none_placed entries none =
-      let order : in_order entries ≡ [] = in_order_is [] entries (subst (IsPermutation []) (sym none) (IsPermutation-refl [])) in
-      (order, record { each = subst (λ (keys : List K). IsPermutation (placed_from 0 keys) entries) (sym order) (subst (IsPermutation []) (sym none) (IsPermutation-refl [])) })
+      let order : in_order entries ≡ [] = in_order_is [] entries (subst (IsPermutation []) (sym none) (IsPermutation-refl [])) in (
+        order,
+        record {
+          each = subst (λ (keys : List K). IsPermutation (placed_from 0 keys) entries) (sym order)
+              (subst (IsPermutation []) (sym none) (IsPermutation-refl []));
+        },
+      )
 
   any_entry : (test : K → Bool) (at : ℕ) (keys : List K) → list_any (λ (entry : K × ℕ). test entry.0) (placed_from at keys) ≡ list_any test keys
   any_entry test at [] = refl
@@ -107,14 +118,16 @@ module _ {K : Type 0} where
   one_more entries more key at placed last grown =
       let keys : List K = in_order entries in
       let count : at ≡ 0 + length keys = last ∙ length_permutation (placed_from 0 keys) entries placed.each ∙ length-placed_from 0 keys ∙ omega arith in
-      let pushed : placed_from 0 keys ++ (key, at) ∷ [] ≡ placed_from 0 (keys ++ key ∷ []) = ap (λ (n : ℕ). placed_from 0 keys ++ (key, n) ∷ []) count ∙ sym (placed_from_push 0 keys key) in
+      let pushed : placed_from 0 keys ++ (key, at) ∷ [] ≡ placed_from 0 (keys ++ key ∷ []) = ap (λ (n : ℕ). placed_from 0 keys ++ (key, n) ∷ []) count
+      ∙ sym (placed_from_push 0 keys key) in
       let all : IsPermutation (placed_from 0 (keys ++ key ∷ [])) more =
       subst (λ (list : List (K × ℕ)). IsPermutation list more) pushed (IsPermutation-push_more (placed_from 0 keys) entries more (key, at) placed.each grown) in
       let order : in_order more ≡ keys ++ key ∷ [] = in_order_is (keys ++ key ∷ []) more all in
       (order, record { each = subst (λ (list : List K). IsPermutation (placed_from 0 list) more) (sym order) all })
 
   -- a new key leads to the place behind the others
-  pub new_last : {S : Type 0} (eq : K → K → Bool) (places more : HashMap K ℕ S) (key : K) (at : ℕ) (old : Option ℕ) → ArePlaced places.entries → at ≡ length places.entries
+  pub new_last : {S : Type 0} (eq : K → K → Bool) (places more : HashMap K ℕ S) (key : K) (at : ℕ) (old : Option ℕ) → ArePlaced places.entries
+      → at ≡ length places.entries
       → is_some (get eq places key) ≡ false → old ≡ get eq places key → PutsEntry eq places more key at old
       → (in_order more.entries ≡ in_order places.entries ++ key ∷ []) × ArePlaced more.entries
   new_last eq places more key at None placed last new was puts = one_more places.entries more.entries key at placed last puts
@@ -144,10 +157,15 @@ pub name_count : {S : Type 0} (names : HashMap Name ℕ S) → ArePlaced names.e
 name_count names placed = length-map (in_order names.entries) (λ (key : Name). key.items) ∙ sym (order_count names.entries placed)
 
 -- a new name goes last
-pub name_last : {S : Type 0} (names more : HashMap Name ℕ S) (key : Name) (name : List ℕ) (at : ℕ) (old : Option ℕ) → ArePlaced names.entries → at ≡ length names.entries → key.items ≡ name
+pub name_last : {S : Type 0} (names more : HashMap Name ℕ S) (key : Name) (name : List ℕ) (at : ℕ) (old : Option ℕ) → ArePlaced names.entries → at ≡ length names.entries
+    → key.items ≡ name
     → list_any (bytes_eq name) (texts_in_order names) ≡ false → old ≡ get name_eq names key → PutsEntry name_eq names more key at old
     → (texts_in_order more ≡ texts_in_order names ++ name ∷ []) × ArePlaced more.entries
 name_last names more key name at old placed last is new was puts =
-    let absent : is_some (get name_eq names key) ≡ false = name_found names key.items placed ∙ ap (λ (text : List ℕ). list_any (bytes_eq text) (texts_in_order names)) is ∙ new in
-    let both = new_last name_eq names more key at old placed last absent was puts in
-    (ap (map (λ (k : Name). k.items)) both.0 ∙ map-append (λ (k : Name). k.items) (in_order names.entries) (key ∷ []) ∙ ap (λ (text : List ℕ). texts_in_order names ++ text ∷ []) is, both.1)
+    let absent : is_some (get name_eq names key) ≡ false = name_found names key.items placed ∙ ap (λ (text : List ℕ). list_any (bytes_eq text) (texts_in_order names)) is
+    ∙ new in
+    let both = new_last name_eq names more key at old placed last absent was puts in (
+      ap (map (λ (k : Name). k.items)) both.0 ∙ map-append (λ (k : Name). k.items) (in_order names.entries) (key ∷ [])
+          ∙ ap (λ (text : List ℕ). texts_in_order names ++ text ∷ []) is,
+      both.1,
+    )

@@ -11,10 +11,12 @@ use Rattle.sip_config_values.specs.Values.{text_as, has_items}
 use Rattle.sip_config_values.specs.Rows.{texts_after}
 
 pub texts_step : (grammar : Grammar) (values : List Value) (i : ℕ) (other : Value) (before : List (List ℕ)) → i < length values
-    → texts_after grammar before (items_view (drop i values)) ≡ (text_as grammar (view (get_or values i other)) >>= λ text. texts_after grammar (before ++ text ∷ []) (items_view (drop (i + 1) values)))
+    → texts_after grammar before (items_view (drop i values)) ≡ (text_as grammar (view (get_or values i other)) >>=
+    λ text. texts_after grammar (before ++ text ∷ []) (items_view (drop (i + 1) values)))
 texts_step grammar values i other before within = ap (texts_after grammar before) (items_view-drop values i other within)
 
-pub texts_end : (grammar : Grammar) (values : List Value) (i : ℕ) (before : List (List ℕ)) → length values ≤ i → texts_after grammar before (items_view (drop i values)) ≡ Ok before
+pub texts_end : (grammar : Grammar) (values : List Value) (i : ℕ) (before : List (List ℕ)) → length values ≤ i
+    → texts_after grammar before (items_view (drop i values)) ≡ Ok before
 texts_end grammar values i before past = ap (λ (list : List Value). texts_after grammar before (items_view list)) (drop_all i values past)
 
 -- there are items where there are values

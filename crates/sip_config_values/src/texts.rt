@@ -1,4 +1,3 @@
-ghost use Rattle.std.specs.Prelude.{◌≡◌};
 ghost use Rattle.toml.specs.View.{items_view};
 ghost use Rattle.sip_config_values.specs.Refusals.{Reads};
 ghost use Rattle.sip_config_values.specs.Rows as Definitions;

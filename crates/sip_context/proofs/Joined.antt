@@ -9,7 +9,8 @@ use Rattle.sip_context.specs.Inputs.{changing, outcome, repeating}
 
 -- a change, with what goes again beside it
 pub changed : (r : OpenRequest) (sending : Sent) (sent : Sent) (copies wanted : List Packet) (change : Change)
-    → ((x : OpenRequest) → outcome x sending ≡ changing (change_of x sent) copies) → change_of r sent ≡ change → copies ≡ wanted → outcome r sending ≡ changing change wanted
+    → ((x : OpenRequest) → outcome x sending ≡ changing (change_of x sent) copies) → change_of r sent ≡ change → copies ≡ wanted
+    → outcome r sending ≡ changing change wanted
 changed r sending sent copies wanted change a b d = a r ∙ ap (λ (c : Change). changing c copies) b ∙ ap (λ (p : List Packet). changing change p) d
 
 -- what only goes again

@@ -13,8 +13,10 @@ use Rattle.sip_context_branches.specs.state.declared.branch.Branch.{Branch}
 use Rattle.sip_context_branches.specs.state.declared.branch.Phase.TheVariants.{Done}
 use Rattle.sip_context_branches.specs.state.State.{is_invite, is_answering, is_success, is_decline, is_provisional}
 use Rattle.sip_context_branches.specs.context_model.Sending.{branch_packets}
-use Rattle.sip_context_branches.specs.context_model.Branches.{Change, settled, cancel_responded, target_responded, responded, acks_of, final_of, told_to, linger, with_phase, with_final, search_ended, with_answer}
-use Rattle.sip_context_branches.specs.context_model.Branches.{after_upward, answered, best_upward, cancel_branch, held_branch, is_accepted, is_cancellable, marked, new_cancels, relayed_from, relayed_success}
+use Rattle.sip_context_branches.specs.context_model.Branches.{Change, settled, cancel_responded, target_responded, responded, final_of, told_to, linger, with_phase}
+use Rattle.sip_context_branches.specs.context_model.Branches.{with_final, search_ended, with_answer}
+use Rattle.sip_context_branches.specs.context_model.Branches.{after_upward, answered, best_upward, cancel_branch, held_branch, is_accepted, is_cancellable, marked}
+use Rattle.sip_context_branches.specs.context_model.Branches.{new_cancels, relayed_from, relayed_success}
 use Rattle.sip_context_branches.specs.context_model.Branches.{upward_list, with_cancel, with_cancels}
 
 -- what follows an event, by the request once what goes to the caller at once is told
@@ -32,7 +34,8 @@ settled_of server now acks up told =
 pub settled_told : (server : Server) (now : ℕ) (acks acks' : List Packet) (up up' : Option Upward) (r r' : OpenRequest) (change : Change)
     → change ≡ settled server now acks up r → acks ≡ acks' → up ≡ up' → after_upward now up r ≡ after_upward now up r' → change ≡ settled server now acks' up' r'
 settled_told server now acks acks' up up' r r' change e p q s =
-    e ∙ ap (λ (t : OpenRequest). settled_of server now acks up t) s ∙ ap (λ (a : List Packet). settled server now a up r') p ∙ ap (λ (u : Option Upward). settled server now acks' u r') q
+    e ∙ ap (λ (t : OpenRequest). settled_of server now acks up t) s ∙ ap (λ (a : List Packet). settled server now a up r') p
+    ∙ ap (λ (u : Option Upward). settled server now acks' u r') q
 
 -- ---- a final answer that goes to the caller at once
 
@@ -44,7 +47,8 @@ not_provisional status x e = grind (arith, nat_tests, both (nat_le 200 status) (
 
 up_is_final : (r : OpenRequest) (b : Branch) (status : ℕ) (m : Message) (up : Upward) → Some up ≡ relayed_success r b status m → is_provisional up.status ≡ false
 up_is_final r b status m up e = by_test (is_success status && (is_answering r.side || is_accepted r)) refl e where
-  by_test : (t : Bool) → (is_success status && (is_answering r.side || is_accepted r)) ≡ t → Some up ≡ cond t (Some (relayed_from b status m)) None → is_provisional up.status ≡ false
+  by_test : (t : Bool) → (is_success status && (is_answering r.side || is_accepted r)) ≡ t → Some up ≡ cond t (Some (relayed_from b status m)) None
+      → is_provisional up.status ≡ false
   by_test false is e = absurd (cc)
   by_test true is e =
       let same : up ≡ relayed_from b status m = cc in
@@ -71,7 +75,8 @@ final_told now r after b status m up e is =
       done : OpenRequest
       done = with_phase (told_to r b status m) (Done (now + linger r) status) r
 
-      by_test : (t : Bool) → answered now up (cond t (marked done) done) ≡ answered now up (cond t (marked (with_final (final_of status m) done)) (with_final (final_of status m) done))
+      by_test : (t : Bool) → answered now up (cond t (marked done) done) ≡ answered now up
+          (cond t (marked (with_final (final_of status m) done)) (with_final (final_of status m) done))
       by_test true = forgotten now up (final_of status m) (marked done) (up_is_final r b status m up e)
       by_test false = forgotten now up (final_of status m) done (up_is_final r b status m up e)
 
@@ -81,7 +86,8 @@ final_told now r after b status m up e is =
 none_sent : (now : ℕ) (branches : List Branch) → map (cancel_branch now) (filter is_cancellable branches) ≡ [] → flat_map (with_cancel now) branches ≡ branches
 none_sent now [] none = refl
 none_sent now (b ∷ bs) none = by_test (is_cancellable b) none (λ h. none_sent now bs h) where
-  by_test : (t : Bool) → map (cancel_branch now) (cond t (b ∷ filter is_cancellable bs) (filter is_cancellable bs)) ≡ [] → (map (cancel_branch now) (filter is_cancellable bs) ≡ [] → flat_map (with_cancel now) bs ≡ bs)
+  by_test : (t : Bool) → map (cancel_branch now) (cond t (b ∷ filter is_cancellable bs) (filter is_cancellable bs)) ≡ []
+      → (map (cancel_branch now) (filter is_cancellable bs) ≡ [] → flat_map (with_cancel now) bs ≡ bs)
       → cond t (held_branch now b ∷ cancel_branch now b ∷ []) (b ∷ []) ++ flat_map (with_cancel now) bs ≡ b ∷ bs
   by_test true e rest = absurd (omega (arith, ap (λ (xs : List Branch). length xs) e))
   by_test false e rest = ap (λ (xs : List Branch). b ∷ xs) (rest e)
@@ -110,8 +116,10 @@ pub final_untold : (now : ℕ) (r after : OpenRequest) (b : Branch) (status : �
 final_untold now r after b status m answer answer_is after_is = final_taken now r after b status m answer answer_is after_is
 
 -- a response to a CANCEL
-pub cancel_is : (server : Server) (now : ℕ) (r : OpenRequest) (b : Branch) (status : ℕ) (m : Message) → b.is_cancel ≡ true → cancel_responded server now r b status m ≡ responded server now r b status m
+pub cancel_is : (server : Server) (now : ℕ) (r : OpenRequest) (b : Branch) (status : ℕ) (m : Message) → b.is_cancel ≡ true
+    → cancel_responded server now r b status m ≡ responded server now r b status m
 cancel_is server now r b status m is = by_test b.is_cancel is where
-  by_test : (t : Bool) → t ≡ true → cancel_responded server now r b status m ≡ cond t (cancel_responded server now r b status m) (target_responded server now r b status m)
+  by_test : (t : Bool) → t ≡ true → cancel_responded server now r b status m ≡ cond t (cancel_responded server now r b status m)
+      (target_responded server now r b status m)
   by_test true e = refl
   by_test false e = absurd (cc)

@@ -66,7 +66,7 @@ pub(crate) fn pass_branch(
 }
 
 /// The deadline of the answering side passes: its transaction ends (RFC 3261 17.2: Timers H, I and J; RFC 6026: L).
-/// `AllocError` is the only refusal.
+/// `AllocError` is the only refusal. In the server no deadline comes to it: the room above ends the side where it stands.
 pub(crate) fn pass_side(
     alloc: Global,
     server: &Server,

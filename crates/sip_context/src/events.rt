@@ -152,6 +152,7 @@ fn expire_branch(
 }
 
 /// The deadline of the answering side passes.
+/// In the server no deadline comes to it: the room above ends the side where it stands.
 fn expire_side(
     alloc: Global,
     server: &Server,

@@ -1,6 +1,6 @@
 //! Which responses go to the caller at once (RFC 3261 16.7 step 5; RFC 6026 7.1), and how they go or are kept, without this server's Via
 //! (16.7 step 3).
-ghost use Rattle.std.specs.Prelude.{◌≡◌, ◌&&◌, ◌||◌, ◌==◌, not, Some, None, if◌then◌else◌, IfOk};
+ghost use Rattle.std.specs.Prelude.{◌≡◌, ◌&&◌, ◌||◌, ◌==◌, not, Some, None, IfOk};
 ghost use Rattle.sip_edit.specs.OwnVia.{without_top_via};
 ghost use Rattle.sip_context_branches.specs.state.State as States;
 ghost use Rattle.sip_context_branches.specs.context_model.Branches as Contexts;

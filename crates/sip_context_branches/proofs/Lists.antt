@@ -1,5 +1,6 @@
 -- Lists whose elements are replaced one by one.
-use Rattle.std.proofs.Common.{◌≡◌, ℕ, zero, suc, ◌+◌, ◌<◌, List, [], ◌∷◌, ◌++◌, length, map, take, drop, refl, ap, arith, slice_set, slice_index_or, Bool, true, false, cond}
+use Rattle.std.proofs.Common.{◌≡◌, ℕ, zero, suc, ◌+◌, ◌<◌, List, [], ◌∷◌, ◌++◌, length, map, take, drop, refl, ap, arith, slice_set, slice_index_or, Bool, true, false}
+use Rattle.std.proofs.Common.{cond}
 use Rattle.std.specs.Prelude.{count_by}
 use Rattle.std.specs.List.{flat_map}
 use Rattle.std.proofs.lemmas.List.Sums.{sum_by-cons}
@@ -25,7 +26,8 @@ counted p x xs = sum_by-cons (λ y. cond (p y) 1 0) x xs
 pub none_cancelled : (now : ℕ) (branches : List Branch) → count_by is_cancellable branches ≡ 0 → flat_map (with_cancel now) branches ≡ branches
 none_cancelled now [] none = refl
 none_cancelled now (b ∷ bs) none = by_test (is_cancellable b) (counted is_cancellable b bs) (λ h. none_cancelled now bs h) where
-  by_test : (t : Bool) → count_by is_cancellable (b ∷ bs) ≡ cond t 1 0 + count_by is_cancellable bs → (count_by is_cancellable bs ≡ 0 → flat_map (with_cancel now) bs ≡ bs)
+  by_test : (t : Bool) → count_by is_cancellable (b ∷ bs) ≡ cond t 1 0 + count_by is_cancellable bs
+      → (count_by is_cancellable bs ≡ 0 → flat_map (with_cancel now) bs ≡ bs)
       → cond t (held_branch now b ∷ cancel_branch now b ∷ []) (b ∷ []) ++ flat_map (with_cancel now) bs ≡ b ∷ bs
   by_test true e rest = absurd (omega arith)
   by_test false e rest = ap (λ (v : List Branch). b ∷ v) (rest (omega arith))

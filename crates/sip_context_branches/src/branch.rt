@@ -1,6 +1,5 @@
 //! One branch of an open request: told from others, turned to another phase, and cancelled (RFC 3261 9.1).
 ghost use Rattle.std.specs.Prelude.{◌≡◌, ◌+◌, ◌<◌, ◌^◌, true, if◌then◌else◌, IfOk, OnOk};
-ghost use Rattle.model_context.specs.state.State as States;
 ghost use Rattle.model_context.specs.Branches as Contexts;
 
 use crate::phase::{is_final, is_ready};

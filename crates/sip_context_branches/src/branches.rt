@@ -1,4 +1,4 @@
-ghost use Rattle.std.specs.Prelude.{◌≡◌, ◌==◌, true, not, if◌then◌else◌, map, filter, OnOk};
+ghost use Rattle.std.specs.Prelude.{◌≡◌, true, not, if◌then◌else◌, map, filter, OnOk};
 ghost use Rattle.std.specs.List.{list_all};
 ghost use Rattle.model_context.specs.state.declared.branch.Branch.{Branch};
 ghost use Rattle.model_context.specs.state.State as States;

@@ -18,7 +18,8 @@ use Rattle.sip_context_packets.specs.Base.{via_value}
 
 base_with : (begins : Bool) (server : Server) (m : Message) (number : ℕ) (b : Branch) →
     to_target b.uri (via_value server number b.number) (onward_base server.config.own server.config.realm begins m)
-    ≡ cond begins (with_record_route server.config.own (onward_of server.config.own server.config.realm b.uri (branch_text server.word number b.number) m)) (onward_of server.config.own server.config.realm b.uri (branch_text server.word number b.number) m)
+    ≡ cond begins (with_record_route server.config.own (onward_of server.config.own server.config.realm b.uri (branch_text server.word number b.number) m))
+    (onward_of server.config.own server.config.realm b.uri (branch_text server.word number b.number) m)
 base_with true server m number b = refl
 base_with false server m number b = refl
 

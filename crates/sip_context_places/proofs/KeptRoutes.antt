@@ -28,7 +28,8 @@ use Rattle.sip_route.specs.RoutesKept.{fields_kept, kept_of}
 use Rattle.sip_route.proofs.Kept as Left
 use Rattle.sip_context_places.specs.declared.route_facts.Place.{Place}
 use Rattle.sip_context_places.specs.declared.route_facts.RecordedPlace.{RecordedPlace}
-use Rattle.sip_context_places.specs.RouteFacts.{place_in, first_place, is_own, is_recorded, recorded_in, recorded_of, is_own_record, facts_of, kept_from, kept_where, kept_by, facts_in}
+use Rattle.sip_context_places.specs.RouteFacts.{place_in, first_place, is_own, is_recorded, recorded_in, recorded_of, is_own_record, facts_of, kept_from, kept_where}
+use Rattle.sip_context_places.specs.RouteFacts.{kept_by, facts_in}
 
 -- ---- the first Route
 
@@ -36,7 +37,8 @@ names_place : (own : Own) (uri : AnyUri) → names_own_place own uri ≡ option_
 names_place own (Sip uri) = refl
 names_place own (Other text) = refl
 
-begins_by : (own : Own) (o : Option NameAddr) → option_map_or (λ route. names_own_place own route.uri) o false ≡ option_map_or (is_own own) (option_and_then (λ route. place_in route.uri) o) false
+begins_by : (own : Own) (o : Option NameAddr) → option_map_or (λ route. names_own_place own route.uri) o false
+    ≡ option_map_or (is_own own) (option_and_then (λ route. place_in route.uri) o) false
 begins_by own None = refl
 begins_by own (Some route) = names_place own route.uri
 
@@ -64,7 +66,8 @@ by_tests true true true false p true true = refl
 by_tests true true true false p true false = refl
 by_tests true true true false p false r = refl
 
-recorded_is : (own : Own) (u : Uri) → is_record_route own u ≡ (is_recorded u && (says_same_no_case u.host own.host && both_or_none says_same_no_case u.port (Some (decimal own.port))))
+recorded_is : (own : Own) (u : Uri) → is_record_route own u ≡ (is_recorded u && (says_same_no_case u.host own.host
+    && both_or_none says_same_no_case u.port (Some (decimal own.port))))
 recorded_is own u =
     let a = is_same_scheme u.scheme Scheme.Sip in
     let b = is_same_userinfo u.userinfo None in
@@ -76,12 +79,15 @@ recorded_is own u =
     ∙ ap (λ (t : Bool). (has_lr u && (a && b && t && true && q && r)) && (h && p)) (sym (part_own u.host))
     ∙ ap (λ (t : Bool). (has_lr u && (a && b && says_same_no_case u.host u.host && t && q && r)) && (h && p)) (sym (port_own u.port))
 
-restored : (own : Own) (routes : List (List ℕ)) (u : Uri) (t : Bool) → is_record_route own u ≡ (t && is_own_record own (record { host = u.host; port = u.port; first = first_place (all_but_last routes) }))
-    → option_map_or (is_own_record own) (cond t (Some (record { host = u.host; port = u.port; first = first_place (all_but_last routes) })) None) false ≡ is_record_route own u
+restored : (own : Own) (routes : List (List ℕ)) (u : Uri) (t : Bool) → is_record_route own u
+    ≡ (t && is_own_record own (record { host = u.host; port = u.port; first = first_place (all_but_last routes) }))
+    → option_map_or (is_own_record own) (cond t (Some (record { host = u.host; port = u.port; first = first_place (all_but_last routes) })) None) false
+    ≡ is_record_route own u
 restored own routes u true is = sym is
 restored own routes u false is = sym is
 
-came : (own : Own) (routes : List (List ℕ)) (o : Option Uri) → option_map_or (is_own_record own) (option_and_then (recorded_in routes) o) false ≡ option_map_or (is_record_route own) o false
+came : (own : Own) (routes : List (List ℕ)) (o : Option Uri) → option_map_or (is_own_record own) (option_and_then (recorded_in routes) o) false
+    ≡ option_map_or (is_record_route own) o false
 came own routes None = refl
 came own routes (Some u) = restored own routes u (is_recorded u) (recorded_is own u)
 
@@ -92,13 +98,16 @@ some_by false None recorded own is = refl
 some_by true (Some route) recorded own is = is
 some_by false (Some route) recorded own is = is
 
-is_restored : (own : Own) (uri : List ℕ) (routes : List (List ℕ)) → option_map_or (is_own_record own) (recorded_of uri routes) false ≡ is_some (restored_of own uri routes)
+is_restored : (own : Own) (uri : List ℕ) (routes : List (List ℕ)) → option_map_or (is_own_record own) (recorded_of uri routes) false
+    ≡ is_some (restored_of own uri routes)
 is_restored own uri routes =
-    some_by (came_strictly own uri) (last_route routes) (option_and_then (recorded_in routes) (result_ok (reading_of uri))) own (came own routes (result_ok (reading_of uri)))
+    some_by (came_strictly own uri) (last_route routes) (option_and_then (recorded_in routes) (result_ok (reading_of uri))) own
+    (came own routes (result_ok (reading_of uri)))
 
 -- ---- where the first of the others leads
 
-first_in : (routes : List (List ℕ)) (u : Uri) (t : Bool) (p : RecordedPlace) → cond t (Some (record { host = u.host; port = u.port; first = first_place (all_but_last routes) })) None ≡ Some p
+first_in : (routes : List (List ℕ)) (u : Uri) (t : Bool) (p : RecordedPlace) → cond t
+    (Some (record { host = u.host; port = u.port; first = first_place (all_but_last routes) })) None ≡ Some p
     → p.first ≡ first_place (all_but_last routes)
 first_in routes u true p e = sym (ap (option_and_then (λ (p : RecordedPlace). p.first)) e)
 first_in routes u false p e = absurd cc
@@ -107,7 +116,8 @@ first_read : (routes : List (List ℕ)) (o : Option Uri) (p : RecordedPlace) →
 first_read routes None p e = absurd cc
 first_read routes (Some u) p e = first_in routes u (is_recorded u) p e
 
-first_by : (routes : List (List ℕ)) (t : Bool) (o : Option Uri) (p : RecordedPlace) → cond t (option_and_then (recorded_in routes) o) None ≡ Some p → p.first ≡ first_place (all_but_last routes)
+first_by : (routes : List (List ℕ)) (t : Bool) (o : Option Uri) (p : RecordedPlace) → cond t (option_and_then (recorded_in routes) o) None ≡ Some p
+    → p.first ≡ first_place (all_but_last routes)
 first_by routes true o p e = first_read routes o p e
 first_by routes false o p e = absurd cc
 
@@ -127,7 +137,8 @@ loose own routes =
     ap (λ (t : Bool). kept_at t (length routes)) (sym (begins own routes))
     ∙ ap (λ (n : ℕ). kept_at (begins_with_own own routes) n) (sym (less_none (length routes)))
 
-strict : (own : Own) (routes : List (List ℕ)) (p : RecordedPlace) → p.first ≡ first_place (all_but_last routes) → kept_from own p.first (length routes - 1) ≡ kept_of own true routes
+strict : (own : Own) (routes : List (List ℕ)) (p : RecordedPlace) → p.first ≡ first_place (all_but_last routes)
+    → kept_from own p.first (length routes - 1) ≡ kept_of own true routes
 strict own routes p is =
     ap (λ (first : Option Place). kept_from own first (length routes - 1)) is
     ∙ ap (λ (t : Bool). kept_at t (length routes - 1)) (sym (begins own (all_but_last routes)))
@@ -150,16 +161,20 @@ left_by own uri fields = ap (λ (kept : RoutesKept). fields_kept kept fields) (k
 
 -- ---- with another top Via
 
-by_name : (t u : Bool) (value : List ℕ) (field : Field) (fields : List Field) → is_same_name field.name Name.Via ≡ t → is_same_name field.name Name.Route ≡ u → (t && u) ≡ false
+by_name : (t u : Bool) (value : List ℕ) (field : Field) (fields : List Field) → is_same_name field.name Name.Via ≡ t → is_same_name field.name Name.Route ≡ u
+    → (t && u) ≡ false
     → values_of Name.Route (with_first Name.Via value fields) ≡ values_of Name.Route fields
     → values_of Name.Route (cond t (record field { value = value } ∷ fields) (field ∷ with_first Name.Via value fields)) ≡ values_of Name.Route (field ∷ fields)
 by_name true true value field fields is_via is_route never rest = absurd cc
 by_name true false value field fields is_via is_route never rest =
-    ap (λ (r : Bool). map (λ (f : Field). f.value) (cond r (record field { value = value } ∷ filter (λ f. is_same_name f.name Name.Route) fields) (filter (λ f. is_same_name f.name Name.Route) fields))) is_route
-    ∙ sym (ap (λ (r : Bool). map (λ (f : Field). f.value) (cond r (field ∷ filter (λ f. is_same_name f.name Name.Route) fields) (filter (λ f. is_same_name f.name Name.Route) fields))) is_route)
+    ap (λ (r : Bool). map (λ (f : Field). f.value) (cond r (record field { value = value } ∷ filter (λ f. is_same_name f.name Name.Route) fields)
+    (filter (λ f. is_same_name f.name Name.Route) fields))) is_route
+    ∙ sym (ap (λ (r : Bool). map (λ (f : Field). f.value) (cond r (field ∷ filter (λ f. is_same_name f.name Name.Route) fields)
+    (filter (λ f. is_same_name f.name Name.Route) fields))) is_route)
 by_name false u value field fields is_via is_route never rest = by_route (is_same_name field.name Name.Route)
   where
-    by_route : (r : Bool) → map (λ (f : Field). f.value) (cond r (field ∷ filter (λ f. is_same_name f.name Name.Route) (with_first Name.Via value fields)) (filter (λ f. is_same_name f.name Name.Route) (with_first Name.Via value fields)))
+    by_route : (r : Bool) → map (λ (f : Field). f.value) (cond r (field ∷ filter (λ f. is_same_name f.name Name.Route) (with_first Name.Via value fields))
+        (filter (λ f. is_same_name f.name Name.Route) (with_first Name.Via value fields)))
         ≡ map (λ (f : Field). f.value) (cond r (field ∷ filter (λ f. is_same_name f.name Name.Route) fields) (filter (λ f. is_same_name f.name Name.Route) fields))
     by_route true = ap (λ (w : List (List ℕ)). field.value ∷ w) rest
     by_route false = rest
@@ -181,11 +196,13 @@ never_both name = never_by (without_case (spelling name)) (bytes_eq (without_cas
 
 routes_stay : (value : List ℕ) (fields : List Field) → values_of Name.Route (with_first Name.Via value fields) ≡ values_of Name.Route fields
 routes_stay value [] = refl
-routes_stay value (field ∷ fields) = by_name (is_same_name field.name Name.Via) (is_same_name field.name Name.Route) value field fields refl refl (never_both field.name) (routes_stay value fields)
+routes_stay value (field ∷ fields) = by_name (is_same_name field.name Name.Via) (is_same_name field.name Name.Route) value field fields refl refl (never_both field.name)
+    (routes_stay value fields)
 
 -- what is kept by what a message says, whatever value its top Via has
 pub kept_is : (own : Own) (m : Message) (kept : RoutesKept) (via : List ℕ) → kept ≡ kept_by own (facts_in m)
     → fields_kept kept (with_first Name.Via via m.fields) ≡ fields_left own (request_uri m.start) (with_first Name.Via via m.fields)
 kept_is own m kept via is =
-    ap (λ (kept : RoutesKept). fields_kept kept (with_first Name.Via via m.fields)) (is ∙ ap (λ (routes : List (List ℕ)). kept_by own (facts_of (request_uri m.start) routes)) (sym (routes_stay via m.fields)))
+    ap (λ (kept : RoutesKept). fields_kept kept (with_first Name.Via via m.fields)) (is
+    ∙ ap (λ (routes : List (List ℕ)). kept_by own (facts_of (request_uri m.start) routes)) (sym (routes_stay via m.fields)))
     ∙ left_by own (request_uri m.start) (with_first Name.Via via m.fields)

@@ -24,13 +24,15 @@ port_is None (Some n) e = absurd cc
 port_is (Some ds) None e = absurd cc
 port_is (Some ds) (Some n) e = cc
 
-default_is : (digits : Option (List ℕ)) (port : Option ℕ) → option_map port_value digits ≡ option_map (λ n. Some n) port → port_or_default digits ≡ Some (unwrap_or port 5060)
+default_is : (digits : Option (List ℕ)) (port : Option ℕ) → option_map port_value digits ≡ option_map (λ n. Some n) port
+    → port_or_default digits ≡ Some (unwrap_or port 5060)
 default_is None None e = refl
 default_is None (Some n) e = absurd cc
 default_is (Some ds) None e = absurd cc
 default_is (Some ds) (Some n) e = cc
 
-pub first_is : (value host : List ℕ) (port : Option ℕ) → IsBracketedPlace value host port → Some (record { host = host; port = unwrap_or port 5060 }) ≡ Facts.first_place (value ∷ [])
+pub first_is : (value host : List ℕ) (port : Option ℕ) → IsBracketedPlace value host port
+    → Some (record { host = host; port = unwrap_or port 5060 }) ≡ Facts.first_place (value ∷ [])
 first_is value host port is =
     let first : Facts.first_place (value ∷ []) ≡ Facts.place_in is.address.uri = ap (option_and_then (λ (route : NameAddr). Facts.place_in route.uri)) is.is_route in
     let there : Facts.place_in is.address.uri ≡ Some (record { host = is.uri.host; port = unwrap_or (port_number is.uri.port) 5060 }) = ap Facts.place_in is.has_uri in
@@ -41,21 +43,25 @@ by_udp : (uri : Uri) → uri.scheme ≡ Scheme.Sip → (uri.parameters ≡ []) �
 by_udp uri sip (inl none) = rw (sip, none) refl
 by_udp uri sip (inr loose) = rw (sip, loose) refl
 
-there_is : (value host : List ℕ) (port : Option ℕ) (is : IsBracketedPlace value host port) → Given.place_by is.address.uri ≡ Some (record { host = host; port = unwrap_or port 5060 })
+there_is : (value host : List ℕ) (port : Option ℕ) (is : IsBracketedPlace value host port)
+    → Given.place_by is.address.uri ≡ Some (record { host = host; port = unwrap_or port 5060 })
 there_is value host port is =
     let udp : is_by_udp is.uri ≡ true = by_udp is.uri is.is_sip is.parameters in
     let there : Given.place_by_udp is.uri ≡ Some (record { host = is.uri.host; port = unwrap_or port 5060 }) = rw (udp, default_is is.uri.port port is.has_port) refl in
     ap Given.place_by is.has_uri ∙ there ∙ ap (λ (h : List ℕ). Some (record { host = h; port = unwrap_or port 5060 })) is.has_host
 
-one_of : (c r : Bool) (o p : Option NameAddr) (address : NameAddr) → (c || r) ≡ true → o ≡ Some address → p ≡ Some address → (if c then o else if r then p else None) ≡ Some address
+one_of : (c r : Bool) (o p : Option NameAddr) (address : NameAddr) → (c || r) ≡ true → o ≡ Some address → p ≡ Some address
+    → (if c then o else if r then p else None) ≡ Some address
 one_of true r o p address e first second = first
 one_of false true o p address e first second = second
 one_of false false o p address e first second = absurd cc
 
-pub place_is : (field : Field) (host : List ℕ) (port : Option ℕ) → (is_same_name field.name Name.Contact || is_same_name field.name Name.RecordRoute) ≡ true → IsBracketedPlace field.value host port
+pub place_is : (field : Field) (host : List ℕ) (port : Option ℕ) → (is_same_name field.name Name.Contact || is_same_name field.name Name.RecordRoute) ≡ true
+    → IsBracketedPlace field.value host port
     → Some (record { host = host; port = unwrap_or port 5060 }) ≡ Given.place_in field
 place_is field host port named is =
-    let item : item_in field ≡ Some is.address = one_of (is_same_name field.name Name.Contact) (is_same_name field.name Name.RecordRoute) (name_addr_of field.value) (route_of field.value) is.address named is.is_address is.is_route in
+    let item : item_in field ≡ Some is.address = one_of (is_same_name field.name Name.Contact) (is_same_name field.name Name.RecordRoute) (name_addr_of field.value)
+    (route_of field.value) is.address named is.is_address is.is_route in
     sym (ap (option_and_then (λ (i : NameAddr). Given.place_by i.uri)) item ∙ there_is field.value host port is)
 
 neither : (c r : Bool) (o p : Option NameAddr) → (c || r) ≡ false → (if c then o else if r then p else None) ≡ None
@@ -64,4 +70,5 @@ neither false true o p e = absurd cc
 neither false false o p e = refl
 
 pub no_place : (field : Field) → (is_same_name field.name Name.Contact || is_same_name field.name Name.RecordRoute) ≡ false → None ≡ Given.place_in field
-no_place field other = sym (ap (option_and_then (λ (i : NameAddr). Given.place_by i.uri)) (neither (is_same_name field.name Name.Contact) (is_same_name field.name Name.RecordRoute) (name_addr_of field.value) (route_of field.value) other))
+no_place field other = sym (ap (option_and_then (λ (i : NameAddr). Given.place_by i.uri))
+    (neither (is_same_name field.name Name.Contact) (is_same_name field.name Name.RecordRoute) (name_addr_of field.value) (route_of field.value) other))

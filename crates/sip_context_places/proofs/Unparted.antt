@@ -1,54 +1,21 @@
 -- A URI in which no `;` stands has no parameters, so that no server put it into Record-Route.
-use Rattle.std.proofs.Common.{◌≡◌, ℕ, Bool, true, false, cond, List, [], ◌∷◌, ◌++◌, length, map, Option, Some, None, refl, sym, ap, ◌∙◌, arith, Bor}
-use Rattle.std.specs.Prelude.{Result, Ok, Err, ◌==◌, is_some}
+use Rattle.std.proofs.Common.{◌≡◌, ℕ, Bool, true, false, cond, List, [], ◌∷◌, length, map, Option, Some, None, refl, sym, ap, ◌∙◌, arith, Bor}
+use Rattle.std.specs.Prelude.{Result, Ok, Err, is_some}
 use Rattle.std.specs.Option.{option_and_then}
 use Rattle.std.specs.Result.{result_ok}
-use Rattle.std.specs.List.{list_all, flat_map}
-use Rattle.sip_text.specs.Splits.{in_front, split_at_byte}
+use Rattle.std.specs.List.{list_all}
+use Rattle.sip_text.specs.Splits.{split_at_byte}
 use Rattle.sip_uri.specs.Host.{is_not}
 use Rattle.sip_uri.specs.declared.error.UriError.{UriError}
 use Rattle.sip_uri.specs.declared.parameters.Parameter.{Parameter}
 use Rattle.sip_uri.specs.declared.uri.Uri.{Uri}
-use Rattle.sip_uri.specs.Uri.{userinfo_text, port_text, parameter_text, headers_text, rest_text, IsWritten}
 use Rattle.sip_uri.specs.Reading.{reading_of}
 use Rattle.sip_route.specs.Way.{last_route}
 use Rattle.sip_context_places.specs.declared.route_facts.RecordedPlace.{RecordedPlace}
 use Rattle.sip_route.specs.Routes.{all_but_last}
 use Rattle.sip_context_places.specs.RouteFacts.{first_place, is_recorded, recorded_in, recorded_of}
-use Rattle.sip_uri.proofs.Tests.{and_both}
+use Rattle.sip_uri.proofs.WrittenBytes.{unsplit, unparted}
 use Rattle.sip_uri.proofs.ReadingLaws.{is_written}
-
--- a text that isn't split at a `;` has none
-none_in_front : (front : List ℕ) (parts : Option (List ℕ × List ℕ)) → in_front front parts ≡ None → parts ≡ None
-none_in_front front None e = refl
-none_in_front front (Some x) e = absurd cc
-
-unsplit : (text : List ℕ) → split_at_byte 59 text ≡ None → list_all (is_not 59) text ≡ true
-unsplit [] e = refl
-unsplit (b ∷ bs) e = by_first (b == 59) refl e (unsplit bs)
-  where
-    by_first : (t : Bool) → (b == 59) ≡ t → cond t (Some ([], bs)) (in_front (b ∷ []) (split_at_byte 59 bs)) ≡ None → (split_at_byte 59 bs ≡ None → list_all (is_not 59) bs ≡ true)
-        → list_all (is_not 59) (b ∷ bs) ≡ true
-    by_first true is e more = absurd cc
-    by_first false is e more = rw is (more (none_in_front (b ∷ []) (split_at_byte 59 bs) e))
-
--- what passes behind others passes
-behind : (p : ℕ → Bool) (xs ys : List ℕ) → list_all p (xs ++ ys) ≡ true → list_all p ys ≡ true
-behind p [] ys e = e
-behind p (x ∷ xs) ys e = behind p xs ys (and_both (p x) (list_all p (xs ++ ys)) e).1
-
-no_parameters : (ps : List Parameter) (headers : List ℕ) → list_all (is_not 59) (flat_map parameter_text ps ++ headers) ≡ true → ps ≡ []
-no_parameters [] headers e = refl
-no_parameters (p ∷ ps) headers e = absurd cc
-
-unparted : (uri : List ℕ) (u : Uri) → IsWritten uri u → list_all (is_not 59) uri ≡ true → u.parameters ≡ []
-unparted uri u written all =
-    let parts : List ℕ = flat_map parameter_text u.parameters ++ headers_text u.headers in
-    let rest : list_all (is_not 59) (58 ∷ rest_text u) ≡ true = behind (is_not 59) written.scheme (58 ∷ rest_text u) (ap (list_all (is_not 59)) (sym written.whole) ∙ all) in
-    let user : list_all (is_not 59) (u.host ++ (port_text u.port ++ parts)) ≡ true =
-    behind (is_not 59) (userinfo_text u.userinfo) (u.host ++ (port_text u.port ++ parts)) (and_both (is_not 59 58) (list_all (is_not 59) (rest_text u)) rest).1 in
-    let host : list_all (is_not 59) (port_text u.port ++ parts) ≡ true = behind (is_not 59) u.host (port_text u.port ++ parts) user in
-    no_parameters u.parameters (headers_text u.headers) (behind (is_not 59) (port_text u.port) parts host)
 
 none_either : (t : Bool) (o : Option RecordedPlace) → o ≡ None → cond t o None ≡ None
 none_either true o e = e
@@ -57,7 +24,8 @@ none_either false o e = refl
 not_recorded : (routes : List (List ℕ)) (u : Uri) (ps : List Parameter) → ps ≡ [] → u.parameters ≡ ps → recorded_in routes u ≡ None
 not_recorded routes u ps none is = rw (is ∙ none) refl
 
-by_reading : (uri : List ℕ) (routes : List (List ℕ)) (r : Result Uri UriError) → list_all (is_not 59) uri ≡ true → reading_of uri ≡ r → option_and_then (recorded_in routes) (result_ok r) ≡ None
+by_reading : (uri : List ℕ) (routes : List (List ℕ)) (r : Result Uri UriError) → list_all (is_not 59) uri ≡ true → reading_of uri ≡ r
+    → option_and_then (recorded_in routes) (result_ok r) ≡ None
 by_reading uri routes (Err fault) all is = refl
 by_reading uri routes (Ok u) all is = not_recorded routes u u.parameters (unparted uri u (is_written uri u is) all) refl
 
@@ -68,7 +36,8 @@ none_there (Some x) e = absurd cc
 pub none_recorded : (uri : List ℕ) (routes : List (List ℕ)) → is_some (split_at_byte 59 uri) ≡ false → recorded_of uri routes ≡ None
 none_recorded uri routes e =
     let bare : split_at_byte 59 uri ≡ None = none_there (split_at_byte 59 uri) e in
-    none_either (is_some (last_route routes)) (option_and_then (recorded_in routes) (result_ok (reading_of uri))) (by_reading uri routes (reading_of uri) (unsplit uri bare) refl)
+    none_either (is_some (last_route routes)) (option_and_then (recorded_in routes) (result_ok (reading_of uri)))
+    (by_reading uri routes (reading_of uri) (unsplit uri bare) refl)
 
 -- ---- in another order: what a URI says before the Routes
 
@@ -88,7 +57,8 @@ some_by true false o r e = absurd cc
 some_by false t o r e = absurd cc
 
 -- where it leads else
-pub some_in : (routes : List (List ℕ)) (u : Uri) (place : RecordedPlace) → place ≡ record { host = u.host; port = u.port; first = first_place (all_but_last routes) } → is_recorded u ≡ true → is_some (last_route routes) ≡ true
+pub some_in : (routes : List (List ℕ)) (u : Uri) (place : RecordedPlace) → place ≡ record { host = u.host; port = u.port; first = first_place (all_but_last routes) }
+    → is_recorded u ≡ true → is_some (last_route routes) ≡ true
     → Some place ≡ cond (is_some (last_route routes)) (recorded_in routes u) None
 some_in routes u place is recorded replaced =
     ap (λ (p : RecordedPlace). Some p) is
@@ -101,4 +71,5 @@ none_replaces uri (x ∷ xs) e = absurd (omega (arith, e))
 
 -- nor in what can't be read
 pub none_read : (uri : List ℕ) (routes : List (List ℕ)) → result_ok (reading_of uri) ≡ None → None ≡ recorded_of uri routes
-none_read uri routes e = sym (none_either (is_some (last_route routes)) (option_and_then (recorded_in routes) (result_ok (reading_of uri))) (ap (option_and_then (recorded_in routes)) e))
+none_read uri routes e = sym (none_either (is_some (last_route routes)) (option_and_then (recorded_in routes) (result_ok (reading_of uri)))
+    (ap (option_and_then (recorded_in routes)) e))

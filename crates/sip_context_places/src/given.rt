@@ -1,7 +1,6 @@
 ghost use Rattle.std.specs.Prelude.{◌≡◌, ◌||◌, IfOk};
 ghost use Rattle.sip_message_fields.specs.FieldName.{is_same_name};
 ghost use Rattle.sip_message_fields.specs.declared.field_name.FieldName.TheVariants as Name;
-ghost use Rattle.sip_dialog.specs.Addresses as Given;
 ghost use Rattle.sip_context_places.specs.Given as Spec;
 
 use crate::route_facts::Place;

@@ -6,7 +6,8 @@ use Rattle.sip_uri.specs.declared.uri.Uri.{Uri}
 use Rattle.sip_location.specs.Registering.{aor_or_nobody}
 
 -- the Request-URI decides of what is no REGISTER alone
-pub target_by_method : (target named : Aor) (is_register : Bool) (read uri : Option Uri) → target ≡ cond is_register named (aor_or_nobody read) → (is_register ≡ false → read ≡ uri)
+pub target_by_method : (target named : Aor) (is_register : Bool) (read uri : Option Uri) → target ≡ cond is_register named (aor_or_nobody read)
+    → (is_register ≡ false → read ≡ uri)
     → target ≡ cond is_register named (aor_or_nobody uri)
 target_by_method target named true read uri is same = is
 target_by_method target named false read uri is same = is ∙ ap aor_or_nobody (same refl)

@@ -27,7 +27,8 @@ told_by : (row : Option (ℕ × List ℕ)) (status : ℕ) (extra : List ℕ) →
 told_by None status extra h = absurd (cc)
 told_by (Some x) status extra h = let both : Some (x.0, x.1) ≡ Some (status, extra) = cc in both
 
-pub told_applies : (row : Option (ℕ × List ℕ)) (refused : Option Refused) (why : Refused) (status : ℕ) (extra : List ℕ) → refused ≡ Some why → why ≡ Why.Status status extra
+pub told_applies : (row : Option (ℕ × List ℕ)) (refused : Option Refused) (why : Refused) (status : ℕ) (extra : List ℕ) → refused ≡ Some why
+    → why ≡ Why.Status status extra
     → refused ≡ option_map refused_with row → row ≡ Some (status, extra)
 told_applies row refused why status extra is is_status h =
     told_by row status extra (sym (ap (λ (w : Refused). Some w) is_status) ∙ sym is ∙ h)

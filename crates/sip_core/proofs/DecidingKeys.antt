@@ -46,7 +46,8 @@ abbrev pub named : Server → List OpenRequest → Option (List ℕ) → Option 
 named server requests text method = option_and_then (λ (t : List ℕ). option_and_then (λ (m : List ℕ). found_branch server t m requests) method) text
 
 by_cseq : (server : Server) (requests : List OpenRequest) (text : Option (List ℕ)) (cseq : Option CSeq)
-    → option_and_then (λ (t : List ℕ). option_and_then (λ (c : CSeq). found_branch server t c.method requests) cseq) text ≡ named server requests text (option_map (λ (c : CSeq). c.method) cseq)
+    → option_and_then (λ (t : List ℕ). option_and_then (λ (c : CSeq). found_branch server t c.method requests) cseq) text
+    ≡ named server requests text (option_map (λ (c : CSeq). c.method) cseq)
 by_cseq server requests None cseq = refl
 by_cseq server requests (Some text) None = refl
 by_cseq server requests (Some text) (Some cseq) = refl
@@ -54,7 +55,8 @@ by_cseq server requests (Some text) (Some cseq) = refl
 responding_is : (server : Server) (own : Own) (requests : List OpenRequest) (fields : List Field) → server.config.own ≡ own
     → responding server requests fields ≡ named server requests (own_top own fields) (only_method fields)
 responding_is server own requests fields is =
-    ap (λ (o : Own). option_and_then (λ (t : List ℕ). option_and_then (λ (c : CSeq). found_branch server t c.method requests) (result_ok (cseq_in fields))) (own_top o fields)) is
+    ap (λ (o : Own). option_and_then (λ (t : List ℕ). option_and_then (λ (c : CSeq). found_branch server t c.method requests) (result_ok (cseq_in fields)))
+    (own_top o fields)) is
     ∙ by_cseq server requests (own_top own fields) (result_ok (cseq_in fields))
 
 no_method : (server : Server) (requests : List OpenRequest) (text : Option (List ℕ)) → named server requests text None ≡ None
@@ -66,35 +68,42 @@ by_status : (m : Message) (short : Bool) (status : ℕ) (reason : List ℕ) → 
     → message_verdict server state a m short ≡ cond short Drop (response_verdict m.fields status (responding server state.requests m.fields))
 by_status m short status reason is server state a = ap (λ (s : Start). by_start server state a m short s) is
 
-whole : (m : Message) (short : Bool) (status : ℕ) (reason : List ℕ) → m.start ≡ Start.Status status reason → short ≡ false → (server : Server) (state : ProxyState) (a : Arrival)
+whole : (m : Message) (short : Bool) (status : ℕ) (reason : List ℕ) → m.start ≡ Start.Status status reason → short ≡ false
+    → (server : Server) (state : ProxyState) (a : Arrival)
     → message_verdict server state a m short ≡ response_verdict m.fields status (responding server state.requests m.fields)
 whole m short status reason is full server state a =
     by_status m short status reason is server state a ∙ ap (λ (s : Bool). cond s Drop (response_verdict m.fields status (responding server state.requests m.fields))) full
 
 pub short_body : (own : Own) (m : Message) (short : Bool) (status : ℕ) (reason : List ℕ) → m.start ≡ Start.Status status reason → short ≡ true → IsDropped own m short
 short_body own m short status reason is cut =
-    λ server state a same. by_status m short status reason is server state a ∙ ap (λ (s : Bool). cond s Drop (response_verdict m.fields status (responding server state.requests m.fields))) cut
+    λ server state a same. by_status m short status reason is server state a ∙ ap (λ (s : Bool).
+    cond s Drop (response_verdict m.fields status (responding server state.requests m.fields))) cut
 
 pub no_branch : (own : Own) (m : Message) (short : Bool) (status : ℕ) (reason : List ℕ) → m.start ≡ Start.Status status reason → short ≡ false
     → None ≡ own_top own m.fields → IsDropped own m short
 no_branch own m short status reason is full none =
     λ server state a same.
     whole m short status reason is full server state a
-    ∙ ap (response_verdict m.fields status) (responding_is server own state.requests m.fields same ∙ ap (λ (t : Option (List ℕ)). named server state.requests t (only_method m.fields)) (sym none))
+    ∙ ap (response_verdict m.fields status) (responding_is server own state.requests m.fields same
+    ∙ ap (λ (t : Option (List ℕ)). named server state.requests t (only_method m.fields)) (sym none))
 
 pub no_cseq : (own : Own) (m : Message) (short : Bool) (status : ℕ) (reason : List ℕ) → m.start ≡ Start.Status status reason → short ≡ false
     → None ≡ only_method m.fields → IsDropped own m short
 no_cseq own m short status reason is full none =
     λ server state a same.
     whole m short status reason is full server state a
-    ∙ ap (response_verdict m.fields status) (responding_is server own state.requests m.fields same ∙ ap (named server state.requests (own_top own m.fields)) (sym none) ∙ no_method server state.requests (own_top own m.fields))
+    ∙ ap (response_verdict m.fields status) (responding_is server own state.requests m.fields same ∙ ap (named server state.requests (own_top own m.fields)) (sym none)
+    ∙ no_method server state.requests (own_top own m.fields))
 
-both : (server : Server) (own : Own) (requests : List OpenRequest) (fields : List Field) (text method : List ℕ) → server.config.own ≡ own → Some text ≡ own_top own fields → Some method ≡ only_method fields
+both : (server : Server) (own : Own) (requests : List OpenRequest) (fields : List Field) (text method : List ℕ) → server.config.own ≡ own → Some text ≡ own_top own fields
+    → Some method ≡ only_method fields
     → responding server requests fields ≡ found_branch server text method requests
 both server own requests fields text method same is_text is_method =
-    responding_is server own requests fields same ∙ ap (λ (t : Option (List ℕ)). named server requests t (only_method fields)) (sym is_text) ∙ ap (named server requests (Some text)) (sym is_method)
+    responding_is server own requests fields same ∙ ap (λ (t : Option (List ℕ)). named server requests t (only_method fields)) (sym is_text)
+    ∙ ap (named server requests (Some text)) (sym is_method)
 
-pub responds : (own : Own) (m : Message) (short : Bool) (status : ℕ) (reason text method : List ℕ) (has_more_vias : Bool) → m.start ≡ Start.Status status reason → short ≡ false
+pub responds : (own : Own) (m : Message) (short : Bool) (status : ℕ) (reason text method : List ℕ) (has_more_vias : Bool) → m.start ≡ Start.Status status reason
+    → short ≡ false
     → Some text ≡ own_top own m.fields → Some method ≡ only_method m.fields → has_more_vias ≡ is_many (values_of Name.Via m.fields)
     → IsResponse own m short status text method has_more_vias
 responds own m short status reason text method has_more_vias is full is_text is_method more =
@@ -105,7 +114,8 @@ responds own m short status reason text method has_more_vias is full is_text is_
       responds = λ server requests same. both server own requests m.fields text method same is_text is_method;
       verdict_is =
           λ server state a same.
-          whole m short status reason is full server state a ∙ ap (response_verdict m.fields status) (both server own state.requests m.fields text method same is_text is_method);
+          whole m short status reason is full server state a ∙ ap (response_verdict m.fields status)
+          (both server own state.requests m.fields text method same is_text is_method);
     }
 
 -- ---- a request
@@ -122,7 +132,8 @@ by_request : (m : Message) (short : Bool) (method uri version : List ℕ) (key :
 by_request m short method uri version key is is_key server state a =
     ap (λ (s : Start). by_start server state a m short s) is ∙ ap (by_key server state a m short method) (key_is m method uri version is ∙ sym is_key)
 
-pub no_key : (own : Own) (m : Message) (short : Bool) (method uri version : List ℕ) → m.start ≡ Start.Request method uri version → None ≡ key_by method m.fields → IsDropped own m short
+pub no_key : (own : Own) (m : Message) (short : Bool) (method uri version : List ℕ) → m.start ≡ Start.Request method uri version → None ≡ key_by method m.fields
+    → IsDropped own m short
 no_key own m short method uri version is none = λ server state a same. by_request m short method uri version None is none server state a
 
 pub requests : (m : Message) (short : Bool) (method uri version : List ℕ) (via : Via) (key : Key) → m.start ≡ Start.Request method uri version → top_via m ≡ Some via
@@ -141,10 +152,12 @@ requests m short method uri version via key is is_via is_key =
 pub no_pair : (found : Option (Via × Key)) (wanted : Option Key) → found ≡ None → option_map (λ (x : Via × Key). x.1) found ≡ wanted → None ≡ wanted
 no_pair found wanted is e = sym (ap (λ (f : Option (Via × Key)). option_map (λ (x : Via × Key). x.1) f) is) ∙ e
 
-pub key_found : (found : Option (Via × Key)) (via : Via) (key : Key) (wanted : Option Key) → found ≡ Some (via, key) → option_map (λ (x : Via × Key). x.1) found ≡ wanted → Some key ≡ wanted
+pub key_found : (found : Option (Via × Key)) (via : Via) (key : Key) (wanted : Option Key) → found ≡ Some (via, key) → option_map (λ (x : Via × Key). x.1) found ≡ wanted
+    → Some key ≡ wanted
 key_found found via key wanted is e = sym (ap (λ (f : Option (Via × Key)). option_map (λ (x : Via × Key). x.1) f) is) ∙ e
 
-pub via_found : (found : Option (Via × Key)) (via : Via) (key : Key) (m : Message) → found ≡ Some (via, key) → IfSome found (λ (x : Via × Key). top_via m ≡ Some x.0) → top_via m ≡ Some via
+pub via_found : (found : Option (Via × Key)) (via : Via) (key : Key) (m : Message) → found ≡ Some (via, key) → IfSome found (λ (x : Via × Key). top_via m ≡ Some x.0)
+    → top_via m ≡ Some via
 via_found found via key m is h = subst (λ (f : Option (Via × Key)). IfSome f (λ (x : Via × Key). top_via m ≡ Some x.0)) is h
 
 -- ---- a result handed on
@@ -153,11 +166,13 @@ via_found found via key m is h = subst (λ (f : Option (Via × Key)). IfSome f (
 pub found_none : (found : Option (Bor (List ℕ))) (wanted : Option (List ℕ)) → found ≡ None → option_map (λ (b : Bor (List ℕ)). b.now) found ≡ wanted → None ≡ wanted
 found_none found wanted is e = sym (ap (λ (f : Option (Bor (List ℕ))). option_map (λ (b : Bor (List ℕ)). b.now) f) is) ∙ e
 
-pub found_some : (found : Option (Bor (List ℕ))) (part : Bor (List ℕ)) (wanted : Option (List ℕ)) → found ≡ Some part → option_map (λ (b : Bor (List ℕ)). b.now) found ≡ wanted → Some part.now ≡ wanted
+pub found_some : (found : Option (Bor (List ℕ))) (part : Bor (List ℕ)) (wanted : Option (List ℕ)) → found ≡ Some part
+    → option_map (λ (b : Bor (List ℕ)). b.now) found ≡ wanted → Some part.now ≡ wanted
 found_some found part wanted is e = sym (ap (λ (f : Option (Bor (List ℕ))). option_map (λ (b : Bor (List ℕ)). b.now) f) is) ∙ e
 
 pub of_request : (result : Result Incoming AllocError) (own : Own) (m : Message) (short : Bool) (method uri version : List ℕ) → m.start ≡ Start.Request method uri version
-    → IfOk result (λ (i : Incoming). (o : Own) (s : Bool) (u v : List ℕ) → m.start ≡ Start.Request method u v → Is o m s i) → IfOk result (λ (i : Incoming). Is own m short i)
+    → IfOk result (λ (i : Incoming). (o : Own) (s : Bool) (u v : List ℕ) → m.start ≡ Start.Request method u v → Is o m s i)
+    → IfOk result (λ (i : Incoming). Is own m short i)
 of_request (Ok i) own m short method uri version is h = h own short uri version is
 of_request (Err e) own m short method uri version is h = tt
 

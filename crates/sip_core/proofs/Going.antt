@@ -30,7 +30,8 @@ addressed_by : (server : Server) (m : Message) (way : Way) → way ≡ way_of se
 addressed_by server m way is = ap (λ (w : Way). option_and_then (address_of server.config.addresses) (next_uri w)) (sym is)
 
 -- the Request-URI that is left on its way
-pub left : (server : Server) (m : Message) (way : Way) (uri : Option Uri) → way ≡ way_of server.config.own m → uri ≡ request_uri_of server.config.own m → uri ≡ request_uri_in way
+pub left : (server : Server) (m : Message) (way : Way) (uri : Option Uri) → way ≡ way_of server.config.own m → uri ≡ request_uri_of server.config.own m
+    → uri ≡ request_uri_in way
 left server m way uri is_way is_uri = is_uri ∙ ap request_uri_in (sym is_way)
 
 -- without a Route it goes there
@@ -71,13 +72,15 @@ at_address server dialogs now m core way id address false is_core is_way is_id i
     ∙ ap (λ (a : Option Addr). within_at state now on other (Some id) a) (addressed_by server m way is_way ∙ sym is_address)
     ∙ ap (λ (b : Bool). cond b (on address id) other) (ap (λ (ds : List Dialog). is_in_dialog now ds id address) same ∙ is)
 
-pub held : (server : Server) (dialogs : List Dialog) (now : ℕ) (m : Message) (core : CoreFields) (way : Way) (id : DialogId) (address : Addr) → result_ok (core_of m) ≡ Some core
+pub held : (server : Server) (dialogs : List Dialog) (now : ℕ) (m : Message) (core : CoreFields) (way : Way) (id : DialogId) (address : Addr)
+    → result_ok (core_of m) ≡ Some core
     → way ≡ way_of server.config.own m → Some id ≡ id_of core → Some address ≡ option_and_then (address_of server.config.addresses) (next_uri way)
     → is_in_dialog now dialogs id address ≡ true → GoesOn server dialogs now m (Some (address, id))
 held server dialogs now m core way id address is_core is_way is_id is_address is =
     at_address server dialogs now m core way id address true is_core is_way is_id is_address is
 
-pub not_held : (server : Server) (dialogs : List Dialog) (now : ℕ) (m : Message) (core : CoreFields) (way : Way) (id : DialogId) (address : Addr) → result_ok (core_of m) ≡ Some core
+pub not_held : (server : Server) (dialogs : List Dialog) (now : ℕ) (m : Message) (core : CoreFields) (way : Way) (id : DialogId) (address : Addr)
+    → result_ok (core_of m) ≡ Some core
     → way ≡ way_of server.config.own m → Some id ≡ id_of core → Some address ≡ option_and_then (address_of server.config.addresses) (next_uri way)
     → is_in_dialog now dialogs id address ≡ false → GoesOn server dialogs now m None
 not_held server dialogs now m core way id address is_core is_way is_id is_address is =

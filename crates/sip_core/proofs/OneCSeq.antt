@@ -61,5 +61,6 @@ pub several : (fields : List Field) → 1 < length (values_of Name.CSeq fields) 
 several fields lt = several_by (values_of Name.CSeq fields) lt
 
 -- what the only one says
-pub one : (value : List ℕ) (fields : List Field) → Some value ≡ first_value Name.CSeq fields → length (values_of Name.CSeq fields) ≤ 1 → result_ok (cseq_in fields) ≡ cseq_of value
+pub one : (value : List ℕ) (fields : List Field) → Some value ≡ first_value Name.CSeq fields → length (values_of Name.CSeq fields) ≤ 1
+    → result_ok (cseq_in fields) ≡ cseq_of value
 one value fields e le = one_by value (values_of Name.CSeq fields) (e ∙ first_is Name.CSeq fields) le

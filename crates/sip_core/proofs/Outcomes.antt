@@ -29,12 +29,20 @@ registrable_by server m aor uri said is read by same =
     ap (λ (u : Option Uri). is_own_uri server u && is_users_address server.config.users server.config.own.domains aor) (sym read) ∙ sym by ∙ same
 
 -- what one that the registrar refuses comes to
-pub refuses : (result : Result Registering AllocError) (rows : List Binding) (now : ℕ) (r : Registration) (e : LocationError) → IsRefusal rows r now e → IfOk result (λ o. (some : List Binding) (at : ℕ) (who : Aor) → ComesTo some at who (refused_by e) o) → OnOk result (e ≢ NoMemory) → IfOk result (ComesTo rows now r.aor (registered_by (registered rows r now)))
-refuses (Ok o) rows now r e refusal gives memory = elim refusal [ inl is ↦ absurd (memory is) | inr is ↦ subst (λ x. ComesTo rows now r.aor (registered_by x) o) (sym is) (gives rows now r.aor) ]
+pub refuses : (result : Result Registering AllocError) (rows : List Binding) (now : ℕ) (r : Registration) (e : LocationError) → IsRefusal rows r now e
+    → IfOk result (λ o. (some : List Binding) (at : ℕ) (who : Aor) → ComesTo some at who (refused_by e) o) → OnOk result (e ≢ NoMemory)
+    → IfOk result (ComesTo rows now r.aor (registered_by (registered rows r now)))
+refuses (Ok o) rows now r e refusal gives memory = elim refusal [
+  | inl is ↦ absurd (memory is)
+  | inr is ↦ subst (λ x. ComesTo rows now r.aor (registered_by x) o) (sym is)
+      (gives rows now r.aor)
+]
 refuses (Err x) rows now r e refusal gives memory = tt
 
 -- what a registration comes to that was read of some fields, which are those of a request
-pub reads : (result : Result Registering AllocError) (rows : List Binding) (now : ℕ) (core : CoreFields) (read fields : List Field) (r : Registration) → r ≡ registration_of core read → read ≡ fields
-    → IfOk result (ComesTo rows now r.aor (registered_by (registered rows r now))) → IfOk result (ComesTo rows now (to_aor core) (registered_by (registered rows (registration_of core fields) now)))
+pub reads : (result : Result Registering AllocError) (rows : List Binding) (now : ℕ) (core : CoreFields) (read fields : List Field) (r : Registration)
+    → r ≡ registration_of core read → read ≡ fields
+    → IfOk result (ComesTo rows now r.aor (registered_by (registered rows r now))) → IfOk result
+    (ComesTo rows now (to_aor core) (registered_by (registered rows (registration_of core fields) now)))
 reads result rows now core read fields r is are h =
     subst (λ (x : Registration). IfOk result (ComesTo rows now x.aor (registered_by (registered rows x now)))) (is ∙ ap (registration_of core) are) h

@@ -12,7 +12,8 @@ abbrev first : List (List ℕ) → Option (List ℕ)
 first [] = None
 first (value ∷ values) = Some value
 
-by_test : (t : Bool) (field : Field) (o : Option Field) (fields : List Field) → option_map (λ f. f.value) o ≡ first (map (λ f. f.value) fields) → option_map (λ f. f.value) (cond t (Some field) o) ≡ first (map (λ f. f.value) (cond t (field ∷ fields) fields))
+by_test : (t : Bool) (field : Field) (o : Option Field) (fields : List Field) → option_map (λ f. f.value) o ≡ first (map (λ f. f.value) fields)
+    → option_map (λ f. f.value) (cond t (Some field) o) ≡ first (map (λ f. f.value) (cond t (field ∷ fields) fields))
 by_test true field o fields e = refl
 by_test false field o fields e = e
 
@@ -26,5 +27,6 @@ alone value (v ∷ []) is one = let same : value ≡ v = cc in ap (λ (w : List 
 alone value (v ∷ w ∷ ws) is one = absurd (omega (arith, one))
 
 -- the first value of a name that stands once
-pub only_value : (value : List ℕ) (count : ℕ) (fields : List Field) → Some value ≡ first_value Name.Contact fields → count ≡ length (values_of Name.Contact fields) → count ≡ 1 → value ∷ [] ≡ values_of Name.Contact fields
+pub only_value : (value : List ℕ) (count : ℕ) (fields : List Field) → Some value ≡ first_value Name.Contact fields → count ≡ length (values_of Name.Contact fields)
+    → count ≡ 1 → value ∷ [] ≡ values_of Name.Contact fields
 only_value value count fields is counted one = alone value (values_of Name.Contact fields) (is ∙ first_is Name.Contact fields) (sym counted ∙ one)

@@ -12,7 +12,7 @@ pub enum Registering {
     Refused(u16, Fields),
 }
 
-/// Written out, so that it is proved once and not wherever one is dropped.
+/// Written out, so that it is proved once and not wherever one is dropped. One is dropped only for want of memory.
 impl Drop for Registering {
     fn drop(self) {
         match self {

@@ -1,5 +1,6 @@
 -- A table has one row of a name at most, and its digest leads to it.
-use Rattle.std.proofs.Common.{◌≡◌, ℕ, zero, suc, ◌+◌, ◌≤◌, ◌<◌, List, [], ◌∷◌, length, map, cond, Bool, true, false, refl, sym, ◌∙◌, ap, ap₂, subst, arith, slice_get, get_or, position, Option, None, Some, option_map, eq-eqb}
+use Rattle.std.proofs.Common.{◌≡◌, ℕ, zero, suc, ◌+◌, ◌≤◌, ◌<◌, List, [], ◌∷◌, length, map, cond, Bool, true, false, refl, sym, ◌∙◌, ap, ap₂, subst, arith, slice_get}
+use Rattle.std.proofs.Common.{get_or, position, Option, None, Some, option_map, eq-eqb}
 use Rattle.std.specs.List.{position_or_len}
 use Rattle.std.specs.Prelude.{◌&&◌, not, count_by, nat_eq, nat_lt, fold, MatchOption}
 use Rattle.std.proofs.lemmas.Bool.Decides.{nat_tests}
@@ -110,7 +111,12 @@ module _ (secret : WordHasher) (id : DialogId) (rows : List Row) where
 
     module _ (at : ℕ) (is : StandsOnce d digests at) where
       pub digest_within : at < length rows
-      digest_within = omega (arith, slice_get_within digests at d is.there, ap (λ (l : List ℕ). length l) named.digested, length-map rows (λ (r : Row). digest_of secret r.0))
+      digest_within = omega (
+        arith,
+        slice_get_within digests at d is.there,
+        ap (λ (l : List ℕ). length l) named.digested,
+        length-map rows (λ (r : Row). digest_of secret r.0),
+      )
 
       -- where the row of this digest has the name
       pub digest_there : (row : Row) → slice_get rows at ≡ Some row → names id row.0 ≡ true → StandsAt id rows at
@@ -120,9 +126,17 @@ module _ (secret : WordHasher) (id : DialogId) (rows : List Row) where
       pub digest_of_another : (row : Row) → slice_get rows at ≡ Some row → names id row.0 ≡ false → StandsNowhere id rows
       digest_of_another row there other =
           let digest : Some (digest_of secret row.0) ≡ Some (digest_of secret id) =
-          sym (slice_get-map (λ (r : Row). digest_of secret r.0) rows at ∙ ap (λ (o : Option Row). option_map (λ (r : Row). digest_of secret r.0) o) there) ∙ (once (Some at) is).there in
+          sym (slice_get-map (λ (r : Row). digest_of secret r.0) rows at ∙ ap (λ (o : Option Row). option_map (λ (r : Row). digest_of secret r.0) o) there)
+          ∙ (once (Some at) is).there in
           let same : nat_eq (digest_of secret id) (digest_of secret row.0) ≡ true = eq-eqb _ _ (sym (same_Some _ _ digest)) in
           let here : cond {A = ℕ} (not (names id row.0) && nat_eq (digest_of secret id) (digest_of secret row.0)) 1 0 ≡ 1 =
           ap₂ (λ (a b : Bool). cond {A = ℕ} (not a && b) 1 0) other same in
           stands_nowhere id rows
-          (omega (arith, digest_counts, (once (Some at) is).once, counted_at (λ (r : Row). not (names id r.0) && nat_eq (digest_of secret id) (digest_of secret r.0)) rows at row there, here))
+          (omega (
+            arith,
+            digest_counts,
+            (once (Some at) is).once,
+            counted_at (λ (r : Row). not (names id r.0) && nat_eq (digest_of secret id) (digest_of secret r.0)) rows
+                at row there,
+            here,
+          ))

@@ -1,5 +1,6 @@
 -- Each digest is found where it stands, whatever happens to the list of them.
-use Rattle.std.proofs.Common.{◌≡◌, ◌≢◌, ℕ, ◌+◌, ◌-◌, ◌<◌, zero, suc, List, [], ◌∷◌, ◌++◌, length, cond, Bool, true, false, refl, sym, ◌∙◌, ap, subst, set, arith, slice_get, get_or, Option, Some, None, is_some, swap, swap_remove, length-append, length-take, length-set, eqb-true}
+use Rattle.std.proofs.Common.{◌≡◌, ◌≢◌, ℕ, ◌+◌, ◌-◌, ◌<◌, zero, suc, List, [], ◌∷◌, ◌++◌, length, cond, Bool, true, false, refl, sym, ◌∙◌, ap, subst, set, arith}
+use Rattle.std.proofs.Common.{slice_get, get_or, Option, Some, None, is_some, swap, swap_remove, length-append, length-take, length-set, eqb-true}
 use Rattle.std.specs.Prelude.{◌&&◌, count_by, nat_eq}
 use Rattle.std.proofs.lemmas.Bool.Decides.{nat_tests}
 use Rattle.std.proofs.lemmas.List.{get_or_at, set-get_or}
@@ -40,7 +41,8 @@ none_yet : (d : ℕ) (list : List ℕ) (place : Option ℕ) → IsPlace d list p
 none_yet d list None is e = is
 none_yet d list (Some at) is e = absurd (cc)
 
-place_pushed : (list : List ℕ) (d q : ℕ) (old : Option ℕ) (t : Bool) → nat_eq d q ≡ t → IsPlace q list old → count_by (nat_eq d) list ≡ 0 → IsPlace q (list ++ d ∷ []) (cond t (Some (length list)) old)
+place_pushed : (list : List ℕ) (d q : ℕ) (old : Option ℕ) (t : Bool) → nat_eq d q ≡ t → IsPlace q list old → count_by (nat_eq d) list ≡ 0
+    → IsPlace q (list ++ d ∷ []) (cond t (Some (length list)) old)
 place_pushed list d q old true e is none =
     let same : d ≡ q = eqb-true d q e in
     record {
@@ -53,9 +55,11 @@ place_pushed list d q (Some at) false e is none = record {
   once = omega (arith, sum_by_push (λ x. cond {A = ℕ} (nat_eq q x) 1 0) list d, counted_other d q e, is.once);
 }
 
-pub pushed : (list : List ℕ) (d : ℕ) (old new : ℕ → Option ℕ) → AreFound list old → old d ≡ None → ((q : ℕ) → new q ≡ cond (nat_eq d q) (Some (length list)) (old q)) → AreFound (list ++ d ∷ []) new
+pub pushed : (list : List ℕ) (d : ℕ) (old new : ℕ → Option ℕ) → AreFound list old → old d ≡ None → ((q : ℕ) → new q ≡ cond (nat_eq d q) (Some (length list)) (old q))
+    → AreFound (list ++ d ∷ []) new
 pushed list d old new found none is = record {
-  place = λ q. subst (IsPlace q (list ++ d ∷ [])) (sym (is q)) (place_pushed list d q (old q) (nat_eq d q) refl (found.place q) (none_yet d list (old d) (found.place d) none));
+  place = λ q. subst (IsPlace q (list ++ d ∷ [])) (sym (is q)) (place_pushed list d q (old q) (nat_eq d q) refl (found.place q)
+      (none_yet d list (old d) (found.place d) none));
 }
 
 -- ---- two that change places
@@ -85,17 +89,28 @@ module _ (list : List ℕ) (a b x y : ℕ) (inside_a : a < length list) (inside_
   place_swapped q None true false is_x is_y is = count_swapped list a b inside_a inside_b (nat_eq q) ∙ is
   place_swapped q None false true is_x is_y is = count_swapped list a b inside_a inside_b (nat_eq q) ∙ is
   place_swapped q None false false is_x is_y is = count_swapped list a b inside_a inside_b (nat_eq q) ∙ is
-  place_swapped q (Some at) true true is_x is_y is = record { there = there_a ∙ ap Some (eqb-true y q is_y); once = count_swapped list a b inside_a inside_b (nat_eq q) ∙ is.once }
-  place_swapped q (Some at) false true is_x is_y is = record { there = there_a ∙ ap Some (eqb-true y q is_y); once = count_swapped list a b inside_a inside_b (nat_eq q) ∙ is.once }
-  place_swapped q (Some at) true false is_x is_y is = record { there = there_b ∙ ap Some (eqb-true x q is_x); once = count_swapped list a b inside_a inside_b (nat_eq q) ∙ is.once }
+  place_swapped q (Some at) true true is_x is_y is = record {
+    there = there_a ∙ ap Some (eqb-true y q is_y);
+    once = count_swapped list a b inside_a inside_b (nat_eq q) ∙ is.once;
+  }
+  place_swapped q (Some at) false true is_x is_y is = record {
+    there = there_a ∙ ap Some (eqb-true y q is_y);
+    once = count_swapped list a b inside_a inside_b (nat_eq q) ∙ is.once;
+  }
+  place_swapped q (Some at) true false is_x is_y is = record {
+    there = there_b ∙ ap Some (eqb-true x q is_x);
+    once = count_swapped list a b inside_a inside_b (nat_eq q) ∙ is.once;
+  }
   place_swapped q (Some at) false false is_x is_y is = record {
     there = there_other at q is.there (apart x q is_x) (apart y q is_y);
     once = count_swapped list a b inside_a inside_b (nat_eq q) ∙ is.once;
   }
 
-  pub swapped : (old mid new : ℕ → Option ℕ) → AreFound list old → ((q : ℕ) → mid q ≡ moved x b q (old q)) → ((q : ℕ) → new q ≡ moved y a q (mid q)) → AreFound (swap list a b) new
+  pub swapped : (old mid new : ℕ → Option ℕ) → AreFound list old → ((q : ℕ) → mid q ≡ moved x b q (old q)) → ((q : ℕ) → new q ≡ moved y a q (mid q))
+      → AreFound (swap list a b) new
   swapped old mid new found first second = record {
-    place = λ q. subst (IsPlace q (swap list a b)) (sym (second q ∙ ap (moved y a q) (first q))) (place_swapped q (old q) (nat_eq x q) (nat_eq y q) refl refl (found.place q));
+    place = λ q. subst (IsPlace q (swap list a b)) (sym (second q ∙ ap (moved y a q) (first q)))
+        (place_swapped q (old q) (nat_eq x q) (nat_eq y q) refl refl (found.place q));
   }
 
 -- ---- one less
@@ -103,7 +118,8 @@ module _ (list : List ℕ) (a b x y : ℕ) (inside_a : a < length list) (inside_
 module _ (list : List ℕ) (at x other : ℕ) (inside : at < length list) (at_x : x ≡ get_or list at x) where
   less : (q : ℕ) (t : Bool) → nat_eq x q ≡ t → count_by (nat_eq q) (swap_remove list at other) + cond t 1 0 ≡ count_by (nat_eq q) list
   less q t e =
-      let here : cond {A = ℕ} (nat_eq q (get_or list at other)) 1 0 ≡ cond {A = ℕ} (nat_eq q x) 1 0 = ap (λ (n : ℕ). cond {A = ℕ} (nat_eq q n) 1 0) (any_default list at other x inside ∙ sym at_x) in
+      let here : cond {A = ℕ} (nat_eq q (get_or list at other)) 1 0 ≡ cond {A = ℕ} (nat_eq q x) 1 0 =
+      ap (λ (n : ℕ). cond {A = ℕ} (nat_eq q n) 1 0) (any_default list at other x inside ∙ sym at_x) in
       omega (arith, sum_by-swap_remove (λ n. cond {A = ℕ} (nat_eq q n) 1 0) list at other inside, here, test_is t e)
     where
       any_default : (xs : List ℕ) (i d e : ℕ) → i < length xs → get_or xs i d ≡ get_or xs i e
@@ -133,14 +149,16 @@ module _ (list : List ℕ) (at x other : ℕ) (inside : at < length list) (at_x 
   place_last q old true e last is = gone q old e is
   place_last q None false e last is = omega (arith, less q false e, is)
   place_last q (Some p) false e last is = record {
-    there = stays p q is.there (apart x q e) (not_last p (slice_get_within list p q is.there) (λ same. apart x q e (at_x ∙ ap (λ (n : ℕ). get_or list n x) (sym same) ∙ get_or_from_slice_get list p q x is.there)));
+    there = stays p q is.there (apart x q e) (not_last p (slice_get_within list p q is.there)
+        (λ same. apart x q e (at_x ∙ ap (λ (n : ℕ). get_or list n x) (sym same) ∙ get_or_from_slice_get list p q x is.there)));
     once = omega (arith, less q false e, is.once);
   }
     where
       not_last : (p : ℕ) → p < length list → p ≢ at → p < length list - 1
       not_last p lt differ = grind (arith, nat_tests)
 
-  pub removed_last : (old new : ℕ → Option ℕ) → length list ≡ at + 1 → AreFound list old → ((q : ℕ) → new q ≡ cond (nat_eq x q) None (old q)) → AreFound (swap_remove list at other) new
+  pub removed_last : (old new : ℕ → Option ℕ) → length list ≡ at + 1 → AreFound list old → ((q : ℕ) → new q ≡ cond (nat_eq x q) None (old q))
+      → AreFound (swap_remove list at other) new
   removed_last old new last found is = record {
     place = λ q. subst (IsPlace q (swap_remove list at other)) (sym (is q)) (place_last q (old q) (nat_eq x q) refl last (found.place q));
   }
@@ -159,7 +177,8 @@ module _ (list : List ℕ) (at x other : ℕ) (inside : at < length list) (at_x 
     }
     place_between q (Some p) false false is_x is_y is = record {
       there = stays p q is.there (apart x q is_x) (not_last (slice_get_within list p q is.there)
-          (λ same. apart y q is_y (at_y ∙ last_there list at other inside y lt ∙ ap (λ (n : ℕ). get_or list n y) (sym same) ∙ get_or_from_slice_get list p q y is.there)));
+          (λ same. apart y q is_y (at_y ∙ last_there list at other inside y lt ∙ ap (λ (n : ℕ). get_or list n y) (sym same)
+          ∙ get_or_from_slice_get list p q y is.there)));
       once = omega (arith, less q false is_x, is.once);
     }
       where
@@ -169,5 +188,6 @@ module _ (list : List ℕ) (at x other : ℕ) (inside : at < length list) (at_x 
     pub removed : (old mid new : ℕ → Option ℕ) → AreFound list old → ((q : ℕ) → mid q ≡ cond (nat_eq x q) None (old q)) → ((q : ℕ) → new q ≡ moved y at q (mid q))
         → AreFound (swap_remove list at other) new
     removed old mid new found first second = record {
-      place = λ q. subst (IsPlace q (swap_remove list at other)) (sym (second q ∙ ap (moved y at q) (first q))) (place_between q (old q) (nat_eq x q) (nat_eq y q) refl refl (found.place q));
+      place = λ q. subst (IsPlace q (swap_remove list at other)) (sym (second q ∙ ap (moved y at q) (first q)))
+          (place_between q (old q) (nat_eq x q) (nat_eq y q) refl refl (found.place q));
     }

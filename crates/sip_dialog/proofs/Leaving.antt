@@ -1,5 +1,6 @@
 -- The rows that are to leave, taken out from the last to the first.
-use Rattle.std.proofs.Common.{◌≡◌, ◌≢◌, ◌⊎◌, inl, inr, ℕ, suc, ◌+◌, ◌-◌, ◌≤◌, ◌<◌, List, [], ◌∷◌, length, cond, Bool, true, false, refl, sym, ◌∙◌, ap, arith, slice_get, get_or, Some}
+use Rattle.std.proofs.Common.{◌≡◌, ◌≢◌, ◌⊎◌, inl, inr, ℕ, suc, ◌+◌, ◌-◌, ◌≤◌, ◌<◌, List, [], ◌∷◌, length, cond, Bool, true, false, refl, sym, ◌∙◌, ap, arith, slice_get}
+use Rattle.std.proofs.Common.{get_or, Some}
 use Rattle.std.specs.Prelude.{◌&&◌, not, count_by, ◌==◌}
 use Rattle.std.proofs.lemmas.Option.{get_or_from_slice_get}
 use Rattle.sip_dialog.specs.declared.dialog.DialogId.{DialogId}
@@ -54,7 +55,8 @@ module _ (leaves : Standing → Bool) where
       secret = h.secret;
     } where
       by_place : (k : ℕ) (d : Row) → at - 1 ≤ k → k < length now.entries → (k ≡ at - 1) ⊎ (k ≢ at - 1) → leaves (get_or now.entries k d).1 ≡ false
-      by_place k d from lt (inl e) = ap (λ (r : Row). leaves r.1) (ap (λ (n : ℕ). get_or now.entries n d) e ∙ get_or_from_slice_get now.entries (at - 1) x d there) ∙ fails
+      by_place k d from lt (inl e) = ap (λ (r : Row). leaves r.1) (ap (λ (n : ℕ). get_or now.entries n d) e ∙ get_or_from_slice_get now.entries (at - 1) x d there)
+          ∙ fails
       by_place k d from lt (inr apart) = h.none k d (omega (arith, past (at - 1) k from apart, one)) lt
 
     -- or is taken out
@@ -77,7 +79,8 @@ module _ (leaves : Standing → Bool) where
   all_stay : (test : Row → Bool) (rows : List Row) → NoneFrom 0 rows → count_by (stay test) rows ≡ count_by test rows
   all_stay test [] none = refl
   all_stay test (r ∷ rows) none =
-      let here : cond {A = ℕ} (stay test r) 1 0 ≡ cond {A = ℕ} (test r) 1 0 = ap (λ (b : Bool). cond {A = ℕ} (not b && test r) 1 0) (none 0 r (omega arith) (omega arith)) in
+      let here : cond {A = ℕ} (stay test r) 1 0 ≡ cond {A = ℕ} (test r) 1 0 = ap (λ (b : Bool). cond {A = ℕ} (not b && test r) 1 0) (none 0 r (omega arith) (omega arith))
+      in
       omega (arith, count_first (stay test) r rows, count_first test r rows, here, all_stay test rows (λ k d from lt. none (suc k) d (omega arith) (omega (arith, lt))))
 
   -- none of them stands any more
@@ -85,7 +88,8 @@ module _ (leaves : Standing → Bool) where
   have_left old new h test = sym (all_stay test new.entries h.none) ∙ h.left test
 
 -- the end of an INVITE
-pub expired : (now number : ℕ) (old new : Entries) → Leaves (lapses number) 0 old new → SameDialogs now (dialogs_in new.entries) (after_invite now number (dialogs_in old.entries))
+pub expired : (now number : ℕ) (old new : Entries) → Leaves (lapses number) 0 old new
+    → SameDialogs now (dialogs_in new.entries) (after_invite now number (dialogs_in old.entries))
 expired now number old new h = λ p.
     counted now p new.entries
     ∙ have_left (lapses number) old new h (λ r. is_recent now r.1 && p (dialog r))
@@ -104,7 +108,8 @@ twice : (b : Bool) → not (not b) ≡ b
 twice true = refl
 twice false = refl
 
-pub forgotten : (now : ℕ) (old new : Entries) → Leaves (is_old now) 0 old new → (p : Dialog → Bool) → count_by p (dialogs_in new.entries) ≡ count_by p (known now (dialogs_in old.entries))
+pub forgotten : (now : ℕ) (old new : Entries) → Leaves (is_old now) 0 old new → (p : Dialog → Bool)
+    → count_by p (dialogs_in new.entries) ≡ count_by p (known now (dialogs_in old.entries))
 forgotten now old new h p =
     count_map p dialog new.entries
     ∙ have_left (is_old now) old new h (λ r. p (dialog r))

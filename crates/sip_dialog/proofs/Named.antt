@@ -1,5 +1,6 @@
 -- The digests are those of the rows' names, whatever happens to the rows.
-use Rattle.std.proofs.Common.{◌≡◌, ℕ, zero, suc, ◌-◌, ◌≤◌, ◌<◌, List, [], ◌∷◌, ◌++◌, length, map, cond, Bool, true, false, refl, sym, ◌∙◌, ap, ap₂, subst, arith, slice_get, get_or, set, take, Some, swap, swap_remove}
+use Rattle.std.proofs.Common.{◌≡◌, ℕ, zero, suc, ◌-◌, ◌≤◌, ◌<◌, List, [], ◌∷◌, ◌++◌, length, map, cond, Bool, true, false, refl, sym, ◌∙◌, ap, ap₂, subst, arith}
+use Rattle.std.proofs.Common.{slice_get, get_or, set, take, Some, swap, swap_remove}
 use Rattle.std.specs.Prelude.{◌&&◌, count_by}
 use Rattle.std.proofs.lemmas.List.{length-map, map-set, set-get_or, map_push, get_or-map}
 use Rattle.std.proofs.lemmas.List.Sums.{sum_by_push, sum_by-set, sum_by-swap_remove}
@@ -55,7 +56,8 @@ module _ (secret : WordHasher) (digests : List ℕ) (rows : List Row) (named : A
   named_set at x y there same = record {
     digested = named.digested
         ∙ sym (set-get_or (map (λ (r : Row). digest_of secret r.0) rows) at 0)
-        ∙ ap (set (map (λ (r : Row). digest_of secret r.0) rows) at) (get_or-map (λ (r : Row). digest_of secret r.0) rows at x 0 lt ∙ ap (λ (r : Row). digest_of secret r.0) is ∙ ap (digest_of secret) (sym same))
+        ∙ ap (set (map (λ (r : Row). digest_of secret r.0) rows) at) (get_or-map (λ (r : Row). digest_of secret r.0) rows at x 0 lt
+        ∙ ap (λ (r : Row). digest_of secret r.0) is ∙ ap (digest_of secret) (sym same))
         ∙ sym (map-set (λ (r : Row). digest_of secret r.0) rows at y);
     alone = λ id.
         let was : cond {A = ℕ} (names id (get_or rows at x).0) 1 0 ≡ cond {A = ℕ} (names id y.0) 1 0 =
@@ -77,7 +79,8 @@ module _ (secret : WordHasher) (digests : List ℕ) (rows : List Row) (named : A
   }
     where
       none : (id : DialogId) → names id row.0 ≡ true → count_by (λ r. names id r.0) rows ≡ 0
-      none id e = count_alike (λ (r : Row). names id r.0) (λ r. names row.0 r.0 && true) rows (λ r. alike.congr id row.0 r.0 e ∙ and_true (names row.0 r.0)) ∙ nowhere.none (λ r. true)
+      none id e = count_alike (λ (r : Row). names id r.0) (λ r. names row.0 r.0 && true) rows (λ r. alike.congr id row.0 r.0 e ∙ and_true (names row.0 r.0))
+          ∙ nowhere.none (λ r. true)
 
       by_test : (id : DialogId) (t : Bool) → names id row.0 ≡ t → count_by (λ r. names id r.0) (rows ++ row ∷ []) ≤ 1
       by_test id true e =
@@ -88,9 +91,11 @@ module _ (secret : WordHasher) (digests : List ℕ) (rows : List Row) (named : A
           omega (arith, sum_by_push (λ r. cond {A = ℕ} (names id r.0) 1 0) rows row, here, named.alone id)
 
   -- the one that an answer begins
-  pub named_begun : (row : Row) (id : DialogId) (d : ℕ) (pushed : List ℕ) (new : List Row) → row.0 ≡ id → d ≡ digest_of secret id → pushed ≡ digests ++ d ∷ [] → new ≡ rows ++ row ∷ [] → StandsNowhere id rows
+  pub named_begun : (row : Row) (id : DialogId) (d : ℕ) (pushed : List ℕ) (new : List Row) → row.0 ≡ id → d ≡ digest_of secret id → pushed ≡ digests ++ d ∷ []
+      → new ≡ rows ++ row ∷ [] → StandsNowhere id rows
       → AreNamed secret pushed new
   named_begun row id d pushed new same is digests_are rows_are nowhere =
       let last : digests ++ d ∷ [] ≡ digests ++ digest_of secret row.0 ∷ [] = ap (λ (n : ℕ). digests ++ n ∷ []) (is ∙ ap (digest_of secret) (sym same)) in
       let none : StandsNowhere row.0 rows = subst (λ (k : DialogId). StandsNowhere k rows) (sym same) nowhere in
-      subst (λ (l : List ℕ). AreNamed secret l new) (sym (digests_are ∙ last)) (subst (λ (l : List Row). AreNamed secret (digests ++ digest_of secret row.0 ∷ []) l) (sym rows_are) (named_pushed row none))
+      subst (λ (l : List ℕ). AreNamed secret l new) (sym (digests_are ∙ last)) (subst (λ (l : List Row). AreNamed secret (digests ++ digest_of secret row.0 ∷ []) l)
+      (sym rows_are) (named_pushed row none))

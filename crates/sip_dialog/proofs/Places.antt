@@ -1,5 +1,6 @@
 -- Which rows stand in front, and what moves where one is taken out, put in or set.
-use Rattle.std.proofs.Common.{◌≡◌, ◌≢◌, ℕ, zero, suc, ◌+◌, ◌-◌, ◌<◌, ◌≤◌, ◌⊎◌, inl, inr, List, [], ◌∷◌, ◌++◌, length, cond, Bool, true, false, refl, sym, subst, ◌∙◌, ap, arith, slice_get, get_or, Some, swap, swap_remove, set, length-append, length-set}
+use Rattle.std.proofs.Common.{◌≡◌, ◌≢◌, ℕ, zero, suc, ◌+◌, ◌-◌, ◌<◌, ◌≤◌, ◌⊎◌, inl, inr, List, [], ◌∷◌, ◌++◌, length, cond, Bool, true, false, refl, sym, subst, ◌∙◌, ap}
+use Rattle.std.proofs.Common.{arith, slice_get, get_or, Some, swap, swap_remove, set, length-append, length-set}
 use Rattle.std.specs.Prelude.{◌==◌, count_by}
 use Rattle.std.proofs.lemmas.Bool.Decides.{nat_tests}
 use Rattle.std.proofs.lemmas.List.{get_or-take, get_or-set_same, get_or-set_other, get_or_append_left, get_or_at}
@@ -62,15 +63,22 @@ taken_plain rows at other inside = λ row there test.
     let here : cond (test (get_or rows at other)) 1 0 ≡ cond (test row) 1 0 = ap (λ (r : Row). cond {A = ℕ} (test r) 1 0) is in
     omega (arith, sum_by-swap_remove (λ r. cond {A = ℕ} (test r) 1 0) rows at other inside, here)
 
-pub taken_swapped : (rows : List Row) (at place : ℕ) (other : Row) → at < length rows → place < length rows → IsTakenOut rows at (swap_remove (swap rows at place) place other)
+pub taken_swapped : (rows : List Row) (at place : ℕ) (other : Row) → at < length rows → place < length rows
+    → IsTakenOut rows at (swap_remove (swap rows at place) place other)
 taken_swapped rows at place other inside_at inside = λ row there test.
     let long : length (swap rows at place) ≡ length rows = length-swap rows at place in
     let is : get_or (swap rows at place) place other ≡ row = swapped_second rows at place inside_at inside other ∙ get_or_from_slice_get rows at row other there in
     let here : cond (test (get_or (swap rows at place) place other)) 1 0 ≡ cond (test row) 1 0 = ap (λ (r : Row). cond {A = ℕ} (test r) 1 0) is in
-    omega (arith, sum_by-swap_remove (λ r. cond {A = ℕ} (test r) 1 0) (swap rows at place) place other (omega (arith, long, inside)), count_swapped rows at place inside_at inside test, here)
+    omega (
+      arith,
+      sum_by-swap_remove (λ r. cond {A = ℕ} (test r) 1 0) (swap rows at place) place other (omega (arith, long, inside)),
+      count_swapped rows at place inside_at inside test,
+      here,
+    )
 
 -- what stands behind the place stood behind it
-pub behind_plain : (rows : List Row) (at : ℕ) (other : Row) → at < length rows → (k : ℕ) → at ≤ k → k < length rows - 1 → StoodBehind rows at (swap_remove rows at other) k
+pub behind_plain : (rows : List Row) (at : ℕ) (other : Row) → at < length rows → (k : ℕ) → at ≤ k → k < length rows - 1
+    → StoodBehind rows at (swap_remove rows at other) k
 behind_plain rows at other inside k le lt = by_place (either k at) where
   by_place : (k ≡ at) ⊎ (k ≢ at) → StoodBehind rows at (swap_remove rows at other) k
   by_place (inl e) = record {
@@ -79,7 +87,12 @@ behind_plain rows at other inside k le lt = by_place (either k at) where
     within = omega (arith, lt);
     same = λ d. ap (λ (n : ℕ). get_or (swap_remove rows at other) n d) e ∙ last_there rows at other inside d (omega (arith, e, lt));
   }
-  by_place (inr apart) = record { from = k; behind = omega (arith, past at k le apart); within = omega (arith, lt); same = λ d. others_stay rows at other inside k d apart lt }
+  by_place (inr apart) = record {
+    from = k;
+    behind = omega (arith, past at k le apart);
+    within = omega (arith, lt);
+    same = λ d. others_stay rows at other inside k d apart lt;
+  }
 
 module _ (rows : List Row) (at place : ℕ) (other : Row) (order : at ≤ place) (inside : place < length rows) where
   abbrev pub mid : List Row
@@ -116,8 +129,18 @@ module _ (rows : List Row) (at place : ℕ) (other : Row) (order : at ≤ place)
       within = omega (arith, lt);
       same = λ d. ap (λ (n : ℕ). get_or (swap_remove mid place other) n d) e ∙ from_last d (omega (arith, e, lt));
     }
-    by_place (inr apart) (inl e) = record { from = place; behind = omega (arith, past at place order (λ same. apart (e ∙ sym same))); within = inside; same = λ d. from_place k d e apart lt }
-    by_place (inr apart) (inr not_at) = record { from = k; behind = omega (arith, past at k le not_at); within = omega (arith, lt); same = λ d. from_same k d not_at apart lt }
+    by_place (inr apart) (inl e) = record {
+      from = place;
+      behind = omega (arith, past at place order (λ same. apart (e ∙ sym same)));
+      within = inside;
+      same = λ d. from_place k d e apart lt;
+    }
+    by_place (inr apart) (inr not_at) = record {
+      from = k;
+      behind = omega (arith, past at k le not_at);
+      within = omega (arith, lt);
+      same = λ d. from_same k d not_at apart lt;
+    }
 
 -- what a removal leaves
 pub record Removal (rows : List Row) (at : ℕ) (new : List Row) : Type 0 where
@@ -143,14 +166,19 @@ module _ (rows new : List Row) (at place : ℕ) (order : at ≤ place) (inside :
   swapped_len = omega (arith, r.long, length-swap rows at place)
 
   pub swapped_behind : (k : ℕ) → at ≤ k → k < length new → StoodBehind rows at new k
-  swapped_behind k le lt = subst (λ (l : List Row). StoodBehind rows at l k) (sym r.is) (behind_swapped rows at place r.other order inside k le (omega (arith, lt, swapped_len)))
+  swapped_behind k le lt = subst (λ (l : List Row). StoodBehind rows at l k) (sym r.is)
+      (behind_swapped rows at place r.other order inside k le (omega (arith, lt, swapped_len)))
 
 -- ---- what stands in front
 
 module _ (early : ℕ) (rows : List Row) (front : IsFront early rows) where
   -- where a row behind them is taken out
-  pub front_taken : (at : ℕ) (other : Row) (new : List Row) → early ≤ at → at < length rows → new ≡ swap_remove rows at other → length new + 1 ≡ length rows → IsFront early new
-  front_taken at other new le inside is long = record { within = omega (arith, le, inside, long); success = λ k d from lt. ap (λ (l : List Row). (get_or l k d).1.has_success) is ∙ by_place k d from (omega (arith, lt, long)) (either k at) } where
+  pub front_taken : (at : ℕ) (other : Row) (new : List Row) → early ≤ at → at < length rows → new ≡ swap_remove rows at other → length new + 1 ≡ length rows
+      → IsFront early new
+  front_taken at other new le inside is long = record {
+    within = omega (arith, le, inside, long);
+    success = λ k d from lt. ap (λ (l : List Row). (get_or l k d).1.has_success) is ∙ by_place k d from (omega (arith, lt, long)) (either k at);
+  } where
     by_place : (k : ℕ) (d : Row) → early ≤ k → k < length rows - 1 → (k ≡ at) ⊎ (k ≢ at) → (get_or (swap_remove rows at other) k d).1.has_success ≡ true
     by_place k d from lt (inl e) =
         ap (λ (r : Row). r.1.has_success) (ap (λ (n : ℕ). get_or (swap_remove rows at other) n d) e ∙ last_there rows at other inside d (omega (arith, e, lt)))
@@ -158,18 +186,22 @@ module _ (early : ℕ) (rows : List Row) (front : IsFront early rows) where
     by_place k d from lt (inr apart) = ap (λ (r : Row). r.1.has_success) (others_stay rows at other inside k d apart lt) ∙ front.success k d from (omega (arith, lt))
 
   -- where one of them is, and the last of them takes its place
-  pub front_less : (at place : ℕ) (other : Row) (new : List Row) → at < early → early ≡ place + 1 → new ≡ swap_remove (swap rows at place) place other → length new + 1 ≡ length rows → IsFront place new
+  pub front_less : (at place : ℕ) (other : Row) (new : List Row) → at < early → early ≡ place + 1 → new ≡ swap_remove (swap rows at place) place other
+      → length new + 1 ≡ length rows → IsFront place new
   front_less at place other new below one is long = record {
     within = omega (arith, front.within, one, long);
     success = λ k d from lt. ap (λ (l : List Row). (get_or l k d).1.has_success) is ∙ by_place k d from (omega (arith, lt, long)) (either k place);
   } where
-    by_place : (k : ℕ) (d : Row) → place ≤ k → k < length rows - 1 → (k ≡ place) ⊎ (k ≢ place) → (get_or (swap_remove (swap rows at place) place other) k d).1.has_success ≡ true
+    by_place : (k : ℕ) (d : Row) → place ≤ k → k < length rows - 1 → (k ≡ place) ⊎ (k ≢ place)
+        → (get_or (swap_remove (swap rows at place) place other) k d).1.has_success ≡ true
     by_place k d from lt (inl e) =
         ap (λ (r : Row). r.1.has_success)
-        (ap (λ (n : ℕ). get_or (swap_remove (swap rows at place) place other) n d) e ∙ from_last rows at place other (omega (arith, below, one)) (omega (arith, front.within, one)) d (omega (arith, e, lt)))
+        (ap (λ (n : ℕ). get_or (swap_remove (swap rows at place) place other) n d) e ∙ from_last rows at place other (omega (arith, below, one))
+        (omega (arith, front.within, one)) d (omega (arith, e, lt)))
         ∙ front.success (length rows - 1) d (omega (arith, e, one, lt)) (omega (arith, lt))
     by_place k d from lt (inr apart) =
-        ap (λ (r : Row). r.1.has_success) (from_same rows at place other (omega (arith, below, one)) (omega (arith, front.within, one)) k d (λ e. absurd (omega (arith, past place k from apart, e, below, one))) apart lt)
+        ap (λ (r : Row). r.1.has_success) (from_same rows at place other (omega (arith, below, one)) (omega (arith, front.within, one)) k d
+        (λ e. absurd (omega (arith, past place k from apart, e, below, one))) apart lt)
         ∙ front.success k d (omega (arith, past place k from apart, one)) (omega (arith, lt))
 
   -- where one of them has a 2xx now, and goes behind them
@@ -201,7 +233,8 @@ module _ (early : ℕ) (rows : List Row) (front : IsFront early rows) where
   } where
     by_place : (k : ℕ) (d : Row) → early ≤ k → k < length rows + 1 → (k ≡ length rows) ⊎ (k ≢ length rows) → (get_or (rows ++ row ∷ []) k d).1.has_success ≡ true
     by_place k d from lt (inl e) = ap (λ (r : Row). r.1.has_success) (get_or_at rows row [] d k (sym e)) ∙ success
-    by_place k d from lt (inr apart) = ap (λ (r : Row). r.1.has_success) (get_or_append_left rows (row ∷ []) d k (under k (length rows) lt apart)) ∙ front.success k d from (under k (length rows) lt apart)
+    by_place k d from lt (inr apart) = ap (λ (r : Row). r.1.has_success) (get_or_append_left rows (row ∷ []) d k (under k (length rows) lt apart))
+        ∙ front.success k d from (under k (length rows) lt apart)
 
   -- and where one more stands among them
   pub front_one_more : (row : Row) (pushed new : List Row) → pushed ≡ rows ++ row ∷ [] → new ≡ swap pushed early (length rows) → IsFront (early + 1) new
@@ -216,18 +249,22 @@ module _ (early : ℕ) (rows : List Row) (front : IsFront early rows) where
     before : (k : ℕ) (d : Row) → k < length rows → get_or pushed k d ≡ get_or rows k d
     before k d lt = ap (λ (l : List Row). get_or l k d) pushed_is ∙ get_or_append_left rows (row ∷ []) d k lt
 
-    by_place : (k : ℕ) (d : Row) → early + 1 ≤ k → k < length rows + 1 → (k ≡ length rows) ⊎ (k ≢ length rows) → (get_or (swap pushed early (length rows)) k d).1.has_success ≡ true
+    by_place : (k : ℕ) (d : Row) → early + 1 ≤ k → k < length rows + 1 → (k ≡ length rows) ⊎ (k ≢ length rows)
+        → (get_or (swap pushed early (length rows)) k d).1.has_success ≡ true
     by_place k d from lt (inl e) =
         ap (λ (r : Row). r.1.has_success)
-        (ap (λ (n : ℕ). get_or (swap pushed early (length rows)) n d) e ∙ swapped_second pushed early (length rows) (omega (arith, front.within, long)) (omega (arith, long)) d ∙ before early d (omega (arith, from, e)))
+        (ap (λ (n : ℕ). get_or (swap pushed early (length rows)) n d) e ∙ swapped_second pushed early (length rows) (omega (arith, front.within, long))
+        (omega (arith, long)) d ∙ before early d (omega (arith, from, e)))
         ∙ front.success early d (omega arith) (omega (arith, from, e))
     by_place k d from lt (inr apart) =
         ap (λ (r : Row). r.1.has_success)
-        (swapped_other pushed early (length rows) (omega (arith, front.within, long)) (omega (arith, long)) k d (λ e. absurd (omega (arith, e, from))) apart ∙ before k d (under k (length rows) lt apart))
+        (swapped_other pushed early (length rows) (omega (arith, front.within, long)) (omega (arith, long)) k d (λ e. absurd (omega (arith, e, from))) apart
+        ∙ before k d (under k (length rows) lt apart))
         ∙ front.success k d (omega (arith, from)) (under k (length rows) lt apart)
 
 -- where a row is set, which has a 2xx where it had one
-pub front_set : (early : ℕ) (rows : List Row) (at : ℕ) (x y : Row) → IsFront early rows → slice_get rows at ≡ Some x → (x.1.has_success ≡ true → y.1.has_success ≡ true) → IsFront early (set rows at y)
+pub front_set : (early : ℕ) (rows : List Row) (at : ℕ) (x y : Row) → IsFront early rows → slice_get rows at ≡ Some x → (x.1.has_success ≡ true → y.1.has_success ≡ true)
+    → IsFront early (set rows at y)
 front_set early rows at x y front there keeps = record {
   within = omega (arith, front.within, length-set rows at y);
   success = λ k d from lt. by_place k d from (omega (arith, lt, length-set rows at y)) (either k at);

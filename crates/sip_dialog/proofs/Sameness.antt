@@ -1,5 +1,6 @@
 -- What is known of dialogs, and what is made of them, doesn't depend on their order.
-use Rattle.std.proofs.Common.{◌≡◌, ℕ, zero, suc, slice_get, Some, ◌≤◌, ◌+◌, List, [], ◌∷◌, ◌++◌, length, cond, ltb, Bool, true, false, refl, sym, ◌∙◌, ap, ap₂, arith, map}
+use Rattle.std.proofs.Common.{◌≡◌, ℕ, zero, suc, slice_get, Some, ◌≤◌, ◌+◌, List, [], ◌∷◌, ◌++◌, length, cond, ltb, Bool, true, false, refl, sym, ◌∙◌, ap, ap₂, arith}
+use Rattle.std.proofs.Common.{map}
 use Rattle.std.specs.Prelude.{◌&&◌, ◌||◌, not, filter, count_by, nat_le}
 use Rattle.std.specs.List.{list_any}
 use Rattle.std.proofs.lemmas.Bool.Decides.{nat_tests}
@@ -9,7 +10,8 @@ use Rattle.sip_dialog.specs.declared.dialog.DialogId.{DialogId}
 use Rattle.sip_dialog.specs.declared.dialog.Dialog.{Dialog}
 use Rattle.sip_dialog.specs.declared.dialog.InviteAnswer.{InviteAnswer}
 use Rattle.sip_dialog.specs.Sameness.{SameDialogs}
-use Rattle.sip_dialog.specs.Dialogs.{is_known, known, is_named, holds, is_in_dialog, edited, learnt, knows, answered_again, begun, without_dialog, is_unconfirmed, after_invite}
+use Rattle.sip_dialog.specs.Dialogs.{is_known, known, is_named, holds, is_in_dialog, edited, learnt, knows, answered_again, begun, without_dialog, is_unconfirmed}
+use Rattle.sip_dialog.specs.Dialogs.{after_invite}
 
 -- ---- counts
 
@@ -20,7 +22,8 @@ count_first p x xs = sum_by-cons (λ y. cond (p y) 1 0) x xs
 pub count_filter : {X : Type 0} (p q : X → Bool) (xs : List X) → count_by p (filter q xs) ≡ count_by (λ x. q x && p x) xs
 count_filter p q [] = refl
 count_filter p q (x ∷ xs) = by_test (q x) (count_filter p q xs) ∙ sym (count_first (λ y. q y && p y) x xs) where
-  by_test : (t : Bool) → count_by p (filter q xs) ≡ count_by (λ y. q y && p y) xs → count_by p (cond t (x ∷ filter q xs) (filter q xs)) ≡ cond (t && p x) 1 0 + count_by (λ y. q y && p y) xs
+  by_test : (t : Bool) → count_by p (filter q xs) ≡ count_by (λ y. q y && p y) xs → count_by p (cond t (x ∷ filter q xs) (filter q xs))
+      ≡ cond (t && p x) 1 0 + count_by (λ y. q y && p y) xs
   by_test true e = count_first p x (filter q xs) ∙ ap (λ n. cond (p x) 1 0 + n) e
   by_test false e = omega (arith, e)
 
@@ -75,13 +78,15 @@ and_moves false y z = refl
 
 -- ---- dialogs
 
-same_filtered : (q : Dialog → Bool) (now : ℕ) (left right : List Dialog) → SameDialogs now left right → SameDialogs now (filter q (known now left)) (filter q (known now right))
+same_filtered : (q : Dialog → Bool) (now : ℕ) (left right : List Dialog) → SameDialogs now left right
+    → SameDialogs now (filter q (known now left)) (filter q (known now right))
 same_filtered q now left right h = λ p. at_once p left ∙ h (λ d. q d && (is_known now d && p d)) ∙ sym (at_once p right) where
   at_once : (p : Dialog → Bool) (ds : List Dialog) → count_by p (known now (filter q (known now ds))) ≡ count_by (λ d. q d && (is_known now d && p d)) (known now ds)
   at_once p ds = count_filter p (is_known now) (filter q (known now ds)) ∙ count_filter (λ d. is_known now d && p d) q (known now ds)
 
 -- an edit
-pub edited_same : (now : ℕ) (id : DialogId) (edit : Dialog → Dialog) (left right : List Dialog) → SameDialogs now left right → SameDialogs now (edited now id edit left) (edited now id edit right)
+pub edited_same : (now : ℕ) (id : DialogId) (edit : Dialog → Dialog) (left right : List Dialog) → SameDialogs now left right
+    → SameDialogs now (edited now id edit left) (edited now id edit right)
 edited_same now id edit left right h = λ p. at_once p left ∙ h (λ d. is_known now (one d) && p (one d)) ∙ sym (at_once p right) where
   one : Dialog → Dialog
   one d = cond (is_named id d) (edit d) d
@@ -90,10 +95,12 @@ edited_same now id edit left right h = λ p. at_once p left ∙ h (λ d. is_know
   at_once p ds = count_filter p (is_known now) (map one (known now ds)) ∙ count_map (λ d. is_known now d && p d) one (known now ds)
 
 -- the end of a dialog, and of an INVITE without a 2xx
-pub without_same : (now : ℕ) (id : DialogId) (left right : List Dialog) → SameDialogs now left right → SameDialogs now (without_dialog now id left) (without_dialog now id right)
+pub without_same : (now : ℕ) (id : DialogId) (left right : List Dialog) → SameDialogs now left right
+    → SameDialogs now (without_dialog now id left) (without_dialog now id right)
 without_same now id left right h = same_filtered (λ d. not (is_named id d)) now left right h
 
-pub after_invite_same : (now number : ℕ) (left right : List Dialog) → SameDialogs now left right → SameDialogs now (after_invite now number left) (after_invite now number right)
+pub after_invite_same : (now number : ℕ) (left right : List Dialog) → SameDialogs now left right
+    → SameDialogs now (after_invite now number left) (after_invite now number right)
 after_invite_same now number left right h = same_filtered (λ d. not (is_unconfirmed number d)) now left right h
 
 -- what is known
@@ -104,15 +111,17 @@ pub length_same : (now : ℕ) (left right : List Dialog) → SameDialogs now lef
 length_same now left right h = length_counts (known now left) ∙ h (λ d. true) ∙ sym (length_counts (known now right))
 
 pub same_known : (now : ℕ) (more left right : List Dialog) → SameDialogs now left right → SameDialogs now (known now left ++ more) (known now right ++ more)
-same_known now more left right h = λ p. at_once p left ∙ ap (λ n. n + count_by (λ d. is_known now d && p d) more) (h (λ d. is_known now d && p d)) ∙ sym (at_once p right) where
-  at_once : (p : Dialog → Bool) (ds : List Dialog)
-      → count_by p (known now (known now ds ++ more)) ≡ count_by (λ d. is_known now d && p d) (known now ds) + count_by (λ d. is_known now d && p d) more
-  at_once p ds = count_filter p (is_known now) (known now ds ++ more) ∙ count_joined (λ d. is_known now d && p d) (known now ds) more
+same_known now more left right h = λ p. at_once p left ∙ ap (λ n. n + count_by (λ d. is_known now d && p d) more) (h (λ d. is_known now d && p d))
+    ∙ sym (at_once p right) where
+      at_once : (p : Dialog → Bool) (ds : List Dialog)
+          → count_by p (known now (known now ds ++ more)) ≡ count_by (λ d. is_known now d && p d) (known now ds) + count_by (λ d. is_known now d && p d) more
+      at_once p ds = count_filter p (is_known now) (known now ds ++ more) ∙ count_joined (λ d. is_known now d && p d) (known now ds) more
 
 -- what an answer to an INVITE teaches
 pub learnt_same : (now : ℕ) (a : InviteAnswer) (left right : List Dialog) → SameDialogs now left right → SameDialogs now (learnt now a left) (learnt now a right)
 learnt_same now a left right h =
-    rw (knows_same now a.id left right h, length_same now left right h) (by_tests (knows now a.id right) (not (knows now a.id right) && nat_le 4096 (length (known now right)))) where
+    rw (knows_same now a.id left right h, length_same now left right h) (by_tests (knows now a.id right)
+    (not (knows now a.id right) && nat_le 4096 (length (known now right)))) where
       by_tests : (is_there is_full : Bool)
           → SameDialogs now (cond is_there (edited now a.id (answered_again a) left) (cond is_full (known now left) (known now left ++ begun a ∷ [])))
           (cond is_there (edited now a.id (answered_again a) right) (cond is_full (known now right) (known now right ++ begun a ∷ [])))
@@ -122,12 +131,14 @@ learnt_same now a left right h =
       by_tests false false = same_known now (begun a ∷ []) left right h
 
 -- whether a request is in a dialog
-pub in_dialog_same : (now : ℕ) (left right : List Dialog) (id : DialogId) (address : Addr) → SameDialogs now left right → is_in_dialog now left id address ≡ is_in_dialog now right id address
+pub in_dialog_same : (now : ℕ) (left right : List Dialog) (id : DialogId) (address : Addr) → SameDialogs now left right
+    → is_in_dialog now left id address ≡ is_in_dialog now right id address
 in_dialog_same now left right id address h = at_once left ∙ ap (ltb 0) (h (λ d. is_named id d && holds address d)) ∙ sym (at_once right) where
   at_once : (ds : List Dialog) → is_in_dialog now ds id address ≡ ltb 0 (count_by (λ d. is_named id d && holds address d) (known now ds))
   at_once ds =
       any_counts (λ d. is_known now d && is_named id d && holds address d) ds
-      ∙ ap (ltb 0) (count_alike _ _ ds (λ d. and_moves (is_known now d) (is_named id d) (holds address d)) ∙ sym (count_filter (λ d. is_named id d && holds address d) (is_known now) ds))
+      ∙ ap (ltb 0) (count_alike _ _ ds (λ d. and_moves (is_known now d) (is_named id d) (holds address d))
+      ∙ sym (count_filter (λ d. is_named id d && holds address d) (is_known now) ds))
 
 -- what is known later is what is known now and still known then
 known_later : (now later : ℕ) (ds : List Dialog) → now ≤ later → known later ds ≡ filter (is_known later) (known now ds)

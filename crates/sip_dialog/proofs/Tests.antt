@@ -39,6 +39,7 @@ test_says now dialogs id address e =
 
 pub test_holds : (now : ℕ) (dialogs : List Dialog) (id : DialogId) (address : Addr) → IsInDialog now dialogs id address → is_in_dialog now dialogs id address ≡ true
 test_holds now dialogs id address h =
-    let held : holds address h.dialog ≡ true = list_any-from_Any (is_same_addr address) h.dialog.addresses (h.holds_address.0, address, h.holds_address.1, h.holds_address.2, same_itself address) in
+    let held : holds address h.dialog ≡ true = list_any-from_Any (is_same_addr address) h.dialog.addresses
+    (h.holds_address.0, address, h.holds_address.1, h.holds_address.2, same_itself address) in
     let recent : is_known now h.dialog ≡ true = let r = h.is_recent in grind (arith, nat_tests) in
     list_any-from_Any (λ d. is_known now d && is_named id d && holds address d) dialogs (h.there.0, h.dialog, h.there.1, h.there.2, rw (recent, h.has_name, held) refl)

@@ -1,5 +1,6 @@
 //! The calls on the dialogs that are known (RFC 3261 12): what is asked of them, and what begins, renews and ends one.
 ghost use Rattle.std.specs.Prelude.{◌≡◌, ◌≢◌, ◌↔◌, ◌≤◌, ◌+◌, ℕ, true, [], Err, IfErr, OnOk, OnErr};
+ghost use Rattle.sip_base.specs.Keyed.{fed_first};
 ghost use Rattle.sip_dialog.specs.declared.error.DialogError.TheVariants.{NoMemory, Full};
 ghost use Rattle.sip_dialog.specs.Dialogs.{is_in_dialog, is_full_for, learnt, taught, renewed, without_dialog, after_invite};
 ghost use Rattle.sip_dialog.specs.Sameness.{SameDialogs};
@@ -12,7 +13,7 @@ use std::alloc::Global;
 use std::marker::Model;
 
 /// The dialogs that a proxy knows, found by their names in constant time, whichever names peers choose.
-/// Seen as the dialogs that stand in it, in any order, and how many more can be learnt with no memory.
+/// Seen as the dialogs that stand in it, in any order, how many more can be learnt with no memory, and the secret of their hashes.
 /// Some that stand aren't known any more: they are forgotten when they are met, and all of them when room is
 /// wanted among 4,096.
 #[derive(Drop)]
@@ -28,7 +29,7 @@ impl Model for Dialogs {
     ghost use Rattle.std.specs.Prelude.{◌≤◌, length};
     ghost use Rattle.sip_dialog.specs.Rows.{dialogs_in};
 
-    ghost view = { λ d. record { dialogs = dialogs_in d.rows.entries; room = d.rows.room } };
+    ghost view = { λ d. record { dialogs = dialogs_in d.rows.entries; room = d.rows.room; secret = d.rows.secret } };
 
     ghost invariant = { λ d. length d.rows.entries ≤ 4096 };
 }
@@ -36,7 +37,8 @@ impl Model for Dialogs {
 impl Dialogs {
     /// No dialog. Names are hashed under the secret `keys`. Takes no memory.
     pub fn new(alloc: Global, keys: u128) -> Self
-        ensures { result.dialogs ≡ [] }
+        ensures dialogs { result.dialogs ≡ [] }
+        ensures secret { result.secret ≡ fed_first keys }
     {
         Dialogs {
             rows: Rows::new(alloc, keys),
@@ -58,6 +60,7 @@ impl Dialogs {
         ensures ok { OnOk result (1 ≤ self.new.room) }
         ensures err { IfErr result (λ e. e ≡ NoMemory) }
         ensures room { self.old.room ≤ self.new.room }
+        ensures secret { self.new.secret ≡ self.old.secret }
     {
         self.rows.reserve()?;
         Ok(())
@@ -72,6 +75,7 @@ impl Dialogs {
         ensures full { (result ≡ Err Full) ↔ (is_full_for now answer.id self.old.dialogs ≡ true) }
         ensures memory { 1 ≤ self.old.room → result ≢ Err NoMemory }
         ensures room { self.old.room ≤ self.new.room + 1 }
+        ensures secret { self.new.secret ≡ self.old.secret }
     {
         self.rows.learn(answer, now)
     }
@@ -81,6 +85,7 @@ impl Dialogs {
     pub fn teach(&mut self, id: &DialogId, addresses: &[Addr], now: u64)
         ensures taught { SameDialogs now self.new.dialogs (taught now id.now addresses.now self.old.dialogs) }
         ensures room { self.old.room ≤ self.new.room }
+        ensures secret { self.new.secret ≡ self.old.secret }
     {
         self.rows.teach(id, addresses, now);
     }
@@ -90,6 +95,7 @@ impl Dialogs {
     pub fn renew(&mut self, id: &DialogId, addresses: &[Addr], now: u64)
         ensures renewed { SameDialogs now self.new.dialogs (renewed now id.now addresses.now self.old.dialogs) }
         ensures room { self.old.room ≤ self.new.room }
+        ensures secret { self.new.secret ≡ self.old.secret }
     {
         self.rows.renew(id, addresses, now);
     }
@@ -99,6 +105,7 @@ impl Dialogs {
     pub fn end(&mut self, id: &DialogId)
         ensures ended { (now : ℕ) → SameDialogs now self.new.dialogs (without_dialog now id.now self.old.dialogs) }
         ensures room { self.old.room ≤ self.new.room }
+        ensures secret { self.new.secret ≡ self.old.secret }
     {
         self.rows.end(id);
     }
@@ -108,6 +115,7 @@ impl Dialogs {
     pub fn expire(&mut self, number: u64, now: u64)
         ensures left { SameDialogs now self.new.dialogs (after_invite now number self.old.dialogs) }
         ensures room { self.old.room ≤ self.new.room }
+        ensures secret { self.new.secret ≡ self.old.secret }
     {
         self.rows.expire(number, now);
     }

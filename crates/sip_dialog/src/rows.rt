@@ -1,6 +1,7 @@
 //! The table of known dialogs: found by a digest of their names, at most 4,096, and forgotten once they aren't known any more.
 ghost use Rattle.std.specs.Prelude.{◌≡◌, ◌≤◌, ◌<◌, ◌+◌, ◌++◌, ◌∷◌, [], Bool, true, not, length, count_by, position, MatchOption, ℕ};
-ghost use Rattle.std.specs.Prelude.{◌==◌, is_some, IfSome, IfNone, IfErr, Err, nat_le, ◌↔◌, ◌≢◌, OnOk, OnErr, IsOk};
+ghost use Rattle.std.specs.Prelude.{is_some, IfSome, IfNone, IfErr, Err, nat_le, ◌↔◌, ◌≢◌, OnOk, OnErr, IsOk};
+ghost use Rattle.sip_base.specs.Keyed.{fed_first};
 ghost use Rattle.sip_dialog.specs.declared.error.DialogError.TheVariants.{NoMemory, Full};
 ghost use Rattle.sip_dialog.specs.Dialogs.{known, knows, is_in_dialog, learnt, taught, renewed, is_full_for, begun, after_invite, without_dialog};
 ghost use Rattle.sip_dialog.specs.declared.dialog.DialogId.{DialogId};
@@ -64,7 +65,7 @@ fn digest_of(keyed: &Keyed, id: &DialogId) -> u64
     state.finish()
 }
 
-/// Where the row of a name stands, row by row.
+/// Where the row of a name stands, row by row. Called only where two have one digest.
 fn search(rows: &[(DialogId, Standing)], id: &DialogId) -> Option<usize>
     ensures { result ≡ position (λ row. names id.now row.0) rows.now }
 {
@@ -74,7 +75,8 @@ fn search(rows: &[(DialogId, Standing)], id: &DialogId) -> Option<usize>
 impl Rows {
     /// No rows. Names are hashed under the secret `keys`.
     pub(crate) fn new(alloc: Global, keys: u128) -> Self
-        ensures { result.entries ≡ [] }
+        ensures entries { result.entries ≡ [] }
+        ensures secret { result.secret ≡ fed_first keys }
     {
         Rows {
             rows: Vec::new(alloc),
@@ -89,6 +91,7 @@ impl Rows {
         ensures entries { self.new.entries ≡ self.old.entries }
         ensures ok { OnOk result (1 ≤ self.new.room) }
         ensures room { self.old.room ≤ self.new.room }
+        ensures secret { self.new.secret ≡ self.old.secret }
     {
         self.rows.reserve(1)?;
         self.digests.reserve()
@@ -146,6 +149,7 @@ impl Rows {
         ensures same { (p : Dialog → Bool) → count_by p (dialogs_in self.new.entries) ≡ count_by p (dialogs_in self.old.entries) }
         ensures len { length self.new.entries ≡ length self.old.entries }
         ensures room { self.old.room ≤ self.new.room }
+        ensures secret { self.new.secret ≡ self.old.secret }
     {
         if at < self.early && self.rows[at].1.has_success {
             self.early -= 1;
@@ -194,6 +198,7 @@ impl Rows {
         ensures taught { SameDialogs now (dialogs_in self.new.entries) (taught now id.now addresses.now (dialogs_in self.old.entries)) }
         ensures len { length self.new.entries ≤ length self.old.entries }
         ensures room { self.old.room ≤ self.new.room }
+        ensures secret { self.new.secret ≡ self.old.secret }
     {
         let digest = self.digest(id);
         if let Some(at) = self.meet(id, digest, now) {
@@ -206,6 +211,7 @@ impl Rows {
         ensures renewed { SameDialogs now (dialogs_in self.new.entries) (renewed now id.now addresses.now (dialogs_in self.old.entries)) }
         ensures len { length self.new.entries ≤ length self.old.entries }
         ensures room { self.old.room ≤ self.new.room }
+        ensures secret { self.new.secret ≡ self.old.secret }
     {
         let digest = self.digest(id);
         if let Some(at) = self.meet(id, digest, now) {
@@ -218,6 +224,7 @@ impl Rows {
         ensures ended { (now : ℕ) → SameDialogs now (dialogs_in self.new.entries) (without_dialog now id.now (dialogs_in self.old.entries)) }
         ensures len { length self.new.entries ≤ length self.old.entries }
         ensures room { self.old.room ≤ self.new.room }
+        ensures secret { self.new.secret ≡ self.old.secret }
     {
         let digest = self.digest(id);
         if let Some(at) = self.find(id, digest) {
@@ -230,6 +237,7 @@ impl Rows {
         ensures left { SameDialogs now (dialogs_in self.new.entries) (after_invite now number (dialogs_in self.old.entries)) }
         ensures len { length self.new.entries ≤ length self.old.entries }
         ensures room { self.old.room ≤ self.new.room }
+        ensures secret { self.new.secret ≡ self.old.secret }
     {
         let mut at = self.early;
         while at > 0 {
@@ -240,7 +248,7 @@ impl Rows {
         }
     }
 
-    /// Forgets the dialogs that aren't known any more.
+    /// Forgets the dialogs that aren't known any more. Called only where as many rows stand as may be known.
     fn forget(&mut self, now: u64)
         ensures known { (p : Dialog → Bool) → count_by p (dialogs_in self.new.entries) ≡ count_by p (known now (dialogs_in self.old.entries)) }
         ensures absent { (id : DialogId) → StandsNowhere id self.old.entries → StandsNowhere id self.new.entries }
@@ -288,6 +296,7 @@ impl Rows {
         ensures memory { IfErr result (λ e. e ≡ NoMemory) }
         ensures room { 1 ≤ self.old.room → IsOk result }
         ensures left { self.old.room ≤ self.new.room + 1 }
+        ensures secret { self.new.secret ≡ self.old.secret }
     {
         self.rows.reserve(1)?;
         self.digests.push(digest)?;
@@ -311,6 +320,7 @@ impl Rows {
         ensures room { 1 ≤ self.old.room → result ≢ Err NoMemory }
         ensures left { self.old.room ≤ self.new.room + 1 }
         ensures len { length self.new.entries ≤ 4096 }
+        ensures secret { self.new.secret ≡ self.old.secret }
     {
         let digest = self.digest(&answer.id);
         if let Some(at) = self.meet(&answer.id, digest, now) {

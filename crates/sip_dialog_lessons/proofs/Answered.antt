@@ -1,5 +1,5 @@
 -- The dialog that an answer names.
-use Rattle.std.proofs.Common.{◌≡◌, ℕ, List, Option, Some, None, option_map, refl, sym, ap, ◌∙◌}
+use Rattle.std.proofs.Common.{◌≡◌, ℕ, List, Option, Some, None, option_map, refl, sym, ap}
 use Rattle.std.specs.Option.{option_and_then}
 use Rattle.std.specs.Result.{result_ok}
 use Rattle.sip_message_fields.specs.declared.field_name.FieldName.TheVariants as Name
@@ -30,7 +30,8 @@ with_to : (to : Option NameAddr) (tag : List ℕ) (core : Option CoreFields) →
 with_to None tag core is = absurd cc
 with_to (Some to) tag core is = with_by to tag core (sym is)
 
-pub with_tag : (r : OpenRequest) (answer : Message) (tag : List ℕ) → Some tag ≡ option_and_then (λ (to : NameAddr). tag_of to.parameters) (result_ok (name_addr_in Name.To answer.fields))
+pub with_tag : (r : OpenRequest) (answer : Message) (tag : List ℕ) → Some tag ≡ option_and_then (λ (to : NameAddr). tag_of to.parameters)
+    (result_ok (name_addr_in Name.To answer.fields))
     → dialog_to tag (names_in r.request) ≡ answered_dialog r answer
 with_tag r answer tag is = with_to (result_ok (name_addr_in Name.To answer.fields)) tag (result_ok (core_of r.request)) is
 
@@ -41,7 +42,9 @@ none_by to (Some c) none = sym (none c)
 without : (to : Option NameAddr) (core : Option CoreFields) → None ≡ tag_in to → None ≡ named to core
 without None core is = none_by None core (λ c. refl)
 without (Some to) core is =
-    none_by (Some to) core (λ c. ap (λ (t : Option (List ℕ)). option_map (λ tag. record { call_id = c.call_id; from_tag = (names_of c).from_tag; to_tag = tag }) t) (sym is))
+    none_by (Some to) core (λ c. ap (λ (t : Option (List ℕ)). option_map (λ tag. record { call_id = c.call_id; from_tag = (names_of c).from_tag; to_tag = tag }) t)
+    (sym is))
 
-pub without_tag : (r : OpenRequest) (answer : Message) → None ≡ option_and_then (λ (to : NameAddr). tag_of to.parameters) (result_ok (name_addr_in Name.To answer.fields)) → None ≡ answered_dialog r answer
+pub without_tag : (r : OpenRequest) (answer : Message) → None ≡ option_and_then (λ (to : NameAddr). tag_of to.parameters) (result_ok (name_addr_in Name.To answer.fields))
+    → None ≡ answered_dialog r answer
 without_tag r answer is = without (result_ok (name_addr_in Name.To answer.fields)) (result_ok (core_of r.request)) is

@@ -32,7 +32,8 @@ one_by name value (v ∷ []) e le =
 one_by name value (v ∷ next ∷ values) e le = absurd (omega arith)
 
 -- the address of what the one value of a field is
-addr_is : (name : FieldName) (fields : List Field) (said : Result (List ℕ) HeaderError) → only_value name fields ≡ said → name_addr_in name fields ≡ (said >>= λ value. ok_or (name_addr_of value) (Malformed name))
+addr_is : (name : FieldName) (fields : List Field) (said : Result (List ℕ) HeaderError) → only_value name fields ≡ said
+    → name_addr_in name fields ≡ (said >>= λ value. ok_or (name_addr_of value) (Malformed name))
 addr_is name fields said is = ap (λ (r : Result (List ℕ) HeaderError). r >>= λ value. ok_or (name_addr_of value) (Malformed name)) is
 
 addr_missing : (name : FieldName) (fields : List Field) → None ≡ first_value name fields → name_addr_in name fields ≡ Err (Missing name)
@@ -41,7 +42,8 @@ addr_missing name fields e = addr_is name fields (Err (Missing name)) (none_by n
 addr_several : (name : FieldName) (fields : List Field) → 1 < length (values_of name fields) → name_addr_in name fields ≡ Err (Malformed name)
 addr_several name fields lt = addr_is name fields (Err (Malformed name)) (several_by name (values_of name fields) lt)
 
-addr_read : (name : FieldName) (value : List ℕ) (fields : List Field) → Some value ≡ first_value name fields → length (values_of name fields) ≤ 1 → name_addr_in name fields ≡ ok_or (name_addr_of value) (Malformed name)
+addr_read : (name : FieldName) (value : List ℕ) (fields : List Field) → Some value ≡ first_value name fields → length (values_of name fields) ≤ 1
+    → name_addr_in name fields ≡ ok_or (name_addr_of value) (Malformed name)
 addr_read name value fields e le = addr_is name fields (Ok value) (one_by name value (values_of name fields) (e ∙ first_is name fields) le)
 
 addr_good : (name : FieldName) (value : List ℕ) (fields : List Field) (address : NameAddr) → Some value ≡ first_value name fields → length (values_of name fields) ≤ 1
@@ -53,9 +55,11 @@ addr_bad : (name : FieldName) (value : List ℕ) (fields : List Field) → Some 
 addr_bad name value fields e le is = addr_read name value fields e le ∙ ap (λ (o : Option NameAddr). ok_or o (Malformed name)) (sym is)
 
 pub none_there : (name : FieldName) (list fields : List Field) → list ≡ fields → None ≡ first_value name list → result_ok (name_addr_in name fields) ≡ None
-none_there name list fields same e = ap (λ (fs : List Field). result_ok (name_addr_in name fs)) (sym same) ∙ ap (λ (r : Result NameAddr HeaderError). result_ok r) (addr_missing name list e)
+none_there name list fields same e = ap (λ (fs : List Field). result_ok (name_addr_in name fs)) (sym same)
+    ∙ ap (λ (r : Result NameAddr HeaderError). result_ok r) (addr_missing name list e)
 
-pub several_there : (name : FieldName) (list fields : List Field) → list ≡ fields → 1 < count_by (λ field. is_same_name field.name name) list → result_ok (name_addr_in name fields) ≡ None
+pub several_there : (name : FieldName) (list fields : List Field) → list ≡ fields → 1 < count_by (λ field. is_same_name field.name name) list
+    → result_ok (name_addr_in name fields) ≡ None
 several_there name list fields same lt =
     ap (λ (fs : List Field). result_ok (name_addr_in name fs)) (sym same)
     ∙ ap (λ (r : Result NameAddr HeaderError). result_ok r) (addr_several name list (omega (arith, lt, count_values name list)))

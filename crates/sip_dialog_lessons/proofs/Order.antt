@@ -14,20 +14,23 @@ use Rattle.sip_dialog_lessons.specs.declared.lesson.Lesson.TheVariants.{Learn, T
 use Rattle.sip_dialog_lessons.specs.Lessons.{after_lesson, after_lessons, beginnings, may_begin, room_for}
 
 -- further lessons
-pub after_more : (now : ℕ) (front back : List Lesson) (dialogs : List Dialog) → after_lessons now (front ++ back) dialogs ≡ after_lessons now back (after_lessons now front dialogs)
+pub after_more : (now : ℕ) (front back : List Lesson) (dialogs : List Dialog) → after_lessons now (front ++ back) dialogs
+    ≡ after_lessons now back (after_lessons now front dialogs)
 after_more now [] back dialogs = refl
 after_more now (lesson ∷ front) back dialogs = after_more now front back (after_lesson now lesson dialogs)
 
 -- ---- what they make of lists that say the same
 
-lesson_same : (now : ℕ) (lesson : Lesson) (left right : List Dialog) → SameDialogs now left right → SameDialogs now (after_lesson now lesson left) (after_lesson now lesson right)
+lesson_same : (now : ℕ) (lesson : Lesson) (left right : List Dialog) → SameDialogs now left right
+    → SameDialogs now (after_lesson now lesson left) (after_lesson now lesson right)
 lesson_same now (Learn answer) left right h = learnt_same now answer left right h
 lesson_same now (Teach id addresses) left right h = edited_same now id (told addresses) left right h
 lesson_same now (Renew id addresses) left right h = edited_same now id (λ d. record (told addresses d) { since = now }) left right h
 lesson_same now (End id) left right h = without_same now id left right h
 lesson_same now (Expire number) left right h = after_invite_same now number left right h
 
-pub lessons_same : (now : ℕ) (lessons : List Lesson) (left right : List Dialog) → SameDialogs now left right → SameDialogs now (after_lessons now lessons left) (after_lessons now lessons right)
+pub lessons_same : (now : ℕ) (lessons : List Lesson) (left right : List Dialog) → SameDialogs now left right
+    → SameDialogs now (after_lessons now lessons left) (after_lessons now lessons right)
 lessons_same now [] left right h = h
 lessons_same now (lesson ∷ lessons) left right h = lessons_same now lessons _ _ (lesson_same now lesson left right h)
 
@@ -50,7 +53,8 @@ full_same now a new old h e = by_tests (knows now a.id old) (nat_le 4096 (length
   by_tests false false e = absurd (cc)
 
 -- an answer that isn't learnt where there is room for it has no place
-pub refused_same : (now : ℕ) (a : InviteAnswer) (new old : List Dialog) (e : DialogError) → SameDialogs now new old → (e ≡ NoMemory → ⊥) → (e ≡ Full → is_full_for now a.id old ≡ true)
+pub refused_same : (now : ℕ) (a : InviteAnswer) (new old : List Dialog) (e : DialogError) → SameDialogs now new old → (e ≡ NoMemory → ⊥)
+    → (e ≡ Full → is_full_for now a.id old ≡ true)
     → SameDialogs now new (learnt now a old)
 refused_same now a new old NoMemory h k f = absurd (k refl)
 refused_same now a new old Full h k f = full_same now a new old h (f refl)
@@ -59,15 +63,18 @@ refused_same now a new old Full h k f = full_same now a new old h (f refl)
 
 pub count_reversed : (p : Lesson → Bool) (xs : List Lesson) → count_by p (reverse xs) ≡ count_by p xs
 count_reversed p [] = refl
-count_reversed p (x ∷ xs) = ap (count_by p) (reverse-append (x ∷ []) xs) ∙ count_joined p (reverse xs) (x ∷ []) ∙ omega (arith, count_reversed p xs, count_first p x [], count_first p x xs)
+count_reversed p (x ∷ xs) = ap (count_by p) (reverse-append (x ∷ []) xs) ∙ count_joined p (reverse xs) (x ∷ [])
+    ∙ omega (arith, count_reversed p xs, count_first p x [], count_first p x xs)
 
 pub next_taken : (now : ℕ) (before rest : List Lesson) (lesson : Lesson) (old new all : List Dialog) → before ≡ rest ++ lesson ∷ []
-    → SameDialogs now (after_lessons now (reverse before) old) all → SameDialogs now new (after_lesson now lesson old) → SameDialogs now (after_lessons now (reverse rest) new) all
+    → SameDialogs now (after_lessons now (reverse before) old) all → SameDialogs now new (after_lesson now lesson old)
+    → SameDialogs now (after_lessons now (reverse rest) new) all
 next_taken now before rest lesson old new all e h k =
     dialogs_joined now _ (after_lessons now (reverse rest) (after_lesson now lesson old)) _ (lessons_same now (reverse rest) new (after_lesson now lesson old) k)
     (subst (λ (lessons : List Lesson). SameDialogs now (after_lessons now lessons old) all) (ap reverse e ∙ reverse-append rest (lesson ∷ [])) h)
 
-pub room_left : (before rest : List Lesson) (lesson : Lesson) (old new : ℕ) → before ≡ rest ++ lesson ∷ [] → beginnings before ≤ old → old ≤ new + room_for lesson → beginnings rest ≤ new
+pub room_left : (before rest : List Lesson) (lesson : Lesson) (old new : ℕ) → before ≡ rest ++ lesson ∷ [] → beginnings before ≤ old → old ≤ new + room_for lesson
+    → beginnings rest ≤ new
 room_left before rest lesson old new e h k =
     let more : beginnings before ≡ beginnings rest + beginnings (lesson ∷ []) = ap (count_by may_begin) e ∙ count_joined may_begin rest (lesson ∷ []) in
     let one : beginnings (lesson ∷ []) ≡ room_for lesson + 0 = count_first may_begin lesson [] in

@@ -1,5 +1,6 @@
 -- What the lessons of answers and requests make of the dialogs.
-use Rattle.std.proofs.Common.{◌≡◌, ℕ, ◌+◌, ◌<◌, ◌≤◌, Bool, true, false, cond, ltb, List, [], ◌∷◌, ◌++◌, length, drop, get_or, Option, Some, None, refl, sym, ◌∙◌, ap, arith}
+use Rattle.std.proofs.Common.{◌≡◌, ℕ, ◌+◌, ◌<◌, ◌≤◌, Bool, true, false, cond, ltb, List, [], ◌∷◌, ◌++◌, length, drop, get_or, Option, Some, None, refl, sym, ◌∙◌, ap}
+use Rattle.std.proofs.Common.{arith}
 use Rattle.std.specs.Prelude.{◌&&◌, codes, count_by, nat_le, is_some}
 use Rattle.std.specs.Option.{option_map_or}
 use Rattle.std.specs.List.{list_any}
@@ -42,7 +43,8 @@ is_above : (a b : ℕ) → b < a → nat_le a b ≡ false
 is_above a b h = grind (arith, nat_tests)
 
 -- the addresses that a message gives by a server's table
-given : (server : Server) (rows : List HostAddress) (m : Message) (addresses : List Addr) → server.config.addresses ≡ rows → addresses ≡ addresses_in (address_of rows) m.fields
+given : (server : Server) (rows : List HostAddress) (m : Message) (addresses : List Addr) → server.config.addresses ≡ rows
+    → addresses ≡ addresses_in (address_of rows) m.fields
     → addresses ≡ Dialogs.addresses_of server m
 given server rows m addresses e is = is ∙ ap (λ (table : List HostAddress). addresses_in (address_of table) m.fields) (sym e)
 
@@ -52,9 +54,11 @@ pub taught_within : (server : Server) (now : ℕ) (r : OpenRequest) (u : Upward)
     → server.config.addresses ≡ rows → addresses ≡ addresses_in (address_of rows) u.message.fields → (bytes_eq r.key.method (codes "BYE") && is_success u.status) ≡ false
     → taught now id addresses dialogs ≡ Dialogs.after_answer_within server now r u id dialogs
 taught_within server now r u id rows addresses dialogs e is ends =
-    ap (λ (given : List Addr). taught now id given dialogs) (given server rows u.message addresses e is) ∙ if_false (bytes_eq r.key.method (codes "BYE") && is_success u.status) _ _ ends
+    ap (λ (given : List Addr). taught now id given dialogs) (given server rows u.message addresses e is)
+    ∙ if_false (bytes_eq r.key.method (codes "BYE") && is_success u.status) _ _ ends
 
-pub learnt_by : (server : Server) (now : ℕ) (r : OpenRequest) (u : Upward) (id : DialogId) (answer : InviteAnswer) (dialogs : List Dialog) → answer ≡ Dialogs.invite_answer server r u id
+pub learnt_by : (server : Server) (now : ℕ) (r : OpenRequest) (u : Upward) (id : DialogId) (answer : InviteAnswer) (dialogs : List Dialog)
+    → answer ≡ Dialogs.invite_answer server r u id
     → u.status ≤ 299 → learnt now answer dialogs ≡ Dialogs.after_invite_answer server now r u id dialogs
 learnt_by server now r u id answer dialogs is le =
     ap (λ (a : InviteAnswer). learnt now a dialogs) is ∙ if_true (nat_le u.status 299) _ _ (is_at_most u.status 299 le)
@@ -66,11 +70,13 @@ taught_by server now r u id rows addresses dialogs e is lt =
     ap (λ (given : List Addr). taught now id given dialogs) (given server rows u.message addresses e is) ∙ if_false (nat_le u.status 299) _ _ (is_above u.status 299 lt)
 
 pub first_told : (server : Server) (now : ℕ) (r : OpenRequest) (u : Upward) (id : DialogId) (after dialogs : List Dialog) → is_invite r ≡ true
-    → Some id ≡ Dialogs.answered_dialog r u.message → after ≡ Dialogs.after_invite_answer server now r u id dialogs → after ≡ Dialogs.after_first_answer server now r u dialogs
+    → Some id ≡ Dialogs.answered_dialog r u.message → after ≡ Dialogs.after_invite_answer server now r u id dialogs
+    → after ≡ Dialogs.after_first_answer server now r u dialogs
 first_told server now r u id after dialogs invite answered is =
     is ∙ ap (λ (o : Option DialogId). option_map_or (λ id. Dialogs.after_invite_answer server now r u id dialogs) o dialogs) answered ∙ if_true (is_invite r) _ _ invite
 
-pub within_told : (server : Server) (now : ℕ) (r : OpenRequest) (u : Upward) (id : DialogId) (after dialogs : List Dialog) → 100 < u.status → Some id ≡ Dialogs.dialog_of r.request
+pub within_told : (server : Server) (now : ℕ) (r : OpenRequest) (u : Upward) (id : DialogId) (after dialogs : List Dialog) → 100 < u.status
+    → Some id ≡ Dialogs.dialog_of r.request
     → after ≡ Dialogs.after_answer_within server now r u id dialogs → after ≡ Dialogs.after_answer server now r u dialogs
 within_told server now r u id after dialogs lt named is =
     is ∙ ap (λ (o : Option DialogId). Dialogs.after_answer_of server now r u o dialogs) named ∙ if_false (nat_le u.status 100) _ _ (is_above u.status 100 lt)
@@ -79,22 +85,27 @@ no_dialog : (o : Option DialogId) → is_some o ≡ false → None ≡ o
 no_dialog None e = refl
 no_dialog (Some id) e = absurd (cc)
 
-pub unnamed_told : (server : Server) (now : ℕ) (r : OpenRequest) (u : Upward) (after dialogs : List Dialog) → 100 < u.status → is_some (Dialogs.dialog_of r.request) ≡ false
+pub unnamed_told : (server : Server) (now : ℕ) (r : OpenRequest) (u : Upward) (after dialogs : List Dialog) → 100 < u.status
+    → is_some (Dialogs.dialog_of r.request) ≡ false
     → after ≡ Dialogs.after_first_answer server now r u dialogs → after ≡ Dialogs.after_answer server now r u dialogs
 unnamed_told server now r u after dialogs lt unnamed is =
-    is ∙ ap (λ (o : Option DialogId). Dialogs.after_answer_of server now r u o dialogs) (no_dialog (Dialogs.dialog_of r.request) unnamed) ∙ if_false (nat_le u.status 100) _ _ (is_above u.status 100 lt)
+    is ∙ ap (λ (o : Option DialogId). Dialogs.after_answer_of server now r u o dialogs) (no_dialog (Dialogs.dialog_of r.request) unnamed)
+    ∙ if_false (nat_le u.status 100) _ _ (is_above u.status 100 lt)
 
 -- ---- lists
 
-pub one_more : (now : ℕ) (old new : List Lesson) (lesson : Lesson) (dialogs : List Dialog) → new ≡ old ++ lesson ∷ [] → after_lessons now new dialogs ≡ after_lesson now lesson (after_lessons now old dialogs)
+pub one_more : (now : ℕ) (old new : List Lesson) (lesson : Lesson) (dialogs : List Dialog) → new ≡ old ++ lesson ∷ []
+    → after_lessons now new dialogs ≡ after_lesson now lesson (after_lessons now old dialogs)
 one_more now old new lesson dialogs e = ap (λ (lessons : List Lesson). after_lessons now lessons dialogs) e ∙ after_more now old (lesson ∷ []) dialogs
 
 pub ended_more : (server : Server) (now : ℕ) (r : OpenRequest) (u : Upward) (id : DialogId) (old new : List Lesson) (dialogs : List Dialog) → new ≡ old ++ End id ∷ []
-    → (bytes_eq r.key.method (codes "BYE") && is_success u.status) ≡ true → after_lessons now new dialogs ≡ Dialogs.after_answer_within server now r u id (after_lessons now old dialogs)
+    → (bytes_eq r.key.method (codes "BYE") && is_success u.status) ≡ true → after_lessons now new dialogs
+    ≡ Dialogs.after_answer_within server now r u id (after_lessons now old dialogs)
 ended_more server now r u id old new dialogs pushed ends =
     one_more now old new (End id) dialogs pushed ∙ if_true (bytes_eq r.key.method (codes "BYE") && is_success u.status) _ _ ends
 
-pub taught_more_within : (server : Server) (now : ℕ) (r : OpenRequest) (u : Upward) (id : DialogId) (rows : List HostAddress) (addresses : List Addr) (old new : List Lesson) (dialogs : List Dialog)
+pub taught_more_within : (server : Server) (now : ℕ) (r : OpenRequest) (u : Upward) (id : DialogId) (rows : List HostAddress) (addresses : List Addr)
+    (old new : List Lesson) (dialogs : List Dialog)
     → server.config.addresses ≡ rows → addresses ≡ addresses_in (address_of rows) u.message.fields → (bytes_eq r.key.method (codes "BYE") && is_success u.status) ≡ false
     → new ≡ old ++ Teach id addresses ∷ [] → after_lessons now new dialogs ≡ Dialogs.after_answer_within server now r u id (after_lessons now old dialogs)
 taught_more_within server now r u id rows addresses old new dialogs e is ends pushed =
@@ -106,32 +117,39 @@ pub learnt_more : (server : Server) (now : ℕ) (r : OpenRequest) (u : Upward) (
 learnt_more server now r u id answer old new dialogs is le pushed =
     one_more now old new (Learn answer) dialogs pushed ∙ learnt_by server now r u id answer (after_lessons now old dialogs) is le
 
-pub taught_more : (server : Server) (now : ℕ) (r : OpenRequest) (u : Upward) (id : DialogId) (rows : List HostAddress) (addresses : List Addr) (old new : List Lesson) (dialogs : List Dialog)
+pub taught_more : (server : Server) (now : ℕ) (r : OpenRequest) (u : Upward) (id : DialogId) (rows : List HostAddress) (addresses : List Addr) (old new : List Lesson)
+    (dialogs : List Dialog)
     → server.config.addresses ≡ rows → addresses ≡ addresses_in (address_of rows) u.message.fields → 299 < u.status → new ≡ old ++ Teach id addresses ∷ []
     → after_lessons now new dialogs ≡ Dialogs.after_invite_answer server now r u id (after_lessons now old dialogs)
 taught_more server now r u id rows addresses old new dialogs e is lt pushed =
     one_more now old new (Teach id addresses) dialogs pushed ∙ taught_by server now r u id rows addresses (after_lessons now old dialogs) e is lt
 
-pub renewed_by : (server : Server) (now : ℕ) (id : DialogId) (m : Message) (rows : List HostAddress) (addresses : List Addr) (old new : List Lesson) (dialogs : List Dialog)
+pub renewed_by : (server : Server) (now : ℕ) (id : DialogId) (m : Message) (rows : List HostAddress) (addresses : List Addr) (old new : List Lesson)
+    (dialogs : List Dialog)
     → server.config.addresses ≡ rows → addresses ≡ addresses_in (address_of rows) m.fields → new ≡ old ++ Renew id addresses ∷ []
     → after_lessons now new dialogs ≡ Dialogs.after_request server now id m (after_lessons now old dialogs)
 renewed_by server now id m rows addresses old new dialogs e is pushed =
-    one_more now old new (Renew id addresses) dialogs pushed ∙ ap (λ (given : List Addr). renewed now id given (after_lessons now old dialogs)) (given server rows m addresses e is)
+    one_more now old new (Renew id addresses) dialogs pushed ∙ ap (λ (given : List Addr). renewed now id given (after_lessons now old dialogs))
+    (given server rows m addresses e is)
 
 pub left_by : (now : ℕ) (r : OpenRequest) (old new : List Lesson) (dialogs : List Dialog) → (is_invite r && has_left r) ≡ true → new ≡ old ++ Expire r.number ∷ []
     → after_lessons now new dialogs ≡ Dialogs.after_leaving now r (after_lessons now old dialogs)
 left_by now r old new dialogs left pushed = one_more now old new (Expire r.number) dialogs pushed ∙ if_true (is_invite r && has_left r) _ _ left
 
-pub next_told : (server : Server) (now : ℕ) (r : OpenRequest) (us : List Upward) (i : ℕ) (u : Upward) (before after total : List Dialog) → i < length us → u ≡ get_or us i u
-    → Dialogs.after_answers server now r (drop i us) before ≡ total → after ≡ Dialogs.after_answer server now r u before → Dialogs.after_answers server now r (drop (i + 1) us) after ≡ total
+pub next_told : (server : Server) (now : ℕ) (r : OpenRequest) (us : List Upward) (i : ℕ) (u : Upward) (before after total : List Dialog) → i < length us
+    → u ≡ get_or us i u
+    → Dialogs.after_answers server now r (drop i us) before ≡ total → after ≡ Dialogs.after_answer server now r u before
+    → Dialogs.after_answers server now r (drop (i + 1) us) after ≡ total
 next_told server now r us i u before after total lt at told is =
-    let next : Dialogs.after_answers server now r (drop i us) before ≡ Dialogs.after_answers server now r (drop (i + 1) us) (Dialogs.after_answer server now r (get_or us i u) before) =
+    let next : Dialogs.after_answers server now r (drop i us) before ≡ Dialogs.after_answers server now r (drop (i + 1) us)
+    (Dialogs.after_answer server now r (get_or us i u) before) =
     at_drop_more (λ (rest : List Upward). Dialogs.after_answers server now r rest before) us i u lt
     in
     ap (Dialogs.after_answers server now r (drop (i + 1) us)) (is ∙ ap (λ (x : Upward). Dialogs.after_answer server now r x before) at) ∙ sym next ∙ told
 
 pub next_counted : (us : List Upward) (i : ℕ) (u : Upward) (before after first : ℕ) → i < length us → u ≡ get_or us i u
-    → before + count_by is_early_or_success (drop i us) ≤ first → after ≤ before + cond (is_early_or_success u) 1 0 → after + count_by is_early_or_success (drop (i + 1) us) ≤ first
+    → before + count_by is_early_or_success (drop i us) ≤ first → after ≤ before + cond (is_early_or_success u) 1 0
+    → after + count_by is_early_or_success (drop (i + 1) us) ≤ first
 next_counted us i u before after first lt at counted more =
     by_parts (count_by is_early_or_success (drop i us)) (cond (is_early_or_success u) 1 0) (count_by is_early_or_success (drop (i + 1) us)) split counted more where
       split : count_by is_early_or_success (drop i us) ≡ cond (is_early_or_success u) 1 0 + count_by is_early_or_success (drop (i + 1) us)

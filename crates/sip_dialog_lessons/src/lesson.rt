@@ -27,7 +27,7 @@ pub enum Lesson {
     Expire(u64),
 }
 
-/// Written out, so that it is proved once and not wherever a lesson is dropped.
+/// Written out, so that it is proved once and not wherever a lesson is dropped. One is dropped only for want of memory.
 impl Drop for Lesson {
     fn drop(self) {
         match self {
@@ -51,6 +51,7 @@ fn learn(dialogs: &mut Dialogs, answer: InviteAnswer, now: u64)
     requires { 1 ≤ dialogs.old.room }
     ensures learnt { SameDialogs now dialogs.new.dialogs (learnt now answer dialogs.old.dialogs) }
     ensures room { dialogs.old.room ≤ dialogs.new.room + 1 }
+    ensures secret { dialogs.new.secret ≡ dialogs.old.secret }
 {
     match dialogs.learn(answer, now) {
         Ok(()) => {}
@@ -64,6 +65,7 @@ impl Lesson {
         requires { room_for self ≤ dialogs.old.room }
         ensures taken { SameDialogs now dialogs.new.dialogs (after_lesson now self dialogs.old.dialogs) }
         ensures room { dialogs.old.room ≤ dialogs.new.room + room_for self }
+        ensures secret { dialogs.new.secret ≡ dialogs.old.secret }
     {
         match self {
             Lesson::Learn(answer) => learn(dialogs, answer, now),

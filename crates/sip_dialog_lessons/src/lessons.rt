@@ -1,10 +1,9 @@
 //! All that a step tells the dialogs: collected before it is taken, and given to them with it. The dialogs are kept in `sip_dialog`.
-ghost use Rattle.std.specs.Prelude.{◌≡◌, ◌≤◌, ◌+◌, ◌++◌, ◌∷◌, [], ℕ, List, count_by, if◌then◌else◌, IfErr, OnOk};
+ghost use Rattle.std.specs.Prelude.{◌≡◌, ◌≤◌, ◌+◌, [], ℕ, List, count_by, IfErr, OnOk};
 ghost use Rattle.std.specs.List.{list_any};
 ghost use Rattle.sip_dialog.specs.declared.dialog.Dialog.{Dialog};
 ghost use Rattle.sip_dialog.specs.declared.error.DialogError.TheVariants.{NoMemory};
 ghost use Rattle.sip_dialog.specs.Sameness.{SameDialogs};
-ghost use Rattle.sip_state.specs.declared.server.Server.{Server};
 ghost use Rattle.sip_state.specs.Dialogs as Definitions;
 ghost use Rattle.sip_dialog_lessons.specs.Lessons.{after_lessons, beginnings, may_begin};
 ghost use Rattle.sip_dialog_lessons.specs.Telling.{Adds, is_early_or_success};
@@ -127,6 +126,7 @@ impl Lessons {
         ensures ok { OnOk result (beginnings self.now ≤ 1 → beginnings self.now ≤ dialogs.new.room) }
         ensures err { IfErr result (λ e. e ≡ NoMemory) }
         ensures room { dialogs.old.room ≤ dialogs.new.room }
+        ensures secret { dialogs.new.secret ≡ dialogs.old.secret }
     {
         if !self.may_begin() {
             return Ok(());
@@ -137,7 +137,8 @@ impl Lessons {
     /// The dialogs take the lessons, in their order. Takes no memory.
     pub fn take(self, dialogs: &mut Dialogs, now: u64)
         requires { beginnings self ≤ dialogs.old.room }
-        ensures { SameDialogs now dialogs.new.dialogs (after_lessons now self dialogs.old.dialogs) }
+        ensures taken { SameDialogs now dialogs.new.dialogs (after_lessons now self dialogs.old.dialogs) }
+        ensures secret { dialogs.new.secret ≡ dialogs.old.secret }
     {
         let Lessons { list } = self;
         take_all(dialogs, list, now);

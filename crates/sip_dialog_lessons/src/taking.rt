@@ -1,4 +1,4 @@
-ghost use Rattle.std.specs.Prelude.{◌≤◌};
+ghost use Rattle.std.specs.Prelude.{◌≡◌, ◌≤◌};
 ghost use Rattle.sip_dialog.specs.Sameness.{SameDialogs};
 ghost use Rattle.sip_dialog_lessons.specs.Lessons.{after_lessons, beginnings};
 
@@ -8,7 +8,8 @@ use sip_dialog::Dialogs;
 /// The dialogs take some lessons, in their order.
 pub(crate) fn take_all(dialogs: &mut Dialogs, lessons: Vec<Lesson>, now: u64)
     requires { beginnings lessons.items ≤ dialogs.old.room }
-    ensures { SameDialogs now dialogs.new.dialogs (after_lessons now lessons.items dialogs.old.dialogs) }
+    ensures taken { SameDialogs now dialogs.new.dialogs (after_lessons now lessons.items dialogs.old.dialogs) }
+    ensures secret { dialogs.new.secret ≡ dialogs.old.secret }
 {
     let mut left = lessons;
     left.reverse();

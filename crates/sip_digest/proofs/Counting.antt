@@ -13,9 +13,11 @@ with_count row count = record { word = row.word; since = row.since; count = coun
 
 -- what is claimed of the nonces
 abbrev Writes : ℕ → ℕ → ℕ → List Nonce → Type 0
-Writes word now count ns = (i : ℕ) (row : Nonce) → i ≡ position_or_len (is_this word now) ns → slice_get ns i ≡ Some row → slice_set ns i (with_count row count) ≡ counted word count ns now
+Writes word now count ns = (i : ℕ) (row : Nonce) → i ≡ position_or_len (is_this word now) ns → slice_get ns i ≡ Some row
+    → slice_set ns i (with_count row count) ≡ counted word count ns now
 
-counted_here : (word now count : ℕ) (n : Nonce) (ns : List Nonce) (others : Writes word now count ns) (b : Bool) (i : ℕ) (row : Nonce) → i ≡ cond (not b) (1 + position_or_len (is_this word now) ns) 0 → slice_get (n ∷ ns) i ≡ Some row
+counted_here : (word now count : ℕ) (n : Nonce) (ns : List Nonce) (others : Writes word now count ns) (b : Bool) (i : ℕ) (row : Nonce)
+    → i ≡ cond (not b) (1 + position_or_len (is_this word now) ns) 0 → slice_get (n ∷ ns) i ≡ Some row
     → slice_set (n ∷ ns) i (with_count row count) ≡ cond b (with_count n count ∷ ns) (n ∷ counted word count ns now)
 counted_here word now count n ns others true zero row e got =
     let same : n ≡ row = cc in
@@ -30,11 +32,13 @@ counted_from : (word now count : ℕ) (ns : List Nonce) → Writes word now coun
 counted_from word now count [] i row e got = absurd cc
 counted_from word now count (n ∷ ns) i row e got = counted_here word now count n ns (counted_from word now count ns) (is_this word now n) i row e got
 
-pub counted_at : (word now count : ℕ) (ns : List Nonce) (i : ℕ) (row : Nonce) → position (is_this word now) ns ≡ Some i → slice_get ns i ≡ Some row → slice_set ns i (with_count row count) ≡ counted word count ns now
+pub counted_at : (word now count : ℕ) (ns : List Nonce) (i : ℕ) (row : Nonce) → position (is_this word now) ns ≡ Some i → slice_get ns i ≡ Some row
+    → slice_set ns i (with_count row count) ≡ counted word count ns now
 counted_at word now count ns i row found got =
     counted_from word now count ns i row (sym (cond_some (nat_lt (position_or_len (is_this word now) ns) (length ns)) _ _ found).1) got
 
-uncounted_here : (word now count : ℕ) (n : Nonce) (ns : List Nonce) → (length ns ≤ position_or_len (is_this word now) ns → counted word count ns now ≡ ns) → (b : Bool) → suc (length ns) ≤ cond (not b) (1 + position_or_len (is_this word now) ns) 0
+uncounted_here : (word now count : ℕ) (n : Nonce) (ns : List Nonce) → (length ns ≤ position_or_len (is_this word now) ns → counted word count ns now ≡ ns) → (b : Bool)
+    → suc (length ns) ≤ cond (not b) (1 + position_or_len (is_this word now) ns) 0
     → cond b (with_count n count ∷ ns) (n ∷ counted word count ns now) ≡ n ∷ ns
 uncounted_here word now count n ns others true le = absurd (omega arith)
 uncounted_here word now count n ns others false le = ap (λ (r : List Nonce). n ∷ r) (others (omega arith))

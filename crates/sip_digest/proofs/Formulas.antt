@@ -15,7 +15,8 @@ standing_counts (Some row) (Some count) wrong = by_test _ wrong where
   by_test true wrong = absurd cc
   by_test false wrong = absurd cc
 
-pub right_text : (response text : List ℕ) (row : Option Nonce) (count : Option ℕ) → (cond (bytes_eq response text) (standing row count) Wrong ≡ Wrong → ⊥) ↔ (response ≡ text)
+pub right_text : (response text : List ℕ) (row : Option Nonce) (count : Option ℕ) → (cond (bytes_eq response text) (standing row count) Wrong ≡ Wrong → ⊥) ↔
+    (response ≡ text)
 right_text response text row count = (λ counts. one _ refl counts, λ same. λ wrong. other _ ((bytes_eq-Decides response text).1 same) wrong) where
   one : (b : Bool) → bytes_eq response text ≡ b → (cond b (standing row count) Wrong ≡ Wrong → ⊥) → response ≡ text
   one true is counts = (bytes_eq-Decides response text).0 is

@@ -1,5 +1,6 @@
 -- At most one row of a word lives.
-use Rattle.std.proofs.Common.{◌≡◌, ℕ, ◌+◌, ◌-◌, ◌<◌, ◌≤◌, Bool, true, false, cond, ◌==◌, List, [], ◌∷◌, ◌++◌, length, drop, reverse, find, count_by, Option, Some, None, refl, sym, ap, ◌∙◌, arith, eqb-true}
+use Rattle.std.proofs.Common.{◌≡◌, ℕ, ◌+◌, ◌-◌, ◌<◌, ◌≤◌, Bool, true, false, cond, ◌==◌, List, [], ◌∷◌, ◌++◌, length, drop, reverse, find, count_by, Option, Some, None}
+use Rattle.std.proofs.Common.{refl, sym, ap, ◌∙◌, arith, eqb-true}
 use Rattle.std.specs.Prelude.{◌||◌}
 use Rattle.std.specs.Option.{option_map_or}
 use Rattle.std.specs.List.{list_any}
@@ -130,7 +131,8 @@ reversed x xs = reverse-append (x ∷ []) xs
 pub found_either_way : {X : Type 0} (p : X → Bool) (xs : List X) → count_by p xs ≤ 1 → find p (reverse xs) ≡ find p xs
 found_either_way p [] few = refl
 found_either_way {X = X} p (x ∷ xs) few =
-    ap (find p) (reversed x xs) ∙ found_behind p (reverse xs) x ∙ ap (or_last p x) (found_either_way p xs (omega (arith, few, count_cons p x xs))) ∙ by_test (p x) refl where
+    ap (find p) (reversed x xs) ∙ found_behind p (reverse xs) x ∙ ap (or_last p x) (found_either_way p xs (omega (arith, few, count_cons p x xs)))
+    ∙ by_test (p x) refl where
       last_of : (t : Bool) (o : Option X) → p x ≡ t → (t ≡ true → o ≡ None) → or_last p x o ≡ cond t (Some x) o
       last_of true None is none = rw is refl
       last_of true (Some y) is none = absurd (let e = none refl in cc)

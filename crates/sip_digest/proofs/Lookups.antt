@@ -1,5 +1,6 @@
 -- What a look-up along the links finds.
-use Rattle.std.proofs.Common.{◌≡◌, ◌≢◌, ℕ, zero, suc, ◌+◌, ◌-◌, ◌<◌, ◌≤◌, Bool, true, false, cond, ◌==◌, List, [], ◌∷◌, ◌++◌, length, take, get_or, Option, Some, None, refl, sym, ap, subst, ◌∙◌, arith, inl, inr, eqb-true}
+use Rattle.std.proofs.Common.{◌≡◌, ◌≢◌, ℕ, zero, suc, ◌+◌, ◌-◌, ◌<◌, ◌≤◌, Bool, true, false, cond, ◌==◌, List, [], ◌∷◌, ◌++◌, length, take, get_or, Option, Some, None}
+use Rattle.std.proofs.Common.{refl, sym, ap, subst, ◌∙◌, arith, inl, inr, eqb-true}
 use Rattle.std.specs.Prelude.{position, find, nat_lt, not, ◌||◌, slice_get, is_some}
 use Rattle.std.specs.List.{position_or_len, list_any}
 use Rattle.std.proofs.lemmas.Bool.{cases_lt, and_parts, false_from_ne_true, lt-ltb}
@@ -38,17 +39,21 @@ position_within test (x ∷ xs) = by_test (test x) (position_within test xs) whe
   by_test true le = omega arith
   by_test false le = omega arith
 
-place_push : (a n : ℕ) (t : Bool) (seen : Option ℕ) → a ≤ n → cond (nat_lt (cond (a == n) (n + cond t 0 1) a) (n + 1)) (Some (cond (a == n) (n + cond t 0 1) a)) seen ≡ cond (nat_lt a n) (Some a) (cond t (Some n) seen)
+place_push : (a n : ℕ) (t : Bool) (seen : Option ℕ) → a ≤ n → cond (nat_lt (cond (a == n) (n + cond t 0 1) a) (n + 1)) (Some (cond (a == n) (n + cond t 0 1) a)) seen
+    ≡ cond (nat_lt a n) (Some a) (cond t (Some n) seen)
 place_push a n true seen le = grind (arith, nat_tests)
 place_push a n false seen le = grind (arith, nat_tests)
 
-place_or_push : {X : Type 0} (test : X → Bool) (xs : List X) (x : X) (seen : Option ℕ) → place_or test (xs ++ x ∷ []) seen ≡ place_or test xs (cond (test x) (Some (length xs)) seen)
+place_or_push : {X : Type 0} (test : X → Bool) (xs : List X) (x : X) (seen : Option ℕ)
+    → place_or test (xs ++ x ∷ []) seen ≡ place_or test xs (cond (test x) (Some (length xs)) seen)
 place_or_push test xs x seen =
     ap (λ (a : ℕ). cond (nat_lt a (length (xs ++ x ∷ []))) (Some a) seen) (position_or_len_push test xs x)
-    ∙ ap (λ (n : ℕ). cond (nat_lt (cond (position_or_len test xs == length xs) (length xs + cond (test x) 0 1) (position_or_len test xs)) n) (Some (cond (position_or_len test xs == length xs) (length xs + cond (test x) 0 1) (position_or_len test xs))) seen) (length_push xs x)
+    ∙ ap (λ (n : ℕ). cond (nat_lt (cond (position_or_len test xs == length xs) (length xs + cond (test x) 0 1) (position_or_len test xs)) n)
+    (Some (cond (position_or_len test xs == length xs) (length xs + cond (test x) 0 1) (position_or_len test xs))) seen) (length_push xs x)
     ∙ place_push (position_or_len test xs) (length xs) (test x) seen (position_within test xs)
 
-first_of : {X : Type 0} (test : X → Bool) (xs : List X) (d : X) (n : ℕ) (seen : Option ℕ) → n ≤ length xs → first_below (λ j. test (get_or xs j d)) n seen ≡ place_or test (take n xs) seen
+first_of : {X : Type 0} (test : X → Bool) (xs : List X) (d : X) (n : ℕ) (seen : Option ℕ) → n ≤ length xs
+    → first_below (λ j. test (get_or xs j d)) n seen ≡ place_or test (take n xs) seen
 first_of test xs d zero seen le = refl
 first_of {X = X} test xs d (suc n) seen le =
     let more : take (n + 1) xs ≡ take n xs ++ get_or xs n d ∷ [] = take_more xs n d (omega arith) in
@@ -69,7 +74,8 @@ one_more a n = grind (arith, nat_tests)
 any_is : {X : Type 0} (test : X → Bool) (xs : List X) → list_any test xs ≡ nat_lt (position_or_len test xs) (length xs)
 any_is test [] = refl
 any_is test (x ∷ xs) = by_test (test x) (any_is test xs) where
-  by_test : (t : Bool) → list_any test xs ≡ nat_lt (position_or_len test xs) (length xs) → (t || list_any test xs) ≡ nat_lt (cond (not t) (1 + position_or_len test xs) 0) (suc (length xs))
+  by_test : (t : Bool) → list_any test xs ≡ nat_lt (position_or_len test xs) (length xs)
+      → (t || list_any test xs) ≡ nat_lt (cond (not t) (1 + position_or_len test xs) 0) (suc (length xs))
   by_test true e = sym (lt-ltb 0 (suc (length xs)) (omega arith))
   by_test false e = e ∙ one_more (position_or_len test xs) (length xs)
 
@@ -102,22 +108,26 @@ seek_first nonces word now front n = record {
   within = n.within;
   stands = n.stands;
   left =
-      sym (first_passed (λ j. is_this word now (get_or nonces j blank)) (length nonces) front None n.within (λ j ge lt. not_this nonces word now j lt (n.none_behind j ge lt)))
+      sym (first_passed (λ j. is_this word now (get_or nonces j blank)) (length nonces) front None n.within
+      (λ j ge lt. not_this nonces word now j lt (n.none_behind j ge lt)))
       ∙ first_is_position (is_this word now) nonces blank;
 }
 
-seek_on : (nonces : List Nonce) (gaps : List ℕ) (word now front at : ℕ) (place : Option ℕ) → AreLinked (buckets_of nonces) gaps → suc at ≡ front → get_or (buckets_of nonces) at 0 ≡ bucket_of word
+seek_on : (nonces : List Nonce) (gaps : List ℕ) (word now front at : ℕ) (place : Option ℕ) → AreLinked (buckets_of nonces) gaps → suc at ≡ front
+    → get_or (buckets_of nonces) at 0 ≡ bucket_of word
     → Seeks nonces word now front place → Seeks nonces word now (at - get_or gaps at 0) (cond (is_this word now (get_or nonces at blank)) (Some at) place)
 seek_on nonces gaps word now front at place linked is here s =
     let n : IsNewest (bucket_of word) (buckets_of nonces) at (at - get_or gaps at 0) =
-    subst (λ (b : ℕ). IsNewest b (buckets_of nonces) at (at - get_or gaps at 0)) here (linked at (omega (arith, s.within, length-map nonces (λ (m : Nonce). bucket_of m.word)))) in
+    subst (λ (b : ℕ). IsNewest b (buckets_of nonces) at (at - get_or gaps at 0)) here
+    (linked at (omega (arith, s.within, length-map nonces (λ (m : Nonce). bucket_of m.word)))) in
     let all : first_below (λ j. is_this word now (get_or nonces j blank)) (suc at) place ≡ position (is_this word now) nonces =
     ap (λ (k : ℕ). first_below (λ j. is_this word now (get_or nonces j blank)) k place) is ∙ s.left in
     record {
       within = omega (arith, s.within);
       stands = n.stands;
       left =
-          sym (first_passed (λ j. is_this word now (get_or nonces j blank)) at (at - get_or gaps at 0) (cond (is_this word now (get_or nonces at blank)) (Some at) place) n.within
+          sym (first_passed (λ j. is_this word now (get_or nonces j blank)) at (at - get_or gaps at 0) (cond (is_this word now (get_or nonces at blank)) (Some at) place)
+          n.within
           (λ j ge lt. not_this nonces word now j (omega (arith, s.within)) (n.none_behind j ge lt)))
           ∙ all;
     }
@@ -154,7 +164,8 @@ found_none test xs e = find_at test xs ∙ slice_get_past xs (position_or_len te
 found_some : {X : Type 0} (test : X → Bool) (xs : List X) (i : ℕ) → position test xs ≡ Some i → find test xs ≡ slice_get xs i
 found_some test xs i e = find_at test xs ∙ ap (slice_get xs) (cond_some (nat_lt (position_or_len test xs) (length xs)) _ _ e).1
 
-pub found_nonce : (rows : List Row) (nonces : List Nonce) (test : Nonce → Bool) (i : ℕ) (row : Row) → nonces_in rows ≡ nonces → position test nonces ≡ Some i → i < length rows → row ≡ get_or rows i row → find test nonces ≡ Some row.nonce
+pub found_nonce : (rows : List Row) (nonces : List Nonce) (test : Nonce → Bool) (i : ℕ) (row : Row) → nonces_in rows ≡ nonces → position test nonces ≡ Some i
+    → i < length rows → row ≡ get_or rows i row → find test nonces ≡ Some row.nonce
 found_nonce rows nonces test i row is found within read =
     found_some test nonces i found ∙ ap (λ (ns : List Nonce). slice_get ns i) (sym is) ∙ nonce_at rows i row (slice_get_read rows (length rows) i row refl within read)
 
@@ -165,7 +176,8 @@ bucket_at rows i row got =
     (slice_get-map (λ (n : Nonce). bucket_of n.word) (nonces_in rows) i ∙ ap (option_map (λ (n : Nonce). bucket_of n.word)) (nonce_at rows i row got))
 
 -- a row of the bucket is passed
-pub seek_past : (rows : List Row) (word now front at : ℕ) (place : Option ℕ) (row : Row) → AreLinked (buckets_of (nonces_in rows)) (gaps_in rows) → at ≡ front - 1 → 0 < front
+pub seek_past : (rows : List Row) (word now front at : ℕ) (place : Option ℕ) (row : Row) → AreLinked (buckets_of (nonces_in rows)) (gaps_in rows) → at ≡ front - 1
+    → 0 < front
     → slice_get rows at ≡ Some row → bucket_of row.nonce.word ≡ bucket_of word → Seeks (nonces_in rows) word now front place
     → Seeks (nonces_in rows) word now (at - row.gap) (cond (is_this word now row.nonce) (Some at) place)
 seek_past rows word now front at place row linked is some got same s =
@@ -177,14 +189,16 @@ seek_past rows word now front at place row linked is some got same s =
     (seek_on (nonces_in rows) (gaps_in rows) word now front at place linked (omega arith) (bucket_at rows at row got ∙ same) s))
 
 -- a row of another bucket ends it
-pub seek_other : (rows : List Row) (word now front at : ℕ) (place : Option ℕ) (row : Row) → at ≡ front - 1 → slice_get rows at ≡ Some row → bucket_of row.nonce.word ≢ bucket_of word
+pub seek_other : (rows : List Row) (word now front at : ℕ) (place : Option ℕ) (row : Row) → at ≡ front - 1 → slice_get rows at ≡ Some row
+    → bucket_of row.nonce.word ≢ bucket_of word
     → Seeks (nonces_in rows) word now front place → place ≡ position (is_this word now) (nonces_in rows)
 seek_other rows word now front at place row is got other s =
     seek_stopped (nonces_in rows) word now front place
     (λ e. other (sym (bucket_at rows at row got) ∙ ap (λ (k : ℕ). get_or (buckets_of (nonces_in rows)) k 0) is ∙ e)) s
 
 -- there is a row
-pub seek_row : (rows : List Row) (word now front at : ℕ) (place : Option ℕ) → at ≡ front - 1 → 0 < front → Seeks (nonces_in rows) word now front place → slice_get rows at ≡ None → ⊥
+pub seek_row : (rows : List Row) (word now front at : ℕ) (place : Option ℕ) → at ≡ front - 1 → 0 < front → Seeks (nonces_in rows) word now front place
+    → slice_get rows at ≡ None → ⊥
 seek_row rows word now front at place is some s none =
     let lt : at < length rows = omega (arith, s.within, length-map rows (λ (r : Row). r.nonce)) in
     by_row (get_or rows at blank_row) (slice_get-get_or rows at blank_row lt) where

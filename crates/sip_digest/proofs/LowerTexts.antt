@@ -1,5 +1,6 @@
 -- A nonce's text, read from the left, with the word so far.
-use Rattle.std.proofs.Common.{◌≡◌, ℕ, zero, suc, ◌+◌, ◌*◌, ◌/◌, ◌%◌, ◌^◌, ◌<◌, ◌-◌, Bool, true, false, cond, List, [], ◌∷◌, ◌++◌, length, take, drop, Option, Some, None, refl, sym, ap, ap₂, ◌∙◌, arith, eqb-true, length-drop, take-append-drop}
+use Rattle.std.proofs.Common.{◌≡◌, ℕ, zero, suc, ◌+◌, ◌*◌, ◌/◌, ◌%◌, ◌^◌, ◌<◌, ◌-◌, Bool, true, false, cond, List, [], ◌∷◌, ◌++◌, length, take, drop, Option, Some, None}
+use Rattle.std.proofs.Common.{refl, sym, ap, ap₂, ◌∙◌, arith, eqb-true, length-drop, take-append-drop}
 use Rattle.std.proofs.Math.Nat.{pow-suc, mul_assoc, mul_comm, div-div-eq-div-mul}
 use Rattle.std.proofs.lemmas.Bool.{agree_below_at, and_from}
 use Rattle.std.proofs.lemmas.Bool.Decides.{nat_tests}
@@ -33,7 +34,8 @@ lower_number b is = record { digit = grind (arith, nat_tests); value = grind (ar
 lower_letter : (b : ℕ) → (nat_le 97 b && nat_le b 102) ≡ true → IsLower b (b - 87)
 lower_letter b is = record { digit = grind (arith, nat_tests); value = grind (arith, nat_tests); small = grind (arith, nat_tests); is = grind (arith, nat_tests) }
 
-by_tests : (b d : ℕ) (t u : Bool) → (nat_le 48 b && nat_le b 57) ≡ t → (nat_le 97 b && nat_le b 102) ≡ u → cond t (Some (b - 48)) (cond u (Some (b - 87)) None) ≡ Some d → IsLower b d
+by_tests : (b d : ℕ) (t u : Bool) → (nat_le 48 b && nat_le b 57) ≡ t → (nat_le 97 b && nat_le b 102) ≡ u → cond t (Some (b - 48)) (cond u (Some (b - 87)) None) ≡ Some d
+    → IsLower b d
 by_tests b d true u e f g =
     let same : b - 48 ≡ d = cc in
     rw same at (lower_number b e)
@@ -56,7 +58,8 @@ number_is d (Some m) e = ap (λ (k : ℕ). Some k) (eqb-true m d e)
 
 glyph_reads : (d : ℕ) → d < 16 → lower_value (slice_index lower_digits d) ≡ Some d
 unfolding is_number
-glyph_reads d lt = number_is d (lower_value (slice_index lower_digits d)) (agree_below_at (λ k. is_number k (lower_value (slice_index lower_digits k))) (λ _. true) 16 d refl lt)
+glyph_reads d lt = number_is d (lower_value (slice_index lower_digits d)) (agree_below_at (λ k. is_number k (lower_value (slice_index lower_digits k))) (λ _. true) 16 d
+    refl lt)
 
 -- ---- what is read
 
@@ -147,7 +150,8 @@ word_is text long = sym (by_read text (read_lower 0 text) (word_of text) long re
 -- ---- a text in two halves
 
 -- the next digit, if it is one
-by_first : (n : ℕ) (xs ys : List ℕ) → ((d : ℕ) → read_lower (n * 16 + d) (xs ++ ys) ≡ option_and_then (λ m. read_lower m ys) (read_lower (n * 16 + d) xs)) → (o : Option ℕ)
+by_first : (n : ℕ) (xs ys : List ℕ) → ((d : ℕ) → read_lower (n * 16 + d) (xs ++ ys) ≡ option_and_then (λ m. read_lower m ys) (read_lower (n * 16 + d) xs))
+    → (o : Option ℕ)
     → option_and_then (λ d. read_lower (n * 16 + d) (xs ++ ys)) o ≡ option_and_then (λ m. read_lower m ys) (option_and_then (λ d. read_lower (n * 16 + d) xs) o)
 by_first n xs ys rest None = refl
 by_first n xs ys rest (Some d) = rest d

@@ -1,5 +1,6 @@
 -- A nonce's text reads as its word.
-use Rattle.std.proofs.Common.{◌≡◌, ℕ, zero, suc, ◌+◌, ◌*◌, ◌/◌, ◌%◌, ◌^◌, ◌<◌, Bool, true, false, cond, List, [], ◌∷◌, length, ◌↔◌, ◌≤◌, Some, None, refl, sym, ap, ◌∙◌, arith, eq-eqb, eqb-true, inl, inr}
+use Rattle.std.proofs.Common.{◌≡◌, ℕ, zero, suc, ◌+◌, ◌*◌, ◌/◌, ◌%◌, ◌^◌, ◌<◌, Bool, true, false, cond, List, [], ◌∷◌, length, ◌↔◌, ◌≤◌, Some, None, refl, sym, ap, ◌∙◌}
+use Rattle.std.proofs.Common.{arith, eq-eqb, eqb-true, inl, inr}
 use Rattle.std.proofs.Math.Nat.{pow-suc, mul-le-mul_right, mul_assoc, mul_comm, le_trans, div-div-eq-div-mul}
 use Rattle.std.proofs.lemmas.Option.{cond_some}
 use Rattle.std.proofs.lemmas.Slice.Eq.{bytes_eq-Decides}
@@ -82,7 +83,8 @@ byte_is (suc k) n = refl
 pub two_digits : (q high low : ℕ) → high ≡ q % 256 / 16 → low ≡ q % 256 % 16 → (q / 256 * 16 + high) * 16 + low ≡ q
 two_digits q high low e f = omega arith
 
-step : (k n : ℕ) → (n / 256 ^ suc k * 16 + digit_value (slice_index lower_digits (byte_at k n / 16))) * 16 + digit_value (slice_index lower_digits (byte_at k n % 16)) ≡ n / 256 ^ k
+step : (k n : ℕ) → (n / 256 ^ suc k * 16 + digit_value (slice_index lower_digits (byte_at k n / 16))) * 16 + digit_value (slice_index lower_digits (byte_at k n % 16))
+    ≡ n / 256 ^ k
 step k n =
     let above : n / 256 ^ suc k ≡ n / 256 ^ k / 256 = ap (λ (v : ℕ). n / v) (pow-suc 256 k) ∙ sym (div-div-eq-div-mul n (256 ^ k) 256) in
     let high : digit_value (slice_index lower_digits (byte_at k n / 16)) ≡ n / 256 ^ k % 256 / 16 = rw (byte_is k n) (digit_reads _ (omega arith)) in

@@ -50,7 +50,8 @@ answered_right true worth right = (refl, right)
 answered_right false worth right = absurd cc
 
 -- the same of the credential that was accepted
-stale_for : (rows : List Nonce) (a1 : List ℕ) (c : Credential) (now : ℕ) → worth_of rows a1 c now ≡ Right → standing (row_of (spent_by rows c now) c.nonce now) (count_of c) ≡ Stale
+stale_for : (rows : List Nonce) (a1 : List ℕ) (c : Credential) (now : ℕ) → worth_of rows a1 c now ≡ Right
+    → standing (row_of (spent_by rows c now) c.nonce now) (count_of c) ≡ Stale
 stale_for rows a1 c now right =
     stale_standing (word_of c.nonce) (count_of c) rows now (answered_right (is_answer a1 c) _ right).1
 

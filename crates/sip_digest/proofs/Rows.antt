@@ -1,5 +1,6 @@
 -- How the links of the rows last.
-use Rattle.std.proofs.Common.{◌≡◌, ◌≢◌, ℕ, zero, suc, ◌+◌, ◌-◌, ◌%◌, ◌<◌, ◌≤◌, List, [], ◌∷◌, ◌++◌, length, map, drop, get_or, set, Some, None, refl, sym, ap, subst, ◌∙◌, arith, inl, inr}
+use Rattle.std.proofs.Common.{◌≡◌, ◌≢◌, ℕ, zero, suc, ◌+◌, ◌-◌, ◌%◌, ◌<◌, ◌≤◌, List, [], ◌∷◌, ◌++◌, length, map, drop, get_or, set, Some, None, refl, sym, ap, subst, ◌∙◌}
+use Rattle.std.proofs.Common.{arith, inl, inr}
 use Rattle.std.specs.Prelude.{position, slice_set, slice_get}
 use Rattle.std.proofs.lemmas.Bool.{cases_lt, cases_eq}
 use Rattle.std.proofs.lemmas.List.{get_or_append_left, get_or_push, get_or-set_same, get_or-set_other, length-set, length-map, length_push, drop-map, map-set, map_push}
@@ -80,7 +81,8 @@ linked_then x g bs gs sized new links i lt = elim (cases_lt i (length bs)) [
       let e = get_or_append_left bs (x ∷ []) 0 i below in
       let f = get_or_append_left gs (g ∷ []) 0 i (omega arith) in
       subst (λ (b : ℕ). IsNewest b (bs ++ x ∷ []) i (i - get_or (gs ++ g ∷ []) i 0)) (sym e)
-      (subst (λ (k : ℕ). IsNewest (get_or bs i 0) (bs ++ x ∷ []) i (i - k)) (sym f) (newest_in_front (get_or bs i 0) bs x i (i - get_or gs i 0) (omega arith) (links i below)))
+      (subst (λ (k : ℕ). IsNewest (get_or bs i 0) (bs ++ x ∷ []) i (i - k)) (sym f) (newest_in_front (get_or bs i 0) bs x i (i - get_or gs i 0) (omega arith)
+      (links i below)))
 
   last : length bs ≡ i → IsNewest (get_or (bs ++ x ∷ []) i 0) (bs ++ x ∷ []) i (i - get_or (gs ++ g ∷ []) i 0)
   last at =
@@ -107,7 +109,8 @@ kept_left x g bs gs turn marks k = record {
   few = omega (arith, k.few);
   gapped = omega (arith, k.gapped);
   linked = linked_left x g bs gs k.linked;
-  marked = λ b lt. newest_left b x bs (length bs) (suc (length bs) - passed_since (get_or marks b 0) turn) (length bs - passed_since (get_or marks b 0) turn) (omega arith) (k.marked b lt);
+  marked = λ b lt. newest_left b x bs (length bs) (suc (length bs) - passed_since (get_or marks b 0) turn) (length bs - passed_since (get_or marks b 0) turn)
+      (omega arith) (k.marked b lt);
   sized = k.sized;
 }
 
@@ -133,15 +136,19 @@ marked_then x bs turn marks b few low sized lt n = elim (cases_eq x b) [
 ] where
   here : x ≡ b → IsNewest b (bs ++ x ∷ []) (length bs + 1) (length bs + 1 - passed_since (get_or (set marks x (next_turn turn)) b 0) (next_turn turn))
   here same =
-      let mark : get_or (set marks x (next_turn turn)) b 0 ≡ next_turn turn = subst (λ (y : ℕ). get_or (set marks x (next_turn turn)) y 0 ≡ next_turn turn) same (get_or-set_same marks x (next_turn turn) 0 (omega arith)) in
-      let none : passed_since (get_or (set marks x (next_turn turn)) b 0) (next_turn turn) ≡ 0 = ap (λ (m : ℕ). passed_since m (next_turn turn)) mark ∙ passed_none turn in
+      let mark : get_or (set marks x (next_turn turn)) b 0 ≡ next_turn turn = subst (λ (y : ℕ). get_or (set marks x (next_turn turn)) y 0 ≡ next_turn turn) same
+      (get_or-set_same marks x (next_turn turn) 0 (omega arith)) in
+      let none : passed_since (get_or (set marks x (next_turn turn)) b 0) (next_turn turn) ≡ 0 = ap (λ (m : ℕ). passed_since m (next_turn turn)) mark ∙ passed_none turn
+      in
       let front : length bs + 1 ≡ length bs + 1 - passed_since (get_or (set marks x (next_turn turn)) b 0) (next_turn turn) = omega arith in
       subst (λ (f : ℕ). IsNewest b (bs ++ x ∷ []) (length bs + 1) f) front
       (subst (λ (y : ℕ). IsNewest b (bs ++ y ∷ []) (length bs + 1) (length bs + 1)) (sym same) (newest_comes b bs))
 
-  by_turn : (p q : ℕ) → x ≢ b → q ≡ (p + 1) % 65536 → p < 65536 → IsNewest b bs (length bs) (length bs - p) → IsNewest b (bs ++ x ∷ []) (length bs + 1) (length bs + 1 - q)
+  by_turn : (p q : ℕ) → x ≢ b → q ≡ (p + 1) % 65536 → p < 65536 → IsNewest b bs (length bs) (length bs - p)
+      → IsNewest b (bs ++ x ∷ []) (length bs + 1) (length bs + 1 - q)
   by_turn p q other is small m = elim (cases_lt p 65535) [
-    | inl below ↦ (let e : length bs - p ≡ length bs + 1 - q = omega arith in subst (λ (f : ℕ). IsNewest b (bs ++ x ∷ []) (length bs + 1) f) e (newest_past b bs x (length bs - p) other m))
+    | inl below ↦ (let e : length bs - p ≡ length bs + 1 - q = omega arith in subst (λ (f : ℕ). IsNewest b (bs ++ x ∷ []) (length bs + 1) f) e
+        (newest_past b bs x (length bs - p) other m))
     | inr top ↦ (let e : length bs + 1 ≡ length bs + 1 - q = omega arith in
         let none : length bs - p ≡ 0 = omega arith in
         subst (λ (f : ℕ). IsNewest b (bs ++ x ∷ []) (length bs + 1) f) e (newest_anew b bs x other (subst (λ (f : ℕ). IsNewest b bs (length bs) f) none m)))
@@ -202,7 +209,8 @@ nonces_kept rows row = map_kept (λ r. r.nonce) rows row
 -- a row comes into a state
 rows_kept : (rows : List Row) (row : Row) (turn : ℕ) (marks : List ℕ) → row.gap ≡ passed_since (get_or marks (bucket_of row.nonce.word) 0) turn
     → AreKept (buckets_of (nonces_in rows)) (gaps_in rows) turn marks
-    → AreKept (buckets_of (nonces_in (keep_last 4096 (rows ++ row ∷ [])))) (gaps_in (keep_last 4096 (rows ++ row ∷ []))) ((turn + 1) % 65536) (slice_set marks (bucket_of row.nonce.word) ((turn + 1) % 65536))
+    → AreKept (buckets_of (nonces_in (keep_last 4096 (rows ++ row ∷ [])))) (gaps_in (keep_last 4096 (rows ++ row ∷ []))) ((turn + 1) % 65536)
+    (slice_set marks (bucket_of row.nonce.word) ((turn + 1) % 65536))
 rows_kept rows row turn marks is k =
     let after : ℕ = (turn + 1) % 65536 in
     let bucket : ℕ = bucket_of row.nonce.word in
@@ -219,7 +227,8 @@ pub kept_behind : (before after : List Row) (row : Row) (bucket turn : ℕ) (mar
     → AreKept (buckets_of (nonces_in after)) (gaps_in after) ((turn + 1) % 65536) (slice_set marks bucket ((turn + 1) % 65536))
 kept_behind before after row bucket turn marks e b is k =
     subst (λ (rows : List Row). AreKept (buckets_of (nonces_in rows)) (gaps_in rows) ((turn + 1) % 65536) (slice_set marks bucket ((turn + 1) % 65536))) (sym e)
-    (subst (λ (m : ℕ). AreKept (buckets_of (nonces_in (keep_last 4096 (before ++ row ∷ [])))) (gaps_in (keep_last 4096 (before ++ row ∷ []))) ((turn + 1) % 65536) (slice_set marks m ((turn + 1) % 65536))) (sym b)
+    (subst (λ (m : ℕ). AreKept (buckets_of (nonces_in (keep_last 4096 (before ++ row ∷ [])))) (gaps_in (keep_last 4096 (before ++ row ∷ []))) ((turn + 1) % 65536)
+    (slice_set marks m ((turn + 1) % 65536))) (sym b)
     (rows_kept before row turn marks (is ∙ ap (λ (m : ℕ). passed_since (get_or marks m 0) turn) b) k))
 
 pub nonces_behind : (before after : List Row) (row : Row) (was : List Nonce) → after ≡ keep_last 4096 (before ++ row ∷ []) → nonces_in before ≡ was
@@ -249,7 +258,8 @@ pub kept_with : (rows : List Row) (turn : ℕ) (marks : List ℕ) (i count : ℕ
     → AreKept (buckets_of (nonces_in (slice_set rows i (row_with row count)))) (gaps_in (slice_set rows i (row_with row count))) turn marks
 kept_with rows turn marks i count row got k =
     let e : buckets_of (nonces_in (set rows i (row_with row count))) ≡ buckets_of (nonces_in rows) =
-    ap buckets_of (nonces_with rows i count row) ∙ unchanged (λ (n : Nonce). bucket_of n.word) (nonces_in rows) i row.nonce (with_count row.nonce count) (nonce_at rows i row got) refl in
+    ap buckets_of (nonces_with rows i count row) ∙ unchanged (λ (n : Nonce). bucket_of n.word) (nonces_in rows) i row.nonce (with_count row.nonce count)
+    (nonce_at rows i row got) refl in
     let f : gaps_in (set rows i (row_with row count)) ≡ gaps_in rows = unchanged (λ (r : Row). r.gap) rows i row (row_with row count) got refl in
     subst (λ (bs : List ℕ). AreKept bs (gaps_in (set rows i (row_with row count))) turn marks) (sym e)
     (subst (λ (gs : List ℕ). AreKept (buckets_of (nonces_in rows)) gs turn marks) (sym f) k)
@@ -262,6 +272,8 @@ counted_with rows nonces word now count i row is found got =
     ∙ ap (λ (ns : List Nonce). counted word count ns now) is
 
 -- a place that was found has a row
-pub found_row : (rows : List Row) (nonces : List Nonce) (word now i : ℕ) → nonces_in rows ≡ nonces → position (is_this word now) nonces ≡ Some i → slice_get rows i ≡ None → ⊥
+pub found_row : (rows : List Row) (nonces : List Nonce) (word now i : ℕ) → nonces_in rows ≡ nonces → position (is_this word now) nonces ≡ Some i → slice_get rows i ≡ None
+    → ⊥
 found_row rows nonces word now i is found none =
-    is_there word now (nonces_in rows) i (ap (position (is_this word now)) is ∙ found) (slice_get-map (λ (r : Row). r.nonce) rows i ∙ ap (option_map (λ (r : Row). r.nonce)) none)
+    is_there word now (nonces_in rows) i (ap (position (is_this word now)) is ∙ found)
+    (slice_get-map (λ (r : Row). r.nonce) rows i ∙ ap (option_map (λ (r : Row). r.nonce)) none)

@@ -2,7 +2,6 @@
 //! What such an answer is worth is said in `nonces`.
 ghost use Rattle.std.specs.Prelude.{◌≡◌, ℕ, List, [], ◌∷◌, ◌++◌, codes};
 ghost use Rattle.std.specs.Str.{byte};
-ghost use Rattle.hex.specs.Hex.{encode_lower};
 ghost use Rattle.sip_digest.specs.Answers.{parted, answered, a1_of, a2_of, answer_of};
 ghost use Rattle.sip_digest.specs.Protection.{seen};
 ghost use Rattle.sip_digest.specs.declared.algorithm.Algorithm.TheVariants as By;

@@ -6,7 +6,6 @@ ghost use Rattle.sip_digest.specs.declared.algorithm.Algorithm.TheVariants.{Md5}
 ghost use Rattle.sip_digest.specs.declared.nonces.Nonce.{Nonce};
 ghost use Rattle.sip_digest.specs.declared.nonces.Worth.TheVariants.{Right, Stale, Wrong};
 ghost use Rattle.sip_digest.specs.Credential.{Credential, count_of};
-ghost use Rattle.sip_digest.specs.Protection.{Protection};
 ghost use Rattle.sip_digest.specs.NonceText.{nonce_text, word_of};
 ghost use Rattle.sip_digest.specs.Nonces.{HasOneLive, IsNonceOf, is_this, issued, spent_by, worth_of};
 

@@ -1,21 +1,20 @@
 -- A Via with one parameter and an `rport` behind it, which ends its value.
 use Rattle.std.proofs.Common.{◌≡◌, ℕ, Bool, true, false, cond, List, [], ◌∷◌, ◌++◌, Option, Some, None, refl, sym, ap, subst, ◌∙◌, append_assoc}
 use Rattle.std.specs.Prelude.{decimal, codes, is_some}
-use Rattle.std.specs.List.{AllZip, flat_map}
+use Rattle.std.specs.List.{AllZip}
 use Rattle.std.proofs.lemmas.List.{append-nil}
 use Rattle.sip_text.specs.Words.{is_token_text, is_same_text}
-use Rattle.sip_text.specs.Lists.{trimmed}
 use Rattle.sip_text.proofs.PartLaws.{only_parts}
 use Rattle.sip_uri.specs.declared.addr.Addr.{Addr}
 use Rattle.sip_uri.specs.Addresses.{ip_text}
 use Rattle.sip_header.specs.declared.parameters.Parameter.{Parameter}
 use Rattle.sip_header.specs.declared.via.Via.{Via}
-use Rattle.sip_header.specs.Parameters.{IsParameterBy, IsParameter, parameter_of}
+use Rattle.sip_header.specs.Parameters.{IsParameter, parameter_of}
 use Rattle.sip_header.specs.Via.{via_of, IsVia}
 use Rattle.sip_header.proofs.Words.{AllPassing}
 use Rattle.sip_header.proofs.ParameterLaws.{is_plain, plain_text, written_via}
-use Rattle.sip_edit.specs.TopVia.{is_parameter, edited, asks_for_port, source_of, with_source, received_as, received_via, IsBeforePort}
-use Rattle.sip_edit.proofs.Unedited.{named, joined, as_written, read}
+use Rattle.sip_edit.specs.TopVia.{is_parameter, edited, with_source, received_as, received_via, IsBeforePort}
+use Rattle.sip_edit.proofs.Unedited.{named, joined, as_written}
 
 -- ---- what stands before the last `;`
 
@@ -49,7 +48,8 @@ bare text h = plain_text text (ap is_token_text h.0 ∙ h.1)
 port_is_plain : AllPassing is_plain (codes "rport")
 port_is_plain = bare (codes "rport") (refl, refl, refl)
 
-parts : (sender mark text asks number source : List ℕ) → sender ++ ((mark ++ text) ++ ((asks ++ number) ++ [])) ++ source ≡ (sender ++ (mark ++ text)) ++ asks ++ number ++ source
+parts : (sender mark text asks number source : List ℕ) → sender ++ ((mark ++ text) ++ ((asks ++ number) ++ [])) ++ source ≡ (sender ++ (mark ++ text)) ++ asks ++ number
+    ++ source
 parts sender mark text asks number source = simp (append_assoc, append-nil)
 
 shape : (sender text asks number source : List ℕ) → sender ++ (59 ∷ text ++ ((asks ++ number) ++ [])) ++ source ≡ (sender ++ 59 ∷ text) ++ asks ++ number ++ source
@@ -76,17 +76,20 @@ by_texts sender host front (a ∷ b ∷ c ∷ texts) first from are asks receive
 
 -- ---- the value
 
-pub asked_last : (value front : List ℕ) (via : Via) (first : Parameter) → via_of value ≡ Some via → via.parameters ≡ first ∷ record { name = codes "rport"; value = None } ∷ [] →
+pub asked_last : (value front : List ℕ) (via : Via) (first : Parameter) → via_of value ≡ Some via
+    → via.parameters ≡ first ∷ record { name = codes "rport"; value = None } ∷ [] →
     is_same_text first.name (codes "rport") ≡ false → is_same_text first.name (codes "received") ≡ false → value ≡ front ++ codes ";rport" → IsBeforePort value front
 asked_last value front via first is parameters asks received ends = record {
   edited = λ from.
       let w : IsVia value via = written_via value via is in
       ap (λ (o : Option Via). received_as o value from) is
       ∙ ap (with_source via.host from) (sym (only_parts 59 value (w.first ∷ w.texts) w.parted))
-      ∙ by_texts w.first via.host front w.texts first from (subst (AllZip IsParameter w.texts) parameters w.are_parameters) asks received (sym (joined w.first w.texts) ∙ w.parted.whole ∙ ends);
+      ∙ by_texts w.first via.host front w.texts first from (subst (AllZip IsParameter w.texts) parameters w.are_parameters) asks received
+      (sym (joined w.first w.texts) ∙ w.parted.whole ∙ ends);
 }
 
-pub with_port : (value front : List ℕ) (from : Addr) → IsBeforePort value front → received_via value from ≡ front ++ codes ";rport=" ++ decimal from.port ++ (codes ";received=" ++ ip_text from.ip)
+pub with_port : (value front : List ℕ) (from : Addr) → IsBeforePort value front → received_via value from ≡ front ++ codes ";rport=" ++ decimal from.port
+    ++ (codes ";received=" ++ ip_text from.ip)
 with_port value front from is = is.edited from
 
 -- ---- whether it asks
@@ -95,5 +98,6 @@ either : (t : Bool) (first last : Parameter) → is_some (cond t (Some first) (S
 either true first last = refl
 either false first last = refl
 
-pub asks : (parameters : List Parameter) (first : Parameter) → parameters ≡ first ∷ record { name = codes "rport"; value = None } ∷ [] → true ≡ is_some (parameter_of (codes "rport") parameters)
+pub asks : (parameters : List Parameter) (first : Parameter) → parameters ≡ first ∷ record { name = codes "rport"; value = None } ∷ []
+    → true ≡ is_some (parameter_of (codes "rport") parameters)
 asks parameters first is = sym (ap (λ (w : List Parameter). is_some (parameter_of (codes "rport") w)) is ∙ either (is_same_text first.name (codes "rport")) first port)

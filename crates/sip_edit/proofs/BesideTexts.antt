@@ -33,7 +33,8 @@ cseq_is method cseq = four (codes "CSeq: ") (decimal cseq.number) (codes " ") me
 
 -- ---- the front
 
-first_line : (out method uri ends : List ℕ) → out ++ method ++ codes " " ++ uri ++ (codes " " ++ codes "SIP/2.0" ++ ends) ≡ out ++ (method ++ codes " " ++ uri ++ codes " " ++ codes "SIP/2.0") ++ ends
+first_line : (out method uri ends : List ℕ) → out ++ method ++ codes " " ++ uri ++ (codes " " ++ codes "SIP/2.0" ++ ends) ≡ out
+    ++ (method ++ codes " " ++ uri ++ codes " " ++ codes "SIP/2.0") ++ ends
 first_line out method uri ends = simp append_assoc
 
 pub line_is : (out method uri : List ℕ) →
@@ -44,7 +45,8 @@ apart : (out start ends via hops : List ℕ) → out ++ start ++ ends ++ via ++ 
 apart out start ends via hops = simp append_assoc
 
 pub front_is : (out method uri via : List ℕ) →
-    out ++ start_text (Request method uri (codes "SIP/2.0")) ++ codes "\r\n" ++ field_text (record { name = Name.Via; value = via }) ++ codes "Max-Forwards: 70\r\n" ≡ out ++ front_text method uri via
+    out ++ start_text (Request method uri (codes "SIP/2.0")) ++ codes "\r\n" ++ field_text (record { name = Name.Via; value = via }) ++ codes "Max-Forwards: 70\r\n" ≡ out
+    ++ front_text method uri via
 front_is out method uri via =
     apart out (start_text (Request method uri (codes "SIP/2.0"))) (codes "\r\n") (field_text (record { name = Name.Via; value = via })) (codes "Max-Forwards: 70\r\n")
 
@@ -63,19 +65,23 @@ no_route routes field fields is =
         cond (cond t (routes.skipped == 0 && nat_lt 0 routes.kept) true) (field ∷ fields_kept next fields) (fields_kept next fields)
 
 pub taken_off : (routes : RoutesKept) (field : Field) (fields : List Field) → stays routes field ≡ false →
-    flat_map field_text (all_named Name.Route (fields_kept routes (field ∷ fields))) ≡ flat_map field_text (all_named Name.Route (fields_kept (behind routes field) fields))
+    flat_map field_text (all_named Name.Route (fields_kept routes (field ∷ fields))) ≡ flat_map field_text
+    (all_named Name.Route (fields_kept (behind routes field) fields))
 taken_off routes field fields is =
-    ap (λ (t : Bool). flat_map field_text (all_named Name.Route (cond t (field ∷ fields_kept (behind routes field) fields) (fields_kept (behind routes field) fields)))) is
+    ap (λ (t : Bool). flat_map field_text (all_named Name.Route (cond t (field ∷ fields_kept (behind routes field) fields) (fields_kept (behind routes field) fields))))
+    is
 
 pub passed_on : (routes : RoutesKept) (field : Field) (fields : List Field) → is_same_name field.name Name.Route ≡ true → stays routes field ≡ true →
-    flat_map field_text (all_named Name.Route (fields_kept routes (field ∷ fields))) ≡ field_text field ++ flat_map field_text (all_named Name.Route (fields_kept (behind routes field) fields))
+    flat_map field_text (all_named Name.Route (fields_kept routes (field ∷ fields))) ≡ field_text field
+    ++ flat_map field_text (all_named Name.Route (fields_kept (behind routes field) fields))
 passed_on routes field fields named is =
     let others : List Field = fields_kept (behind routes field) fields in
     ap (λ (t : Bool). flat_map field_text (all_named Name.Route (cond t (field ∷ others) others))) is
     ∙ ap (λ (t : Bool). flat_map field_text (cond t (field ∷ all_named Name.Route others) (all_named Name.Route others))) named
 
 -- where none is to be kept there is none
-kept_none : (t z : Bool) (routes : RoutesKept) → routes.kept ≡ 0 → (cond t (cond z (record routes { kept = routes.kept - 1 }) (record routes { skipped = routes.skipped - 1 })) routes).kept ≡ 0
+kept_none : (t z : Bool) (routes : RoutesKept) → routes.kept ≡ 0 → (cond t (cond z (record routes { kept = routes.kept - 1 })
+    (record routes { skipped = routes.skipped - 1 })) routes).kept ≡ 0
 kept_none true true routes none = omega arith
 kept_none true false routes none = none
 kept_none false z routes none = none
@@ -84,7 +90,8 @@ never_stays : (z : Bool) (routes : RoutesKept) → routes.kept ≡ 0 → (z && n
 never_stays true routes none = ap (λ (n : ℕ). nat_lt 0 n) none
 never_stays false routes none = refl
 
-none_by : (t s : Bool) (field : Field) (others : List Field) → is_same_name field.name Name.Route ≡ t → s ≡ false → all_named Name.Route others ≡ [] → all_named Name.Route (cond (cond t s true) (field ∷ others) others) ≡ []
+none_by : (t s : Bool) (field : Field) (others : List Field) → is_same_name field.name Name.Route ≡ t → s ≡ false → all_named Name.Route others ≡ []
+    → all_named Name.Route (cond (cond t s true) (field ∷ others) others) ≡ []
 none_by true true field others is never rest = absurd cc
 none_by true false field others is never rest = rest
 none_by false s field others is never rest = ap (λ (t : Bool). cond t (field ∷ all_named Name.Route others) (all_named Name.Route others)) is ∙ rest
@@ -92,7 +99,8 @@ none_by false s field others is never rest = ap (λ (t : Bool). cond t (field �
 none_there : (fields : List Field) (routes : RoutesKept) → routes.kept ≡ 0 → all_named Name.Route (fields_kept routes fields) ≡ []
 none_there [] routes none = refl
 none_there (field ∷ fields) routes none =
-    none_by (is_same_name field.name Name.Route) (routes.skipped == 0 && nat_lt 0 routes.kept) field (fields_kept (behind routes field) fields) refl (never_stays (routes.skipped == 0) routes none)
+    none_by (is_same_name field.name Name.Route) (routes.skipped == 0 && nat_lt 0 routes.kept) field (fields_kept (behind routes field) fields) refl
+    (never_stays (routes.skipped == 0) routes none)
     (none_there fields (behind routes field) (kept_none (is_same_name field.name Name.Route) (routes.skipped == 0) routes none))
 
 pub none_kept : (routes : RoutesKept) (fields : List Field) → routes.kept ≡ 0 → flat_map field_text (all_named Name.Route (fields_kept routes fields)) ≡ []
@@ -117,17 +125,23 @@ front_first : (start via seventy others : List ℕ) → start ++ via ++ seventy 
 front_first start via seventy others = simp append_assoc
 
 pub whole_is : (method uri target via : List ℕ) (to : List Field) (from call_id : Option Field) (cseq : Option (List ℕ)) (routes : RoutesKept) (came : Message) →
-    from ≡ first_named Name.From came.fields → call_id ≡ first_named Name.CallId came.fields → cseq ≡ first_value Name.CSeq came.fields → target ≡ request_uri (with_uri uri came.start) →
+    from ≡ first_named Name.From came.fields → call_id ≡ first_named Name.CallId came.fields → cseq ≡ first_value Name.CSeq came.fields
+    → target ≡ request_uri (with_uri uri came.start) →
     front_text method target via ++ flat_map field_text (option_to_list from) ++ flat_map field_text to ++ flat_map field_text (option_to_list call_id)
     ++ flat_map field_text (cseq_with method (option_and_then cseq_of cseq)) ++ flat_map field_text (all_named Name.Route (fields_kept routes came.fields))
     ++ codes "Content-Length: " ++ decimal (length {A = ℕ} []) ++ codes "\r\n\r\n" ++ []
     ≡ text_of (beside method to uri via routes came)
 whole_is method uri target via to from call_id cseq routes came is_from is_call_id is_cseq is_target =
     ap (λ (w : List ℕ). w ++ codes "Content-Length: " ++ decimal (length {A = ℕ} []) ++ codes "\r\n\r\n" ++ []) (
-    five (front_text method target via) (option_to_list from) to (option_to_list call_id) (cseq_with method (option_and_then cseq_of cseq)) (all_named Name.Route (fields_kept routes came.fields))
-    ∙ ap (λ (o : Option Field). front_text method target via ++ lines (option_to_list o ++ to ++ option_to_list call_id ++ cseq_with method (option_and_then cseq_of cseq) ++ all_named Name.Route (fields_kept routes came.fields))) is_from
-    ∙ ap (λ (o : Option Field). front_text method target via ++ lines (first_of Name.From came.fields ++ to ++ option_to_list o ++ cseq_with method (option_and_then cseq_of cseq) ++ all_named Name.Route (fields_kept routes came.fields))) is_call_id
-    ∙ ap (λ (o : Option (List ℕ)). front_text method target via ++ lines (first_of Name.From came.fields ++ to ++ first_of Name.CallId came.fields ++ cseq_with method (option_and_then cseq_of o) ++ all_named Name.Route (fields_kept routes came.fields))) is_cseq
+    five (front_text method target via) (option_to_list from) to (option_to_list call_id) (cseq_with method (option_and_then cseq_of cseq))
+    (all_named Name.Route (fields_kept routes came.fields))
+    ∙ ap (λ (o : Option Field). front_text method target via ++ lines (option_to_list o ++ to ++ option_to_list call_id ++ cseq_with method (option_and_then cseq_of cseq)
+    ++ all_named Name.Route (fields_kept routes came.fields))) is_from
+    ∙ ap (λ (o : Option Field). front_text method target via ++ lines (first_of Name.From came.fields ++ to ++ option_to_list o
+    ++ cseq_with method (option_and_then cseq_of cseq) ++ all_named Name.Route (fields_kept routes came.fields))) is_call_id
+    ∙ ap (λ (o : Option (List ℕ)). front_text method target via ++ lines (first_of Name.From came.fields ++ to ++ first_of Name.CallId came.fields
+    ++ cseq_with method (option_and_then cseq_of o) ++ all_named Name.Route (fields_kept routes came.fields))) is_cseq
     ∙ ap (λ (w : List ℕ). front_text method w via ++ lines (taken_over method to routes came.fields)) is_target
-    ∙ front_first (start_text (Request method (request_uri (with_uri uri came.start)) (codes "SIP/2.0")) ++ codes "\r\n") (field_text (record { name = Name.Via; value = via })) (field_text seventy) (lines (taken_over method to routes came.fields))
+    ∙ front_first (start_text (Request method (request_uri (with_uri uri came.start)) (codes "SIP/2.0")) ++ codes "\r\n")
+    (field_text (record { name = Name.Via; value = via })) (field_text seventy) (lines (taken_over method to routes came.fields))
     )

@@ -1,5 +1,6 @@
 -- A branch of this server is read back as its numbers, and no other text is.
-use Rattle.std.proofs.Common.{◌≡◌, ℕ, ◌<◌, ◌^◌, Bool, true, false, List, [], ◌∷◌, ◌++◌, length, take, drop, decimal, Option, Some, None, option_map, refl, sym, ap, ◌∙◌, append_assoc, arith}
+use Rattle.std.proofs.Common.{◌≡◌, ℕ, ◌<◌, ◌^◌, Bool, true, false, List, [], ◌∷◌, ◌++◌, length, take, drop, decimal, Option, Some, None, option_map, refl, sym, ap, ◌∙◌}
+use Rattle.std.proofs.Common.{append_assoc, arith}
 use Rattle.std.specs.Prelude.{◌==◌, if◌then◌else◌, nat_lt}
 use Rattle.std.specs.Option.{option_and_then}
 use Rattle.std.specs.List.{list_all}
@@ -89,7 +90,8 @@ both_read : (o p : Option ℕ) (n k : ℕ) → o ≡ Some n → p ≡ Some k
 both_read o p n k e f = rw (e, f) refl
 
 id_read : (n k : ℕ) → n < 2 ^ 64 → k < 2 ^ 32 → id_from (decimal n) (decimal k) ≡ Some (id_with n k)
-id_read n k lt small = both_read (plain_decimal_of (decimal n)) (plain_decimal_below (2 ^ 32) (decimal k)) n k (plain_read n lt) (below_read (2 ^ 32) k small (omega arith))
+id_read n k lt small = both_read (plain_decimal_of (decimal n)) (plain_decimal_below (2 ^ 32) (decimal k)) n k (plain_read n lt)
+    (below_read (2 ^ 32) k small (omega arith))
 
 record IsId (number target : List ℕ) (id : BranchId) : Type 0 where
   number_is : number ≡ decimal id.number

@@ -20,7 +20,8 @@ abbrev kept_by : Bool → Field → List Field → List Field
 kept_by s field others = cond s (field ∷ others) others
 
 -- the top Via: it is no Route
-top_by : (u : Bool) (value : List ℕ) (routes : RoutesKept) (field : Field) (fields : List Field) → is_same_name field.name Name.Via ≡ true → is_same_name field.name Name.Route ≡ u → (true && u) ≡ false →
+top_by : (u : Bool) (value : List ℕ) (routes : RoutesKept) (field : Field) (fields : List Field) → is_same_name field.name Name.Via ≡ true
+    → is_same_name field.name Name.Route ≡ u → (true && u) ≡ false →
     kept_by (cond u (routes.skipped == 0 && nat_lt 0 routes.kept) true) (record field { value = value }) (fields_kept (cond u (behind_route routes) routes) fields)
     ≡ with_via value (kept_by (cond u (routes.skipped == 0 && nat_lt 0 routes.kept) true) field (fields_kept (cond u (behind_route routes) routes) fields))
 top_by true value routes field fields is_via is_route never = absurd cc
@@ -28,7 +29,8 @@ top_by false value routes field fields is_via is_route never =
     sym (ap (λ (t : Bool). cond t (record field { value = value } ∷ fields_kept routes fields) (field ∷ with_via value (fields_kept routes fields))) is_via)
 
 -- any other field
-other_by : (s : Bool) (value : List ℕ) (field : Field) (others edited_others : List Field) → is_same_name field.name Name.Via ≡ false → edited_others ≡ with_via value others →
+other_by : (s : Bool) (value : List ℕ) (field : Field) (others edited_others : List Field) → is_same_name field.name Name.Via ≡ false
+    → edited_others ≡ with_via value others →
     kept_by s field edited_others ≡ with_via value (kept_by s field others)
 other_by true value field others edited_others is_via rest =
     ap (λ (w : List Field). field ∷ w) rest ∙ sym (ap (λ (t : Bool). cond t (record field { value = value } ∷ others) (field ∷ with_via value others)) is_via)

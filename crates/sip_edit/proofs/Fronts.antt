@@ -9,7 +9,8 @@ use Rattle.sip_edit.specs.BranchId.{behind}
 behind_both : (a b text : List ℕ) → behind (a ++ b) text ≡ option_and_then (behind b) (behind a text)
 behind_both [] b text = refl
 behind_both (x ∷ a) b [] = refl
-behind_both (x ∷ a) b (y ∷ text) = elim (y == x) as (λ t. (if t && bytes_eq (take (length (a ++ b)) text) (a ++ b) then Some (drop (length (a ++ b)) text) else None) ≡ option_and_then (behind b) (if t && bytes_eq (take (length a) text) a then Some (drop (length a) text) else None)) [ true ↦ behind_both a b text | false ↦ refl ]
+behind_both (x ∷ a) b (y ∷ text) = elim (y == x) as (λ t. (if t && bytes_eq (take (length (a ++ b)) text) (a ++ b) then Some (drop (length (a ++ b)) text) else None)
+    ≡ option_and_then (behind b) (if t && bytes_eq (take (length a) text) a then Some (drop (length a) text) else None)) [ true ↦ behind_both a b text | false ↦ refl ]
 
 -- a front of three parts is found part by part
 pub behind_parts : (a b c text : List ℕ) → behind (a ++ b ++ c) text ≡ option_and_then (behind c) (option_and_then (behind b) (behind a text))

@@ -17,11 +17,13 @@ use Rattle.sip_edit.specs.Lowering.{hops_left, default_hops, with_hops, lowered_
 
 -- ---- field by field
 
-hops_front : (hops : Option ℕ) (field : Field) (fields : List Field) → with_hops hops (field ∷ fields) ≡ lowered_field hops field ∷ with_hops (hops_behind hops field) fields
+hops_front : (hops : Option ℕ) (field : Field) (fields : List Field) → with_hops hops (field ∷ fields) ≡ lowered_field hops field
+    ∷ with_hops (hops_behind hops field) fields
 hops_front None field fields = refl
 hops_front (Some n) field fields = by_test (is_same_name field.name Name.MaxForwards)
   where
-    by_test : (t : Bool) → cond t (record field { value = decimal n } ∷ fields) (field ∷ with_value Name.MaxForwards (decimal n) fields) ≡ cond t (record field { value = decimal n }) field ∷ with_hops (cond t None (Some n)) fields
+    by_test : (t : Bool) → cond t (record field { value = decimal n } ∷ fields) (field ∷ with_value Name.MaxForwards (decimal n) fields)
+        ≡ cond t (record field { value = decimal n }) field ∷ with_hops (cond t None (Some n)) fields
     by_test true = refl
     by_test false = refl
 
@@ -30,23 +32,29 @@ rest_on hops realm fields = with_hops hops (without_credentials realm fields)
 
 pub taken_off : (hops : Option ℕ) (routes : RoutesKept) (realm : List ℕ) (field : Field) (fields : List Field) → stays routes field ≡ false →
     fields_on hops routes realm (field ∷ fields) ≡ fields_on hops (behind routes field) realm fields
-taken_off hops routes realm field fields is = ap (λ (t : Bool). rest_on hops realm (cond t (field ∷ fields_kept (behind routes field) fields) (fields_kept (behind routes field) fields))) is
+taken_off hops routes realm field fields is = ap (λ (t : Bool). rest_on hops realm (cond t (field ∷ fields_kept (behind routes field) fields)
+    (fields_kept (behind routes field) fields))) is
 
 stayed : (hops : Option ℕ) (routes : RoutesKept) (realm : List ℕ) (field : Field) (fields : List Field) → stays routes field ≡ true →
     fields_on hops routes realm (field ∷ fields) ≡ rest_on hops realm (field ∷ fields_kept (behind routes field) fields)
-stayed hops routes realm field fields is = ap (λ (t : Bool). rest_on hops realm (cond t (field ∷ fields_kept (behind routes field) fields) (fields_kept (behind routes field) fields))) is
+stayed hops routes realm field fields is = ap (λ (t : Bool). rest_on hops realm (cond t (field ∷ fields_kept (behind routes field) fields)
+    (fields_kept (behind routes field) fields))) is
 
-pub dropped : (hops : Option ℕ) (routes : RoutesKept) (realm : List ℕ) (field : Field) (fields : List Field) → stays routes field ≡ true → is_for_realm realm field ≡ true →
+pub dropped : (hops : Option ℕ) (routes : RoutesKept) (realm : List ℕ) (field : Field) (fields : List Field) → stays routes field ≡ true → is_for_realm realm field ≡ true
+    →
     fields_on hops routes realm (field ∷ fields) ≡ fields_on hops (behind routes field) realm fields
 dropped hops routes realm field fields is for_realm =
     stayed hops routes realm field fields is
-    ∙ ap (λ (t : Bool). with_hops hops (cond (not t) (field ∷ without_credentials realm (fields_kept (behind routes field) fields)) (without_credentials realm (fields_kept (behind routes field) fields)))) for_realm
+    ∙ ap (λ (t : Bool). with_hops hops (cond (not t) (field ∷ without_credentials realm (fields_kept (behind routes field) fields))
+    (without_credentials realm (fields_kept (behind routes field) fields)))) for_realm
 
-pub passed_on : (hops : Option ℕ) (routes : RoutesKept) (realm : List ℕ) (field : Field) (fields : List Field) → stays routes field ≡ true → is_for_realm realm field ≡ false →
+pub passed_on : (hops : Option ℕ) (routes : RoutesKept) (realm : List ℕ) (field : Field) (fields : List Field) → stays routes field ≡ true
+    → is_for_realm realm field ≡ false →
     fields_on hops routes realm (field ∷ fields) ≡ lowered_field hops field ∷ fields_on (hops_behind hops field) (behind routes field) realm fields
 passed_on hops routes realm field fields is for_realm =
     stayed hops routes realm field fields is
-    ∙ ap (λ (t : Bool). with_hops hops (cond (not t) (field ∷ without_credentials realm (fields_kept (behind routes field) fields)) (without_credentials realm (fields_kept (behind routes field) fields)))) for_realm
+    ∙ ap (λ (t : Bool). with_hops hops (cond (not t) (field ∷ without_credentials realm (fields_kept (behind routes field) fields))
+    (without_credentials realm (fields_kept (behind routes field) fields)))) for_realm
     ∙ hops_front hops field (without_credentials realm (fields_kept (behind routes field) fields))
 
 pub none_left : (hops : Option ℕ) (routes : RoutesKept) (realm : List ℕ) → fields_on hops routes realm [] ≡ []

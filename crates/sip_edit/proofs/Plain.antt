@@ -35,11 +35,13 @@ same_text uri cut u is plain read =
     let scheme : scheme_text u.scheme ≡ w.scheme = scheme_is w.scheme u.scheme (sym name ∙ plain) w.in_any_case in
     ap (λ (t : List ℕ). t ++ 58 ∷ rest_text u) scheme ∙ sym w.whole
 
-by_reading : (uri : List ℕ) (cut : List ℕ × List ℕ) (r : Result Uri UriError) → split_at_byte 58 uri ≡ Some cut → cut.0 ≡ codes "sip" → reading_of uri ≡ r → uri ≡ option_map_or (λ u. text_of u) (result_ok r) uri
+by_reading : (uri : List ℕ) (cut : List ℕ × List ℕ) (r : Result Uri UriError) → split_at_byte 58 uri ≡ Some cut → cut.0 ≡ codes "sip" → reading_of uri ≡ r
+    → uri ≡ option_map_or (λ u. text_of u) (result_ok r) uri
 by_reading uri cut (Err fault) is plain read = refl
 by_reading uri cut (Ok u) is plain read = sym (same_text uri cut u is plain read)
 
-by_split : (uri : List ℕ) (o : Option (List ℕ × List ℕ)) → split_at_byte 58 uri ≡ o → option_map_or (λ x. bytes_eq x.0 (codes "sip")) o false ≡ true → uri ≡ written_uri uri
+by_split : (uri : List ℕ) (o : Option (List ℕ × List ℕ)) → split_at_byte 58 uri ≡ o → option_map_or (λ x. bytes_eq x.0 (codes "sip")) o false ≡ true
+    → uri ≡ written_uri uri
 by_split uri None is e = absurd cc
 by_split uri (Some cut) is e = by_reading uri cut (reading_of uri) is ((bytes_eq-Decides cut.0 (codes "sip")).0 e) refl
 

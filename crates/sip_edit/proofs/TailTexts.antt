@@ -1,5 +1,6 @@
 -- The tail of a request as it is written, field by field, behind its top Via.
-use Rattle.std.proofs.Common.{◌≡◌, ℕ, Bool, true, false, cond, ◌&&◌, ◌==◌, nat_lt, List, [], ◌∷◌, ◌++◌, length, map, filter, refl, sym, ap, ◌∙◌, append_assoc, flat_map, Option, Some, None}
+use Rattle.std.proofs.Common.{◌≡◌, ℕ, Bool, true, false, cond, ◌&&◌, ◌==◌, nat_lt, List, [], ◌∷◌, ◌++◌, length, map, filter, refl, sym, ap, ◌∙◌, append_assoc, flat_map}
+use Rattle.std.proofs.Common.{Option, Some, None}
 use Rattle.std.specs.Prelude.{decimal, codes}
 use Rattle.std.specs.Option.{option_map_or}
 use Rattle.std.specs.Str.{bytes_eq}
@@ -29,11 +30,13 @@ pub taken_off : (hops : Option ℕ) (routes : RoutesKept) (realm : List ℕ) (fi
     flat_map field_text (fields_on hops routes realm (field ∷ fields)) ≡ flat_map field_text (fields_on hops (Routes.behind routes field) realm fields)
 taken_off hops routes realm field fields is = ap (λ (w : List Field). flat_map field_text w) (Going.taken_off hops routes realm field fields is)
 
-pub dropped : (hops : Option ℕ) (routes : RoutesKept) (realm : List ℕ) (field : Field) (fields : List Field) → stays routes field ≡ true → is_for_realm realm field ≡ true →
+pub dropped : (hops : Option ℕ) (routes : RoutesKept) (realm : List ℕ) (field : Field) (fields : List Field) → stays routes field ≡ true → is_for_realm realm field ≡ true
+    →
     flat_map field_text (fields_on hops routes realm (field ∷ fields)) ≡ flat_map field_text (fields_on hops (Routes.behind routes field) realm fields)
 dropped hops routes realm field fields is for_realm = ap (λ (w : List Field). flat_map field_text w) (Going.dropped hops routes realm field fields is for_realm)
 
-pub passed_on : (hops : Option ℕ) (routes : RoutesKept) (realm : List ℕ) (field : Field) (fields : List Field) → stays routes field ≡ true → is_for_realm realm field ≡ false →
+pub passed_on : (hops : Option ℕ) (routes : RoutesKept) (realm : List ℕ) (field : Field) (fields : List Field) → stays routes field ≡ true
+    → is_for_realm realm field ≡ false →
     flat_map field_text (fields_on hops routes realm (field ∷ fields))
     ≡ field_text (lowered_field hops field) ++ flat_map field_text (fields_on (hops_behind hops field) (Routes.behind routes field) realm fields)
 passed_on hops routes realm field fields is for_realm = ap (λ (w : List Field). flat_map field_text w) (Going.passed_on hops routes realm field fields is for_realm)
@@ -83,14 +86,16 @@ top_goes_on hops routes realm top others e =
 -- and says nothing of the hops
 hops_without : (top : Field) (others : List Field) → is_same_name top.name Name.MaxForwards ≡ false → max_forwards_of (top ∷ others) ≡ max_forwards_of others
 hops_without top others differs =
-    ap (λ (t : Bool). hops_in (map (λ field. field.value) (cond t (top ∷ filter (λ field. is_same_name field.name Name.MaxForwards) others) (filter (λ field. is_same_name field.name Name.MaxForwards) others)))) differs
+    ap (λ (t : Bool). hops_in (map (λ field. field.value) (cond t (top ∷ filter (λ field. is_same_name field.name Name.MaxForwards) others)
+    (filter (λ field. is_same_name field.name Name.MaxForwards) others)))) differs
 
 -- ---- the whole
 
 abbrev edited : Field → List ℕ → Field
 edited top via = record top { value = via }
 
-onward_are : (routes : RoutesKept) (realm via : List ℕ) (fields : List Field) (top : Field) (others : List Field) → fields ≡ top ∷ others → is_same_name top.name Name.Via ≡ true →
+onward_are : (routes : RoutesKept) (realm via : List ℕ) (fields : List Field) (top : Field) (others : List Field) → fields ≡ top ∷ others
+    → is_same_name top.name Name.Via ≡ true →
     fields_by routes realm (with_first Name.Via via fields)
     ≡ edited top via ∷ (fields_on (hops_left (max_forwards_of fields)) routes realm others ++ default_hops (max_forwards_of fields))
 onward_are routes realm via fields top others is e =
@@ -102,13 +107,15 @@ onward_are routes realm via fields top others is e =
     ∙ ap (λ (w : List Field). w ++ default_hops (max_forwards_of fields)) (top_goes_on (hops_left (max_forwards_of fields)) routes realm (edited top via) others e)
 
 -- the line of the top Via with what stands behind it
-pub tail_is : (routes : RoutesKept) (realm via out first : List ℕ) (m : Message) (top : Field) (others : List Field) → m.fields ≡ top ∷ others → is_same_name top.name Name.Via ≡ true →
+pub tail_is : (routes : RoutesKept) (realm via out first : List ℕ) (m : Message) (top : Field) (others : List Field) → m.fields ≡ top ∷ others
+    → is_same_name top.name Name.Via ≡ true →
     first ≡ out ++ field_text (record top { value = via }) →
     first ++ others_behind routes realm m others ≡ out ++ tail_of routes realm (record m { fields = with_first Name.Via via m.fields })
 tail_is routes realm via out first m top others is e written =
     let hops : MaxForwards = max_forwards_of m.fields in
     ap (λ (w : List ℕ). w ++ others_behind routes realm m others) written
-    ∙ in_front out (field_text (edited top via)) (flat_map field_text (fields_on (hops_left hops) routes realm others ++ default_hops hops)) (codes "Content-Length: ") (decimal (length m.body)) (codes "\r\n\r\n") m.body
+    ∙ in_front out (field_text (edited top via)) (flat_map field_text (fields_on (hops_left hops) routes realm others ++ default_hops hops)) (codes "Content-Length: ")
+    (decimal (length m.body)) (codes "\r\n\r\n") m.body
     ∙ ap (λ (w : List Field). out ++ behind w m.body) (sym (onward_are routes realm via m.fields top others is e))
   where
     in_front : (out first a b c d e : List ℕ) → out ++ first ++ (a ++ b ++ c ++ d ++ e) ≡ out ++ ((first ++ a) ++ b ++ c ++ d ++ e)

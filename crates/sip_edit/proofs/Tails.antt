@@ -65,8 +65,10 @@ joined : (own : Own) (records_route : Bool) (uri via : List ℕ) (start : Start)
 joined own records_route uri via start fields body =
     append_assoc (start_text (with_uri uri start) ++ codes "\r\n" ++ field_text (via_field via)) (recorded own records_route) (behind fields body)
     ∙ ap (λ (w : List ℕ). (start_text (with_uri uri start) ++ codes "\r\n" ++ field_text (via_field via)) ++ w) (routed own records_route fields body)
-    ∙ append_assoc (start_text (with_uri uri start) ++ codes "\r\n") (field_text (via_field via)) (behind (cond records_route (record_route_field own ∷ fields) fields) body)
-    ∙ ap (λ (w : List ℕ). (start_text (with_uri uri start) ++ codes "\r\n") ++ w) (after (via_field via) (cond records_route (record_route_field own ∷ fields) fields) body)
+    ∙ append_assoc (start_text (with_uri uri start) ++ codes "\r\n") (field_text (via_field via))
+    (behind (cond records_route (record_route_field own ∷ fields) fields) body)
+    ∙ ap (λ (w : List ℕ). (start_text (with_uri uri start) ++ codes "\r\n") ++ w) (after (via_field via) (cond records_route (record_route_field own ∷ fields) fields)
+    body)
 
 pub whole_is : (own : Own) (records_route : Bool) (uri via tail realm : List ℕ) (routes : RoutesKept) (start : Start) (m : Message) →
     m.start ≡ start → tail ≡ tail_of routes realm m → fields_kept routes m.fields ≡ fields_left own (request_uri m.start) m.fields →
@@ -76,17 +78,20 @@ whole_is own records_route uri via tail realm routes start m is_start is_tail le
     ∙ ap (λ (s : Start). head_of own records_route uri via s ++ tail_of routes realm m) (sym is_start)
     ∙ joined own records_route uri via m.start (fields_by routes realm m.fields) m.body
     ∙ as_text (record { start = with_uri uri m.start; fields = fields_to own records_route via (fields_by routes realm m.fields); body = m.body })
-    ∙ ap (λ (w : List Field). text_of (record { start = with_uri uri m.start; fields = fields_to own records_route via w; body = m.body })) (fields_are own realm m routes left)
+    ∙ ap (λ (w : List Field). text_of (record { start = with_uri uri m.start; fields = fields_to own records_route via w; body = m.body }))
+    (fields_are own realm m routes left)
 
 abbrev edited : List ℕ → Message → Message
 edited value m = record m { fields = with_first Name.Via value m.fields }
 
 -- the same behind other bytes, of a request whose top Via has another value
 pub edited_is : (own : Own) (uri via realm value out head text : List ℕ) (routes : RoutesKept) (start : Start) (m : Message) →
-    m.start ≡ start → out ≡ [] → head ≡ out ++ head_of own false uri via start → text ≡ head ++ tail_of routes realm (record m { fields = with_first Name.Via value m.fields }) →
+    m.start ≡ start → out ≡ [] → head ≡ out ++ head_of own false uri via start → text ≡ head
+    ++ tail_of routes realm (record m { fields = with_first Name.Via value m.fields }) →
     fields_kept routes m.fields ≡ fields_left own (request_uri m.start) m.fields →
     text ≡ text_of (to_target uri via (onward_base own realm false (record m { fields = with_first Name.Via value m.fields })))
 edited_is own uri via realm value out head text routes start m is_start none is_head is left =
     is
     ∙ ap (λ (w : List ℕ). w ++ tail_of routes realm (edited value m)) (is_head ∙ ap (λ (w : List ℕ). w ++ head_of own false uri via start) none)
-    ∙ whole_is own false uri via (tail_of routes realm (edited value m)) realm routes start (edited value m) is_start refl (left_is own (request_uri m.start) value routes m.fields left)
+    ∙ whole_is own false uri via (tail_of routes realm (edited value m)) realm routes start (edited value m) is_start refl
+    (left_is own (request_uri m.start) value routes m.fields left)

@@ -45,7 +45,8 @@ name_by : (text name : List ℕ) (value : Option (List ℕ)) → IsParameterBy t
 name_by text name None h = ap trimmed (alone text (ap is_token_text h.0 ∙ h.1)) ∙ h.0
 name_by text name (Some value) h =
     let is : IsAssigned text name value = h.0 in
-    let front : before_equals text ≡ is.left = ap before_equals is.whole ∙ while_is not_equals is.left (61 ∷ is.right) (passing is.left (ap is_token_text is.is_name ∙ h.1)) refl in
+    let front : before_equals text ≡ is.left = ap before_equals is.whole ∙ while_is not_equals is.left (61 ∷ is.right)
+    (passing is.left (ap is_token_text is.is_name ∙ h.1)) refl in
     ap trimmed front ∙ is.is_name
 
 pub named : (sought text : List ℕ) (p : Parameter) → IsParameter text p → is_parameter sought text ≡ is_same_text p.name sought
@@ -53,7 +54,8 @@ named sought text p is = ap (λ (n : List ℕ). is_same_text n sought) (name_by 
 
 -- ---- none of a name
 
-none_here : (sought : List ℕ) (p : Parameter) (ps : List Parameter) (t : Bool) → is_same_text p.name sought ≡ t → is_some (parameter_of sought (p ∷ ps)) ≡ false → t ≡ false
+none_here : (sought : List ℕ) (p : Parameter) (ps : List Parameter) (t : Bool) → is_same_text p.name sought ≡ t → is_some (parameter_of sought (p ∷ ps)) ≡ false
+    → t ≡ false
 none_here sought p ps false is none = refl
 none_here sought p ps true is none = let never = rw is at none in absurd cc
 
@@ -62,7 +64,8 @@ none_later sought p ps none =
     let other : is_same_text p.name sought ≡ false = none_here sought p ps (is_same_text p.name sought) refl none in
     let here = rw other at none in here
 
-other_name : (sought text : List ℕ) (p : Parameter) (ps : List Parameter) → IsParameter text p → is_some (parameter_of sought (p ∷ ps)) ≡ false → is_parameter sought text ≡ false
+other_name : (sought text : List ℕ) (p : Parameter) (ps : List Parameter) → IsParameter text p → is_some (parameter_of sought (p ∷ ps)) ≡ false
+    → is_parameter sought text ≡ false
 other_name sought text p ps is none = named sought text p is ∙ none_here sought p ps (is_same_text p.name sought) refl none
 
 none_asks : (texts : List (List ℕ)) (ps : List Parameter) → AllZip IsParameter texts ps → is_some (parameter_of (codes "rport") ps) ≡ false → asks_for_port texts ≡ false
@@ -74,7 +77,8 @@ none_asks (text ∷ texts) (p ∷ ps) are none =
 abbrev pub as_written : List (List ℕ) → List ℕ
 as_written texts = flat_map (λ text. 59 ∷ text) texts
 
-none_edited : (port : ℕ) (texts : List (List ℕ)) (ps : List Parameter) → AllZip IsParameter texts ps → is_some (parameter_of (codes "rport") ps) ≡ false → is_some (parameter_of (codes "received") ps) ≡ false
+none_edited : (port : ℕ) (texts : List (List ℕ)) (ps : List Parameter) → AllZip IsParameter texts ps → is_some (parameter_of (codes "rport") ps) ≡ false
+    → is_some (parameter_of (codes "received") ps) ≡ false
     → flat_map (edited port) texts ≡ as_written texts
 none_edited port [] ps are asks received = refl
 none_edited port (text ∷ texts) [] are asks received = absurd are
@@ -98,7 +102,8 @@ no_received : (a b : Bool) → (a || b) ≡ false → b ≡ false
 no_received false b e = e
 no_received true b e = absurd cc
 
-kept : (value : List ℕ) (via : Via) (from : Addr) → IsVia value via → is_some (parameter_of (codes "rport") via.parameters) ≡ false → is_some (parameter_of (codes "received") via.parameters) ≡ false
+kept : (value : List ℕ) (via : Via) (from : Addr) → IsVia value via → is_some (parameter_of (codes "rport") via.parameters) ≡ false
+    → is_some (parameter_of (codes "received") via.parameters) ≡ false
     → received_as (Some via) value from ≡ value ++ source_of via.host from false
 kept value via from is asks received =
     let texts : flat_map (edited from.port) is.texts ≡ as_written is.texts = none_edited from.port is.texts via.parameters is.are_parameters asks received in
@@ -112,11 +117,13 @@ kept value via from is asks received =
 pub read : (value : List ℕ) (via : Via) (from : Addr) → via_of value ≡ Some via → received_via value from ≡ with_source via.host from (parts_at 59 value)
 read value via from is = ap (λ (o : Option Via). received_as o value from) is
 
-pub stays : (value : List ℕ) (via : Via) (from : Addr) → via_of value ≡ Some via → (is_some (parameter_of (codes "rport") via.parameters) || is_some (parameter_of (codes "received") via.parameters)) ≡ false
+pub stays : (value : List ℕ) (via : Via) (from : Addr) → via_of value ≡ Some via → (is_some (parameter_of (codes "rport") via.parameters)
+    || is_some (parameter_of (codes "received") via.parameters)) ≡ false
     → received_via value from ≡ value ++ source_of via.host from false
 stays value via from is none =
     ap (λ (o : Option Via). received_as o value from) is
-    ∙ kept value via from (written_via value via is) (no_port (is_some (parameter_of (codes "rport") via.parameters)) (is_some (parameter_of (codes "received") via.parameters)) none)
+    ∙ kept value via from (written_via value via is) (no_port (is_some (parameter_of (codes "rport") via.parameters))
+    (is_some (parameter_of (codes "received") via.parameters)) none)
     (no_received (is_some (parameter_of (codes "rport") via.parameters)) (is_some (parameter_of (codes "received") via.parameters)) none)
 
 -- ---- the address that it has

@@ -1,5 +1,4 @@
 ghost use Rattle.std.specs.Prelude.{◌≡◌, ◌∷◌, [], codes, length};
-ghost use Rattle.sip_message_fields.specs.declared.field_name.FieldName.TheVariants as Name;
 ghost use Rattle.sip_message_form.specs.declared.message.Start.TheVariants.{Request};
 ghost use Rattle.sip_message_form.specs.Text.{text_of};
 ghost use Rattle.sip_route.specs.Examples.{own, sample_realm};

@@ -1,5 +1,5 @@
 -- The status lines that are written whole.
-use Rattle.std.proofs.Common.{◌≡◌, ℕ, List, [], ◌∷◌, ◌++◌, sym, ap, subst, arith}
+use Rattle.std.proofs.Common.{◌≡◌, ℕ, List, ◌++◌, sym, ap, subst, arith}
 use Rattle.std.specs.Prelude.{decimal, codes}
 use Rattle.sip_text.proofs.SmallDecimals.{three_digits}
 use Rattle.sip_message_form.specs.declared.message.Start.TheVariants.{Status}

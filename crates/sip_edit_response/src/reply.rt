@@ -1,8 +1,7 @@
 //! The response that is made here to a request (RFC 3261 8.2.6): as a view, and as a text straight from the kept request.
 //! Which status and which further fields it has is decided by who calls.
-ghost use Rattle.std.specs.Prelude.{◌≡◌, ◌++◌, true, map, option_map, IfOk, OnOk};
-ghost use Rattle.std.specs.Option.{option_to_list};
-ghost use Rattle.sip_message_fields.specs.Named.{first_named, first_of};
+ghost use Rattle.std.specs.Prelude.{◌≡◌, ◌++◌, true, map, IfOk, OnOk};
+ghost use Rattle.sip_message_fields.specs.Named.{first_of};
 ghost use Rattle.sip_message_fields.specs.Values.{with_first};
 ghost use Rattle.sip_message_form.specs.Text.{text_of};
 ghost use Rattle.sip_edit_response.specs.Reply;

@@ -2,7 +2,7 @@
 ghost use Rattle.std.specs.Prelude.{◌≡◌, ◌++◌, ◌∷◌, [], decimal, codes, option_map, IfOk, OnOk};
 ghost use Rattle.std.specs.Option.{option_and_then, option_to_list};
 ghost use Rattle.sip_message_fields.specs.declared.field_name.FieldName.TheVariants as Name;
-ghost use Rattle.sip_message_fields.specs.Named.{all_named, first_of};
+ghost use Rattle.sip_message_fields.specs.Named.{first_of};
 ghost use Rattle.sip_message_fields.specs.Values.{first_value};
 ghost use Rattle.sip_header.specs.CSeq as CSeqs;
 ghost use Rattle.sip_edit.specs.OwnRequests;

@@ -1,5 +1,5 @@
 -- The first timer fires, and the others keep their places: the same said of timers without their keys.
-use Rattle.std.proofs.Common.{◌≡◌, ℕ, ◌≤◌, ◌⊎◌, inl, inr, ◌==◌, Bool, true, false, cond, List, Result, Ok, Err, IfOk, OnOk, sym, ap, arith}
+use Rattle.std.proofs.Common.{◌≡◌, ℕ, ◌⊎◌, inl, inr, ◌==◌, Bool, true, false, cond, List, Result, Ok, Err, IfOk, OnOk, sym, ap, arith}
 use Rattle.std.proofs.lemmas.Bool.Decides.{nat_tests}
 use Rattle.sip_event.specs.declared.event.StepOut.{StepOut}
 use Rattle.sip_event.specs.declared.packet.Packet.{Packet}
@@ -31,16 +31,19 @@ by_kind (Of.Branch m) false n e = ap (λ (k : ℕ). Of.Branch k) (sym (equal n m
 by_kind (Of.Cancel m) true n e = ap (λ (k : ℕ). Of.Cancel k) (sym (equal n m e))
 by_kind (Of.Cancel m) false n e = absurd (cc)
 
-overdue_of : (server : Server) (due : ℕ) (r : OpenRequest) (change : Change) (owner : Owner) (passes : IsOverdue server due r change) → Fired.IsOverdueOf owner passes → Order.IsOverdueOf owner passes
+overdue_of : (server : Server) (due : ℕ) (r : OpenRequest) (change : Change) (owner : Owner) (passes : IsOverdue server due r change) → Fired.IsOverdueOf owner passes
+    → Order.IsOverdueOf owner passes
 overdue_of server due r change owner (OfSide is) of = of
 overdue_of server due r change owner (OfBranch b there is) of = (by_kind owner b.is_cancel b.number of.0, of.1)
 
-resent_of : (server : Server) (due : ℕ) (r next : OpenRequest) (packets : List Packet) (owner : Owner) (goes : IsResent server due r packets next) → Fired.IsResentOf owner goes → Order.IsResentOf owner goes
+resent_of : (server : Server) (due : ℕ) (r next : OpenRequest) (packets : List Packet) (owner : Owner) (goes : IsResent server due r packets next)
+    → Fired.IsResentOf owner goes → Order.IsResentOf owner goes
 resent_of server due r next packets owner (OfAnswer is) of = of
 resent_of server due r next packets owner (OfRequest b there is) of = by_kind owner b.is_cancel b.number of
 
 module _ (server : Server) (old new : ProxyState) (at : ℕ) (out : StepOut) where
-  of_entry : (timer : Timer) (happens : IsDeadline server old at out new ⊎ IsResend server old at out new) → Fired.IsOfTimer timer happens → Order.IsOfEntry (entry_of timer) happens
+  of_entry : (timer : Timer) (happens : IsDeadline server old at out new ⊎ IsResend server old at out new) → Fired.IsOfTimer timer happens
+      → Order.IsOfEntry (entry_of timer) happens
   of_entry timer (inl passed) its = (its.0, overdue_of server out.at passed.request passed.change timer.name.owner passed.passes its.1)
   of_entry timer (inr gone) its = (its.0, resent_of server out.at gone.request gone.next gone.packets timer.name.owner gone.goes its.1)
 
@@ -54,7 +57,8 @@ module _ (server : Server) (old new : ProxyState) (at : ℕ) (out : StepOut) whe
     is_its = of_entry h.timer h.happens h.is_its;
   }
 
-pub first_if : (server : Server) (old new : ProxyState) (at : ℕ) (timers : List Timer) (result : Result StepOut StepError) → IfOk result (λ out. Fired.IsFiredFirst server timers old at out new)
+pub first_if : (server : Server) (old new : ProxyState) (at : ℕ) (timers : List Timer) (result : Result StepOut StepError)
+    → IfOk result (λ out. Fired.IsFiredFirst server timers old at out new)
     → IfOk result (λ out. Order.IsFirstOf server (entries timers) old at out new)
 first_if server old new at timers (Ok out) h = first_of server old new at out timers h
 first_if server old new at timers (Err e) h = tt

@@ -17,7 +17,8 @@ use Rattle.sip_engine.specs.Delivery.{IsDroppedOrOn, NeedsRoom}
 
 -- ---- an ACK
 
-dropped_at : (state : ProxyState) (now : ℕ) (id : Option DialogId) (address : Option Addr) → IsDroppedOrOn (Definition.within_at state now Definition.AckOn Definition.Drop id address)
+dropped_at : (state : ProxyState) (now : ℕ) (id : Option DialogId) (address : Option Addr)
+    → IsDroppedOrOn (Definition.within_at state now Definition.AckOn Definition.Drop id address)
 dropped_at state now None address = tt
 dropped_at state now (Some id) None = tt
 dropped_at state now (Some id) (Some address) = by_test (is_in_dialog now state.dialogs id address) where
@@ -75,7 +76,8 @@ cancelling : (server : Server) (state : ProxyState) (a : Arrival) (m : Message) 
     → NeedsRoom (Definition.is_full state) (Definition.cancel_verdict server state a m short key)
 cancelling server state a m short key = by_test (is_bad_request server.config.own m short) where
   by_test : (t : Bool)
-      → NeedsRoom (Definition.is_full state) (cond t (Definition.Answer 400 []) (cond (Definition.is_full state) (Definition.Answer 503 []) (Definition.Cancel (Definition.found_for_cancel state key a.from))))
+      → NeedsRoom (Definition.is_full state) (cond t (Definition.Answer 400 []) (cond (Definition.is_full state) (Definition.Answer 503 [])
+      (Definition.Cancel (Definition.found_for_cancel state key a.from))))
   by_test true = tt
   by_test false = spared state (Definition.Cancel (Definition.found_for_cancel state key a.from))
 
@@ -91,6 +93,7 @@ new_place server state a m short method key = by_ack (bytes_eq method (codes "AC
   by_ack : (t : Bool)
       → NeedsRoom (Definition.is_full state)
       (cond t (Definition.ack_verdict server state a.now m short)
-      (cond (bytes_eq method (codes "CANCEL")) (Definition.cancel_verdict server state a m short key) (Definition.checked_verdict server state a.now m method (refusal_of server.config.own m short))))
+      (cond (bytes_eq method (codes "CANCEL")) (Definition.cancel_verdict server state a m short key)
+      (Definition.checked_verdict server state a.now m method (refusal_of server.config.own m short))))
   by_ack true = free (Definition.is_full state) (Definition.ack_verdict server state a.now m short) (dropped_or_on server state a.now m short)
   by_ack false = by_cancel (bytes_eq method (codes "CANCEL"))

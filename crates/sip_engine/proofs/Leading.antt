@@ -5,7 +5,7 @@ use Rattle.sip_config_types.specs.declared.config.Config.{Config}
 use Rattle.sip_event.specs.declared.event.StepOut.{StepOut}
 use Rattle.sip_uri.specs.declared.addr.Addr.{Addr}
 use Rattle.sip_model.specs.steps_model.Effect.{datagram_effect}
-use Rattle.sip_model.specs.steps_model.Step.{Act, Does, Passing, IsDeadline, IsDelivery, IsQuiet, IsResend, IsStep, IsTime, NoneAgainBy, NoneBy, arrival_of, moment_of}
+use Rattle.sip_model.specs.steps_model.Step.{Act, Does, Passing, IsDeadline, IsDelivery, IsQuiet, IsResend, IsStep, NoneAgainBy, NoneBy, arrival_of, moment_of}
 use Rattle.sip_model.specs.Run.{Link, IsChain, under}
 use Rattle.sip_core.specs.state.State.{first_state}
 use Rattle.sip_core.specs.state.declared.proxy_state.ProxyState.{ProxyState}
@@ -31,8 +31,10 @@ none_left None none = refl
 none_left (Some x) none = absurd (none x refl)
 
 -- A server that has a state is the same server under another configuration of the same frame: steps lead to that state, too.
-pub reached_under : ((server : Server) (config : Config) (first : ProxyState) (history : List Link) (last : ProxyState) → (IsChain server first history last ↔ IsChain (under server config) first history last))
-    → (server other : Server) (config : Config) (state : ProxyState) → record config { own = server.config.own; realm = server.config.realm } ≡ config → other ≡ record { config = config; word = server.word }
+pub reached_under : ((server : Server) (config : Config) (first : ProxyState) (history : List Link) (last : ProxyState)
+    → (IsChain server first history last ↔ IsChain (under server config) first history last))
+    → (server other : Server) (config : Config) (state : ProxyState) → record config { own = server.config.own; realm = server.config.realm } ≡ config
+    → other ≡ record { config = config; word = server.word }
     → IsReached server state → IsReached other state
 reached_under law server other config state same is h =
     subst (λ (s : Server). IsReached s state) (ap (λ (k : Config). record { config = k; word = server.word }) same ∙ sym is)
@@ -57,7 +59,8 @@ quiet_for server old new at out quiet =
     }
 
 -- so is a deadline that passes
-abbrev deadline_for : (server : Server) (old new : ProxyState) (at : ℕ) (out : StepOut) → IsDeadline server old (moment_of old at) out new → IsDeadline server old at out new
+abbrev deadline_for : (server : Server) (old new : ProxyState) (at : ℕ) (out : StepOut) → IsDeadline server old (moment_of old at) out new
+    → IsDeadline server old at out new
 deadline_for server old new at out due = record {
   request = due.request;
   change = due.change;
@@ -84,34 +87,43 @@ resend_for server old new at out goes = record {
 }
 
 -- a step of time up to a moment that counts as the last one is one up to the moment that was given
-pub passes_for : (server : Server) (old new : ProxyState) (at : ℕ) (out : StepOut) → IsStep server old (Passing (moment_of old at)) out new → IsStep server old (Passing at) out new
+pub passes_for : (server : Server) (old new : ProxyState) (at : ℕ) (out : StepOut) → IsStep server old (Passing (moment_of old at)) out new
+    → IsStep server old (Passing at) out new
 passes_for server old new at out (inl quiet) = inl (quiet_for server old new at out quiet)
 passes_for server old new at out (inr (inl due)) = inr (inl (deadline_for server old new at out due))
 passes_for server old new at out (inr (inr goes)) = inr (inr (resend_for server old new at out goes))
 
 -- so is one of what is due
-pub happens_for : (server : Server) (old new : ProxyState) (at : ℕ) (out : StepOut) → IsDeadline server old (moment_of old at) out new ⊎ IsResend server old (moment_of old at) out new
+pub happens_for : (server : Server) (old new : ProxyState) (at : ℕ) (out : StepOut) → IsDeadline server old (moment_of old at) out new
+    ⊎ IsResend server old (moment_of old at) out new
     → IsDeadline server old at out new ⊎ IsResend server old at out new
 happens_for server old new at out (inl due) = inl (deadline_for server old new at out due)
 happens_for server old new at out (inr goes) = inr (resend_for server old new at out goes)
 
 -- and of the same timer
 fired_for : (server : Server) (old new : ProxyState) (at : ℕ) (out : StepOut) (timers later : List Timer) (timer : Timer) → timers ≡ timer ∷ later → out.at ≡ timer.due
-    → (happens : IsDeadline server old (moment_of old at) out new ⊎ IsResend server old (moment_of old at) out new) → IsOfTimer timer happens → IsFiredFirst server timers old at out new
-fired_for server old new at out timers later timer stands due (inl d) its = record { timer = timer; later = later; stands = stands; at_due = due; happens = inl (deadline_for server old new at out d); is_its = its }
-fired_for server old new at out timers later timer stands due (inr g) its = record { timer = timer; later = later; stands = stands; at_due = due; happens = inr (resend_for server old new at out g); is_its = its }
+    → (happens : IsDeadline server old (moment_of old at) out new ⊎ IsResend server old (moment_of old at) out new) → IsOfTimer timer happens
+    → IsFiredFirst server timers old at out new
+fired_for server old new at out timers later timer stands due (inl d) its = record {
+  timer = timer;
+  later = later;
+  stands = stands;
+  at_due = due;
+  happens = inl (deadline_for server old new at out d);
+  is_its = its;
+}
+fired_for server old new at out timers later timer stands due (inr g) its = record {
+  timer = timer;
+  later = later;
+  stands = stands;
+  at_due = due;
+  happens = inr (resend_for server old new at out g);
+  is_its = its;
+}
 
-pub first_for : (server : Server) (old new : ProxyState) (at : ℕ) (out : StepOut) (timers : List Timer) → IsFiredFirst server timers old (moment_of old at) out new → IsFiredFirst server timers old at out new
+pub first_for : (server : Server) (old new : ProxyState) (at : ℕ) (out : StepOut) (timers : List Timer) → IsFiredFirst server timers old (moment_of old at) out new
+    → IsFiredFirst server timers old at out new
 first_for server old new at out timers h = fired_for server old new at out timers h.later h.timer h.stands h.at_due h.happens h.is_its
-
-pub time_for : (server : Server) (old new : ProxyState) (at : ℕ) (out : StepOut) → IsTime server old (moment_of old at) out new → IsTime server old at out new
-time_for server old new at out h =
-    record {
-      none_due = subst (λ (n : ℕ). NoneBy n old.requests) (moment_again old at) h.none_due;
-      none_again_due = subst (λ (n : ℕ). NoneAgainBy n old.requests) (moment_again old at) h.none_again_due;
-      at_moment = h.at_moment ∙ moment_again old at;
-      quiet = quiet_for server old new at out h.quiet;
-    }
 
 pub delivered : (server : Server) (old new : ProxyState) (at word : ℕ) (from : Addr) (bytes : List ℕ) (out : StepOut)
     → NoneBy (moment_of old at) old.requests → NoneAgainBy (moment_of old at) old.requests
@@ -121,6 +133,7 @@ delivered server old new at word from bytes out due again does = record { none_d
 -- ---- what a call gives
 
 module _ (server : Server) (old new : ProxyState) where
-  pub led_by : (act : Act) (result : Result StepOut StepError) → IsReached server old → IfOk result (λ out. IsStep server old act out new) → OnErr result (new ≡ old) → IsReached server new
+  pub led_by : (act : Act) (result : Result StepOut StepError) → IsReached server old → IfOk result (λ out. IsStep server old act out new) → OnErr result (new ≡ old)
+      → IsReached server new
   led_by act (Ok out) h step same = led_on server old new act out h step
   led_by act (Err e) h step same = stayed server old new h same

@@ -27,7 +27,8 @@ module _ (requests : List OpenRequest) where
     by_test false is = grind (arith, nat_tests, is)
 
   -- by a moment before what is due next, nothing is due
-  pub none_by : (o : Option ℕ) → ((due m : ℕ) → IsNext requests due → m < due → NoneBy m requests) → ((due m : ℕ) → IsNext requests due → m < due → NoneAgainBy m requests)
+  pub none_by : (o : Option ℕ) → ((due m : ℕ) → IsNext requests due → m < due → NoneBy m requests)
+      → ((due m : ℕ) → IsNext requests due → m < due → NoneAgainBy m requests)
       → ((m : ℕ) → IsNothingDue requests → NoneBy m requests) → ((m : ℕ) → IsNothingDue requests → NoneAgainBy m requests)
       → MatchOption o (IsNothingDue requests) (IsNext requests) → (m : ℕ) → ((due : ℕ) → o ≡ Some due → m < due) → NoneBy m requests × NoneAgainBy m requests
   none_by None before before_again never never_again h m later = (never m h, never_again m h)

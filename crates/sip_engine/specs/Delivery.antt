@@ -1,25 +1,16 @@
 -- What is one step for a datagram, and what a verdict asks for.
 use Rattle.std.specs.Prelude.{Bool, ◌≡◌, false, ⊤, Option, Some, None}
-use Rattle.sip_event.specs.declared.event.StepOut.{StepOut}
 use Rattle.sip_core.specs.Verdict.{Is}
 use Rattle.sip_core.specs.declared.verdict.Verdict.{Verdict}
 use Rattle.sip_core.specs.declared.verdict.Verdict.TheVariants as Arrived
 use Rattle.sip_dialog.specs.declared.dialog.DialogId.{DialogId}
-use Rattle.sip_message_form.specs.declared.message.Message.{Message}
 use Rattle.sip_uri.specs.declared.addr.Addr.{Addr}
 use Rattle.sip_transaction_table.specs.declared.key.Key.{Key}
-use Rattle.sip_model.specs.steps_model.Effect.{counted, effect_of}
-use Rattle.sip_model.specs.steps_model.Step.{Does}
-use Rattle.sip_engine_open.specs.forwarding.Arrivals.{arrival_of}
 use Rattle.sip_engine_open.specs.forwarding.declared.arrival.Arrival.{Arrival}
 use Rattle.sip_core.specs.state.declared.proxy_state.ProxyState.{ProxyState}
 use Rattle.sip_core.specs.state.declared.server.Server.{Server}
 use Rattle.sip_core.specs.verdict_model.Verdict as Definition
 use Rattle.sip_engine_request.specs.uas.Asking.{AnswersFinally}
-
--- A step does what a verdict on the message of a datagram says.
-abbrev pub Takes : Server → ProxyState → Arrival → Message → Definition.Verdict → StepOut → ProxyState → Type 0
-Takes server old a m verdict out new = Does server old a.now (effect_of server (arrival_of a) m verdict (counted (arrival_of a) old)) out new
 
 -- where an ACK goes on by what was decided about it, if it does
 abbrev pub way_on : Verdict → Option (Addr × DialogId)

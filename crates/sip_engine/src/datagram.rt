@@ -8,9 +8,8 @@ ghost use Rattle.sip_model.specs.steps_model.Effect.{datagram_effect};
 ghost use Rattle.sip_model.specs.steps_model.Step.{Does};
 ghost use Rattle.sip_engine_open.specs.forwarding.Arrivals.{arrival_of};
 ghost use Rattle.sip_core.specs.verdict_model.Verdict as Definition;
-ghost use Rattle.sip_engine.specs.Delivery.{Takes};
+ghost use Rattle.sip_engine_request.specs.Steps.{IsWhole, Takes};
 
-use crate::configured::Configured;
 use crate::known::take_known;
 use crate::new::take_new;
 use crate::received_request::ReceivedRequest;
@@ -20,6 +19,7 @@ use sip_core::{Incoming, Judge, laws, read_datagram};
 use sip_engine_open::forwarding::Arrival;
 use sip_engine_open::proxy::Proxy;
 use sip_engine_open::take_dropped;
+use sip_engine_request::Configured;
 use sip_event::StepOut;
 use sip_message_form::View;
 use sip_policy::Rules;
@@ -41,9 +41,7 @@ fn take_request<T: Timers, R: Rules>(
     ensures does { IfOk result (λ out. Takes judge.now proxy.old.state request.now.arrival request.now.message.now
         (Definition.message_verdict judge.now proxy.old.state (arrival_of request.now.arrival) request.now.message.now
         request.now.short) out proxy.new.state) }
-    ensures unchanged { OnErr result (proxy.new.state ≡ proxy.old.state) }
-    ensures timers { OnErr result (proxy.new.timers ≡ proxy.old.timers) }
-    ensures queue { OnOk result (KeepsOrder proxy.old.timers proxy.new.timers proxy.new.state.requests) }
+    ensures whole { IsWhole proxy.old proxy.new result }
 {
     laws::requests();
     match proxy.find(&key) {
@@ -65,9 +63,7 @@ fn take_message<T: Timers, R: Rules>(
     requires coming { IsComing proxy.old.state arrival }
     ensures does { IfOk result (λ out. Takes judge.now proxy.old.state arrival message.now
         (Definition.message_verdict judge.now proxy.old.state (arrival_of arrival) message.now short) out proxy.new.state) }
-    ensures unchanged { OnErr result (proxy.new.state ≡ proxy.old.state) }
-    ensures timers { OnErr result (proxy.new.timers ≡ proxy.old.timers) }
-    ensures queue { OnOk result (KeepsOrder proxy.old.timers proxy.new.timers proxy.new.state.requests) }
+    ensures whole { IsWhole proxy.old proxy.new result }
 {
     let incoming = judge.incoming(alloc, message, short)?;
     match incoming {
@@ -120,6 +116,7 @@ pub fn take_datagram<T: Timers, R: Rules>(
     ensures unchanged { OnErr result (proxy.new.state ≡ proxy.old.state) }
     ensures timers { OnErr result (proxy.new.timers ≡ proxy.old.timers) }
     ensures queue { OnOk result (KeepsOrder proxy.old.timers proxy.new.timers proxy.new.state.requests) }
+    ensures secrets { proxy.new.secrets ≡ proxy.old.secrets }
 {
     laws::datagrams();
     let said = read_datagram(alloc, bytes)?;

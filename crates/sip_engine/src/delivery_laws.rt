@@ -1,4 +1,4 @@
-ghost use Rattle.std.specs.Prelude.{◌≡◌, ℕ, Bool, List};
+ghost use Rattle.std.specs.Prelude.{ℕ, Bool, List};
 ghost use Rattle.sip_message_form.specs.declared.message.Message.{Message};
 ghost use Rattle.sip_transaction_table.specs.declared.key.Key.{Key};
 ghost use Rattle.sip_core.specs.state.Arrival.{Arrival};

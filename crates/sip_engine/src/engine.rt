@@ -1,9 +1,10 @@
 //! The public calls of the server, and what each of them promises. The steps behind them are taken in `stepping`.
-ghost use Rattle.std.specs.Prelude.{◌≡◌, ◌≤◌, ◌<◌, ◌^◌, ◌⊎◌, ℕ, [], max, None, Some, Err, MatchOption, IsOk, IfOk, IfErr, IfSome, OnErr, OnOk};
+ghost use Rattle.std.specs.Prelude.{◌≡◌, ◌≤◌, ◌<◌, ◌^◌, ◌⊎◌, ℕ, [], None, Some, Err, MatchOption, IsOk, IfOk, IfErr, IfSome, OnErr, OnOk};
 ghost use Rattle.sip_event.specs.declared.event.Event.TheVariants.{Datagram, Fault};
 ghost use Rattle.sip_engine_open.specs.Faults.{failed_of};
 ghost use Rattle.sip_engine_open.specs.Next.{IsNext};
 ghost use Rattle.sip_engine_open.specs.fork.Due.{IsNothingDue};
+ghost use Rattle.sip_engine_open.specs.proxy.Proxy.{secrets_of};
 ghost use Rattle.sip_engine_open.specs.fork.request.Queued.{entries};
 ghost use Rattle.sip_engine_open.specs.fork.request.transactions_model.Queue.{entries_of, queue_after};
 ghost use Rattle.model_order.specs.Order.{IsFirstOf};
@@ -60,17 +61,19 @@ impl<T: Timers, R: Rules> Model for Engine<T, R> {
 
     ghost Value = { Engine };
 
-    ghost view = { λ e. record { server = e.judge; state = e.proxy.state; timers = e.proxy.timers } };
+    ghost view = { λ e. record { server = e.judge; state = e.proxy.state; timers = e.proxy.timers; secrets = e.proxy.secrets } };
 
     ghost invariant = { λ e. IsReached e.judge e.proxy.state };
 }
 
 impl<T: Timers, R: Rules> Engine<T, R> {
-    /// A server of a configuration that knows nothing yet. `AllocError` is the only refusal.
+    /// A server of a configuration that knows nothing yet; its tables whose keys peers choose are hashed under the secret `boot.keys`.
+    /// `AllocError` is the only refusal.
     pub fn open(alloc: Global, config: Config, boot: Boot) -> Result<Self, AllocError>
         ensures server { IfOk result (λ engine. engine.server ≡ record { config = config; word = boot.word }) }
         ensures state { IfOk result (λ engine. engine.state ≡ first_state boot.first) }
         ensures timers { IfOk result (λ engine. engine.timers ≡ []) }
+        ensures secrets { IfOk result (λ engine. engine.secrets ≡ secrets_of boot.keys) }
     {
         let server = Server {
             config,
@@ -96,6 +99,7 @@ impl<T: Timers, R: Rules> Engine<T, R> {
         ensures under { OnOk result (self.new.server ≡ under self.old.server config) }
         ensures state { OnOk result (self.new.state ≡ self.old.state) }
         ensures timers { OnOk result (self.new.timers ≡ self.old.timers) }
+        ensures secrets { self.new.secrets ≡ self.old.secrets }
     {
         histories_are_under_each();
         policy_in_the_old_frame_is_new();
@@ -186,6 +190,7 @@ impl<T: Timers, R: Rules> Engine<T, R> {
         ensures at_first { (due : ℕ) → IsNext self.old.state.requests due → due ≤ moment_of self.old.state at → IfOk result (λ out. out.at ≡ due) }
         ensures at_moment { IfOk result (λ out. out.at ≡ self.new.state.moment) }
         ensures in_time { IfOk result (λ out. out.at ≤ moment_of self.old.state at) }
+        ensures secrets { self.new.secrets ≡ self.old.secrets }
     {
         stepping::fire(self.alloc, &self.judge, &mut self.proxy, at)
     }
@@ -208,6 +213,7 @@ impl<T: Timers, R: Rules> Engine<T, R> {
         ensures server { self.new.server ≡ self.old.server }
         ensures queue { OnOk result (entries self.new.timers ≡ queue_after (entries self.old.timers) (entries_of self.new.state.requests)) }
         ensures step { IfOk result (λ out. IsStep self.old.server self.old.state (Given (Datagram at word from bytes.now)) out self.new.state) }
+        ensures secrets { self.new.secrets ≡ self.old.secrets }
     {
         stepping::deliver(
             self.alloc,
@@ -233,6 +239,7 @@ impl<T: Timers, R: Rules> Engine<T, R> {
         ensures server { self.new.server ≡ self.old.server }
         ensures queue { OnOk result (entries self.new.timers ≡ queue_after (entries self.old.timers) (entries_of self.new.state.requests)) }
         ensures step { IfOk result (λ out. IsStep self.old.server self.old.state (Given (Fault at ticket)) out self.new.state) }
+        ensures secrets { self.new.secrets ≡ self.old.secrets }
     {
         stepping::fault(self.alloc, &self.judge, &mut self.proxy, at, ticket)
     }

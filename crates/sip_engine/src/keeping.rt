@@ -1,15 +1,13 @@
-ghost use Rattle.std.specs.Prelude.{◌≡◌, Some, IfOk};
-ghost use Rattle.sip_edit.specs.ReceivedRequest.{top_via};
+ghost use Rattle.std.specs.Prelude.{◌≡◌, IfOk};
 ghost use Rattle.sip_core.specs.state.Names.{AreNames};
 
-use crate::new_request::NewRequest;
 use sip_base::Shared;
 use sip_core::state::{Heard, Names, Server};
+use sip_engine_request::NewRequest;
 use std::alloc::{AllocError, Global};
 
 /// Keeps a new request that is answered here. `AllocError` is the only refusal.
 pub(crate) fn keep(alloc: Global, request: &NewRequest<'_>) -> Result<Shared<Heard>, AllocError>
-    requires { top_via request.now.message.now ≡ Some request.now.via.now }
     ensures { IfOk result (λ kept. kept ≡ request.now.message.now) }
 {
     Heard::of(alloc, request.message, request.via, request.arrival.from)
@@ -22,8 +20,7 @@ pub(crate) fn keep_onward(
     request: &NewRequest<'_>,
     names: &mut Option<Names>,
 ) -> Result<Shared<Heard>, AllocError>
-    requires names { AreNames request.now.message.now names.old }
-    requires via { top_via request.now.message.now ≡ Some request.now.via.now }
+    requires { AreNames request.now.message.now names.old }
     ensures { IfOk result (λ kept. kept ≡ request.now.message.now) }
 {
     let own = &server.config.own;

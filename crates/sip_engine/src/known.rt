@@ -1,8 +1,7 @@
 //! Requests with the key of an open one (RFC 3261 17.2.3): copies, and ACKs of its final answer.
 //! The ACK of a 2xx is a transaction of its own (13.2.2.4), and goes on or is dropped.
-ghost use Rattle.std.specs.Prelude.{◌≡◌, ◌<◌, ◌&&◌, codes, length, slice_get, Some, IfOk, OnOk, OnErr};
+ghost use Rattle.std.specs.Prelude.{◌≡◌, ◌<◌, ◌&&◌, codes, length, slice_get, Some, IfOk};
 ghost use Rattle.std.specs.Str.{bytes_eq};
-ghost use Rattle.sip_engine_open.specs.fork.Firing.{KeepsOrder};
 ghost use Rattle.sip_engine_open.specs.proxy.Proxy.{IsComing};
 ghost use Rattle.sip_core.specs.Verdict.{IsRequestOf};
 ghost use Rattle.sip_edit.specs.ReceivedRequest.{top_via};
@@ -11,7 +10,7 @@ ghost use Rattle.sip_engine_open.specs.forwarding.Arrivals.{arrival_of};
 ghost use Rattle.sip_core.specs.state.declared.open_request.OpenRequest.{OpenRequest};
 ghost use Rattle.sip_core.specs.verdict_model.Verdict as Definition;
 ghost use Rattle.sip_core.specs.context_model.Branches as Branches;
-ghost use Rattle.sip_engine.specs.Delivery.{Takes};
+ghost use Rattle.sip_engine_request.specs.Steps.{IsWhole, Takes};
 ghost use Rattle.sip_engine.specs.Delivery as Delivery;
 
 use crate::delivery_laws::acks_are_dropped_or_go_on;
@@ -22,7 +21,7 @@ use sip_dialog::DialogId;
 use sip_engine_open::context::is_accepted;
 use sip_engine_open::proxy::Proxy;
 use sip_engine_open::{take_copy, take_dropped};
-use sip_engine_request::send_ack;
+use sip_engine_request::{Configured, NewRequest, send_ack};
 use sip_event::StepOut;
 use sip_policy::Rules;
 use sip_timers::Timers;
@@ -64,9 +63,7 @@ fn take_ack<T: Timers, R: Rules>(
     requires via { top_via ack.now.message.now ≡ Some ack.now.via }
     ensures does { IfOk result (λ out. Takes judge.now proxy.old.state ack.now.arrival ack.now.message.now
         (Definition.ack_verdict judge.now proxy.old.state ack.now.arrival.now ack.now.message.now ack.now.short) out proxy.new.state) }
-    ensures unchanged { OnErr result (proxy.new.state ≡ proxy.old.state) }
-    ensures timers { OnErr result (proxy.new.timers ≡ proxy.old.timers) }
-    ensures queue { OnOk result (KeepsOrder proxy.old.timers proxy.new.timers proxy.new.state.requests) }
+    ensures whole { IsWhole proxy.old proxy.new result }
 {
     acks_are_dropped_or_go_on();
     let decided = proxy.ack_verdict(
@@ -82,17 +79,13 @@ fn take_ack<T: Timers, R: Rules>(
         Some((address, id)) => {
             let server = judge.server();
             let hops = judge.hops();
-            send_ack(
-                alloc,
-                server,
-                hops,
-                proxy,
-                ack.arrival,
-                ack.message,
-                &ack.via,
-                address,
-                id,
-            )
+            let configured = Configured { server, hops };
+            let request = NewRequest {
+                arrival: ack.arrival,
+                message: ack.message,
+                via: &ack.via,
+            };
+            send_ack(alloc, &configured, proxy, &request, address, id)
         }
         None => Ok(take_dropped(alloc, proxy, ack.arrival)),
     }
@@ -115,9 +108,7 @@ pub(crate) fn take_known<T: Timers, R: Rules>(
         → Takes judge.now proxy.old.state request.now.arrival request.now.message.now
         (Definition.by_open judge.now proxy.old.state (arrival_of request.now.arrival) request.now.message.now request.now.short
         request.now.method.now key (Some r)) out proxy.new.state) }
-    ensures unchanged { OnErr result (proxy.new.state ≡ proxy.old.state) }
-    ensures timers { OnErr result (proxy.new.timers ≡ proxy.old.timers) }
-    ensures queue { OnOk result (KeepsOrder proxy.old.timers proxy.new.timers proxy.new.state.requests) }
+    ensures whole { IsWhole proxy.old proxy.new result }
 {
     if acknowledges_success(request.method, proxy.get(place)) {
         return take_ack(alloc, judge, proxy, request);

@@ -17,7 +17,6 @@
 mod answering;
 mod asking;
 mod change_error;
-mod configured;
 mod datagram;
 mod delivery_laws;
 mod engine;
@@ -27,7 +26,6 @@ mod histories;
 mod keeping;
 mod known;
 mod new;
-mod new_request;
 mod received_request;
 mod received_response;
 mod responses;

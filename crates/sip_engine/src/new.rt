@@ -7,16 +7,15 @@ ghost use Rattle.sip_transaction_table.specs.Key.{key_of};
 ghost use Rattle.sip_engine_open.specs.forwarding.Arrivals.{arrival_of};
 ghost use Rattle.sip_core.specs.state.State.{has_key};
 ghost use Rattle.sip_core.specs.verdict_model.Verdict as Definition;
-ghost use Rattle.sip_engine.specs.Delivery.{Takes};
+ghost use Rattle.sip_engine_request.specs.Steps.{Takes};
 
-use crate::configured::Configured;
 use crate::delivery_laws::new_requests_need_room;
-use crate::new_request::NewRequest;
 use crate::received_request::ReceivedRequest;
 use crate::served::serve;
 use sip_core::Judge;
 use sip_engine_open::proxy::Proxy;
 use sip_engine_request::uas::laws::new_verdict_answers_finally;
+use sip_engine_request::{Configured, NewRequest};
 use sip_event::StepOut;
 use sip_policy::Rules;
 use sip_timers::Timers;
@@ -43,6 +42,7 @@ pub(crate) fn take_new<T: Timers, R: Rules>(
     ensures unchanged { OnErr result (proxy.new.state ≡ proxy.old.state) }
     ensures timers { OnErr result (proxy.new.timers ≡ proxy.old.timers) }
     ensures queue { OnOk result (KeepsOrder proxy.old.timers proxy.new.timers proxy.new.state.requests) }
+    ensures secrets { proxy.new.secrets ≡ proxy.old.secrets }
 {
     new_requests_need_room();
     new_verdict_answers_finally();

@@ -1,5 +1,4 @@
-ghost use Rattle.std.specs.Prelude.{◌≡◌, ◌||◌, if◌then◌else◌, Some, IsSome, IfOk, OnOk, OnErr};
-ghost use Rattle.sip_engine_open.specs.fork.Firing.{KeepsOrder};
+ghost use Rattle.std.specs.Prelude.{◌≡◌, ◌||◌, if◌then◌else◌, Some, IsSome, IfOk};
 ghost use Rattle.sip_core.specs.Incoming.{IsResponse};
 ghost use Rattle.sip_engine_open.specs.proxy.Proxy.{IsComing};
 ghost use Rattle.sip_engine_open.specs.fork.Places.{branch_at};
@@ -7,13 +6,13 @@ ghost use Rattle.sip_engine_open.specs.forwarding.Arrivals.{arrival_of};
 ghost use Rattle.sip_core.specs.state.declared.branch.Branch.{Branch};
 ghost use Rattle.sip_core.specs.state.declared.open_request.OpenRequest.{OpenRequest};
 ghost use Rattle.sip_core.specs.verdict_model.Verdict as Definition;
-ghost use Rattle.sip_engine.specs.Delivery.{Takes};
+ghost use Rattle.sip_engine_request.specs.Steps.{IsWhole, Takes};
 
-use crate::configured::Configured;
 use crate::received_response::ReceivedResponse;
 use sip_core::laws;
 use sip_engine_open::proxy::Proxy;
 use sip_engine_open::{take_dropped, take_response};
+use sip_engine_request::Configured;
 use sip_event::StepOut;
 use sip_timers::Timers;
 use std::alloc::{AllocError, Global};
@@ -38,15 +37,12 @@ fn take_found<T: Timers>(
     branch: usize,
 ) -> Result<StepOut, AllocError>
     requires coming { IsComing proxy.old.state response.now.arrival }
-    requires rows { configured.now.hops.now.addresses ≡ configured.now.server.now.config.addresses }
     requires found { IsSome (branch_at proxy.old.state.requests (place, branch)) }
     ensures does { IfOk result (λ out. (r : OpenRequest) (b : Branch) → branch_at proxy.old.state.requests (place, branch) ≡ Some (r, b)
         → Takes configured.now.server.now proxy.old.state response.now.arrival response.now.message.now
         (if b.is_cancel || response.now.has_more_vias then Definition.Respond r b response.now.status else Definition.Drop) out
         proxy.new.state) }
-    ensures unchanged { OnErr result (proxy.new.state ≡ proxy.old.state) }
-    ensures timers { OnErr result (proxy.new.timers ≡ proxy.old.timers) }
-    ensures queue { OnOk result (KeepsOrder proxy.old.timers proxy.new.timers proxy.new.state.requests) }
+    ensures whole { IsWhole proxy.old proxy.new result }
 {
     if is_taken(proxy, place, branch, response.has_more_vias) {
         return take_response(
@@ -73,15 +69,12 @@ pub(crate) fn take_reply<T: Timers>(
     response: &ReceivedResponse<'_>,
 ) -> Result<StepOut, AllocError>
     requires coming { IsComing proxy.old.state response.now.arrival }
-    requires rows { configured.now.hops.now.addresses ≡ configured.now.server.now.config.addresses }
     requires response { IsResponse configured.now.server.now.config.own response.now.message.now response.now.short response.now.status
         response.now.branch.now response.now.method.now response.now.has_more_vias }
     ensures does { IfOk result (λ out. Takes configured.now.server.now proxy.old.state response.now.arrival response.now.message.now
         (Definition.message_verdict configured.now.server.now proxy.old.state (arrival_of response.now.arrival) response.now.message.now
         response.now.short) out proxy.new.state) }
-    ensures unchanged { OnErr result (proxy.new.state ≡ proxy.old.state) }
-    ensures timers { OnErr result (proxy.new.timers ≡ proxy.old.timers) }
-    ensures queue { OnOk result (KeepsOrder proxy.old.timers proxy.new.timers proxy.new.state.requests) }
+    ensures whole { IsWhole proxy.old proxy.new result }
 {
     laws::responses();
     match proxy.find_branch(configured.server, response.branch, response.method) {

@@ -1,25 +1,20 @@
-ghost use Rattle.std.specs.Prelude.{◌≡◌, position, None, Some, IfOk, OnOk, OnErr};
-ghost use Rattle.sip_engine_open.specs.fork.Firing.{KeepsOrder};
-ghost use Rattle.sip_engine_open.specs.proxy.Proxy.{IsComing};
+ghost use Rattle.std.specs.Prelude.{◌≡◌, Some, IfOk};
 ghost use Rattle.sip_core.specs.Verdict.{HasRoom, Is};
-ghost use Rattle.sip_edit.specs.ReceivedRequest.{top_via};
 ghost use Rattle.sip_core.specs.state.Names.{AreNames};
 ghost use Rattle.sip_transaction_table.specs.Key.{key_of};
-ghost use Rattle.sip_core.specs.state.State.{has_key};
 ghost use Rattle.sip_core.specs.verdict_model.Verdict as Definition;
-ghost use Rattle.sip_engine.specs.Delivery.{IsServed, Takes};
+ghost use Rattle.sip_engine_request.specs.Steps.{IsNew, IsWhole, Takes};
+ghost use Rattle.sip_engine.specs.Delivery.{IsServed};
 
 use crate::answering::{answer, cancel};
 use crate::asking::take_asked;
-use crate::configured::Configured;
 use crate::going::go_within;
-use crate::new_request::NewRequest;
 use sip_base::Shared;
 use sip_core::Verdict;
 use sip_core::state::Names;
 use sip_engine_open::proxy::Proxy;
 use sip_engine_open::take_dropped;
-use sip_engine_request::send_ack;
+use sip_engine_request::{Configured, NewRequest, send_ack};
 use sip_event::StepOut;
 use sip_timers::Timers;
 use sip_transaction_table::Key;
@@ -35,35 +30,20 @@ pub(crate) fn serve<T: Timers>(
     names: &mut Option<Names>,
     decided: Verdict<'_>,
 ) -> Result<StepOut, AllocError>
-    requires coming { IsComing proxy.old.state request.now.arrival }
+    requires new { IsNew proxy.old.state request.now.arrival key }
     requires key { key_of request.now.message.now ≡ Some key }
-    requires via { top_via request.now.message.now ≡ Some request.now.via.now }
     requires names { AreNames request.now.message.now names.old }
-    requires alone { position (has_key key) proxy.old.state.requests ≡ None }
-    requires rows { configured.now.hops.now.addresses ≡ configured.now.server.now.config.addresses }
     requires room { HasRoom proxy.old.room decided }
     requires served { IsServed configured.now.server.now proxy.old.state request.now.arrival key decided }
     ensures does { IfOk result (λ out. (verdict : Definition.Verdict)
         → Is configured.now.server.now proxy.old.state.bindings request.now.arrival.now
         (Definition.found_for_cancel proxy.old.state key request.now.arrival.from) verdict decided.entry
         → Takes configured.now.server.now proxy.old.state request.now.arrival request.now.message.now verdict out proxy.new.state) }
-    ensures unchanged { OnErr result (proxy.new.state ≡ proxy.old.state) }
-    ensures timers { OnErr result (proxy.new.timers ≡ proxy.old.timers) }
-    ensures queue { OnOk result (KeepsOrder proxy.old.timers proxy.new.timers proxy.new.state.requests) }
+    ensures whole { IsWhole proxy.old proxy.new result }
 {
     match decided {
         Verdict::Dropped => Ok(take_dropped(alloc, proxy, request.arrival)),
-        Verdict::AckOn(address, id) => send_ack(
-            alloc,
-            configured.server,
-            configured.hops,
-            proxy,
-            request.arrival,
-            request.message,
-            request.via,
-            address,
-            id,
-        ),
+        Verdict::AckOn(address, id) => send_ack(alloc, configured, proxy, request, address, id),
         Verdict::Cancel => {
             let key = Shared::new(alloc, key)?;
             cancel(alloc, configured, proxy, request, key)

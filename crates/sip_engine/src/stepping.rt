@@ -71,6 +71,7 @@ pub(crate) fn fire<T: Timers, R: Rules>(
     ensures at_first { (due : ℕ) → IsNext proxy.old.state.requests due → due ≤ moment_of proxy.old.state at → IfOk result (λ out. out.at ≡ due) }
     ensures at_moment { IfOk result (λ out. out.at ≡ proxy.new.state.moment) }
     ensures in_time { IfOk result (λ out. out.at ≤ moment_of proxy.old.state at) }
+    ensures secrets { proxy.new.secrets ≡ proxy.old.secrets }
 {
     if is_too_large(at) {
         return Err(StepError::MomentTooLarge);
@@ -100,6 +101,7 @@ pub(crate) fn deliver<T: Timers, R: Rules>(
     ensures timers { OnErr result (proxy.new.timers ≡ proxy.old.timers) }
     ensures queue { OnOk result (KeepsOrder proxy.old.timers proxy.new.timers proxy.new.state.requests) }
     ensures step { IfOk result (λ out. IsStep judge.now proxy.old.state (Given (Datagram at word from bytes.now)) out proxy.new.state) }
+    ensures secrets { proxy.new.secrets ≡ proxy.old.secrets }
 {
     if is_too_large(at) {
         return Err(StepError::MomentTooLarge);
@@ -138,6 +140,7 @@ pub(crate) fn fault<T: Timers, R: Rules>(
     ensures timers { OnErr result (proxy.new.timers ≡ proxy.old.timers) }
     ensures queue { OnOk result (KeepsOrder proxy.old.timers proxy.new.timers proxy.new.state.requests) }
     ensures step { IfOk result (λ out. IsStep judge.now proxy.old.state (Given (Fault at ticket)) out proxy.new.state) }
+    ensures secrets { proxy.new.secrets ≡ proxy.old.secrets }
 {
     if is_too_large(at) {
         return Err(StepError::MomentTooLarge);

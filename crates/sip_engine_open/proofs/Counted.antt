@@ -24,7 +24,8 @@ use Rattle.sip_engine_open.specs.Steps.{left_by}
 bindings_same : (from : ℕ) (left right : List Binding) → left ≡ right → SameBindings from left right
 bindings_same from left right same = λ aor moment later. ap (λ (rows : List Binding). live aor moment rows) same
 
-pub left_same : (a : Arrival) (requests : List OpenRequest) (lessons : List Lesson) (old middle new : ProxyState) → a.number ≡ old.next → Becomes a.now requests lessons old middle
+pub left_same : (a : Arrival) (requests : List OpenRequest) (lessons : List Lesson) (old middle new : ProxyState) → a.number ≡ old.next
+    → Becomes a.now requests lessons old middle
     → IsCounted middle new → SameState new (left_by a requests (after_lessons a.now lessons old.dialogs) old)
 left_same a requests lessons old middle new number becomes counts =
     let at : new.moment ≡ a.now = counts.moment_is ∙ becomes.moment_is in
@@ -40,7 +41,8 @@ left_same a requests lessons old middle new number becomes counts =
     }
 
 pub changed_same : (rows : List HostAddress) (server : Server) (a : Arrival) (change : Change) (lessons : List Lesson) (old middle new : ProxyState) → a.number ≡ old.next
-    → server.config.addresses ≡ rows → Teach rows server a.now lessons (dialogs_after server a.now change) → Becomes a.now (replaced change.request old.requests) lessons old middle
+    → server.config.addresses ≡ rows → Teach rows server a.now lessons (dialogs_after server a.now change)
+    → Becomes a.now (replaced change.request old.requests) lessons old middle
     → IsCounted middle new → SameState new (changed server a.now (counted (arrival_of a) old) change).state
 changed_same rows server a change lessons old middle new number known teach becomes counts =
     subst (λ (ds : List Dialog). SameState new (left_by a (replaced change.request old.requests) ds old)) (teach known old.dialogs)

@@ -11,19 +11,12 @@ use Rattle.sip_proxy.specs.context.declared.input.Input.{Input}
 use Rattle.sip_proxy.specs.context.declared.input.Input.TheVariants.{Response, BranchDeadline, SideDeadline, SendFault, Cancel, Ack, BranchAgain, AnswerAgain}
 use Rattle.sip_dialog_lessons.specs.Lessons.{beginnings}
 use Rattle.sip_proxy.specs.context_model.Retransmission.{answer_due, branch_due}
-use Rattle.sip_dialog_lessons.specs.state.declared.branch.Branch.{Branch}
 use Rattle.sip_dialog_lessons.specs.state.declared.open_request.OpenRequest.{OpenRequest}
 use Rattle.sip_dialog_lessons.specs.state.declared.server.Server.{Server}
 use Rattle.sip_proxy.specs.fork.Due.{GoesAgainBefore}
-use Rattle.sip_engine_open.specs.TimeSteps.{IsBranchDue, IsDueAs, IsFired, IsLastOf, IsOfPart}
-use Rattle.sip_engine_open.proofs.Lists.{contained}
+use Rattle.sip_engine_open.specs.TimeSteps.{IsDueAs, IsFired, IsLastOf, IsOfPart}
 
 -- ---- what is due, as an input
-
--- a branch that was read at its place is due as that place says
-pub branch_is_due : (moment_of : Branch → Option ℕ) (branches : List Branch) (place due : ℕ) (b : Branch) → ((x : Branch) → slice_get branches place ≡ Some x → moment_of x ≡ Some due)
-    → slice_get branches place ≡ Some b → IsBranchDue moment_of branches b due
-branch_is_due moment_of branches place due b is at = record { there = contained branches place b at; is = is b at }
 
 -- a moment that came
 come : (o : Option ℕ) (due : ℕ) → o ≡ Some due → IsSomeAnd o (λ (m : ℕ). m ≤ due)
@@ -56,8 +49,10 @@ module _ (rows : List HostAddress) (server : Server) (now : ℕ) where
   abbrev pub IsDraftAt : List OpenRequest → ℕ → Input → Draft → Type 0
   IsDraftAt requests place input draft = (r : OpenRequest) → slice_get requests place ≡ Some r → IsDrafted rows server now r input draft
 
-  pub draft_fired : (what : Due) (requests : List OpenRequest) (place : ℕ) (x : OpenRequest) (input : Input) (result : Result Draft AllocError) → slice_get requests place ≡ Some x → IsDueAs x now input
-      → IsOfPart x what input → (GoesAgainBefore x now what → IsLastOf x now input) → IfOk result (IsDraftAt requests place input) → IfOk result (λ draft. (r : OpenRequest) → slice_get requests place ≡ Some r → IsFired rows server now what r draft)
+  pub draft_fired : (what : Due) (requests : List OpenRequest) (place : ℕ) (x : OpenRequest) (input : Input) (result : Result Draft AllocError)
+      → slice_get requests place ≡ Some x → IsDueAs x now input
+      → IsOfPart x what input → (GoesAgainBefore x now what → IsLastOf x now input) → IfOk result (IsDraftAt requests place input)
+      → IfOk result (λ draft. (r : OpenRequest) → slice_get requests place ≡ Some r → IsFired rows server now what r draft)
   draft_fired what requests place x input (Ok draft) here due part last h = λ r at.
       let drafted : IsDrafted rows server now x input draft = h x here in
       let fired : IsFired rows server now what x draft = record { input = input; is_due = due; is_part = part; is_last = last; drafted = drafted } in

@@ -1,5 +1,6 @@
 -- What a step that leaves this does of the datagram's effect.
-use Rattle.std.proofs.Common.{◌≡◌, ◌∙◌, ℕ, Bool, true, false, not, ◌&&◌, cond, List, [], ◌∷◌, Option, Result, Some, None, Ok, Err, IfOk, slice_get, bytes_eq, codes, refl, sym, ap, subst}
+use Rattle.std.proofs.Common.{◌≡◌, ◌∙◌, ℕ, Bool, true, false, not, ◌&&◌, cond, List, [], ◌∷◌, Option, Result, Some, None, Ok, Err, IfOk, slice_get, bytes_eq, codes, refl}
+use Rattle.std.proofs.Common.{sym, ap, subst}
 use Rattle.std.specs.declared.alloc.AllocError.{AllocError}
 use Rattle.sip_event.specs.declared.event.StepOut.{StepOut}
 use Rattle.sip_event.specs.declared.packet.Packet.{Packet}
@@ -57,7 +58,8 @@ tested method start t is e = ap (λ (name : List ℕ). bytes_eq name (codes "ACK
 module _ (server : Server) (a : Arrival) (old new : ProxyState) where
   -- ---- nothing
 
-  pub nothing_done : (packets : List Packet) (out : StepOut) → packets ≡ [] → Leaves a packets old.requests old.dialogs old out new → Does server old a.now (nothing (counted (arrival_of a) old)) out new
+  pub nothing_done : (packets : List Packet) (out : StepOut) → packets ≡ [] → Leaves a packets old.requests old.dialogs old out new
+      → Does server old a.now (nothing (counted (arrival_of a) old)) out new
   nothing_done packets out none l =
       record {
         at_moment = l.at_moment;
@@ -84,10 +86,12 @@ module _ (server : Server) (a : Arrival) (old new : ProxyState) where
         records = l.records_are;
         leaves =
             subst (λ (ds : List Dialog). SameState new (left_by a (replaced change.request old.requests) ds old)) (d.lessons (sym known) old.dialogs)
-            (subst (λ (x : OpenRequest). SameState new (left_by a (replaced x old.requests) (after_lessons a.now draft.drafted.lessons old.dialogs) old)) d.request l.leaves);
+            (subst (λ (x : OpenRequest). SameState new (left_by a (replaced x old.requests) (after_lessons a.now draft.drafted.lessons old.dialogs) old)) d.request
+            l.leaves);
       }
 
-  pub response_done : (rows : List HostAddress) (place branch status : ℕ) (m : Message) (draft : Draft) (result : Result StepOut AllocError) → rows ≡ server.config.addresses
+  pub response_done : (rows : List HostAddress) (place branch status : ℕ) (m : Message) (draft : Draft) (result : Result StepOut AllocError)
+      → rows ≡ server.config.addresses
       → ((found : OpenRequest × Branch) → branch_at old.requests (place, branch) ≡ Some found
       → IsDraftOf rows server a.now found.0 (responded server a.now found.0 found.1 status m) (acked_again server found.0 found.1 status) draft)
       → IfOk result (LeavesDraft draft)
@@ -110,7 +114,8 @@ module _ (server : Server) (a : Arrival) (old new : ProxyState) where
       }
 
   ack_done : (m : Message) (r : OpenRequest) (draft : Draft) (out : StepOut) → bytes_eq (method_of m.start) (codes "ACK") ≡ true → draft.change ≡ acknowledged a.now r
-      → draft.drafted.packets ≡ [] → draft.drafted.lessons ≡ [] → LeavesDraft draft out → Does server old a.now (copied (arrival_of a) m r (counted (arrival_of a) old)) out new
+      → draft.drafted.packets ≡ [] → draft.drafted.lessons ≡ [] → LeavesDraft draft out
+      → Does server old a.now (copied (arrival_of a) m r (counted (arrival_of a) old)) out new
   ack_done m r draft out is becomes sends tells l =
       let done : Does server old a.now (copied_by r true) out new =
       record {
@@ -120,11 +125,13 @@ module _ (server : Server) (a : Arrival) (old new : ProxyState) where
         records = l.records_are;
         leaves =
             subst (λ (ls : List Lesson). SameState new (left_by a (replaced (acknowledged a.now r) old.requests) (after_lessons a.now ls old.dialogs) old)) tells
-            (subst (λ (x : OpenRequest). SameState new (left_by a (replaced x old.requests) (after_lessons a.now draft.drafted.lessons old.dialogs) old)) becomes l.leaves);
+            (subst (λ (x : OpenRequest). SameState new (left_by a (replaced x old.requests) (after_lessons a.now draft.drafted.lessons old.dialogs) old)) becomes
+            l.leaves);
       } in
       subst (λ (t : Bool). Does server old a.now (copied_by r t) out new) (sym is) done
 
-  pub again_done : (m : Message) (x r : OpenRequest) (packets : List Packet) (out : StepOut) → bytes_eq (method_of m.start) (codes "ACK") ≡ false → x ≡ r → packets ≡ answers_again x x.answer
+  pub again_done : (m : Message) (x r : OpenRequest) (packets : List Packet) (out : StepOut) → bytes_eq (method_of m.start) (codes "ACK") ≡ false → x ≡ r
+      → packets ≡ answers_again x x.answer
       → Leaves a packets old.requests old.dialogs old out new → Does server old a.now (copied (arrival_of a) m r (counted (arrival_of a) old)) out new
   again_done m x r packets out is same sends l =
       let sent : out.packets ≡ answers_again r r.answer = l.packets_are ∙ sends ∙ ap (λ (v : OpenRequest). answers_again v v.answer) same in
@@ -141,7 +148,8 @@ module _ (server : Server) (a : Arrival) (old new : ProxyState) where
 -- ---- a copy, whatever the server
 
 module _ (a : Arrival) (old new : ProxyState) where
-  pub acknowledged_done : (place : ℕ) (draft : Draft) (result : Result StepOut AllocError) → ((r : OpenRequest) → slice_get old.requests place ≡ Some r → draft.change ≡ acknowledged a.now r)
+  pub acknowledged_done : (place : ℕ) (draft : Draft) (result : Result StepOut AllocError)
+      → ((r : OpenRequest) → slice_get old.requests place ≡ Some r → draft.change ≡ acknowledged a.now r)
       → draft.drafted.packets ≡ [] → draft.drafted.lessons ≡ []
       → IfOk result (λ out. Leaves a draft.drafted.packets (replaced draft.change old.requests) (after_lessons a.now draft.drafted.lessons old.dialogs) old out new)
       → IfOk result (λ out. (server : Server) (m : Message) (r : OpenRequest) → bytes_eq (method_of m.start) (codes "ACK") ≡ true → slice_get old.requests place ≡ Some r
@@ -150,9 +158,11 @@ module _ (a : Arrival) (old new : ProxyState) where
   acknowledged_done place draft (Err e) becomes sends tells l = tt
 
   -- of a request of this method, by whether that is ACK
-  pub copy_done : (server : Server) (method : List ℕ) (m : Message) (place : ℕ) (t : Bool) (result : Result StepOut AllocError) → IsRequestOf method m.start → t ≡ bytes_eq method (codes "ACK")
+  pub copy_done : (server : Server) (method : List ℕ) (m : Message) (place : ℕ) (t : Bool) (result : Result StepOut AllocError) → IsRequestOf method m.start
+      → t ≡ bytes_eq method (codes "ACK")
       → IfOk result (λ out. (s : Server) (x : Message) (r : OpenRequest) → bytes_eq (method_of x.start) (codes "ACK") ≡ t → slice_get old.requests place ≡ Some r
       → Does s old a.now (copied (arrival_of a) x r (counted (arrival_of a) old)) out new)
-      → IfOk result (λ out. (r : OpenRequest) → slice_get old.requests place ≡ Some r → Does server old a.now (copied (arrival_of a) m r (counted (arrival_of a) old)) out new)
+      → IfOk result (λ out. (r : OpenRequest) → slice_get old.requests place ≡ Some r
+      → Does server old a.now (copied (arrival_of a) m r (counted (arrival_of a) old)) out new)
   copy_done server method m place t (Ok out) is e h = λ r at. h server m r (tested method m.start t is e) at
   copy_done server method m place t (Err err) is e h = tt

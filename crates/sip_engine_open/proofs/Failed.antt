@@ -1,5 +1,6 @@
 -- The branch that a ticket names, and what its fault does.
-use Rattle.std.proofs.Common.{◌≡◌, ◌∙◌, ℕ, Bool, zero, suc, ◌<◌, List, [], ◌∷◌, find, length, slice_get, position, Contains, Option, Result, Some, None, Ok, Err, IfOk, IsSome, is_some, refl, sym, ap, subst, true≢false, arith}
+use Rattle.std.proofs.Common.{◌≡◌, ◌∙◌, ℕ, Bool, zero, suc, ◌<◌, List, [], ◌∷◌, find, length, slice_get, position, Contains, Option, Result, Some, None, Ok, Err, IfOk}
+use Rattle.std.proofs.Common.{IsSome, is_some, refl, sym, ap, subst, true≢false, arith}
 use Rattle.std.specs.Prelude.{option_map, ◌==◌}
 use Rattle.std.specs.Option.{option_and_then, unwrap_or}
 use Rattle.std.specs.declared.alloc.AllocError.{AllocError}
@@ -34,7 +35,8 @@ place_within (r ∷ rs) zero branch some = omega arith
 place_within (r ∷ rs) (suc k) branch some = let h : k < length rs = place_within rs k branch some in omega (arith, h)
 
 -- the branches of a request
-in_branches : (r : OpenRequest) (branches : List Branch) (branch : ℕ) → IsSome {T = OpenRequest × Branch} (option_map (λ (b : Branch). (r, b)) (slice_get branches branch)) → branch < length branches
+in_branches : (r : OpenRequest) (branches : List Branch) (branch : ℕ) → IsSome {T = OpenRequest × Branch}
+    (option_map (λ (b : Branch). (r, b)) (slice_get branches branch)) → branch < length branches
 in_branches r [] branch some = absurd (true≢false (sym some))
 in_branches r (b ∷ bs) zero some = omega arith
 in_branches r (b ∷ bs) (suc k) some = let h : k < length bs = in_branches r bs k some in omega (arith, h)
@@ -53,13 +55,15 @@ read_is : (requests : List OpenRequest) (place branch : ℕ) (x : OpenRequest) (
 read_is requests place branch x b here there =
     ap (λ (o : Option OpenRequest). with_branch branch o) here ∙ ap (λ (o : Option Branch). option_map (λ (v : Branch). (x, v)) o) there
 
-found_is : (requests : List OpenRequest) (place branch : ℕ) (x : OpenRequest) (b : Branch) (found : OpenRequest × Branch) → slice_get requests place ≡ Some x → slice_get x.branches branch ≡ Some b
+found_is : (requests : List OpenRequest) (place branch : ℕ) (x : OpenRequest) (b : Branch) (found : OpenRequest × Branch) → slice_get requests place ≡ Some x
+    → slice_get x.branches branch ≡ Some b
     → branch_at requests (place, branch) ≡ Some found → found ≡ (x, b)
 found_is requests place branch x b found here there is =
     ap (λ (o : Option (OpenRequest × Branch)). unwrap_or o found) (sym is ∙ read_is requests place branch x b here there)
 
 -- and one of the request's branches
-pub branch_there : (requests : List OpenRequest) (place branch : ℕ) (x : OpenRequest) (b : Branch) (r : OpenRequest) → slice_get requests place ≡ Some x → slice_get x.branches branch ≡ Some b
+pub branch_there : (requests : List OpenRequest) (place branch : ℕ) (x : OpenRequest) (b : Branch) (r : OpenRequest) → slice_get requests place ≡ Some x
+    → slice_get x.branches branch ≡ Some b
     → slice_get requests place ≡ Some r → Contains r.branches b
 branch_there requests place branch x b r here there at =
     subst (λ (v : OpenRequest). Contains v.branches b) (ap (λ (o : Option OpenRequest). unwrap_or o x) (sym here ∙ at)) (contained x.branches branch b there)
@@ -74,13 +78,15 @@ module _ (ticket : Ticket) (requests : List OpenRequest) where
   pub no_request : find (λ (r : OpenRequest). r.number == ticket.datagram) requests ≡ None → failed_of ticket requests ≡ None
   no_request none = ap failed_in none
 
-  module _ (place : ℕ) (r : OpenRequest) (at : slice_get requests place ≡ Some r) (first : slice_get requests place ≡ find (λ (x : OpenRequest). x.number == ticket.datagram) requests) where
+  module _ (place : ℕ) (r : OpenRequest) (at : slice_get requests place ≡ Some r) (first : slice_get requests place
+      ≡ find (λ (x : OpenRequest). x.number == ticket.datagram) requests) where
     this_request : failed_of ticket requests ≡ option_map (λ (b : Branch). (r, b)) (find (is_failed ticket.branch) r.branches)
     this_request = ap failed_in (sym first ∙ at)
 
     pub no_branch : position (is_failed ticket.branch) r.branches ≡ None → failed_of ticket requests ≡ None
     no_branch none =
-        let nowhere : find (is_failed ticket.branch) r.branches ≡ None = sym (found_at (is_failed ticket.branch) r.branches) ∙ ap (option_and_then (slice_get r.branches)) none in
+        let nowhere : find (is_failed ticket.branch) r.branches ≡ None = sym (found_at (is_failed ticket.branch) r.branches)
+        ∙ ap (option_and_then (slice_get r.branches)) none in
         this_request ∙ ap (λ (o : Option Branch). option_map (λ (b : Branch). (r, b)) o) nowhere
 
     pub this_branch : (branch : ℕ) → position (is_failed ticket.branch) r.branches ≡ Some branch → branch_at requests (place, branch) ≡ failed_of ticket requests
@@ -89,7 +95,8 @@ module _ (ticket : Ticket) (requests : List OpenRequest) where
         sym (ap (option_and_then (slice_get r.branches)) found) ∙ found_at (is_failed ticket.branch) r.branches in
         ap (with_branch branch) at ∙ ap (λ (o : Option Branch). option_map (λ (b : Branch). (r, b)) o) there ∙ sym this_request
 
-pub some_branch : (requests : List OpenRequest) (place branch : ℕ) (r : OpenRequest) (test : Branch → Bool) → slice_get requests place ≡ Some r → position test r.branches ≡ Some branch
+pub some_branch : (requests : List OpenRequest) (place branch : ℕ) (r : OpenRequest) (test : Branch → Bool) → slice_get requests place ≡ Some r
+    → position test r.branches ≡ Some branch
     → IsSome (branch_at requests (place, branch))
 some_branch requests place branch r test here found =
     let there : (b : Branch) × (slice_get r.branches branch ≡ Some b) = at_place r.branches branch (found_within test r.branches branch found) in
@@ -112,7 +119,8 @@ module _ (server : Server) (now : ℕ) (ticket : Ticket) (state : ProxyState) wh
 -- ---- drafts
 
 module _ (rows : List HostAddress) (server : Server) (now : ℕ) where
-  draft_of : (r : OpenRequest) (input : Input) (change : Change) (draft : Draft) → outcome_of server now r input ≡ changing change [] → IsDrafted rows server now r input draft
+  draft_of : (r : OpenRequest) (input : Input) (change : Change) (draft : Draft) → outcome_of server now r input ≡ changing change []
+      → IsDrafted rows server now r input draft
       → IsDraftOf rows server now change draft
   draft_of r input change draft is d =
       record {
@@ -121,11 +129,15 @@ module _ (rows : List HostAddress) (server : Server) (now : ℕ) where
         lessons = subst (λ (o : Outcome). Teach rows server now draft.drafted.lessons (dialogs_after server now (change_of o))) is d.drafted.lessons;
       }
 
-  pub fault_drafted : (requests : List OpenRequest) (place branch : ℕ) (x : OpenRequest) (b : Branch) (input : Input) (result : Result Draft AllocError) → slice_get requests place ≡ Some x
-      → slice_get x.branches branch ≡ Some b → outcome_of server now x input ≡ changing (send_failed server now x b) [] → IfOk result (IsDraftAt rows server now requests place input)
-      → IfOk result (λ draft. (found : OpenRequest × Branch) → branch_at requests (place, branch) ≡ Some found → IsDraftOf rows server now (send_failed server now found.0 found.1) draft)
+  pub fault_drafted : (requests : List OpenRequest) (place branch : ℕ) (x : OpenRequest) (b : Branch) (input : Input) (result : Result Draft AllocError)
+      → slice_get requests place ≡ Some x
+      → slice_get x.branches branch ≡ Some b → outcome_of server now x input ≡ changing (send_failed server now x b) []
+      → IfOk result (IsDraftAt rows server now requests place input)
+      → IfOk result (λ draft. (found : OpenRequest × Branch) → branch_at requests (place, branch) ≡ Some found
+      → IsDraftOf rows server now (send_failed server now found.0 found.1) draft)
   fault_drafted requests place branch x b input (Ok draft) here there is h = λ found at.
-      subst (λ (f : OpenRequest × Branch). IsDraftOf rows server now (send_failed server now f.0 f.1) draft) (sym (found_is requests place branch x b found here there at))
+      subst (λ (f : OpenRequest × Branch). IsDraftOf rows server now (send_failed server now f.0 f.1) draft)
+      (sym (found_is requests place branch x b found here there at))
       (draft_of x input (send_failed server now x b) draft is (h x here))
   fault_drafted requests place branch x b input (Err e) here there is h = tt
 
@@ -159,7 +171,8 @@ module _ (server : Server) (now : ℕ) (old new : ProxyState) where
   pub no_branch_fails : (ticket : Ticket) (out : StepOut) → MayCome old now → failed_of ticket old.requests ≡ None → Leaves now [] old.requests [] old out new
       → (at : ℕ) → now ≡ moment_of old at → IsFault server old at ticket out new
   no_branch_fails ticket out may none l =
-      fault_done ticket out may (subst (λ (o : Option (OpenRequest × Branch)). Does server old now (failing server now at_moment o) out new) (sym none) (nothing_done server now old out new l))
+      fault_done ticket out may (subst (λ (o : Option (OpenRequest × Branch)). Does server old now (failing server now at_moment o) out new) (sym none)
+      (nothing_done server now old out new l))
 
   -- one that is there
   by_branch_there : (o : Option (OpenRequest × Branch)) (out : StepOut) → IsSome o
@@ -170,11 +183,13 @@ module _ (server : Server) (now : ℕ) (old new : ProxyState) where
 
   pub branch_fails : (ticket : Ticket) (place branch : ℕ) (result : Result StepOut AllocError) → MayCome old now → IsSome (branch_at old.requests (place, branch))
       → branch_at old.requests (place, branch) ≡ failed_of ticket old.requests
-      → IfOk result (λ out. (found : OpenRequest × Branch) → branch_at old.requests (place, branch) ≡ Some found → Does server old now (changed server now old (send_failed server now found.0 found.1)) out new)
+      → IfOk result (λ out. (found : OpenRequest × Branch) → branch_at old.requests (place, branch) ≡ Some found
+      → Does server old now (changed server now old (send_failed server now found.0 found.1)) out new)
       → IfOk result (λ out. (at : ℕ) → now ≡ moment_of old at → IsFault server old at ticket out new)
   branch_fails ticket place branch (Ok out) may some is does =
       fault_done ticket out may
-      (subst (λ (o : Option (OpenRequest × Branch)). Does server old now (failing server now at_moment o) out new) is (by_branch_there (branch_at old.requests (place, branch)) out some does))
+      (subst (λ (o : Option (OpenRequest × Branch)). Does server old now (failing server now at_moment o) out new) is
+      (by_branch_there (branch_at old.requests (place, branch)) out some does))
   branch_fails ticket place branch (Err e) may some is does = tt
 
 -- a fault that fails a branch is one whose ticket names one

@@ -1,5 +1,6 @@
 -- Open requests and their branches by their places, and what is drafted of a response to one.
-use Rattle.std.proofs.Common.{◌≡◌, ◌∙◌, ℕ, zero, suc, ◌<◌, ◌≤◌, List, [], ◌∷◌, length, slice_get, Contains, Option, Result, Some, Ok, Err, IfOk, IsSome, sym, ap, subst, true≢false, arith}
+use Rattle.std.proofs.Common.{◌≡◌, ◌∙◌, ℕ, zero, suc, ◌<◌, ◌≤◌, List, [], ◌∷◌, length, slice_get, Contains, Option, Result, Some, Ok, Err, IfOk, IsSome, sym, ap, subst}
+use Rattle.std.proofs.Common.{true≢false, arith}
 use Rattle.std.specs.Prelude.{option_map}
 use Rattle.std.specs.Option.{option_and_then, unwrap_or}
 use Rattle.std.specs.declared.alloc.AllocError.{AllocError}
@@ -31,7 +32,8 @@ place_within (r ∷ rs) zero branch some = omega arith
 place_within (r ∷ rs) (suc k) branch some = let h : k < length rs = place_within rs k branch some in omega (arith, h)
 
 -- the branches of a request
-in_branches : (r : OpenRequest) (branches : List Branch) (branch : ℕ) → IsSome {T = OpenRequest × Branch} (option_map (λ (b : Branch). (r, b)) (slice_get branches branch)) → branch < length branches
+in_branches : (r : OpenRequest) (branches : List Branch) (branch : ℕ) → IsSome {T = OpenRequest × Branch}
+    (option_map (λ (b : Branch). (r, b)) (slice_get branches branch)) → branch < length branches
 in_branches r [] branch some = absurd (true≢false (sym some))
 in_branches r (b ∷ bs) zero some = omega arith
 in_branches r (b ∷ bs) (suc k) some = let h : k < length bs = in_branches r bs k some in omega (arith, h)
@@ -45,7 +47,8 @@ pub branch_within : (requests : List OpenRequest) (place branch : ℕ) (r : Open
 branch_within requests place branch r some at = in_branches r r.branches branch (subst (λ (o : Option OpenRequest). IsSome (with_branch branch o)) at some)
 
 -- what was read at both places is what was found there
-pub found_is : (requests : List OpenRequest) (place branch : ℕ) (x : OpenRequest) (b : Branch) (found : OpenRequest × Branch) → slice_get requests place ≡ Some x → slice_get x.branches branch ≡ Some b
+pub found_is : (requests : List OpenRequest) (place branch : ℕ) (x : OpenRequest) (b : Branch) (found : OpenRequest × Branch) → slice_get requests place ≡ Some x
+    → slice_get x.branches branch ≡ Some b
     → branch_at requests (place, branch) ≡ Some found → found ≡ (x, b)
 found_is requests place branch x b found here there is =
     let at : with_branch branch (slice_get requests place) ≡ Some (x, b) =
@@ -53,7 +56,8 @@ found_is requests place branch x b found here there is =
     ap (λ (o : Option (OpenRequest × Branch)). unwrap_or o found) (sym is ∙ at)
 
 -- and one of the request's branches
-pub contained : (requests : List OpenRequest) (place branch : ℕ) (x : OpenRequest) (b : Branch) (r : OpenRequest) → slice_get requests place ≡ Some x → slice_get x.branches branch ≡ Some b
+pub contained : (requests : List OpenRequest) (place branch : ℕ) (x : OpenRequest) (b : Branch) (r : OpenRequest) → slice_get requests place ≡ Some x
+    → slice_get x.branches branch ≡ Some b
     → slice_get requests place ≡ Some r → Contains r.branches b
 contained requests place branch x b r here there at =
     subst (λ (v : OpenRequest). Contains v.branches b) (ap (λ (o : Option OpenRequest). unwrap_or o x) (sym here ∙ at))
@@ -77,8 +81,10 @@ module _ (rows : List HostAddress) (server : Server) (now : ℕ) where
   abbrev pub IsDraftAt : List OpenRequest → ℕ → Input → Draft → Type 0
   IsDraftAt requests place input draft = (r : OpenRequest) → slice_get requests place ≡ Some r → IsDrafted rows server now r input draft
 
-  pub response_drafted : (requests : List OpenRequest) (place branch : ℕ) (x : OpenRequest) (b : Branch) (status : ℕ) (m : Message) (input : Input) (result : Result Draft AllocError)
-      → slice_get requests place ≡ Some x → slice_get x.branches branch ≡ Some b → outcome_of server now x input ≡ changing (responded server now x b status m) (acked_again server x b status)
+  pub response_drafted : (requests : List OpenRequest) (place branch : ℕ) (x : OpenRequest) (b : Branch) (status : ℕ) (m : Message) (input : Input)
+      (result : Result Draft AllocError)
+      → slice_get requests place ≡ Some x → slice_get x.branches branch ≡ Some b → outcome_of server now x input
+      ≡ changing (responded server now x b status m) (acked_again server x b status)
       → IfOk result (IsDraftAt requests place input)
       → IfOk result (λ draft. (found : OpenRequest × Branch) → branch_at requests (place, branch) ≡ Some found
       → IsDraftOf rows server now found.0 (responded server now found.0 found.1 status m) (acked_again server found.0 found.1 status) draft)

@@ -1,5 +1,6 @@
 -- Elements of lists, by their places.
-use Rattle.std.proofs.Common.{◌≡◌, ℕ, zero, suc, ◌<◌, ◌≤◌, Bool, true, false, cond, List, [], ◌∷◌, length, get_or, slice_get, position, Contains, Option, Some, None, refl, sym, ◌∙◌, ap, subst, arith, flat_map}
+use Rattle.std.proofs.Common.{◌≡◌, ℕ, zero, suc, ◌<◌, ◌≤◌, Bool, true, false, cond, List, [], ◌∷◌, length, get_or, slice_get, position, Contains, Option, Some, None}
+use Rattle.std.proofs.Common.{refl, sym, ◌∙◌, ap, subst, arith, flat_map}
 use Rattle.std.specs.Prelude.{find, nat_lt}
 use Rattle.std.specs.List.{AllByRecursion, cons_option, filter_map, position_or_len}
 use Rattle.std.specs.Option.{option_and_then, option_to_list}
@@ -30,7 +31,8 @@ module _ {X : Type 0} where
   -- what stands at the place that is found is what is found
   pub found_at : (test : X → Bool) (xs : List X) → option_and_then (slice_get xs) (position test xs) ≡ find test xs
   found_at test xs = by_test (nat_lt (position_or_len test xs) (length xs)) refl ∙ sym (find_at test xs) where
-    by_test : (b : Bool) → nat_lt (position_or_len test xs) (length xs) ≡ b → option_and_then (slice_get xs) (cond b (Some (position_or_len test xs)) None) ≡ slice_get xs (position_or_len test xs)
+    by_test : (b : Bool) → nat_lt (position_or_len test xs) (length xs) ≡ b → option_and_then (slice_get xs) (cond b (Some (position_or_len test xs)) None)
+        ≡ slice_get xs (position_or_len test xs)
     by_test true is = refl
     by_test false is = let past : length xs ≤ position_or_len test xs = grind (arith, nat_tests, is) in sym (slice_get_past xs (position_or_len test xs) past)
 

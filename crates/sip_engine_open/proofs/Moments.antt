@@ -21,11 +21,13 @@ use Rattle.sip_engine_open.proofs.Lists.{all_contains, all_weaker, at_place, in_
 due_of : (r : OpenRequest) (due : ℕ) (what : Due) → IsDue r due what → Contains (deadlines_of r) due ⊎ Contains (resends_of r) due
 due_of r due What.AnswerAgain is = inr (Contains-append_left (option_to_list (answer_due r)) (filter_map (branch_due r) r.branches) due (in_option (answer_due r) due is))
 due_of r due What.AnswerEnds is =
-    inl (Contains-append_left (option_to_list (side_deadline r.side)) (filter_map (λ (b : Branch). phase_deadline b.phase) r.branches) due (in_option (side_deadline r.side) due is))
+    inl (Contains-append_left (option_to_list (side_deadline r.side)) (filter_map (λ (b : Branch). phase_deadline b.phase) r.branches) due
+    (in_option (side_deadline r.side) due is))
 due_of r due (What.BranchAgain place) is =
     let found : (b : Branch) × (slice_get r.branches place ≡ Some b) = at_place r.branches place is.within in
     inr
-    (Contains-append_right (option_to_list (answer_due r)) (filter_map (branch_due r) r.branches) due (in_filter_map (branch_due r) r.branches place found.0 due found.1 (is.is found.0 found.1)))
+    (Contains-append_right (option_to_list (answer_due r)) (filter_map (branch_due r) r.branches) due
+    (in_filter_map (branch_due r) r.branches place found.0 due found.1 (is.is found.0 found.1)))
 due_of r due (What.BranchEnds place) is =
     let found : (b : Branch) × (slice_get r.branches place ≡ Some b) = at_place r.branches place is.within in
     inl
@@ -38,7 +40,8 @@ first_is_next requests first f =
       found : (r : OpenRequest) × (slice_get requests first.place ≡ Some r)
       found = at_place requests first.place f.within
 
-      of_all : Contains (deadlines_of found.0) first.due ⊎ Contains (resends_of found.0) first.due → Contains (deadlines requests) first.due ⊎ Contains (resends requests) first.due
+      of_all : Contains (deadlines_of found.0) first.due ⊎ Contains (resends_of found.0) first.due
+          → Contains (deadlines requests) first.due ⊎ Contains (resends requests) first.due
       of_all (inl there) = inl (in_flat_map deadlines_of requests first.place found.0 first.due found.1 there)
       of_all (inr there) = inr (in_flat_map resends_of requests first.place found.0 first.due found.1 there)
 
@@ -55,7 +58,8 @@ module _ (requests : List OpenRequest) where
   never moment nothing = all_weaker (λ (d : ℕ). moment + 1 ≤ d) (λ (d : ℕ). moment < d) (λ d le. omega (arith, le)) (deadlines requests) (nothing.none (moment + 1))
 
   pub never_again : (moment : ℕ) → IsNothingDue requests → NoneAgainBy moment requests
-  never_again moment nothing = all_weaker (λ (d : ℕ). moment + 1 ≤ d) (λ (d : ℕ). moment < d) (λ d le. omega (arith, le)) (resends requests) (nothing.none_again (moment + 1))
+  never_again moment nothing = all_weaker (λ (d : ℕ). moment + 1 ≤ d) (λ (d : ℕ). moment < d) (λ d le. omega (arith, le)) (resends requests)
+      (nothing.none_again (moment + 1))
 
   -- nothing stands before a moment by which nothing is due
   pub none_before : (moment : ℕ) → NoneBy moment requests → NoneBefore moment requests

@@ -32,8 +32,10 @@ use Rattle.sip_engine_open.proofs.Results.{first_done}
 
 -- ---- a request at its place
 
-pub kept_there : (requests : List OpenRequest) (place moment due : ℕ) (t : Transaction) (x : OpenRequest) (input : Input) → slice_get requests place ≡ Some x → IsDueAs x due input → IsDeadlineOf x t input → moment ≤ due
-    → ((r : OpenRequest) → slice_get requests place ≡ Some r → (server : Server) (now : ℕ) (input : Input) → moment ≤ now → IsOf r now input → IsDeadlineOf r t input → IsKeptAs now r (ended t r))
+pub kept_there : (requests : List OpenRequest) (place moment due : ℕ) (t : Transaction) (x : OpenRequest) (input : Input) → slice_get requests place ≡ Some x
+    → IsDueAs x due input → IsDeadlineOf x t input → moment ≤ due
+    → ((r : OpenRequest) → slice_get requests place ≡ Some r → (server : Server) (now : ℕ) (input : Input) → moment ≤ now → IsOf r now input → IsDeadlineOf r t input
+    → IsKeptAs now r (ended t r))
     → (server : Server) (r : OpenRequest) → slice_get requests place ≡ Some r → IsKeptAs due r (ended t r)
 kept_there requests place moment due t x input here is_due is later kept server r at =
     subst (λ (v : OpenRequest). IsKeptAs due v (ended t v)) (read_twice requests place x r here at) (kept x here server due input later (about x due input is_due) is)
@@ -44,7 +46,8 @@ kept_there requests place moment due t x input here is_due is later kept server 
 abbrev pub quiet_draft : OpenRequest → Draft
 quiet_draft next = record { change = next; drafted = record { packets = []; lessons = expiring (left_invite next) } }
 
-taught : (server : Server) (now : ℕ) (next : OpenRequest) (dialogs : List Dialog) → after_lessons now (expiring (left_invite next)) dialogs ≡ dialogs_after server now (alone next) dialogs
+taught : (server : Server) (now : ℕ) (next : OpenRequest) (dialogs : List Dialog) → after_lessons now (expiring (left_invite next)) dialogs
+    ≡ dialogs_after server now (alone next) dialogs
 taught server now next dialogs = by_test (is_invite next && has_left next) where
   by_test : (t : Bool) → after_lessons now (expiring (cond t (Some next.number) None)) dialogs ≡ cond t (after_invite now next.number dialogs) dialogs
   by_test true = refl
@@ -61,7 +64,8 @@ quiet_drafted rows server now next = record {
   few = few_taught (left_invite next);
 }
 
-pub quiet_fired : (rows : List HostAddress) (server : Server) (due : ℕ) (what : Due) (r next : OpenRequest) → IsQuietEnd due what r next → IsKeptAs due r next → IsFired rows server due what r (quiet_draft next)
+pub quiet_fired : (rows : List HostAddress) (server : Server) (due : ℕ) (what : Due) (r next : OpenRequest) → IsQuietEnd due what r next → IsKeptAs due r next
+    → IsFired rows server due what r (quiet_draft next)
 quiet_fired rows server due what r next h kept = record {
   input = h.input;
   is_due = h.is_due;
@@ -79,7 +83,8 @@ quiet_fired rows server due what r next h kept = record {
 module _ (server : Server) (old new : ProxyState) (timers : List Timer) (first : First) (t : Transaction) (out : StepOut) where
   -- what is left where the transaction ended
   abbrev pub LeavesEnded : Type 0
-  LeavesEnded = (r : OpenRequest) → slice_get old.requests first.place ≡ Some r → Leaves first.due [] (replaced (ended t r) old.requests) (expiring (left_invite (ended t r))) old out new
+  LeavesEnded = (r : OpenRequest) → slice_get old.requests first.place ≡ Some r → Leaves first.due [] (replaced (ended t r) old.requests)
+      (expiring (left_invite (ended t r))) old out new
 
   pub quiet_done : (rows : List HostAddress) → rows ≡ server.config.addresses → IsFirst old.requests first → IsOfFirst timers old.requests first
       → ((r : OpenRequest) → slice_get old.requests first.place ≡ Some r → IsQuietEnd first.due first.what r (ended t r))
@@ -88,8 +93,10 @@ module _ (server : Server) (old new : ProxyState) (timers : List Timer) (first :
   quiet_done rows known f of quiet kept leaves =
       let found : (r : OpenRequest) × (slice_get old.requests first.place ≡ Some r) = at_place old.requests first.place f.within in
       let draft : Draft = quiet_draft (ended t found.0) in
-      let fired : IsFired rows server first.due first.what found.0 draft = quiet_fired rows server first.due first.what found.0 (ended t found.0) (quiet found.0 found.1) (kept server found.0 found.1) in
-      first_done server old new timers rows first draft (Ok out) known f of (λ x there. subst (λ (v : OpenRequest). IsFired rows server first.due first.what v draft) (read_twice old.requests first.place found.0 x found.1 there) fired)
+      let fired : IsFired rows server first.due first.what found.0 draft = quiet_fired rows server first.due first.what found.0 (ended t found.0) (quiet found.0 found.1)
+      (kept server found.0 found.1) in
+      first_done server old new timers rows first draft (Ok out) known f of (λ x there.
+      subst (λ (v : OpenRequest). IsFired rows server first.due first.what v draft) (read_twice old.requests first.place found.0 x found.1 there) fired)
       (leaves found.0 found.1)
 
   pub quiet_at : IsFirst old.requests first → LeavesEnded → out.at ≡ first.due

@@ -47,7 +47,8 @@ module _ (now : ℕ) (packets : List Packet) (requests : List OpenRequest) (less
 
 module _ (server : Server) (old new : ProxyState) (timers : List Timer) where
   -- what was done of what is due first is what its timer is set for
-  fires_first : (at : ℕ) (out : StepOut) (first : First) → IsOfFirst timers old.requests first → out.at ≡ first.due → (r : OpenRequest) → slice_get old.requests first.place ≡ Some r
+  fires_first : (at : ℕ) (out : StepOut) (first : First) → IsOfFirst timers old.requests first → out.at ≡ first.due → (r : OpenRequest)
+      → slice_get old.requests first.place ≡ Some r
       → IsDone server old at out new r first.what → IsFiredFirst server timers old at out new
   fires_first at out first of stands r there done = record {
     timer = of.timer;
@@ -58,7 +59,8 @@ module _ (server : Server) (old new : ProxyState) (timers : List Timer) where
     is_its = done.1 of.timer (of.request r there) (of.part r there) (subst (λ (n : ℕ). GoesAgainBefore r n first.what) (sym stands) (of.again r there));
   }
 
-  pub first_done : (rows : List HostAddress) (first : First) (draft : Draft) (result : Result StepOut AllocError) → rows ≡ server.config.addresses → IsFirst old.requests first
+  pub first_done : (rows : List HostAddress) (first : First) (draft : Draft) (result : Result StepOut AllocError) → rows ≡ server.config.addresses
+      → IsFirst old.requests first
       → IsOfFirst timers old.requests first → ((r : OpenRequest) → slice_get old.requests first.place ≡ Some r → IsFired rows server first.due first.what r draft)
       → IfLeft first.due draft.drafted.packets (replaced draft.change old.requests) draft.drafted.lessons old new result
       → IfOk result (λ out. (now : ℕ) → first.due ≤ now → IsFiredFirst server timers old now out new)
@@ -66,7 +68,8 @@ module _ (server : Server) (old new : ProxyState) (timers : List Timer) where
       let found : (r : OpenRequest) × (slice_get old.requests first.place ≡ Some r) = at_place old.requests first.place f.within in
       let by : first.due ≤ moment_of old now = omega (arith, le) in
       fires_first now out first of l.at_moment found.0 found.1
-      (fired_done server now old out new rows known first.what found.0 draft first.due (fired found.0 found.1) l (contained old.requests first.place found.0 found.1) by f.none_before f.none_again)
+      (fired_done server now old out new rows known first.what found.0 draft first.due (fired found.0 found.1) l (contained old.requests first.place found.0 found.1) by
+      f.none_before f.none_again)
   first_done rows first draft (Err e) known f of fired l = tt
 
   -- what is due by a moment is a step up to it
@@ -76,12 +79,14 @@ module _ (server : Server) (old new : ProxyState) (timers : List Timer) where
   first_step due now (Err e) le done = tt
 
   -- and is done
-  pub first_happens : (due now : ℕ) (result : Result StepOut AllocError) → due ≤ now → IfOk result (λ out. (at : ℕ) → due ≤ at → IsFiredFirst server timers old at out new)
+  pub first_happens : (due now : ℕ) (result : Result StepOut AllocError) → due ≤ now →
+      IfOk result (λ out. (at : ℕ) → due ≤ at → IsFiredFirst server timers old at out new)
       → IfOk result (λ out. IsDeadline server old now out new ⊎ IsResend server old now out new)
   first_happens due now (Ok out) le done = (done now le).happens
   first_happens due now (Err e) le done = tt
 
-  pub first_in_order : (due now : ℕ) (result : Result StepOut AllocError) → due ≤ now → IfOk result (λ out. (at : ℕ) → due ≤ at → IsFiredFirst server timers old at out new)
+  pub first_in_order : (due now : ℕ) (result : Result StepOut AllocError) → due ≤ now
+      → IfOk result (λ out. (at : ℕ) → due ≤ at → IsFiredFirst server timers old at out new)
       → IfOk result (λ out. IsFiredFirst server timers old now out new)
   first_in_order due now (Ok out) le done = done now le
   first_in_order due now (Err e) le done = tt

@@ -1,5 +1,6 @@
 -- What a step that leaves this does of the model's effect.
-use Rattle.std.proofs.Common.{◌≡◌, ◌∙◌, ℕ, ◌≤◌, ◌⊎◌, inl, inr, Bool, true, false, ◌&&◌, cond, List, [], ◌∷◌, map, slice_get, zero, suc, Contains, Option, Some, None, refl, sym, ap, subst, arith}
+use Rattle.std.proofs.Common.{◌≡◌, ◌∙◌, ℕ, ◌≤◌, ◌⊎◌, inl, inr, Bool, true, false, ◌&&◌, cond, List, [], ◌∷◌, map, slice_get, zero, suc, Contains, Option, Some, None}
+use Rattle.std.proofs.Common.{refl, sym, ap, subst, arith}
 use Rattle.std.specs.List.{list_all}
 use Rattle.std.proofs.lemmas.Option.{slice_get-get_or}
 use Rattle.sip_event.specs.declared.event.StepOut.{StepOut}
@@ -24,8 +25,10 @@ use Rattle.sip_location.specs.Binding.{live}
 use Rattle.sip_location.specs.Sameness.{SameBindings}
 use Rattle.sip_location.specs.declared.binding.Binding.{Binding}
 use Rattle.sip_proxy.specs.steps_model.Effect.{changed, dialogs_after, nothing, replaced}
-use Rattle.sip_proxy.specs.steps_model.Step.{Does, IsDeadline, IsQuiet, IsResend, IsTime, NoneAgainBefore, NoneAgainBy, NoneBefore, NoneBy, moment_of, originals, resent, retransmissions, OfSide, OfBranch}
-use Rattle.sip_proxy.specs.context_model.Retransmission.{OfAnswer, OfRequest, answer_due, answer_next, answers_again, branch_due, branch_next, goes_again, insists, is_cancelled_again, is_sent_again, resent_branch, with_resend}
+use Rattle.sip_proxy.specs.steps_model.Step.{Does, IsDeadline, IsQuiet, IsResend, IsTime, NoneAgainBefore, NoneAgainBy, NoneBefore, NoneBy, moment_of, originals, resent}
+use Rattle.sip_proxy.specs.steps_model.Step.{retransmissions, OfSide, OfBranch}
+use Rattle.sip_proxy.specs.context_model.Retransmission.{OfAnswer, OfRequest, answer_due, answer_next, answers_again, branch_due, branch_next, goes_again, insists}
+use Rattle.sip_proxy.specs.context_model.Retransmission.{is_cancelled_again, is_sent_again, resent_branch, with_resend}
 use Rattle.sip_dialog_lessons.specs.state.SameState.{SameState}
 use Rattle.sip_dialog_lessons.specs.state.State.{has_left, is_closed, is_ended, is_invite}
 use Rattle.sip_dialog_lessons.specs.state.declared.branch.Branch.{Branch}
@@ -164,7 +167,8 @@ module _ (server : Server) (now : ℕ) (old : ProxyState) (out : StepOut) (new :
   abbrev pub LeavesDraft : Draft → Type 0
   LeavesDraft draft = Leaves now draft.drafted.packets (replaced draft.change old.requests) draft.drafted.lessons old out new
 
-  pub change_done : (rows : List HostAddress) (change : Change) (draft : Draft) → rows ≡ server.config.addresses → IsDraftOf rows server now change draft → LeavesDraft draft
+  pub change_done : (rows : List HostAddress) (change : Change) (draft : Draft) → rows ≡ server.config.addresses → IsDraftOf rows server now change draft
+      → LeavesDraft draft
       → Does server old now (changed server now old change) out new
   change_done rows change draft known d l =
       record {
@@ -180,7 +184,8 @@ module _ (server : Server) (now : ℕ) (old : ProxyState) (out : StepOut) (new :
 
   -- what goes again teaches the dialogs nothing, as its request stays
   pub resend_done : (rows : List HostAddress) (packets : List Packet) (next : OpenRequest) (draft : Draft) → rows ≡ server.config.addresses → draft.change ≡ next
-      → AreSent [] packets draft.drafted.packets → Teach rows server now draft.drafted.lessons (dialogs_after server now (record { request = next; acks = []; upward = []; cancels = [] }))
+      → AreSent [] packets draft.drafted.packets → Teach rows server now draft.drafted.lessons
+      (dialogs_after server now (record { request = next; acks = []; upward = []; cancels = [] }))
       → has_left next ≡ false → LeavesDraft draft → Does server old now (resent now old packets next) out new
   resend_done rows packets next draft known becomes sent teach stays l =
       let none_learnt : after_lessons now draft.drafted.lessons old.dialogs ≡ old.dialogs =
@@ -214,13 +219,17 @@ module _ (server : Server) (due at : ℕ) (old : ProxyState) (out : StepOut) (ne
 -- what happened of an open request as this of it was due, and that it is of each timer that names the request and the part
 abbrev pub IsDone : Server → ProxyState → ℕ → StepOut → ProxyState → OpenRequest → Due → Type 0
 IsDone server old at out new r what =
-    (happens : IsDeadline server old at out new ⊎ IsResend server old at out new) × ((timer : Timer) → r.number ≡ timer.name.request → IsOfOwner r timer.name.owner what → GoesAgainBefore r out.at what → IsOfTimer timer happens)
+    (happens : IsDeadline server old at out new ⊎ IsResend server old at out new) × ((timer : Timer) → r.number ≡ timer.name.request → IsOfOwner r timer.name.owner what
+    → GoesAgainBefore r out.at what → IsOfTimer timer happens)
 
-module _ (server : Server) (at : ℕ) (old : ProxyState) (out : StepOut) (new : ProxyState) (rows : List HostAddress) (known : rows ≡ server.config.addresses) (what : Due) (r : OpenRequest) (draft : Draft) where
-  fired_then : IsFired rows server out.at what r draft → LeavesDraft server out.at old out new draft → Contains old.requests r → out.at ≤ moment_of old at → NoneBefore out.at old.requests
+module _ (server : Server) (at : ℕ) (old : ProxyState) (out : StepOut) (new : ProxyState) (rows : List HostAddress) (known : rows ≡ server.config.addresses) (what : Due)
+    (r : OpenRequest) (draft : Draft) where
+  fired_then : IsFired rows server out.at what r draft → LeavesDraft server out.at old out new draft → Contains old.requests r → out.at ≤ moment_of old at
+      → NoneBefore out.at old.requests
       → NoneAgainBefore out.at old.requests → IsDone server old at out new r what
   fired_then fired l there by none again = by_input fired.input fired.is_due fired.is_part fired.is_last fired.drafted where
-    by_input : (input : Input) → IsDueAs r out.at input → IsOfPart r what input → (GoesAgainBefore r out.at what → IsLastOf r out.at input) → IsDrafted rows server out.at r input draft → IsDone server old at out new r what
+    by_input : (input : Input) → IsDueAs r out.at input → IsOfPart r what input → (GoesAgainBefore r out.at what → IsLastOf r out.at input)
+        → IsDrafted rows server out.at r input draft → IsDone server old at out new r what
     by_input (Response branch status response) is part last d = absurd is
     by_input (BranchDeadline branch) is part last d =
         let passed : IsDeadline server old at out new = record {
@@ -231,7 +240,8 @@ module _ (server : Server) (at : ℕ) (old : ProxyState) (out : StepOut) (new : 
           is_due = by;
           is_first = none;
           none_again = again;
-          does = change_done server out.at old out new rows (overdue server out.at r branch.now) draft known (record { request = d.request; sent = d.drafted.sent; lessons = d.drafted.lessons }) l;
+          does = change_done server out.at old out new rows (overdue server out.at r branch.now) draft known
+              (record { request = d.request; sent = d.drafted.sent; lessons = d.drafted.lessons }) l;
         } in
         (inl passed, λ timer number of before. (number, (part timer.name.owner of, last before)))
     by_input SideDeadline is part last d =
@@ -243,7 +253,8 @@ module _ (server : Server) (at : ℕ) (old : ProxyState) (out : StepOut) (new : 
           is_due = by;
           is_first = none;
           none_again = again;
-          does = change_done server out.at old out new rows (side_overdue server out.at r) draft known (record { request = d.request; sent = d.drafted.sent; lessons = d.drafted.lessons }) l;
+          does = change_done server out.at old out new rows (side_overdue server out.at r) draft known
+              (record { request = d.request; sent = d.drafted.sent; lessons = d.drafted.lessons }) l;
         } in
         (inl passed, λ timer number of before. (number, (part timer.name.owner of, last before)))
     by_input (SendFault branch) is part last d = absurd is
@@ -259,7 +270,8 @@ module _ (server : Server) (at : ℕ) (old : ProxyState) (out : StepOut) (new : 
           is_due = by;
           is_first = none;
           none_again = again;
-          does = resend_done server out.at old out new rows (branch_packets server true r branch.now) (with_resend branch.now r) draft known d.request d.drafted.sent d.drafted.lessons
+          does = resend_done server out.at old out new rows (branch_packets server true r branch.now) (with_resend branch.now r) draft known d.request d.drafted.sent
+              d.drafted.lessons
               (branch_stays r branch.now out.at is.there is.is) l;
         } in
         (inr gone, λ timer number of before. (number, part timer.name.owner of))
@@ -273,20 +285,24 @@ module _ (server : Server) (at : ℕ) (old : ProxyState) (out : StepOut) (new : 
           is_due = by;
           is_first = none;
           none_again = again;
-          does = resend_done server out.at old out new rows (answers_again r r.answer) (record r { again = answer_next r }) draft known d.request d.drafted.sent d.drafted.lessons
+          does = resend_done server out.at old out new rows (answers_again r r.answer) (record r { again = answer_next r }) draft known d.request d.drafted.sent
+              d.drafted.lessons
               (answer_stays r out.at is) l;
         } in
         (inr gone, λ timer number of before. (number, part timer.name.owner of))
 
-  pub fired_done : (due : ℕ) → IsFired rows server due what r draft → LeavesDraft server due old out new draft → Contains old.requests r → due ≤ moment_of old at → NoneBefore due old.requests
+  pub fired_done : (due : ℕ) → IsFired rows server due what r draft → LeavesDraft server due old out new draft → Contains old.requests r → due ≤ moment_of old at
+      → NoneBefore due old.requests
       → NoneAgainBefore due old.requests → IsDone server old at out new r what
   fired_done due fired l =
       subst
-      (λ (n : ℕ). IsFired rows server n what r draft → LeavesDraft server n old out new draft → Contains old.requests r → n ≤ moment_of old at → NoneBefore n old.requests → NoneAgainBefore n old.requests
+      (λ (n : ℕ). IsFired rows server n what r draft → LeavesDraft server n old out new draft → Contains old.requests r → n ≤ moment_of old at → NoneBefore n old.requests
+      → NoneAgainBefore n old.requests
       → IsDone server old at out new r what) l.at_moment fired_then fired l
 
 -- time that passed up to a moment by which nothing is due
-pub time_done : (server : Server) (now : ℕ) (old : ProxyState) (out : StepOut) (new : ProxyState) → Leaves now [] old.requests [] old out new → old.moment ≤ now → NoneBy now old.requests
+pub time_done : (server : Server) (now : ℕ) (old : ProxyState) (out : StepOut) (new : ProxyState) → Leaves now [] old.requests [] old out new → old.moment ≤ now
+    → NoneBy now old.requests
     → NoneAgainBy now old.requests → NoneBefore now old.requests → NoneAgainBefore now old.requests → IsTime server old now out new
 time_done server now old out new l later none_due none_again_due none again =
     let is : now ≡ moment_of old now = omega (arith, later) in

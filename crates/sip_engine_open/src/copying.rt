@@ -1,6 +1,6 @@
 //! What comes with the key of an open request: a copy gets the last answer again, an ACK ends its copies (RFC 3261 17.2).
 //! The ACK of a 2xx is none of these: `sip_engine` takes it.
-ghost use Rattle.std.specs.Prelude.{◌≡◌, ◌≤◌, ◌<◌, ◌^◌, ℕ, [], true, false, codes, length, slice_get, Some, IfOk, OnOk, OnErr};
+ghost use Rattle.std.specs.Prelude.{◌≡◌, ◌≤◌, ◌<◌, ◌^◌, [], true, false, codes, length, slice_get, Some, IfOk, OnOk, OnErr};
 ghost use Rattle.std.specs.Str.{bytes_eq};
 ghost use Rattle.sip_proxy.specs.fork.Firing.{KeepsOrder};
 ghost use Rattle.sip_proxy.specs.Proxy.{IsComing};
@@ -79,6 +79,7 @@ fn acknowledge<T: Timers>(
     ensures unchanged { OnErr result (proxy.new.state ≡ proxy.old.state) }
     ensures timers { OnErr result (proxy.new.timers ≡ proxy.old.timers) }
     ensures queue { OnOk result (KeepsOrder proxy.old.timers proxy.new.timers proxy.new.state.requests) }
+    ensures secrets { proxy.new.secrets ≡ proxy.old.secrets }
 {
     let draft = draft_ack(alloc, server, hops, proxy, arrival.now, place)?;
     change(alloc, proxy, arrival, place, draft)
@@ -101,6 +102,7 @@ fn answer_again<T: Timers>(
     ensures unchanged { OnErr result (proxy.new.state ≡ proxy.old.state) }
     ensures timers { proxy.new.timers ≡ proxy.old.timers }
     ensures queue { OnOk result (KeepsOrder proxy.old.timers proxy.new.timers proxy.new.state.requests) }
+    ensures secrets { proxy.new.secrets ≡ proxy.old.secrets }
 {
     let mut packets = Items::new(alloc);
     copy_packets(alloc, &mut packets, proxy.get(place))?;
@@ -129,6 +131,7 @@ pub fn take_copy<T: Timers>(
     ensures unchanged { OnErr result (proxy.new.state ≡ proxy.old.state) }
     ensures timers { OnErr result (proxy.new.timers ≡ proxy.old.timers) }
     ensures queue { OnOk result (KeepsOrder proxy.old.timers proxy.new.timers proxy.new.state.requests) }
+    ensures secrets { proxy.new.secrets ≡ proxy.old.secrets }
 {
     if is_ack(method) {
         return acknowledge(alloc, server, hops, proxy, arrival, place);

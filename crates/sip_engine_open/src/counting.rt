@@ -25,6 +25,7 @@ pub(crate) fn pass<T: Timers>(
     ensures leaves { Leaves arrival packets proxy.old.state.requests proxy.old.state.dialogs proxy.old.state result proxy.new.state }
     ensures timers { proxy.new.timers ≡ proxy.old.timers }
     ensures queue { KeepsOrder proxy.old.timers proxy.new.timers proxy.new.state.requests }
+    ensures secrets { proxy.new.secrets ≡ proxy.old.secrets }
 {
     proxy.wait(arrival.now);
     let _number = proxy.count();
@@ -53,6 +54,7 @@ pub(crate) fn change<T: Timers>(
     ensures unchanged { OnErr result (proxy.new.state ≡ proxy.old.state) }
     ensures timers { OnErr result (proxy.new.timers ≡ proxy.old.timers) }
     ensures queue { OnOk result (KeepsOrder proxy.old.timers proxy.new.timers proxy.new.state.requests) }
+    ensures secrets { proxy.new.secrets ≡ proxy.old.secrets }
 {
     let packets = proxy.change(arrival.now, place, draft)?;
     let _number = proxy.count();

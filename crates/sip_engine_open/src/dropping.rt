@@ -26,6 +26,7 @@ pub fn take_dropped<T: Timers>(alloc: Global, proxy: &mut Proxy<T>, arrival: Arr
         (effect_of server (arrival_of arrival) m Drop (counted (arrival_of arrival) proxy.old.state)) result proxy.new.state }
     ensures timers { proxy.new.timers ≡ proxy.old.timers }
     ensures queue { KeepsOrder proxy.old.timers proxy.new.timers proxy.new.state.requests }
+    ensures secrets { proxy.new.secrets ≡ proxy.old.secrets }
 {
     pass(alloc, proxy, arrival, Items::new(alloc))
 }

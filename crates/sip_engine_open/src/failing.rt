@@ -120,6 +120,7 @@ fn fail<T: Timers>(
     ensures unchanged { OnErr result (proxy.new.state ≡ proxy.old.state) }
     ensures timers { OnErr result (proxy.new.timers ≡ proxy.old.timers) }
     ensures queue { OnOk result (KeepsOrder proxy.old.timers proxy.new.timers proxy.new.state.requests) }
+    ensures secrets { proxy.new.secrets ≡ proxy.old.secrets }
 {
     found_places_are_within();
     let draft = draft_fault(alloc, server, hops, proxy, now, place, branch)?;
@@ -147,6 +148,7 @@ pub fn fault<T: Timers>(
     ensures unchanged { OnErr result (proxy.new.state ≡ proxy.old.state) }
     ensures timers { OnErr result (proxy.new.timers ≡ proxy.old.timers) }
     ensures queue { OnOk result (KeepsOrder proxy.old.timers proxy.new.timers proxy.new.state.requests) }
+    ensures secrets { proxy.new.secrets ≡ proxy.old.secrets }
 {
     if let Some((place, branch)) = find_failed(proxy, ticket) {
         return fail(alloc, server, hops, proxy, now, place, branch);

@@ -96,6 +96,7 @@ pub fn take_response<T: Timers>(
     ensures unchanged { OnErr result (proxy.new.state ≡ proxy.old.state) }
     ensures timers { OnErr result (proxy.new.timers ≡ proxy.old.timers) }
     ensures queue { OnOk result (KeepsOrder proxy.old.timers proxy.new.timers proxy.new.state.requests) }
+    ensures secrets { proxy.new.secrets ≡ proxy.old.secrets }
 {
     found_places_are_within();
     let draft = draft_response(

@@ -22,6 +22,7 @@ pub(crate) fn pass<T: Timers>(alloc: Global, proxy: &mut Proxy<T>, now: u64) -> 
     ensures leaves { Leaves now [] proxy.old.state.requests [] proxy.old.state result proxy.new.state }
     ensures timers { proxy.new.timers ≡ proxy.old.timers }
     ensures queue { KeepsOrder proxy.old.timers proxy.new.timers proxy.new.state.requests }
+    ensures secrets { proxy.new.secrets ≡ proxy.old.secrets }
 {
     proxy.wait(now);
     StepOut {
@@ -49,6 +50,7 @@ pub(crate) fn change<T: Timers>(
     ensures unchanged { OnErr result (proxy.new.state ≡ proxy.old.state) }
     ensures timers { OnErr result (proxy.new.timers ≡ proxy.old.timers) }
     ensures queue { OnOk result (KeepsOrder proxy.old.timers proxy.new.timers proxy.new.state.requests) }
+    ensures secrets { proxy.new.secrets ≡ proxy.old.secrets }
 {
     let packets = proxy.change(now, place, draft)?;
     Ok(StepOut {
@@ -73,6 +75,7 @@ pub(crate) fn end<T: Timers>(
         → Leaves now [] (replaced (ended transaction r) proxy.old.state.requests) (expiring (left_invite (ended transaction r))) proxy.old.state result
         proxy.new.state }
     ensures queue { KeepsOrder proxy.old.timers proxy.new.timers proxy.new.state.requests }
+    ensures secrets { proxy.new.secrets ≡ proxy.old.secrets }
 {
     proxy.end(now, place, transaction);
     StepOut {

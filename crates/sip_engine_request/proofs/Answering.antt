@@ -1,5 +1,6 @@
 -- What was drafted of a request that is answered here, as the step of the definitions that does it.
-use Rattle.std.proofs.Common.{◌≡◌, ◌∙◌, ℕ, ◌+◌, Bool, true, false, cond, List, [], ◌∷◌, ◌++◌, length, nat_le, position, Option, Result, Some, None, Ok, Err, IfOk, IfSome, OnOk, refl, sym, ap, subst, arith, length-append}
+use Rattle.std.proofs.Common.{◌≡◌, ◌∙◌, ℕ, ◌+◌, Bool, true, false, cond, List, [], ◌∷◌, ◌++◌, length, nat_le, position, Option, Result, Some, None, Ok, Err, IfOk, IfSome}
+use Rattle.std.proofs.Common.{OnOk, refl, sym, ap, subst, arith, length-append}
 use Rattle.std.specs.declared.alloc.AllocError.{AllocError}
 use Rattle.sip_event.specs.declared.event.StepOut.{StepOut}
 use Rattle.sip_proxy.specs.Proxy.{Becomes, with_bindings, with_nonces}
@@ -63,13 +64,15 @@ no_longer r requests e =
     omega (arith, longer, by)
 
 -- a request is opened only where there is room
-room_by : (t : Bool) (o : Option OpenRequest) (r : OpenRequest) (requests : List OpenRequest) → cond t requests (with_one_more r requests) ≡ with_opened o requests → IfSome o (λ x. t ≡ false)
+room_by : (t : Bool) (o : Option OpenRequest) (r : OpenRequest) (requests : List OpenRequest) → cond t requests (with_one_more r requests) ≡ with_opened o requests
+    → IfSome o (λ x. t ≡ false)
 room_by true None r requests e = tt
 room_by false None r requests e = tt
 room_by true (Some x) r requests e = absurd (no_longer x requests e)
 room_by false (Some x) r requests e = refl
 
-openable : (state : ProxyState) (a : Arrival) (key : Key) (o : Option OpenRequest) → position (has_key key) state.requests ≡ None → IfSome o (λ x. is_full state ≡ false) → IfSome o (IsOpenable a key)
+openable : (state : ProxyState) (a : Arrival) (key : Key) (o : Option OpenRequest) → position (has_key key) state.requests ≡ None → IfSome o (λ x. is_full state ≡ false)
+    → IfSome o (IsOpenable a key)
     → IfSome o (IsOpenableIn state a)
 openable state a key None alone space can = tt
 openable state a key (Some r) alone space can =
@@ -83,7 +86,8 @@ openable state a key (Some r) alone space can =
     }
 
 -- what was drafted can be opened in the state in which its request comes
-pub opened_in : (a : Arrival) (key : Key) (old : ProxyState) (draft : Draft) (nonces : List Nonce) (plan : Option Planned) (effect : Effect) → position (has_key key) old.requests ≡ None
+pub opened_in : (a : Arrival) (key : Key) (old : ProxyState) (draft : Draft) (nonces : List Nonce) (plan : Option Planned) (effect : Effect)
+    → position (has_key key) old.requests ≡ None
     → Drafts.Does a.now draft nonces plan (counted (arrival_of a) old) effect → Replies old.requests old.dialogs effect → IfSome draft.opened (IsOpenable a key)
     → IfSome draft.opened (IsOpenableIn old a)
 opened_in a key old draft nonces plan effect alone does is can =

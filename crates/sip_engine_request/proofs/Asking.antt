@@ -42,7 +42,8 @@ abbrev pub Binds : Option Planned → List Binding → List Binding → Type 0
 Binds plan old new = (now : ℕ) (after : List Binding) → AreBound now plan old after → SameBindings now new after
 
 -- with a plan the bindings are those after its registration
-pub follows : (old new : List Binding) (plan : Planned) → ((r : Registration) (at : ℕ) → IsPlan old r at plan → SameOutcome at (Ok new) (registered old r at)) → Binds (Some plan) old new
+pub follows : (old new : List Binding) (plan : Planned) → ((r : Registration) (at : ℕ) → IsPlan old r at plan → SameOutcome at (Ok new) (registered old r at))
+    → Binds (Some plan) old new
 follows old new plan applied = λ now after is.
     subst (λ (outcome : Result (List Binding) LocationError). SameOutcome now (Ok new) outcome) is.registered_are (applied is.registration now is.is_plan)
 
@@ -70,10 +71,22 @@ module _ (server : Server) (a : Arrival) (m : Message) (state : ProxyState) wher
 
   challenge_replies : (q : Question) → RepliesBy (Definition.Challenge q)
   challenge_replies q =
-      record { request = closed (challenge_status q.operation) (challenges_to server (arrival_of a) q); once = refl; none_again = refl; requests_are = refl; dialogs_are = refl }
+      record {
+        request = closed (challenge_status q.operation) (challenges_to server (arrival_of a) q);
+        once = refl;
+        none_again = refl;
+        requests_are = refl;
+        dialogs_are = refl;
+      }
 
   denial_replies : (q : Question) (id : ℕ) → RepliesBy (Definition.Deny q id)
-  denial_replies q id = record { request = closed 403 (denial_warning server.config.own id ∷ []); once = refl; none_again = refl; requests_are = refl; dialogs_are = refl }
+  denial_replies q id = record {
+    request = closed 403 (denial_warning server.config.own id ∷ []);
+    once = refl;
+    none_again = refl;
+    requests_are = refl;
+    dialogs_are = refl;
+  }
 
   nobody_replies : (q : Question) (id : ℕ) (targets : Targets) → are_nobody targets ≡ true → RepliesBy (Definition.Send q id targets)
   nobody_replies q id (To.Bindings targets) here = absurd (true≢false (sym here))
@@ -84,9 +97,16 @@ module _ (server : Server) (a : Arrival) (m : Message) (state : ProxyState) wher
   registered_replies : (q : Question) (id : ℕ) (outcome : Definition.Registered) → RepliesBy (Definition.Register q id outcome)
   registered_replies q id (Definition.Bound rows) =
       record { request = closed 200 (contact_fields a.now q.target rows); once = refl; none_again = refl; requests_are = refl; dialogs_are = refl }
-  registered_replies q id (Definition.Refused status extras) = record { request = closed status extras; once = refl; none_again = refl; requests_are = refl; dialogs_are = refl }
+  registered_replies q id (Definition.Refused status extras) = record {
+    request = closed status extras;
+    once = refl;
+    none_again = refl;
+    requests_are = refl;
+    dialogs_are = refl;
+  }
 
-  pub judged_replies : (rows : List Binding) (q : Question) (verdict : Definition.Verdict) (outcome : Outcome) → is_answered_here outcome ≡ true → IsOutcome rows a.now q verdict outcome → RepliesBy verdict
+  pub judged_replies : (rows : List Binding) (q : Question) (verdict : Definition.Verdict) (outcome : Outcome) → is_answered_here outcome ≡ true
+      → IsOutcome rows a.now q verdict outcome → RepliesBy verdict
   judged_replies rows q verdict Challenge here is = subst RepliesBy (sym is) (challenge_replies q)
   judged_replies rows q verdict (Deny id) here is = subst RepliesBy (sym is) (denial_replies q id)
   judged_replies rows q verdict (Send id targets) here is = subst RepliesBy (sym is) (nobody_replies q id targets here)
@@ -94,8 +114,10 @@ module _ (server : Server) (a : Arrival) (m : Message) (state : ProxyState) wher
 
 -- ---- the step
 
-pub judged_done : (server : Server) (a : Arrival) (m : Message) (old mid new : ProxyState) (judged : Judged) (verdict : Definition.Verdict) (draft : Draft) (out : StepOut)
-    → Drafts.Does a.now draft (after_asking (arrival_of a) judged old.nonces) (plan_of judged.outcome) (counted (arrival_of a) old) (effect_of server (arrival_of a) m verdict (counted (arrival_of a) old))
+pub judged_done : (server : Server) (a : Arrival) (m : Message) (old mid new : ProxyState) (judged : Judged) (verdict : Definition.Verdict) (draft : Draft)
+    (out : StepOut)
+    → Drafts.Does a.now draft (after_asking (arrival_of a) judged old.nonces) (plan_of judged.outcome) (counted (arrival_of a) old)
+    (effect_of server (arrival_of a) m verdict (counted (arrival_of a) old))
     → RepliesBy server a m (counted (arrival_of a) old) verdict
     → out ≡ record { at = a.now; packets = draft.packets; records = draft.records }
     → Becomes a.now (with_opened draft.opened old.requests) [] (counted (arrival_of a) old) mid
@@ -105,4 +127,5 @@ judged_done server a m old mid new judged verdict draft out does is put became l
     let effect : Effect = effect_of server (arrival_of a) m verdict (counted (arrival_of a) old) in
     step_done server a old mid new draft (after_asking (arrival_of a) judged old.nonces) (plan_of judged.outcome) effect out does is put became
     (left ∙ ap (λ (nonces : List Nonce). with_nonces (after_asking (arrival_of a) judged nonces) (with_bindings new.bindings mid)) became.nonces_are)
-    (binds a.now effect.state.bindings (subst (λ (rows : List Binding). AreBound a.now (plan_of judged.outcome) rows effect.state.bindings) (sym became.bindings_are) does.bindings_are))
+    (binds a.now effect.state.bindings (subst (λ (rows : List Binding). AreBound a.now (plan_of judged.outcome) rows effect.state.bindings) (sym became.bindings_are)
+    does.bindings_are))

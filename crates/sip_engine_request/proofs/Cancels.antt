@@ -1,6 +1,8 @@
 -- What a CANCEL does that isn't refused, as the step of the definitions that does it.
-use Rattle.std.proofs.Common.{◌≡◌, ◌∙◌, ℕ, ◌+◌, Bool, false, cond, List, [], ◌∷◌, ◌++◌, find, slice_get, bytes_eq, Option, Some, None, refl, sym, ap, subst, unwrap_or}
+use Rattle.std.proofs.Common.{◌≡◌, ◌∙◌, ℕ, ◌+◌, ◌<◌, Bool, false, cond, List, [], ◌∷◌, ◌++◌, length, find, get_or, slice_get, bytes_eq, Option, Some, None, refl, sym, ap}
+use Rattle.std.proofs.Common.{subst, unwrap_or, arith}
 use Rattle.std.specs.Option.{option_and_then}
+use Rattle.std.proofs.lemmas.Option.{slice_get-get_or}
 use Rattle.sip_proxy.specs.Drafts.{IsDrafted}
 use Rattle.sip_proxy.specs.Proxy.{Becomes, IsCounted}
 use Rattle.sip_audit.specs.declared.record.Record.{Record}
@@ -38,6 +40,11 @@ use Rattle.sip_engine_request.proofs.Answering.{text_by}
 
 -- ---- the request that is named
 
+-- a request stands at a place of theirs
+pub stands_at : (requests : List OpenRequest) (place : ℕ) → place < length requests → (r : OpenRequest) × (slice_get requests place ≡ Some r)
+stands_at [] place lt = absurd (omega (arith, lt))
+stands_at (r ∷ rs) place lt = (get_or (r ∷ rs) place r, slice_get-get_or (r ∷ rs) place r lt)
+
 -- a request, if it came from this IP address
 abbrev pub from_source : Addr → OpenRequest → Option OpenRequest
 from_source from r = cond (bytes_eq r.source.ip from.ip) (Some r) None
@@ -50,22 +57,34 @@ named_by requests key from place r t there found same =
 
 -- ---- the 200
 
-pub agreed_opens : (a : Arrival) (key : Key) (m : Message) (text : List ℕ) (r : OpenRequest) → key_of m ≡ Some key → r ≡ closing (arrival_of a) m 200 text → Fits (closing (arrival_of a) m 200 text)
+pub agreed_opens : (a : Arrival) (key : Key) (m : Message) (text : List ℕ) (r : OpenRequest) → key_of m ≡ Some key → r ≡ closing (arrival_of a) m 200 text
+    → Fits (closing (arrival_of a) m 200 text)
     → IsWithin a.now (closing (arrival_of a) m 200 text) → IsOpenable a key r
 agreed_opens a key m text r is same fits within =
     let opens : IsOpenable a key (closing (arrival_of a) m 200 text) =
-    record { fits = fits; within = within; branched = NoBranch; number_is = refl; key_is = ap (λ (o : Option Key). unwrap_or o (record { branch = []; host = []; port = 0; method = [] })) is } in
+    record {
+      fits = fits;
+      within = within;
+      branched = NoBranch;
+      number_is = refl;
+      key_is =
+          ap (λ (o : Option Key). unwrap_or o (record { branch = []; host = []; port = 0; method = [] })) is;
+    } in
     subst (IsOpenable a key) (sym same) opens
 
 -- ---- the step
 
-pub cancel_done : (server : Server) (a : Arrival) (m : Message) (rows : List HostAddress) (old mid new : ProxyState) (r opened : OpenRequest) (packet : Packet) (draft both : Draft) (packets : List Packet)
+pub cancel_done : (server : Server) (a : Arrival) (m : Message) (rows : List HostAddress) (old mid new : ProxyState) (r opened : OpenRequest) (packet : Packet)
+    (draft both : Draft) (packets : List Packet)
     (made : List Record) → Definition.is_full old ≡ false → rows ≡ server.config.addresses → a.number ≡ old.next
     → packet ≡ answer_packet false a.number m a.from (text_by server a m 200 []) → opened ≡ closing (arrival_of a) m 200 (text_by server a m 200 [])
-    → IsDrafted rows server a.now r Input.Cancel draft → both.change ≡ draft.change → both.drafted.packets ≡ packet ∷ [] ++ draft.drafted.packets → both.drafted.lessons ≡ draft.drafted.lessons
-    → packets ≡ both.drafted.packets → Becomes a.now (replaced both.change (with_one_more opened old.requests)) both.drafted.lessons old mid → IsCounted mid new → made ≡ []
+    → IsDrafted rows server a.now r Input.Cancel draft → both.change ≡ draft.change → both.drafted.packets ≡ packet ∷ [] ++ draft.drafted.packets
+    → both.drafted.lessons ≡ draft.drafted.lessons
+    → packets ≡ both.drafted.packets → Becomes a.now (replaced both.change (with_one_more opened old.requests)) both.drafted.lessons old mid → IsCounted mid new
+    → made ≡ []
     → Does server old a.now (cancelling server (arrival_of a) m (Some r) (counted (arrival_of a) old)) (record { at = a.now; packets = packets; records = made }) new
-cancel_done server a m rows old mid new r opened packet draft both packets made room known number packet_is opened_is d change_is packets_are lessons_are sent became counts none =
+cancel_done server a m rows old mid new r opened packet draft both packets made room known number packet_is opened_is d change_is packets_are lessons_are sent became
+    counts none =
     let answer : Packet = answer_packet false a.number m a.from (text_by server a m 200 []) in
     let agreed : OpenRequest = closing (arrival_of a) m 200 (text_by server a m 200 []) in
     let at : new.moment ≡ a.now = counts.moment_is ∙ became.moment_is in
@@ -87,7 +106,8 @@ cancel_done server a m rows old mid new r opened packet draft both packets made 
                 ∙ ap (λ (t : Bool). replaced (cancelled server a.now r).request (cond t old.requests (with_one_more agreed old.requests))) (sym room);
             dialogs =
                 subst (λ (n : ℕ). SameDialogs n new.dialogs (dialogs_after server a.now (cancelled server a.now r) old.dialogs)) (sym at)
-                (subst (SameDialogs a.now new.dialogs) (ap (λ (ls : List Lesson). after_lessons a.now ls old.dialogs) lessons_are ∙ d.drafted.lessons (sym known) old.dialogs)
+                (subst (SameDialogs a.now new.dialogs) (ap (λ (ls : List Lesson). after_lessons a.now ls old.dialogs) lessons_are
+                ∙ d.drafted.lessons (sym known) old.dialogs)
                 (subst (λ (ds : List Dialog). SameDialogs a.now ds (after_lessons a.now both.drafted.lessons old.dialogs)) (sym counts.dialogs_are) became.dialogs_are));
           };
     }

@@ -11,7 +11,8 @@ use Rattle.sip_uas.specs.forwarding.declared.arrival.Arrival.{Arrival}
 use Rattle.sip_dialog_lessons.specs.state.declared.open_request.OpenRequest.{OpenRequest}
 use Rattle.sip_dialog_lessons.specs.state.declared.proxy_state.ProxyState.{ProxyState}
 
-pub counted_is : (a : Arrival) (requests : List OpenRequest) (lessons : List Lesson) (old mid new : ProxyState) → a.number ≡ old.next → Becomes a.now requests lessons old mid → IsCounted mid new
+pub counted_is : (a : Arrival) (requests : List OpenRequest) (lessons : List Lesson) (old mid new : ProxyState) → a.number ≡ old.next
+    → Becomes a.now requests lessons old mid → IsCounted mid new
     → Becomes a.now requests lessons (counted (arrival_of a) old) new
 counted_is a requests lessons old mid new number became counts =
     record {

@@ -16,7 +16,8 @@ use Rattle.sip_uri.specs.declared.addr.Addr.{Addr}
 use Rattle.sip_dialog_lessons.specs.Lessons.{after_lessons}
 use Rattle.sip_dialog_lessons.specs.declared.lesson.Lesson.{Lesson}
 use Rattle.sip_location.specs.Binding.{live}
-use Rattle.sip_proxy.specs.steps_model.Effect.{Effect, ack_packet, asked, counted, dialogs_after, effect_of, forked, opened, opening_packets, record_of, renewing, sending, sent_to}
+use Rattle.sip_proxy.specs.steps_model.Effect.{Effect, ack_packet, asked, counted, dialogs_after, effect_of, forked, opened, opening_packets, record_of, renewing}
+use Rattle.sip_proxy.specs.steps_model.Effect.{sending, sent_to}
 use Rattle.sip_proxy.specs.steps_model.Step.{Does, originals, retransmissions}
 use Rattle.sip_digest.specs.declared.nonces.Nonce.{Nonce}
 use Rattle.sip_uas.specs.forwarding.Arrivals.{arrival_of}
@@ -40,13 +41,16 @@ opened_one : (r : OpenRequest) (state : ProxyState) → Definition.is_full state
 opened_one r state is = ap (λ (t : Bool). cond t state.requests (with_one_more r state.requests)) is
 
 -- a request that was opened, with what was sent and recorded of it, and what the dialogs learnt
-forks : (server : Server) (now : ℕ) (call request : OpenRequest) (records made : List Record) (drafted packets : List Packet) (lessons : List Lesson) (known : List Dialog) (old before new : ProxyState)
-    → Definition.is_full before ≡ false → AreSent (opening_packets server now call) [] drafted → packets ≡ drafted → made ≡ records → request ≡ (opening server now call).request
+forks : (server : Server) (now : ℕ) (call request : OpenRequest) (records made : List Record) (drafted packets : List Packet) (lessons : List Lesson)
+    (known : List Dialog) (old before new : ProxyState)
+    → Definition.is_full before ≡ false → AreSent (opening_packets server now call) [] drafted → packets ≡ drafted → made ≡ records
+    → request ≡ (opening server now call).request
     → before.moment ≡ now → after_lessons now lessons known ≡ dialogs_after server now (opening server now call) before.dialogs
     → new.moment ≡ now → new.next ≡ before.next → new.bindings ≡ before.bindings → new.nonces ≡ before.nonces → new.requests ≡ with_one_more request before.requests
     → SameDialogs now new.dialogs (after_lessons now lessons known)
     → Does server old now (forked server now call records before) (record { at = now; packets = packets; records = made }) new
-forks server now call request records made drafted packets lessons known old before new room sent goes recorded is came learnt moment next bindings nonces requests dialogs =
+forks server now call request records made drafted packets lessons known old before new room sent goes recorded is came learnt moment next bindings nonces requests
+    dialogs =
     record {
       at_moment = refl;
       sends = ap originals goes ∙ sent.originals;
@@ -75,44 +79,56 @@ to_somebody server a m q rule (Hop uri address) state somebody = refl
 to_somebody server a m q rule NotFound state somebody = absurd (true≢false (sym somebody))
 to_somebody server a m q rule Unavailable state somebody = absurd (true≢false (sym somebody))
 
-pub sent_does : (rows : List HostAddress) (server : Server) (a : Arrival) (m : Message) (q : Question) (rule : ℕ) (targets : Targets) (request : OpenRequest) (made : List Record) (drafted packets : List Packet)
+pub sent_does : (rows : List HostAddress) (server : Server) (a : Arrival) (m : Message) (q : Question) (rule : ℕ) (targets : Targets) (request : OpenRequest)
+    (made : List Record) (drafted packets : List Packet)
     (lessons : List Lesson) (old mid new : ProxyState) → Definition.is_full old ≡ false → are_somebody targets ≡ true → rows ≡ server.config.addresses
     → AreSent (opening_packets server a.now (call_to (arrival_of a) m targets)) [] drafted → packets ≡ drafted
     → made ≡ record_of server (arrival_of a) m q (Sent rule (length (target_list targets))) ∷ []
     → request ≡ (opening server a.now (call_to (arrival_of a) m targets)).request
     → Teach rows server a.now lessons (λ dialogs. dialogs_after server a.now (opening server a.now (call_to (arrival_of a) m targets)) dialogs)
     → Becomes a.now (with_one_more request old.requests) lessons (counted (arrival_of a) old) mid → new ≡ asked (arrival_of a) q mid
-    → Does server old a.now (effect_of server (arrival_of a) m (Definition.Send q rule targets) (counted (arrival_of a) old)) (record { at = a.now; packets = packets; records = made }) new
+    → Does server old a.now (effect_of server (arrival_of a) m (Definition.Send q rule targets) (counted (arrival_of a) old))
+    (record { at = a.now; packets = packets; records = made }) new
 sent_does rows server a m q rule targets request made drafted packets lessons old mid new room somebody same sent goes recorded is taught became spent =
     subst (λ (effect : Effect). Does server old a.now effect (record { at = a.now; packets = packets; records = made }) new)
     (to_somebody server a m q rule targets (counted (arrival_of a) old) somebody)
-    (forks server a.now (call_to (arrival_of a) m targets) request (record_of server (arrival_of a) m q (Sent rule (length (target_list targets))) ∷ []) made drafted packets lessons old.dialogs old
+    (forks server a.now (call_to (arrival_of a) m targets) request (record_of server (arrival_of a) m q (Sent rule (length (target_list targets))) ∷ []) made drafted
+    packets lessons old.dialogs old
     (asked (arrival_of a) q (counted (arrival_of a) old)) new room sent goes recorded is refl (taught (sym same) old.dialogs)
     (ap (λ (s : ProxyState). s.moment) spent ∙ became.moment_is) (ap (λ (s : ProxyState). s.next) spent ∙ became.next_is)
     (ap (λ (s : ProxyState). s.bindings) spent ∙ became.bindings_are)
     (ap (λ (s : ProxyState). s.nonces) spent ∙ ap (λ (nonces : List Nonce). used nonces a.now q.proof) became.nonces_are)
     (ap (λ (s : ProxyState). s.requests) spent ∙ became.requests_are)
-    (subst (λ (dialogs : List Dialog). SameDialogs a.now dialogs (after_lessons a.now lessons old.dialogs)) (sym (ap (λ (s : ProxyState). s.dialogs) spent)) became.dialogs_are))
+    (subst (λ (dialogs : List Dialog). SameDialogs a.now dialogs (after_lessons a.now lessons old.dialogs)) (sym (ap (λ (s : ProxyState). s.dialogs) spent))
+    became.dialogs_are))
 
 -- ---- in a dialog
 
-pub within_does : (rows : List HostAddress) (server : Server) (a : Arrival) (m : Message) (address : Addr) (id : DialogId) (request : OpenRequest) (made : List Record) (drafted packets : List Packet)
+pub within_does : (rows : List HostAddress) (server : Server) (a : Arrival) (m : Message) (address : Addr) (id : DialogId) (request : OpenRequest) (made : List Record)
+    (drafted packets : List Packet)
     (lessons : List Lesson) (old new : ProxyState) → Definition.is_full old ≡ false → rows ≡ server.config.addresses
     → AreSent (opening_packets server a.now (call_within server (arrival_of a) m address)) [] drafted → packets ≡ drafted → made ≡ []
     → request ≡ (opening server a.now (call_within server (arrival_of a) m address)).request
-    → Teach rows server a.now lessons (λ dialogs. dialogs_after server a.now (opening server a.now (call_within server (arrival_of a) m address)) (after_request server a.now id m dialogs))
+    → Teach rows server a.now lessons (λ dialogs. dialogs_after server a.now (opening server a.now (call_within server (arrival_of a) m address))
+    (after_request server a.now id m dialogs))
     → Becomes a.now (with_one_more request old.requests) lessons (counted (arrival_of a) old) new
-    → Does server old a.now (effect_of server (arrival_of a) m (Definition.InDialog address id) (counted (arrival_of a) old)) (record { at = a.now; packets = packets; records = made }) new
+    → Does server old a.now (effect_of server (arrival_of a) m (Definition.InDialog address id) (counted (arrival_of a) old))
+    (record { at = a.now; packets = packets; records = made }) new
 within_does rows server a m address id request made drafted packets lessons old new room same sent goes none is taught became =
-    forks server a.now (call_within server (arrival_of a) m address) request [] made drafted packets lessons old.dialogs old (renewing server (arrival_of a) m id (counted (arrival_of a) old)) new
-    room sent goes none is refl (taught (sym same) old.dialogs) became.moment_is became.next_is became.bindings_are became.nonces_are became.requests_are became.dialogs_are
+    forks server a.now (call_within server (arrival_of a) m address) request [] made drafted packets lessons old.dialogs old
+    (renewing server (arrival_of a) m id (counted (arrival_of a) old)) new
+    room sent goes none is refl (taught (sym same) old.dialogs) became.moment_is became.next_is became.bindings_are became.nonces_are became.requests_are
+    became.dialogs_are
 
 -- ---- an ACK
 
-pub ack_does : (rows : List HostAddress) (server : Server) (a : Arrival) (m : Message) (address : Addr) (id : DialogId) (packet : Packet) (first packets : List Packet) (made : List Record) (lessons : List Lesson)
-    (old new : ProxyState) → rows ≡ server.config.addresses → packet ≡ ack_packet server (arrival_of a) m address → first ≡ [] → packets ≡ first ++ packet ∷ [] → made ≡ []
+pub ack_does : (rows : List HostAddress) (server : Server) (a : Arrival) (m : Message) (address : Addr) (id : DialogId) (packet : Packet) (first packets : List Packet)
+    (made : List Record) (lessons : List Lesson)
+    (old new : ProxyState) → rows ≡ server.config.addresses → packet ≡ ack_packet server (arrival_of a) m address → first ≡ [] → packets ≡ first ++ packet ∷ []
+    → made ≡ []
     → Teach rows server a.now lessons (λ dialogs. after_request server a.now id m dialogs) → Becomes a.now old.requests lessons (counted (arrival_of a) old) new
-    → Does server old a.now (effect_of server (arrival_of a) m (Definition.AckOn address id) (counted (arrival_of a) old)) (record { at = a.now; packets = packets; records = made }) new
+    → Does server old a.now (effect_of server (arrival_of a) m (Definition.AckOn address id) (counted (arrival_of a) old))
+    (record { at = a.now; packets = packets; records = made }) new
 ack_does rows server a m address id packet first packets made lessons old new same is empty pushed none taught became =
     record {
       at_moment = refl;

@@ -1,3 +1,4 @@
 pub mod Admitting
 pub mod Routing
+pub mod Steps
 pub use Rattle.sip_uas.specs as uas

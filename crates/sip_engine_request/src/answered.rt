@@ -1,26 +1,17 @@
-ghost use Rattle.std.specs.Prelude.{◌≡◌, position, None, Some, IfOk, OnOk, OnErr};
-ghost use Rattle.sip_proxy.specs.fork.Firing.{KeepsOrder};
-ghost use Rattle.sip_proxy.specs.Proxy.{IsComing};
+ghost use Rattle.std.specs.Prelude.{IfOk};
 ghost use Rattle.sip_uas.specs.transactions_model.Fits.{IsFinalAnswer};
-ghost use Rattle.sip_transaction_table.specs.Key.{key_of};
-ghost use Rattle.sip_proxy.specs.steps_model.Effect.{counted, effect_of};
-ghost use Rattle.sip_proxy.specs.steps_model.Step.{Does};
-ghost use Rattle.sip_uas.specs.forwarding.Arrivals.{arrival_of};
-ghost use Rattle.sip_dialog_lessons.specs.state.State.{has_key};
 ghost use Rattle.sip_core.specs.verdict_model.Verdict as Definition;
+ghost use Rattle.sip_engine_request.specs.Steps.{IsNew, IsWhole, Takes};
 
+use crate::KeyedRequest;
 use crate::taking::take_draft;
-use sip_base::Shared;
-use sip_core::state::Heard;
 use sip_dialog_lessons::state::Server;
 use sip_event::StepOut;
 use sip_message_fields::Fields;
 use sip_proxy::Proxy;
 use sip_text::Items;
 use sip_timers::Timers;
-use sip_transaction_table::Key;
 use sip_uas::answer;
-use sip_uas::forwarding::Arrival;
 use std::alloc::{AllocError, Global};
 
 /// The step of a new request that is answered at once with a final status and further fields, before policy is asked (RFC
@@ -30,25 +21,23 @@ pub fn take_answered<T: Timers>(
     alloc: Global,
     server: &Server,
     proxy: &mut Proxy<T>,
-    arrival: Arrival,
-    key: Shared<Key>,
-    request: Shared<Heard>,
+    request: KeyedRequest,
     status: u16,
     extras: &Fields,
 ) -> Result<StepOut, AllocError>
-    requires coming { IsComing proxy.old.state arrival }
-    requires key { key_of request ≡ Some key }
-    requires alone { position (has_key key) proxy.old.state.requests ≡ None }
+    requires new { IsNew proxy.old.state request.arrival request.key }
     requires final_status { IsFinalAnswer status }
-    ensures does { IfOk result (λ out. Does server.now proxy.old.state arrival.now
-        (effect_of server.now (arrival_of arrival) request (Definition.Answer status extras.now)
-        (counted (arrival_of arrival) proxy.old.state)) out proxy.new.state) }
-    ensures unchanged { OnErr result (proxy.new.state ≡ proxy.old.state) }
-    ensures timers { OnErr result (proxy.new.timers ≡ proxy.old.timers) }
-    ensures queue { OnOk result (KeepsOrder proxy.old.timers proxy.new.timers proxy.new.state.requests) }
+    ensures does { IfOk result (λ out. Takes server.now proxy.old.state request.arrival request.request
+        (Definition.Answer status extras.now) out proxy.new.state) }
+    ensures whole { IsWhole proxy.old proxy.new result }
 {
     let is_full = proxy.is_full();
     let records = Items::new(alloc);
+    let KeyedRequest {
+        arrival,
+        key,
+        request,
+    } = request;
     let draft = answer(
         alloc, server, arrival, key, request, status, extras, records, is_full,
     )?;

@@ -1,25 +1,18 @@
 //! The step of a CANCEL (RFC 3261 9.2, 16.10): its own answer, and what it makes of the open request that it names.
-ghost use Rattle.std.specs.Prelude.{◌≡◌, ◌+◌, ◌<◌, ◌^◌, ◌++◌, ◌∷◌, [], false, length, position, slice_get, None, Some, IfOk, IfSome, OnOk, OnErr};
+ghost use Rattle.std.specs.Prelude.{◌≡◌, ◌+◌, ◌<◌, ◌^◌, ◌++◌, ◌∷◌, [], false, length, slice_get, IfOk, IfSome, OnOk};
 ghost use Rattle.std.specs.Option.{option_and_then};
-ghost use Rattle.sip_proxy.specs.fork.Firing.{KeepsOrder};
-ghost use Rattle.sip_proxy.specs.Proxy.{IsComing};
 ghost use Rattle.sip_core.specs.context_model.Opening.{closing};
 ghost use Rattle.sip_message_form.specs.Text.{text_of};
-ghost use Rattle.sip_transaction_table.specs.Key.{key_of};
-ghost use Rattle.sip_proxy.specs.steps_model.Effect.{counted, effect_of};
-ghost use Rattle.sip_proxy.specs.steps_model.Step.{Does};
 ghost use Rattle.sip_uas.specs.forwarding.Arrivals.{arrival_of};
 ghost use Rattle.sip_core.specs.context_model.Sending.{answer_packet, made_answer};
-ghost use Rattle.sip_dialog_lessons.specs.state.State.{has_key};
 ghost use Rattle.sip_core.specs.verdict_model.Verdict as Definition;
 ghost use Rattle.sip_uas.specs.Drafts.{IsOpenable};
+ghost use Rattle.sip_engine_request.specs.Steps.{IsNew, IsWhole, Takes};
 
 use crate::answered::take_answered;
-use sip_base::Shared;
-use sip_core::state::Heard;
+use crate::{Configured, KeyedRequest};
 use sip_dialog_lessons::state::{OpenRequest, Server};
 use sip_event::{Packet, StepOut};
-use sip_hops::Hops;
 use sip_message_fields::Fields;
 use sip_proxy::context::{Input, Sent};
 use sip_proxy::fork::Opening;
@@ -28,7 +21,7 @@ use sip_proxy::{Draft, Proxy};
 use sip_text::Items;
 use sip_timers::Timers;
 use sip_transaction_table::Key;
-use sip_uas::forwarding::{Arrival, change_packets, reply};
+use sip_uas::forwarding::{change_packets, reply};
 use sip_uas::transactions_model::fitting_events::opens_fitting;
 use sip_uas::transactions_model::openings::answered_at_once;
 use sip_uri::Addr;
@@ -55,23 +48,22 @@ struct Agreed {
 }
 
 /// Makes the 200 to a CANCEL (RFC 3261 9.2). `AllocError` is the only refusal.
-fn agree(
-    alloc: Global,
-    server: &Server,
-    arrival: Arrival,
-    key: Shared<Key>,
-    request: Shared<Heard>,
-) -> Result<Agreed, AllocError>
-    requires key { key_of request ≡ Some key }
-    requires now { arrival.now + 32000 < 2 ^ 64 }
-    ensures packet { IfOk result (λ agreed. agreed.packet ≡ answer_packet false arrival.number request arrival.from
-        (text_of (made_answer server.now arrival.number request arrival.from 200 []))) }
-    ensures opened { IfOk result (λ agreed. agreed.opened ≡ closing (arrival_of arrival) request 200
-        (text_of (made_answer server.now arrival.number request arrival.from 200 []))) }
-    ensures opens { IfOk result (λ agreed. IsOpenable arrival key agreed.opened) }
+fn agree(alloc: Global, server: &Server, cancel: KeyedRequest) -> Result<Agreed, AllocError>
+    requires { cancel.arrival.now + 32000 < 2 ^ 64 }
+    ensures packet { IfOk result (λ agreed. agreed.packet
+        ≡ answer_packet false cancel.arrival.number cancel.request cancel.arrival.from
+        (text_of (made_answer server.now cancel.arrival.number cancel.request cancel.arrival.from 200 []))) }
+    ensures opened { IfOk result (λ agreed. agreed.opened ≡ closing (arrival_of cancel.arrival) cancel.request 200
+        (text_of (made_answer server.now cancel.arrival.number cancel.request cancel.arrival.from 200 []))) }
+    ensures opens { IfOk result (λ agreed. IsOpenable cancel.arrival cancel.key agreed.opened) }
 {
     opens_fitting();
     answered_at_once();
+    let KeyedRequest {
+        arrival,
+        key,
+        request,
+    } = cancel;
     let extras = Fields::new(alloc);
     let replied = reply(alloc, server, arrival, key, request, 200, &extras)?;
     let opened = Opening::of(alloc, replied.request)?;
@@ -121,35 +113,28 @@ fn behind(alloc: Global, first: Packet, draft: Draft) -> Result<Draft, AllocErro
 /// A CANCEL is answered with 200, and behind that the open request at a place is cancelled (RFC 3261 9.2, 16.10).
 fn cancel_at<T: Timers>(
     alloc: Global,
-    server: &Server,
-    hops: &Hops,
+    configured: &Configured<'_>,
     proxy: &mut Proxy<T>,
-    arrival: Arrival,
-    key: Shared<Key>,
-    request: Shared<Heard>,
+    cancel: KeyedRequest,
     place: usize,
 ) -> Result<StepOut, AllocError>
-    requires coming { IsComing proxy.old.state arrival }
-    requires key { key_of request ≡ Some key }
-    requires alone { position (has_key key) proxy.old.state.requests ≡ None }
+    requires new { IsNew proxy.old.state cancel.arrival cancel.key }
     requires space { Definition.is_full proxy.old.state ≡ false }
-    requires rows { hops.now.addresses ≡ server.now.config.addresses }
     requires place { place < length proxy.old.state.requests }
-    ensures does { IfOk result (λ out. Does server.now proxy.old.state arrival.now
-        (effect_of server.now (arrival_of arrival) request (Definition.Cancel (slice_get proxy.old.state.requests place))
-        (counted (arrival_of arrival) proxy.old.state)) out proxy.new.state) }
-    ensures unchanged { OnErr result (proxy.new.state ≡ proxy.old.state) }
-    ensures timers { OnErr result (proxy.new.timers ≡ proxy.old.timers) }
-    ensures queue { OnOk result (KeepsOrder proxy.old.timers proxy.new.timers proxy.new.state.requests) }
+    ensures does { IfOk result (λ out. Takes configured.now.server.now proxy.old.state cancel.arrival cancel.request
+        (Definition.Cancel (slice_get proxy.old.state.requests place)) out proxy.new.state) }
+    ensures whole { IsWhole proxy.old proxy.new result }
 {
-    let _named = proxy.get(place);
-    let agreed = agree(alloc, server, arrival, key, request)?;
-    let draft = proxy.draft_input(alloc, server, hops, arrival.now, place, Input::Cancel)?;
+    let server = configured.server;
+    let hops = configured.hops;
+    let now = cancel.arrival.now;
+    let agreed = agree(alloc, server, cancel)?;
+    let draft = proxy.draft_input(alloc, server, hops, now, place, Input::Cancel)?;
     let both = behind(alloc, agreed.packet, draft)?;
-    let packets = proxy.open_and_change(arrival.now, agreed.opened, place, both)?;
+    let packets = proxy.open_and_change(now, agreed.opened, place, both)?;
     let _number = proxy.count();
     Ok(StepOut {
-        at: arrival.now,
+        at: now,
         packets,
         records: Items::new(alloc),
     })
@@ -160,31 +145,22 @@ fn cancel_at<T: Timers>(
 /// only refusal; nothing is changed then.
 pub fn take_cancel<T: Timers>(
     alloc: Global,
-    server: &Server,
-    hops: &Hops,
+    configured: &Configured<'_>,
     proxy: &mut Proxy<T>,
-    arrival: Arrival,
-    key: Shared<Key>,
-    request: Shared<Heard>,
+    cancel: KeyedRequest,
 ) -> Result<StepOut, AllocError>
-    requires coming { IsComing proxy.old.state arrival }
-    requires key { key_of request ≡ Some key }
-    requires alone { position (has_key key) proxy.old.state.requests ≡ None }
+    requires new { IsNew proxy.old.state cancel.arrival cancel.key }
     requires space { Definition.is_full proxy.old.state ≡ false }
-    requires rows { hops.now.addresses ≡ server.now.config.addresses }
-    ensures does { IfOk result (λ out. Does server.now proxy.old.state arrival.now
-        (effect_of server.now (arrival_of arrival) request (Definition.Cancel
-        (Definition.found_for_cancel proxy.old.state key (arrival_of arrival).from)) (counted (arrival_of arrival) proxy.old.state)) out
+    ensures does { IfOk result (λ out. Takes configured.now.server.now proxy.old.state cancel.arrival cancel.request
+        (Definition.Cancel (Definition.found_for_cancel proxy.old.state cancel.key cancel.arrival.from)) out
         proxy.new.state) }
-    ensures unchanged { OnErr result (proxy.new.state ≡ proxy.old.state) }
-    ensures timers { OnErr result (proxy.new.timers ≡ proxy.old.timers) }
-    ensures queue { OnOk result (KeepsOrder proxy.old.timers proxy.new.timers proxy.new.state.requests) }
+    ensures whole { IsWhole proxy.old proxy.new result }
 {
-    match find_named(proxy, key.get(), arrival.from) {
-        Some(place) => cancel_at(alloc, server, hops, proxy, arrival, key, request, place),
+    match find_named(proxy, cancel.key.get(), cancel.arrival.from) {
+        Some(place) => cancel_at(alloc, configured, proxy, cancel, place),
         None => {
             let extras = Fields::new(alloc);
-            take_answered(alloc, server, proxy, arrival, key, request, 481, &extras)
+            take_answered(alloc, configured.server, proxy, cancel, 481, &extras)
         }
     }
 }

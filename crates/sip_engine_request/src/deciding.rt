@@ -19,6 +19,7 @@ fn take_challenge<T: Timers>(proxy: &mut Proxy<T>, arrival: Arrival, outcome: &O
     ensures state { proxy.new.state ≡ with_nonces (after_outcome (arrival_of arrival) outcome.now proxy.old.state.nonces) proxy.old.state }
     ensures room { proxy.new.room ≡ proxy.old.room }
     ensures queue { (old : List Timer) → KeepsOrder old proxy.old.timers proxy.old.state.requests → KeepsOrder old proxy.new.timers proxy.new.state.requests }
+    ensures secrets { proxy.new.secrets ≡ proxy.old.secrets }
 {
     match outcome {
         Outcome::Challenge => proxy.issue(arrival.word, arrival.now),
@@ -33,6 +34,7 @@ fn take_plan<T: Timers>(proxy: &mut Proxy<T>, outcome: Outcome)
         → SameBindings now proxy.new.state.bindings after }
     ensures rest { proxy.new.state ≡ with_bindings proxy.new.state.bindings proxy.old.state }
     ensures queue { (old : List Timer) → KeepsOrder old proxy.old.timers proxy.old.state.requests → KeepsOrder old proxy.new.timers proxy.new.state.requests }
+    ensures secrets { proxy.new.secrets ≡ proxy.old.secrets }
 {
     match outcome.into_plan() {
         Some(plan) => proxy.register(plan),
@@ -49,6 +51,7 @@ pub(crate) fn take_decision<T: Timers>(proxy: &mut Proxy<T>, arrival: Arrival, j
     ensures rest { proxy.new.state ≡ with_nonces (after_asking (arrival_of arrival) judged.entry proxy.old.state.nonces)
         (with_bindings proxy.new.state.bindings proxy.old.state) }
     ensures queue { (old : List Timer) → KeepsOrder old proxy.old.timers proxy.old.state.requests → KeepsOrder old proxy.new.timers proxy.new.state.requests }
+    ensures secrets { proxy.new.secrets ≡ proxy.old.secrets }
 {
     proxy.spend(&judged.question.proof, arrival.now);
     take_challenge(proxy, arrival, &judged.outcome);

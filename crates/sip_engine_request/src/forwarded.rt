@@ -1,4 +1,4 @@
-ghost use Rattle.std.specs.Prelude.{◌≡◌, List, false, position, None, IfOk, OnOk, OnErr};
+ghost use Rattle.std.specs.Prelude.{◌≡◌, List, false, position, None, IfOk, OnOk};
 ghost use Rattle.sip_timers.specs.declared.timer.Timer.{Timer};
 ghost use Rattle.sip_proxy.specs.fork.Firing.{KeepsOrder};
 ghost use Rattle.sip_proxy.specs.Proxy.{Becomes, IsComing};
@@ -8,6 +8,7 @@ ghost use Rattle.sip_proxy.specs.steps_model.Effect.{asked, counted};
 ghost use Rattle.sip_uas.specs.forwarding.Arrivals.{arrival_of};
 ghost use Rattle.sip_dialog_lessons.specs.state.State.{has_key, with_one_more};
 ghost use Rattle.sip_core.specs.verdict_model.Verdict.{is_full};
+ghost use Rattle.sip_engine_request.specs.Steps.{IsWhole};
 
 use sip_core::Judged;
 use sip_dialog_lessons::Lessons;
@@ -36,9 +37,7 @@ pub(crate) fn take_request<T: Timers>(
     ensures becomes { OnOk result (Becomes arrival.now (with_one_more forwarded.request proxy.old.state.requests) forwarded.lessons
         (counted (arrival_of arrival) proxy.old.state) proxy.new.state) }
     ensures packets { IfOk result (λ packets. packets ≡ forwarded.packets) }
-    ensures unchanged { OnErr result (proxy.new.state ≡ proxy.old.state) }
-    ensures timers { OnErr result (proxy.new.timers ≡ proxy.old.timers) }
-    ensures queue { OnOk result (KeepsOrder proxy.old.timers proxy.new.timers proxy.new.state.requests) }
+    ensures whole { IsWhole proxy.old proxy.new result }
 {
     let Forwarded {
         packets,
@@ -62,9 +61,7 @@ pub(crate) fn take_lessons<T: Timers>(
     requires none_begins { beginnings lessons ≡ 0 }
     ensures becomes { OnOk result (Becomes arrival.now proxy.old.state.requests lessons (counted (arrival_of arrival) proxy.old.state)
         proxy.new.state) }
-    ensures unchanged { OnErr result (proxy.new.state ≡ proxy.old.state) }
-    ensures timers { OnErr result (proxy.new.timers ≡ proxy.old.timers) }
-    ensures queue { OnOk result (KeepsOrder proxy.old.timers proxy.new.timers proxy.new.state.requests) }
+    ensures whole { IsWhole proxy.old proxy.new result }
 {
     proxy.learn(arrival.now, lessons)?;
     proxy.count();
@@ -80,6 +77,7 @@ pub(crate) fn take_credential<T: Timers>(
     ensures state { proxy.new.state ≡ asked (arrival_of arrival) judged.now.question proxy.old.state }
     ensures timers { proxy.new.timers ≡ proxy.old.timers }
     ensures queue { (old : List Timer) → KeepsOrder old proxy.old.timers proxy.old.state.requests → KeepsOrder old proxy.new.timers proxy.new.state.requests }
+    ensures secrets { proxy.new.secrets ≡ proxy.old.secrets }
 {
     proxy.spend(&judged.question.proof, arrival.now);
 }

@@ -1,29 +1,20 @@
-ghost use Rattle.std.specs.Prelude.{◌≡◌, true, position, None, Some, Option, IfOk, OnOk, OnErr};
-ghost use Rattle.sip_proxy.specs.fork.Firing.{KeepsOrder};
-ghost use Rattle.sip_proxy.specs.Proxy.{IsComing};
+ghost use Rattle.std.specs.Prelude.{◌≡◌, true, Option, IfOk};
 ghost use Rattle.sip_core.specs.Verdict.{HasRoomFor, Is};
 ghost use Rattle.sip_core.specs.declared.verdict.Verdict.TheVariants as Arrived;
-ghost use Rattle.sip_transaction_table.specs.Key.{key_of};
-ghost use Rattle.sip_proxy.specs.steps_model.Effect.{counted, effect_of};
-ghost use Rattle.sip_proxy.specs.steps_model.Step.{Does};
-ghost use Rattle.sip_uas.specs.forwarding.Arrivals.{arrival_of};
-ghost use Rattle.sip_dialog_lessons.specs.state.State.{has_key};
 ghost use Rattle.sip_dialog_lessons.specs.state.declared.open_request.OpenRequest.{OpenRequest};
 ghost use Rattle.sip_core.specs.verdict_model.Verdict as Definition;
 ghost use Rattle.sip_uas.specs.Asking as Asking;
 ghost use Rattle.sip_engine_request.specs.Admitting.{IsAnswered};
+ghost use Rattle.sip_engine_request.specs.Steps.{IsNew, IsWhole, Takes};
 
+use crate::KeyedRequest;
 use crate::deciding::take_decision;
 use crate::taking::take_draft;
-use sip_base::Shared;
 use sip_core::Judged;
-use sip_core::state::Heard;
 use sip_dialog_lessons::state::Server;
 use sip_event::StepOut;
 use sip_proxy::Proxy;
 use sip_timers::Timers;
-use sip_transaction_table::Key;
-use sip_uas::forwarding::Arrival;
 use sip_uas::judged as draft_judged;
 use std::alloc::{AllocError, Global};
 
@@ -35,26 +26,24 @@ pub fn take_judged<T: Timers>(
     alloc: Global,
     server: &Server,
     proxy: &mut Proxy<T>,
-    arrival: Arrival,
-    key: Shared<Key>,
-    request: Shared<Heard>,
+    request: KeyedRequest,
     judged: Judged<'_>,
 ) -> Result<StepOut, AllocError>
-    requires coming { IsComing proxy.old.state arrival }
-    requires key { key_of request ≡ Some key }
-    requires alone { position (has_key key) proxy.old.state.requests ≡ None }
+    requires new { IsNew proxy.old.state request.arrival request.key }
     requires here { Asking.is_answered_here judged.outcome ≡ true }
     requires room { HasRoomFor proxy.old.room judged.outcome }
-    requires answers { IsAnswered server.now proxy.old.state.bindings arrival.now judged }
+    requires answers { IsAnswered server.now proxy.old.state.bindings request.arrival.now judged }
     ensures does { IfOk result (λ out. (named : Option OpenRequest) (verdict : Definition.Verdict)
-        → Is server.now proxy.old.state.bindings arrival.now named verdict (Arrived.Judged judged.entry)
-        → Does server.now proxy.old.state arrival.now (effect_of server.now (arrival_of arrival) request verdict
-        (counted (arrival_of arrival) proxy.old.state)) out proxy.new.state) }
-    ensures unchanged { OnErr result (proxy.new.state ≡ proxy.old.state) }
-    ensures timers { OnErr result (proxy.new.timers ≡ proxy.old.timers) }
-    ensures queue { OnOk result (KeepsOrder proxy.old.timers proxy.new.timers proxy.new.state.requests) }
+        → Is server.now proxy.old.state.bindings request.arrival.now named verdict (Arrived.Judged judged.entry)
+        → Takes server.now proxy.old.state request.arrival request.request verdict out proxy.new.state) }
+    ensures whole { IsWhole proxy.old proxy.new result }
 {
     let is_full = proxy.is_full();
+    let KeyedRequest {
+        arrival,
+        key,
+        request,
+    } = request;
     let draft = draft_judged(alloc, server, arrival, key, request, &judged, is_full)?;
     let out = take_draft(alloc, proxy, arrival, draft)?;
     take_decision(proxy, arrival, judged);

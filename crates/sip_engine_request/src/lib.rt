@@ -11,10 +11,14 @@
 mod acknowledging;
 mod answered;
 mod cancelling;
+mod configured;
 mod deciding;
 mod forwarded;
 mod judging;
+mod keyed_request;
+mod new_request;
 mod records;
+mod routed;
 mod sending;
 mod taking;
 mod within;
@@ -22,7 +26,11 @@ mod within;
 pub use acknowledging::send_ack;
 pub use answered::take_answered;
 pub use cancelling::take_cancel;
+pub use configured::Configured;
 pub use judging::take_judged;
+pub use keyed_request::KeyedRequest;
+pub use new_request::NewRequest;
+pub use routed::Sending;
 pub use sending::send_to;
 pub use within::send_within;
 

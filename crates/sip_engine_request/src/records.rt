@@ -6,6 +6,7 @@ ghost use Rattle.sip_dialog_lessons.specs.state.declared.server.Server.{Server};
 ghost use Rattle.sip_targets.specs.Targets.{target_list};
 ghost use Rattle.sip_core.specs.verdict_model.Verdict.{minute_on};
 
+use crate::Sending;
 use sip_audit::{Outcome, Record};
 use sip_core::Judged;
 use sip_core::state::Heard;
@@ -55,22 +56,24 @@ pub(crate) fn records_of(
     alloc: Global,
     arrival: Arrival,
     request: &Heard,
-    judged: &Judged<'_>,
-    rule: u32,
-    targets: &Targets,
+    sending: &Sending<'_, '_>,
 ) -> Result<Items<Record>, AllocError>
-    ensures { IfOk result (λ records. (server : Server) → judged.now.minute ≡ minute_on server judged.now.question
-        → records ≡ Effects.record_of server (arrival_of arrival) request.now judged.now.question
-        (Sent rule (length (target_list targets.now))) ∷ []) }
+    ensures { IfOk result (λ records. (server : Server)
+        → sending.now.judged.now.minute ≡ minute_on server sending.now.judged.now.question
+        → records ≡ Effects.record_of server (arrival_of arrival) request.now sending.now.judged.now.question
+        (Sent sending.now.rule (length (target_list sending.now.targets.now))) ∷ []) }
 {
-    let Some(targets) = count_of(targets) else {
+    let Some(targets) = count_of(sending.targets) else {
         return Err(AllocError);
     };
     recorded(
         alloc,
         arrival,
         request,
-        judged,
-        Outcome::Sent { rule, targets },
+        sending.judged,
+        Outcome::Sent {
+            rule: sending.rule,
+            targets,
+        },
     )
 }

@@ -1,28 +1,14 @@
-ghost use Rattle.std.specs.Prelude.{◌≡◌, true, false, position, None, Some, IfOk, OnOk, OnErr};
-ghost use Rattle.sip_proxy.specs.fork.Firing.{KeepsOrder};
-ghost use Rattle.sip_proxy.specs.Proxy.{IsComing};
-ghost use Rattle.sip_transaction_table.specs.Key.{key_of};
-ghost use Rattle.sip_proxy.specs.steps_model.Effect.{counted, effect_of};
-ghost use Rattle.sip_proxy.specs.steps_model.Step.{Does};
-ghost use Rattle.sip_uas.specs.forwarding.Arrivals.{arrival_of};
-ghost use Rattle.sip_dialog_lessons.specs.state.State.{has_key};
+ghost use Rattle.std.specs.Prelude.{◌≡◌, false, IfOk};
 ghost use Rattle.sip_core.specs.verdict_model.Verdict as Definition;
-ghost use Rattle.sip_engine_request.specs.Routing.{are_somebody};
+ghost use Rattle.sip_engine_request.specs.Steps.{IsNew, IsWhole, Takes};
 
 use crate::forwarded::{take_credential, take_request};
 use crate::records::records_of;
-use sip_base::Shared;
-use sip_core::Judged;
-use sip_core::state::Heard;
-use sip_dialog_lessons::state::Server;
+use crate::{Configured, KeyedRequest, Sending};
 use sip_event::StepOut;
-use sip_hops::Hops;
 use sip_proxy::Proxy;
 use sip_proxy::forwarding::forward_to;
-use sip_targets::Targets;
 use sip_timers::Timers;
-use sip_transaction_table::Key;
-use sip_uas::forwarding::Arrival;
 use std::alloc::{AllocError, Global};
 
 /// A request outside a dialog that a rule let through is sent to its targets, which are somebody, and is open from then on
@@ -31,34 +17,29 @@ use std::alloc::{AllocError, Global};
 /// changed then.
 pub fn send_to<T: Timers>(
     alloc: Global,
-    server: &Server,
-    hops: &Hops,
+    configured: &Configured<'_>,
     proxy: &mut Proxy<T>,
-    arrival: Arrival,
-    key: Shared<Key>,
-    request: Shared<Heard>,
-    judged: &Judged<'_>,
-    rule: u32,
-    targets: &Targets,
+    request: KeyedRequest,
+    sending: &Sending<'_, '_>,
 ) -> Result<StepOut, AllocError>
-    requires coming { IsComing proxy.old.state arrival }
+    requires new { IsNew proxy.old.state request.arrival request.key }
     requires space { Definition.is_full proxy.old.state ≡ false }
-    requires key { key_of request ≡ Some key }
-    requires alone { position (has_key key) proxy.old.state.requests ≡ None }
-    requires rows { hops.now.addresses ≡ server.now.config.addresses }
-    requires minute { judged.now.minute ≡ Definition.minute_on server.now judged.now.question }
-    requires somebody { are_somebody targets.now ≡ true }
-    ensures does { IfOk result (λ out. Does server.now proxy.old.state arrival.now
-        (effect_of server.now (arrival_of arrival) request (Definition.Send judged.now.question rule targets.now)
-        (counted (arrival_of arrival) proxy.old.state)) out proxy.new.state) }
-    ensures unchanged { OnErr result (proxy.new.state ≡ proxy.old.state) }
-    ensures timers { OnErr result (proxy.new.timers ≡ proxy.old.timers) }
-    ensures queue { OnOk result (KeepsOrder proxy.old.timers proxy.new.timers proxy.new.state.requests) }
+    requires minute { sending.now.judged.now.minute ≡ Definition.minute_on configured.now.server.now sending.now.judged.now.question }
+    ensures does { IfOk result (λ out. Takes configured.now.server.now proxy.old.state request.arrival request.request
+        (Definition.Send sending.now.judged.now.question sending.now.rule sending.now.targets.now) out proxy.new.state) }
+    ensures whole { IsWhole proxy.old proxy.new result }
 {
-    let records = records_of(alloc, arrival, request.get(), judged, rule, targets)?;
-    let forwarded = forward_to(alloc, server, hops, arrival, key, request, targets)?;
+    let server = configured.server;
+    let hops = configured.hops;
+    let KeyedRequest {
+        arrival,
+        key,
+        request,
+    } = request;
+    let records = records_of(alloc, arrival, request.get(), sending)?;
+    let forwarded = forward_to(alloc, server, hops, arrival, key, request, sending.targets)?;
     let packets = take_request(alloc, proxy, arrival, forwarded)?;
-    take_credential(proxy, arrival, judged);
+    take_credential(proxy, arrival, sending.judged);
     Ok(StepOut {
         at: arrival.now,
         packets,

@@ -1,11 +1,11 @@
-ghost use Rattle.std.specs.Prelude.{◌≡◌, [], IfOk, IfSome, OnOk, OnErr};
-ghost use Rattle.sip_proxy.specs.fork.Firing.{KeepsOrder};
+ghost use Rattle.std.specs.Prelude.{◌≡◌, [], IfOk, IfSome, OnOk};
 ghost use Rattle.sip_proxy.specs.Proxy.{Becomes, IsComing};
 ghost use Rattle.sip_proxy.specs.steps_model.Effect.{counted};
 ghost use Rattle.sip_uas.specs.forwarding.Arrivals.{arrival_of};
 ghost use Rattle.sip_dialog_lessons.specs.state.State.{with_one_more};
 ghost use Rattle.sip_uas.specs.Drafts.{with_opened};
 ghost use Rattle.sip_engine_request.specs.Admitting.{IsOpenableIn};
+ghost use Rattle.sip_engine_request.specs.Steps.{IsWhole};
 
 use sip_dialog_lessons::Lessons;
 use sip_event::StepOut;
@@ -27,9 +27,7 @@ fn open<T: Timers>(
     requires coming { IsComing proxy.old.state arrival }
     requires opens { IsOpenableIn proxy.old.state arrival request }
     ensures becomes { OnOk result (Becomes arrival.now (with_one_more request proxy.old.state.requests) [] proxy.old.state proxy.new.state) }
-    ensures unchanged { OnErr result (proxy.new.state ≡ proxy.old.state) }
-    ensures timers { OnErr result (proxy.new.timers ≡ proxy.old.timers) }
-    ensures queue { OnOk result (KeepsOrder proxy.old.timers proxy.new.timers proxy.new.state.requests) }
+    ensures whole { IsWhole proxy.old proxy.new result }
     ensures room { proxy.new.room ≡ proxy.old.room }
 {
     proxy.open(arrival.now, request, Lessons::new(alloc))
@@ -46,9 +44,7 @@ fn open_drafted<T: Timers>(
     requires coming { IsComing proxy.old.state arrival }
     requires opens { IfSome opened (IsOpenableIn proxy.old.state arrival) }
     ensures becomes { OnOk result (Becomes arrival.now (with_opened opened proxy.old.state.requests) [] proxy.old.state proxy.new.state) }
-    ensures unchanged { OnErr result (proxy.new.state ≡ proxy.old.state) }
-    ensures timers { OnErr result (proxy.new.timers ≡ proxy.old.timers) }
-    ensures queue { OnOk result (KeepsOrder proxy.old.timers proxy.new.timers proxy.new.state.requests) }
+    ensures whole { IsWhole proxy.old proxy.new result }
     ensures room { proxy.new.room ≡ proxy.old.room }
 {
     match opened {
@@ -74,9 +70,7 @@ pub(crate) fn take_draft<T: Timers>(
     ensures becomes { OnOk result (Becomes arrival.now (with_opened draft.opened proxy.old.state.requests) []
         (counted (arrival_of arrival) proxy.old.state) proxy.new.state) }
     ensures out { IfOk result (λ out. out ≡ record { at = arrival.now; packets = draft.packets; records = draft.records }) }
-    ensures unchanged { OnErr result (proxy.new.state ≡ proxy.old.state) }
-    ensures timers { OnErr result (proxy.new.timers ≡ proxy.old.timers) }
-    ensures queue { OnOk result (KeepsOrder proxy.old.timers proxy.new.timers proxy.new.state.requests) }
+    ensures whole { IsWhole proxy.old proxy.new result }
     ensures room { proxy.new.room ≡ proxy.old.room }
 {
     let Draft {

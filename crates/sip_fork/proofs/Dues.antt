@@ -32,7 +32,8 @@ the_other true true c e f = absurd (cc)
 the_other false b c e f = absurd (cc)
 
 -- of a branch of which something is due, and nothing goes again then, the deadline passes
-pub ends_then : (r : OpenRequest) (owner : Owner) (due i : ℕ) (x : Branch) → position (is_branch_due r owner due) r.branches ≡ Some i → get_or r.branches i x ≡ x → is_at (branch_due r x) due ≡ false
+pub ends_then : (r : OpenRequest) (owner : Owner) (due i : ℕ) (x : Branch) → position (is_branch_due r owner due) r.branches ≡ Some i → get_or r.branches i x ≡ x
+    → is_at (branch_due r x) due ≡ false
     → IsBranchAt (λ (b : Branch). phase_deadline b.phase) r.branches i due
 ends_then r owner due i x found here none =
     let is = position-Some (is_branch_due r owner due) r.branches i x found in
@@ -40,23 +41,27 @@ ends_then r owner due i x found here none =
     let ends : is_at (phase_deadline x.phase) due ≡ true = the_other (is_of owner x) (is_at (branch_due r x) due) (is_at (phase_deadline x.phase) due) passes none in
     record {
       within = is.0;
-      is = λ b at. subst (λ (y : Branch). phase_deadline y.phase ≡ Some due) (sym here ∙ get_or_from_slice_get r.branches i b x at) (at_is (phase_deadline x.phase) due ends);
+      is = λ b at. subst (λ (y : Branch). phase_deadline y.phase ≡ Some due) (sym here ∙ get_or_from_slice_get r.branches i b x at)
+          (at_is (phase_deadline x.phase) due ends);
     }
 
 -- and it isn't one of which something does
 pub none_again : (r : OpenRequest) (due i : ℕ) (x : Branch) → get_or r.branches i x ≡ x → is_at (branch_due r x) due ≡ false → GoesAgainBefore r due (What.BranchEnds i)
-none_again r due i x here none b at = subst (λ (y : Branch). branch_due r y ≢ Some due) (sym here ∙ get_or_from_slice_get r.branches i b x at) (not_at (branch_due r x) due none)
+none_again r due i x here none b at = subst (λ (y : Branch). branch_due r y ≢ Some due) (sym here ∙ get_or_from_slice_get r.branches i b x at)
+    (not_at (branch_due r x) due none)
 
 the_first : (a b : Bool) → (a && b) ≡ true → a ≡ true
 the_first true b e = refl
 the_first false b e = absurd (cc)
 
 -- a branch that is found by its owner has timers of that
-pub found_of : (r : OpenRequest) (owner : Owner) (due i : ℕ) (x : Branch) → position (is_branch_due r owner due) r.branches ≡ Some i → get_or r.branches i x ≡ x → IsBranchOf owner r.branches i
+pub found_of : (r : OpenRequest) (owner : Owner) (due i : ℕ) (x : Branch) → position (is_branch_due r owner due) r.branches ≡ Some i → get_or r.branches i x ≡ x
+    → IsBranchOf owner r.branches i
 found_of r owner due i x found here =
     let is = position-Some (is_branch_due r owner due) r.branches i x found in
     let passes : is_branch_due r owner due x ≡ true = subst (λ (b : Branch). is_branch_due r owner due b ≡ true) here is.1 in
-    λ b at. subst (λ (y : Branch). is_of owner y ≡ true) (sym here ∙ get_or_from_slice_get r.branches i b x at) (the_first (is_of owner x) (is_either (branch_due r x) (phase_deadline x.phase) due) passes)
+    λ b at. subst (λ (y : Branch). is_of owner y ≡ true) (sym here ∙ get_or_from_slice_get r.branches i b x at)
+    (the_first (is_of owner x) (is_either (branch_due r x) (phase_deadline x.phase) due) passes)
 
 -- ---- what is due
 
@@ -91,9 +96,11 @@ module _ (r : OpenRequest) (due : ℕ) where
   of_list owner i (b ∷ bs) is found =
       let there : position (is_branch_due r owner due) r.branches ≡ Some i = ap (λ (xs : List Branch). position (is_branch_due r owner due) xs) is ∙ found in
       let lt : i < length r.branches = (position-Some (is_branch_due r owner due) r.branches i b there).0 in
-      at_branch owner i (get_or r.branches i b) there (get_or_from_slice_get r.branches i (get_or r.branches i b) (get_or r.branches i b) (slice_get-get_or r.branches i b lt))
+      at_branch owner i (get_or r.branches i b) there (get_or_from_slice_get r.branches i (get_or r.branches i b) (get_or r.branches i b)
+      (slice_get-get_or r.branches i b lt))
 
-  of_place : (owner : Owner) (o : Option ℕ) → position (is_branch_due r owner due) r.branches ≡ o → (position (is_branch_due r owner due) r.branches ≡ None → ⊥) → Something
+  of_place : (owner : Owner) (o : Option ℕ) → position (is_branch_due r owner due) r.branches ≡ o → (position (is_branch_due r owner due) r.branches ≡ None → ⊥)
+      → Something
   of_place owner None none some = absurd (some none)
   of_place owner (Some i) found some = of_list owner i r.branches refl found
 

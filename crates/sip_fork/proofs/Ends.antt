@@ -1,5 +1,6 @@
 -- The end of a transaction of an open request.
-use Rattle.std.proofs.Common.{◌≡◌, ℕ, zero, suc, ◌+◌, ◌-◌, ◌<◌, ◌≤◌, ◌^◌, Bool, true, false, cond, not, List, [], ◌∷◌, length, map, take, drop, get_or, slice_get, Option, Some, None, refl, sym, ap, ◌∙◌, subst, arith}
+use Rattle.std.proofs.Common.{◌≡◌, ℕ, zero, suc, ◌+◌, ◌-◌, ◌<◌, ◌≤◌, ◌^◌, Bool, true, false, cond, not, List, [], ◌∷◌, length, map, take, drop, get_or, slice_get, Option}
+use Rattle.std.proofs.Common.{Some, None, refl, sym, ap, ◌∙◌, subst, arith}
 use Rattle.std.specs.Prelude.{◌&&◌, ◌==◌, count_by}
 use Rattle.std.specs.List.{AllByRecursion, list_all}
 use Rattle.std.specs.Option.{unwrap_or}
@@ -51,7 +52,8 @@ one_more b x xs = omega (arith, sum_by-append (λ (y : Branch). cond {A = ℕ} (
 none_same : (b : Branch) (bs : List Branch) → same_as b bs ≡ 0 → map (phased b Ended) bs ≡ bs
 none_same b [] none = refl
 none_same b (x ∷ xs) none = by_test (is_same_branch x b) (sym (one_more b x xs) ∙ none) (none_same b xs) where
-  by_test : (t : Bool) → cond {A = ℕ} t 1 0 + same_as b xs ≡ 0 → (same_as b xs ≡ 0 → map (phased b Ended) xs ≡ xs) → cond t (turned b Ended x) x ∷ map (phased b Ended) xs ≡ x ∷ xs
+  by_test : (t : Bool) → cond {A = ℕ} t 1 0 + same_as b xs ≡ 0 → (same_as b xs ≡ 0 → map (phased b Ended) xs ≡ xs)
+      → cond t (turned b Ended x) x ∷ map (phased b Ended) xs ≡ x ∷ xs
   by_test true e rest = absurd (omega (arith, e))
   by_test false e rest = ap (λ (ys : List Branch). x ∷ ys) (rest (omega (arith, e)))
 
@@ -77,13 +79,15 @@ one_ends b (x ∷ xs) zero at one =
     ∙ ap (λ (y : Branch). turned y Ended x ∷ map (phased b Ended) xs) (sym is)
     ∙ ap (λ (ys : List Branch). record x { phase = Ended } ∷ ys) (none_same b xs none)
 one_ends b (x ∷ xs) (suc i) at one = by_test (is_same_branch x b) (sym (one_more b x xs) ∙ one) (one_ends b xs i at) where
-  by_test : (t : Bool) → cond {A = ℕ} t 1 0 + same_as b xs ≡ 1 → (same_as b xs ≡ 1 → map (phased b Ended) xs ≡ ended_at i xs) → cond t (turned b Ended x) x ∷ map (phased b Ended) xs ≡ x ∷ ended_at i xs
+  by_test : (t : Bool) → cond {A = ℕ} t 1 0 + same_as b xs ≡ 1 → (same_as b xs ≡ 1 → map (phased b Ended) xs ≡ ended_at i xs)
+      → cond t (turned b Ended x) x ∷ map (phased b Ended) xs ≡ x ∷ ended_at i xs
   by_test true e rest = absurd (omega (arith, e, counted b xs i at))
   by_test false e rest = ap (λ (ys : List Branch). x ∷ ys) (rest (omega (arith, e)))
 
 -- ---- nothing but the end
 
-pub side_quiet : (r : OpenRequest) → ((server : Server) (now : ℕ) → side_overdue server now r ≡ alone (record r { side = Closed })) → (server : Server) (now : ℕ) (input : Input) → IsDeadlineOf r Of.Server input
+pub side_quiet : (r : OpenRequest) → ((server : Server) (now : ℕ) → side_overdue server now r ≡ alone (record r { side = Closed }))
+    → (server : Server) (now : ℕ) (input : Input) → IsDeadlineOf r Of.Server input
     → outcome_of server now r input ≡ changing (alone (ended Of.Server r)) []
 side_quiet r quiet server now (Response branch status response) is = absurd is
 side_quiet r quiet server now (BranchDeadline branch) is = absurd is
@@ -94,12 +98,14 @@ side_quiet r quiet server now Ack is = absurd is
 side_quiet r quiet server now (BranchAgain branch) is = absurd is
 side_quiet r quiet server now AnswerAgain is = absurd is
 
-branch_quiet_of : (r : OpenRequest) (place : ℕ) (b : Branch) → slice_get r.branches place ≡ Some b → ((server : Server) (now : ℕ) → overdue server now r b ≡ alone (with_phase b Ended r))
+branch_quiet_of : (r : OpenRequest) (place : ℕ) (b : Branch) → slice_get r.branches place ≡ Some b
+    → ((server : Server) (now : ℕ) → overdue server now r b ≡ alone (with_phase b Ended r))
     → same_as b r.branches ≡ 1 → (server : Server) (now : ℕ) → overdue server now r b ≡ alone (branch_ended place r)
 branch_quiet_of r place b at quiet one server now =
     quiet server now ∙ ap (λ (bs : List Branch). alone (record r { branches = bs })) (one_ends b r.branches place at one)
 
-pub branch_quiet : (r : OpenRequest) (place : ℕ) (b : Branch) → slice_get r.branches place ≡ Some b → ((server : Server) (now : ℕ) → overdue server now r b ≡ alone (with_phase b Ended r))
+pub branch_quiet : (r : OpenRequest) (place : ℕ) (b : Branch) → slice_get r.branches place ≡ Some b
+    → ((server : Server) (now : ℕ) → overdue server now r b ≡ alone (with_phase b Ended r))
     → same_as b r.branches ≡ 1 → (server : Server) (now : ℕ) (input : Input) → IsDeadlineOf r (Of.Client place) input
     → outcome_of server now r input ≡ changing (alone (ended (Of.Client place) r)) []
 branch_quiet r place b at quiet one server now (Response branch status response) is = absurd is
@@ -122,7 +128,8 @@ all_but : (bs : List Branch) (i : ℕ) → i < length bs → (all_ended (take i 
 all_but [] i within = absurd (omega (arith, within))
 all_but (x ∷ bs) zero within = refl
 all_but (x ∷ bs) (suc i) within = by_test (is_ended x.phase) (all_but bs i (omega (arith, within))) where
-  by_test : (t : Bool) → (all_ended (take i bs) && all_ended (drop (suc i) bs)) ≡ all_ended (ended_at i bs) → ((t && all_ended (take i bs)) && all_ended (drop (suc i) bs)) ≡ (t && all_ended (ended_at i bs))
+  by_test : (t : Bool) → (all_ended (take i bs) && all_ended (drop (suc i) bs)) ≡ all_ended (ended_at i bs)
+      → ((t && all_ended (take i bs)) && all_ended (drop (suc i) bs)) ≡ (t && all_ended (ended_at i bs))
   by_test true rest = rest
   by_test false rest = refl
 
@@ -163,7 +170,8 @@ still_numbers Of.Server r h = record { number_fits = h.number_fits; targets_fit 
 still_numbers (Of.Client place) r h = record { number_fits = h.number_fits; targets_fit = same_targets r.branches place h.targets_fit }
 
 -- a request of which a transaction ended is kept where it fits
-pub kept_ended : (reached : ℕ) (t : Transaction) (r : Request) → IsKept reached r → Fits (ended t r.open_request) → IsWithin (reached + 1) (ended t r.open_request) → AreBranched (ended t r.open_request).branches
+pub kept_ended : (reached : ℕ) (t : Transaction) (r : Request) → IsKept reached r → Fits (ended t r.open_request) → IsWithin (reached + 1) (ended t r.open_request)
+    → AreBranched (ended t r.open_request).branches
     → IsKept reached (become (ended t r.open_request) r)
 kept_ended reached t r h fits within branched = record {
   keys = still_keys t r.open_request r.branches h.keys;
@@ -177,10 +185,6 @@ kept_ended reached t r h fits within branched = record {
 pub still_number : (t : Transaction) (r : OpenRequest) → (ended t r).number ≡ r.number
 still_number Of.Server r = refl
 still_number (Of.Client place) r = refl
-
-pub still_key : (t : Transaction) (r : OpenRequest) → (ended t r).key ≡ r.key
-still_key Of.Server r = refl
-still_key (Of.Client place) r = refl
 
 -- ---- the number of an INVITE that left
 
@@ -214,21 +218,25 @@ past_is o bs i e past = e ∙ all_past bs i past
 pub before_is : (o : Bool) (bs : List Branch) (i : ℕ) → o ≡ all_ended (take i bs) → o ≡ false → i < length bs → false ≡ all_ended (ended_at i bs)
 before_is o bs i e is within = not_before bs i within (sym e ∙ is)
 
-pub others_are : (o p : Bool) (bs : List Branch) (i : ℕ) → o ≡ all_ended (take i bs) → o ≡ true → p ≡ all_ended (take (length bs - (i + 1)) (drop (i + 1) bs)) → i < length bs → p ≡ all_ended (ended_at i bs)
+pub others_are : (o p : Bool) (bs : List Branch) (i : ℕ) → o ≡ all_ended (take i bs) → o ≡ true → p ≡ all_ended (take (length bs - (i + 1)) (drop (i + 1) bs))
+    → i < length bs → p ≡ all_ended (ended_at i bs)
 others_are o p bs i e is f within =
-    let whole : take (length bs - (i + 1)) (drop (i + 1) bs) ≡ drop (i + 1) bs = take_all (length bs - (i + 1)) (drop (i + 1) bs) (omega (arith, length-drop (i + 1) bs)) in
+    let whole : take (length bs - (i + 1)) (drop (i + 1) bs) ≡ drop (i + 1) bs = take_all (length bs - (i + 1)) (drop (i + 1) bs) (omega (arith, length-drop (i + 1) bs))
+    in
     f ∙ ap all_ended whole ∙ by_others bs i within (sym e ∙ is)
 
 pub quiet_is : (o : Bool) (r : OpenRequest) (bs : List Branch) (place : ℕ) (b : Branch) → bs ≡ r.branches → place < length bs → b ≡ get_or bs place b
     → (o ≡ true → (server : Server) (now : ℕ) → overdue server now r b ≡ alone (with_phase b Ended r)) → (o ≡ true → same_as b r.branches ≡ 1) → o ≡ true
-    → (server : Server) (now : ℕ) (input : Input) → IsDeadlineOf r (Of.Client place) input → outcome_of server now r input ≡ changing (alone (ended (Of.Client place) r)) []
+    → (server : Server) (now : ℕ) (input : Input) → IsDeadlineOf r (Of.Client place) input
+    → outcome_of server now r input ≡ changing (alone (ended (Of.Client place) r)) []
 quiet_is o r bs place b same within is quiet one so =
     let there : slice_get bs place ≡ Some b = slice_get-get_or bs place b within ∙ ap (λ (x : Branch). Some x) (sym is) in
     branch_quiet r place b (subst (λ (xs : List Branch). slice_get xs place ≡ Some b) same there) (quiet so) (one so)
 
 -- ---- whether a deadline does no more
 
-pub ends_there : (o : Bool) (r : OpenRequest) (bs : List Branch) (place : ℕ) (b : Branch) → bs ≡ r.branches → place < length bs → b ≡ get_or bs place b → o ≡ branch_ends_alone r b → o ≡ ends_alone (Of.Client place) r
+pub ends_there : (o : Bool) (r : OpenRequest) (bs : List Branch) (place : ℕ) (b : Branch) → bs ≡ r.branches → place < length bs → b ≡ get_or bs place b
+    → o ≡ branch_ends_alone r b → o ≡ ends_alone (Of.Client place) r
 ends_there o r bs place b same within is alike =
     let there : slice_get bs place ≡ Some b = slice_get-get_or bs place b within ∙ ap (λ (x : Branch). Some x) (sym is) in
     alike ∙ ap (found_ends_alone r) (sym (subst (λ (xs : List Branch). slice_get xs place ≡ Some b) same there))

@@ -23,7 +23,8 @@ first_le t ts m ordered some = by_test (ltb m t.due) refl where
   by_test : (b : Bool) → ltb m t.due ≡ b → t.due ≤ m
   by_test false late = grind (arith, nat_tests, late)
   by_test true early =
-      let fewer : count_by (due_then m) ts ≤ due_before t.due ts = count_le (due_then m) (λ (u : Timer). ltb u.due t.due) ts (λ u is. grind (arith, nat_tests, early, is)) in
+      let fewer : count_by (due_then m) ts ≤ due_before t.due ts = count_le (due_then m) (λ (u : Timer). ltb u.due t.due) ts (λ u is. grind (arith, nat_tests, early, is))
+      in
       let differs : eqb t.due m ≡ false = grind (arith, nat_tests, early) in
       let mine : cond {A = ℕ} (eqb t.due m) 1 0 ≡ 0 = ap (λ (b : Bool). cond {A = ℕ} b 1 0) differs in
       absurd (omega (arith, some, count-cons (due_then m) t ts, mine, fewer, ordered.0))
@@ -43,12 +44,14 @@ module _ (timing : Timing) (reached bound : ℕ) where
   none_before [] kept late = tt
   none_before (r ∷ rows) kept late =
       all_append (λ (m : ℕ). bound ≤ m) (deadlines_of r.open_request) (flat_map deadlines_of (map (λ (x : Request). x.open_request) rows))
-      (all_weaker (λ (m : ℕ). 1 ≤ count_by (due_then m) (named_by r)) (λ (m : ℕ). bound ≤ m) (late_head r rows late) (deadlines_of r.open_request) (deadlines_named timing reached r (All-head (IsKept reached) r rows kept)))
+      (all_weaker (λ (m : ℕ). 1 ≤ count_by (due_then m) (named_by r)) (λ (m : ℕ). bound ≤ m) (late_head r rows late) (deadlines_of r.open_request)
+      (deadlines_named timing reached r (All-head (IsKept reached) r rows kept)))
       (none_before rows (All-tail (IsKept reached) r rows kept) (late_tail r rows late))
 
   pub none_again_before : (rows : List Request) → All (IsKept reached) rows → Late rows → NoneAgainBefore bound (map (λ (r : Request). r.open_request) rows)
   none_again_before [] kept late = tt
   none_again_before (r ∷ rows) kept late =
       all_append (λ (m : ℕ). bound ≤ m) (resends_of r.open_request) (flat_map resends_of (map (λ (x : Request). x.open_request) rows))
-      (all_weaker (λ (m : ℕ). 1 ≤ count_by (due_then m) (named_by r)) (λ (m : ℕ). bound ≤ m) (late_head r rows late) (resends_of r.open_request) (resends_named timing reached r (All-head (IsKept reached) r rows kept)))
+      (all_weaker (λ (m : ℕ). 1 ≤ count_by (due_then m) (named_by r)) (λ (m : ℕ). bound ≤ m) (late_head r rows late) (resends_of r.open_request)
+      (resends_named timing reached r (All-head (IsKept reached) r rows kept)))
       (none_again_before rows (All-tail (IsKept reached) r rows kept) (late_tail r rows late))

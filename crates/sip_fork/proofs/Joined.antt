@@ -23,10 +23,12 @@ none_behind : (front rest : List Entry) → ((e : Entry) → count_by (same_entr
 none_behind front rest apart = every front (λ o there. lacks_by_count o rest (omega (arith, there, apart o, entries-append (same_entry o) front rest))) (all_there front)
 
 -- another request than the last one is changed
-replaced-front : (change opened : OpenRequest) (xs : List OpenRequest) (place : ℕ) (r : OpenRequest) → slice_get xs place ≡ Some r → change.number ≡ r.number → replaced change (with_one_more opened xs) ≡ with_one_more opened (replaced change xs)
+replaced-front : (change opened : OpenRequest) (xs : List OpenRequest) (place : ℕ) (r : OpenRequest) → slice_get xs place ≡ Some r → change.number ≡ r.number
+    → replaced change (with_one_more opened xs) ≡ with_one_more opened (replaced change xs)
 replaced-front change opened [] place r at same = absurd (omega (arith, slice_get_within [] place r at))
 replaced-front change opened (x ∷ xs) zero r at same =
-    subst (λ (b : Bool). cond b (cond (has_left change) (xs ++ opened ∷ []) (change ∷ (xs ++ opened ∷ []))) (x ∷ replaced change (xs ++ opened ∷ [])) ≡ cond b (cond (has_left change) xs (change ∷ xs)) (x ∷ replaced change xs) ++ opened ∷ [])
+    subst (λ (b : Bool). cond b (cond (has_left change) (xs ++ opened ∷ []) (change ∷ (xs ++ opened ∷ []))) (x ∷ replaced change (xs ++ opened ∷ []))
+    ≡ cond b (cond (has_left change) xs (change ∷ xs)) (x ∷ replaced change xs) ++ opened ∷ [])
     (sym found) (here (has_left change)) where
       is : x ≡ r
       is = get_or_from_slice_get (x ∷ xs) zero r x at
@@ -37,15 +39,18 @@ replaced-front change opened (x ∷ xs) zero r at same =
       found : eqb x.number change.number ≡ true
       found = grind (arith, nat_tests, number_is)
 
-      here : (t : Bool) → cond true (cond t (xs ++ opened ∷ []) (change ∷ (xs ++ opened ∷ []))) (x ∷ replaced change (xs ++ opened ∷ [])) ≡ cond true (cond t xs (change ∷ xs)) (x ∷ replaced change xs) ++ opened ∷ []
+      here : (t : Bool) → cond true (cond t (xs ++ opened ∷ []) (change ∷ (xs ++ opened ∷ []))) (x ∷ replaced change (xs ++ opened ∷ []))
+          ≡ cond true (cond t xs (change ∷ xs)) (x ∷ replaced change xs) ++ opened ∷ []
       here true = refl
       here false = refl
-replaced-front change opened (x ∷ xs) (suc place) r at same = by_number (eqb x.number change.number) (has_left change) (replaced-front change opened xs place r at same) where
-  by_number : (b t : Bool) → replaced change (xs ++ opened ∷ []) ≡ replaced change xs ++ opened ∷ []
-      → cond b (cond t (xs ++ opened ∷ []) (change ∷ (xs ++ opened ∷ []))) (x ∷ replaced change (xs ++ opened ∷ [])) ≡ cond b (cond t xs (change ∷ xs)) (x ∷ replaced change xs) ++ opened ∷ []
-  by_number true true rest = refl
-  by_number true false rest = refl
-  by_number false t rest = ap (λ (ys : List OpenRequest). x ∷ ys) rest
+replaced-front change opened (x ∷ xs) (suc place) r at same = by_number (eqb x.number change.number) (has_left change)
+    (replaced-front change opened xs place r at same) where
+      by_number : (b t : Bool) → replaced change (xs ++ opened ∷ []) ≡ replaced change xs ++ opened ∷ []
+          → cond b (cond t (xs ++ opened ∷ []) (change ∷ (xs ++ opened ∷ []))) (x ∷ replaced change (xs ++ opened ∷ []))
+          ≡ cond b (cond t xs (change ∷ xs)) (x ∷ replaced change xs) ++ opened ∷ []
+      by_number true true rest = refl
+      by_number true false rest = refl
+      by_number false t rest = ap (λ (ys : List OpenRequest). x ∷ ys) rest
 
 -- two queues join
 abbrev pub Joins : Type 0
@@ -53,7 +58,8 @@ Joins = (queue opened before after : List Entry) → AreDueInOrder queue → ((e
     → AllByRecursion (λ (o : Entry). has o before ≡ false) opened → AllByRecursion (λ (o : Entry). has o after ≡ false) opened
     → queue_after (queue_after queue (opened ++ before)) (opened ++ after) ≡ queue_after queue (opened ++ after)
 
-pub joined : Joins → (old mid new : List Timer) (requests : List OpenRequest) (opened change r : OpenRequest) (place : ℕ) → slice_get requests place ≡ Some r → change.number ≡ r.number → IsQueueOf old requests
+pub joined : Joins → (old mid new : List Timer) (requests : List OpenRequest) (opened change r : OpenRequest) (place : ℕ) → slice_get requests place ≡ Some r
+    → change.number ≡ r.number → IsQueueOf old requests
     → IsQueueOf mid (with_one_more opened requests) → IsQueueOf new (replaced change (with_one_more opened requests)) → KeepsOrder old mid (with_one_more opened requests)
     → KeepsOrder mid new (replaced change (with_one_more opened requests)) → KeepsOrder old new (replaced change (with_one_more opened requests))
 joined joins old mid new requests opened change r place at same stood between stands first second =

@@ -27,7 +27,8 @@ due_then moment t = eqb t.due moment
 
 -- moments of branches are those of timers that they name
 branch_moments : (r : OpenRequest) (f : Branch → Option ℕ) (Q : Branch → Type 0) → ((b : Branch) (due : ℕ) → Q b → f b ≡ Some due → 1 ≤ due_at due (branch_timers r b))
-    → (bs : List Branch) (keys : List TimerKeys) → length keys ≡ length bs → AllByRecursion Q bs → AllByRecursion (λ (m : ℕ). 1 ≤ count_by (due_then m) (branches_timers r bs keys)) (filter_map f bs)
+    → (bs : List Branch) (keys : List TimerKeys) → length keys ≡ length bs → AllByRecursion Q bs
+    → AllByRecursion (λ (m : ℕ). 1 ≤ count_by (due_then m) (branches_timers r bs keys)) (filter_map f bs)
 branch_moments r f Q has [] keys long all = tt
 branch_moments r f Q has (b ∷ bs) [] long all = absurd (omega (arith, long))
 branch_moments r f Q has (b ∷ bs) (key ∷ keys) long all = by_moment (f b) refl (branch_moments r f Q has bs keys (omega (arith, long)) all.1) where
@@ -38,9 +39,11 @@ branch_moments r f Q has (b ∷ bs) (key ∷ keys) long all = by_moment (f b) re
   others = branches_timers r bs keys
 
   further : (ms : List ℕ) → AllByRecursion (λ (m : ℕ). 1 ≤ count_by (due_then m) others) ms → AllByRecursion (λ (m : ℕ). 1 ≤ count_by (due_then m) (mine ++ others)) ms
-  further ms a = all_weaker (λ (m : ℕ). 1 ≤ count_by (due_then m) others) (λ (m : ℕ). 1 ≤ count_by (due_then m) (mine ++ others)) (λ m h. omega (arith, h, count-append (due_then m) mine others)) ms a
+  further ms a = all_weaker (λ (m : ℕ). 1 ≤ count_by (due_then m) others) (λ (m : ℕ). 1 ≤ count_by (due_then m) (mine ++ others))
+      (λ m h. omega (arith, h, count-append (due_then m) mine others)) ms a
 
-  by_moment : (o : Option ℕ) → f b ≡ o → AllByRecursion (λ (m : ℕ). 1 ≤ count_by (due_then m) others) (filter_map f bs) → AllByRecursion (λ (m : ℕ). 1 ≤ count_by (due_then m) (mine ++ others)) (cons_option o (filter_map f bs))
+  by_moment : (o : Option ℕ) → f b ≡ o → AllByRecursion (λ (m : ℕ). 1 ≤ count_by (due_then m) others) (filter_map f bs)
+      → AllByRecursion (λ (m : ℕ). 1 ≤ count_by (due_then m) (mine ++ others)) (cons_option o (filter_map f bs))
   by_moment None e rest = further (filter_map f bs) rest
   by_moment (Some m) e rest =
       let counted : count_by (due_then m) mine ≡ due_at m (branch_timers r b) = count_part (due_then m) r.number (owner_of b) key (branch_timers r b) in
@@ -60,16 +63,19 @@ module _ (timing : Timing) (reached : ℕ) (r : Request) (kept : IsKept reached 
 
   side_named : (m : ℕ) → 1 ≤ due_at m (side_timers r.open_request) → Named m
   side_named m h =
-      let counted : count_by (due_then m) of_side ≡ due_at m (side_timers r.open_request) = count_part (due_then m) r.open_request.number Of.Server r.side (side_timers r.open_request) in
+      let counted : count_by (due_then m) of_side ≡ due_at m (side_timers r.open_request) =
+      count_part (due_then m) r.open_request.number Of.Server r.side (side_timers r.open_request) in
       omega (arith, h, counted, count-append (due_then m) of_side of_branches)
 
   option_named : (o : Option ℕ) → ((m : ℕ) → o ≡ Some m → 1 ≤ due_at m (side_timers r.open_request)) → AllByRecursion Named (option_to_list o)
   option_named None f = tt
   option_named (Some m) f = (side_named m (f m refl), tt)
 
-  branches_named : (f : Branch → Option ℕ) → ((b : Branch) (due : ℕ) → BranchFits (is_invite r.open_request) b → f b ≡ Some due → 1 ≤ due_at due (branch_timers r.open_request b)) → AllByRecursion Named (filter_map f r.open_request.branches)
+  branches_named : (f : Branch → Option ℕ) → ((b : Branch) (due : ℕ) → BranchFits (is_invite r.open_request) b → f b ≡ Some due
+      → 1 ≤ due_at due (branch_timers r.open_request b)) → AllByRecursion Named (filter_map f r.open_request.branches)
   branches_named f has =
-      all_weaker (λ (m : ℕ). 1 ≤ count_by (due_then m) of_branches) Named (λ m h. omega (arith, h, count-append (due_then m) of_side of_branches)) (filter_map f r.open_request.branches)
+      all_weaker (λ (m : ℕ). 1 ≤ count_by (due_then m) of_branches) Named (λ m h. omega (arith, h, count-append (due_then m) of_side of_branches))
+      (filter_map f r.open_request.branches)
       (branch_moments r.open_request f (BranchFits (is_invite r.open_request)) has r.open_request.branches r.branches kept.keys kept.fits.branches)
 
   pub deadlines_named : AllByRecursion (λ (m : ℕ). 1 ≤ count_by (due_then m) (named_by r)) (deadlines_of r.open_request)

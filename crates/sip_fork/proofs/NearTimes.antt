@@ -23,7 +23,8 @@ use Rattle.sip_request.specs.Near.{AreBefore, IsNear}
 
 -- of a bound, timers are due before a moment more than 185,000 ms behind it
 module _ (bound moment : ℕ) (far : bound + 185000 < moment) where
-  before_invite : (phase : Phase) (again : Resend) → IsPhaseNear bound phase → again.due ≤ bound + 185000 → AreBefore moment (invite_timers phase again ++ call_timers phase)
+  before_invite : (phase : Phase) (again : Resend) → IsPhaseNear bound phase → again.due ≤ bound + 185000
+      → AreBefore moment (invite_timers phase again ++ call_timers phase)
   before_invite (Unheard until) again near soon = (omega (arith, soon, far), (omega (arith, near, far), (omega (arith, near, far), tt)))
   before_invite (Heard until) again near soon = (omega (arith, near, far), tt)
   before_invite (Cancelled until) again near soon = (omega (arith, near, far), tt)
@@ -46,11 +47,13 @@ module _ (bound moment : ℕ) (far : bound + 185000 < moment) where
     by_test true = before_invite b.phase b.again h.phase_near h.again_near
     by_test false = before_other b.phase b.again h.phase_near h.again_near
 
-  before_branches : (r : OpenRequest) (bs : List Branch) → AllByRecursion (IsBranchWithin bound) bs → AllByRecursion (λ (b : Branch). AreBefore moment (branch_timers r b)) bs
+  before_branches : (r : OpenRequest) (bs : List Branch) → AllByRecursion (IsBranchWithin bound) bs
+      → AllByRecursion (λ (b : Branch). AreBefore moment (branch_timers r b)) bs
   before_branches r [] all = tt
   before_branches r (b ∷ bs) all = (before_branch r b all.0, before_branches r bs all.1)
 
-  before_invite_side : (side : Side) (answer : Option LastAnswer) (again : Resend) → IsSideNear bound side → again.due ≤ bound + 185000 → AreBefore moment (invite_side_timers side answer again)
+  before_invite_side : (side : Side) (answer : Option LastAnswer) (again : Resend) → IsSideNear bound side → again.due ≤ bound + 185000
+      → AreBefore moment (invite_side_timers side answer again)
   before_invite_side Answering answer again near soon = tt
   before_invite_side (Closing until) answer again near soon = by_test (was_refused answer) where
     by_test : (t : Bool) → AreBefore moment (cond t ((By.G, again.due) ∷ (By.H, until) ∷ []) ((By.L, until) ∷ []))

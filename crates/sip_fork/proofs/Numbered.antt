@@ -12,12 +12,14 @@ seen rows = map (λ (r : Request). r.open_request) rows
 abbrev AreAbove : ℕ → List Request → Type 0
 AreAbove n rows = AllByRecursion (λ (x : OpenRequest). n < x.number) (seen rows)
 
-above-set : (n : ℕ) (rows : List Request) (i : ℕ) (r next : Request) → i < length rows → get_or rows i r ≡ r → next.open_request.number ≡ r.open_request.number → AreAbove n rows → AreAbove n (set rows i next)
+above-set : (n : ℕ) (rows : List Request) (i : ℕ) (r next : Request) → i < length rows → get_or rows i r ≡ r → next.open_request.number ≡ r.open_request.number
+    → AreAbove n rows → AreAbove n (set rows i next)
 above-set n [] i r next within is same all = absurd (omega (arith, within))
 above-set n (x ∷ rows) zero r next within is same all = (omega (arith, all.0, ap (λ (y : Request). y.open_request.number) is, same), all.1)
 above-set n (x ∷ rows) (suc i) r next within is same all = (all.0, above-set n rows i r next (omega (arith, within)) is same all.1)
 
-pub numbered-set : (rows : List Request) (i : ℕ) (r next : Request) → i < length rows → get_or rows i r ≡ r → next.open_request.number ≡ r.open_request.number → AreNumbered (seen rows) → AreNumbered (seen (set rows i next))
+pub numbered-set : (rows : List Request) (i : ℕ) (r next : Request) → i < length rows → get_or rows i r ≡ r → next.open_request.number ≡ r.open_request.number
+    → AreNumbered (seen rows) → AreNumbered (seen (set rows i next))
 numbered-set [] i r next within is same h = absurd (omega (arith, within))
 numbered-set (x ∷ rows) zero r next within is same h = (lower rows h.0, h.1) where
   number_is : x.open_request.number ≡ next.open_request.number
@@ -43,6 +45,7 @@ above-push : (n : ℕ) (rows : List Request) (next : Request) → n < next.open_
 above-push n [] next low all = (low, tt)
 above-push n (x ∷ rows) next low all = (all.0, above-push n rows next low all.1)
 
-pub numbered-push : (rows : List Request) (next : Request) → AllByRecursion (λ (r : Request). r.open_request.number < next.open_request.number) rows → AreNumbered (seen rows) → AreNumbered (seen (rows ++ next ∷ []))
+pub numbered-push : (rows : List Request) (next : Request) → AllByRecursion (λ (r : Request). r.open_request.number < next.open_request.number) rows
+    → AreNumbered (seen rows) → AreNumbered (seen (rows ++ next ∷ []))
 numbered-push [] next last h = (tt, tt)
 numbered-push (x ∷ rows) next last h = (above-push x.open_request.number rows next last.0 h.0, numbered-push rows next last.1 h.1)

@@ -25,17 +25,25 @@ module _ (P : OpenRequest → Type 0) where
     by_number false left rest more = All-cons P x (replaced r xs) (All-head P x xs all) more
 
 -- after a change of a request
-pub changed : (moment reached : ℕ) (r : OpenRequest) (old new : List OpenRequest) → IsWithin moment r → AreOnTime moment reached old → new ≡ replaced r old → AreOnTime moment reached new
-changed moment reached r old new near h e = record { soon = h.soon; small = h.small; within = subst (All (IsWithin moment)) (sym e) (all-replaced (IsWithin moment) r old near h.within) }
+pub changed : (moment reached : ℕ) (r : OpenRequest) (old new : List OpenRequest) → IsWithin moment r → AreOnTime moment reached old → new ≡ replaced r old
+    → AreOnTime moment reached new
+changed moment reached r old new near h e = record {
+  soon = h.soon;
+  small = h.small;
+  within =
+      subst (All (IsWithin moment)) (sym e) (all-replaced (IsWithin moment) r old near h.within);
+}
 
 -- the whole after it
-pub whole : (moment reached : ℕ) (r : OpenRequest) (old : List OpenRequest) (pending : List Timer) (later : ℕ) (rows : List Request) → IsWithin moment r → AreOnTime moment reached old
+pub whole : (moment reached : ℕ) (r : OpenRequest) (old : List OpenRequest) (pending : List Timer) (later : ℕ) (rows : List Request) → IsWithin moment r
+    → AreOnTime moment reached old
     → contexts rows ≡ replaced r old → later ≡ reached → AreTied pending later rows → AreWhole pending moment later rows
 whole moment reached r old pending later rows near h e still tied =
     record { tied = tied; on_time = subst (λ (n : ℕ). AreOnTime moment n (contexts rows)) (sym still) (changed moment reached r old (contexts rows) near h e) }
 
 -- after one is opened
-pub opened : (moment reached : ℕ) (r : OpenRequest) (old new : List OpenRequest) → IsWithin moment r → AreOnTime moment reached old → new ≡ old ++ r ∷ [] → AreOnTime moment reached new
+pub opened : (moment reached : ℕ) (r : OpenRequest) (old new : List OpenRequest) → IsWithin moment r → AreOnTime moment reached old → new ≡ old ++ r ∷ []
+    → AreOnTime moment reached new
 opened moment reached r old new near h e = record {
   soon = h.soon;
   small = h.small;
@@ -43,7 +51,8 @@ opened moment reached r old new near h e = record {
 }
 
 -- after a moment came
-pub come : Passes → (moment reached now later : ℕ) (requests : List OpenRequest) → AreOnTime moment reached requests → now < 2 ^ 62 → reached ≤ later → now ≤ later + 1 → AreOnTime (max moment now) later requests
+pub come : Passes → (moment reached now later : ℕ) (requests : List OpenRequest) → AreOnTime moment reached requests → now < 2 ^ 62 → reached ≤ later → now ≤ later + 1
+    → AreOnTime (max moment now) later requests
 come passes moment reached now later requests h small no_less soon = record {
   soon = max-le (omega (arith, h.soon, no_less)) soon;
   small = (let most : max moment now ≤ 2 ^ 62 - 1 = max-le (omega (arith, h.small)) (omega (arith, small)) in omega (arith, most));
@@ -51,7 +60,8 @@ come passes moment reached now later requests h small no_less soon = record {
 }
 
 -- the request at a place
-pub near_at : (moment reached : ℕ) (requests : List OpenRequest) (i : ℕ) (r : OpenRequest) → AreOnTime moment reached requests → slice_get requests i ≡ Some r → IsWithin moment r
+pub near_at : (moment reached : ℕ) (requests : List OpenRequest) (i : ℕ) (r : OpenRequest) → AreOnTime moment reached requests → slice_get requests i ≡ Some r
+    → IsWithin moment r
 near_at moment reached requests i r h at =
     subst (IsWithin moment) (get_or_from_slice_get requests i r r at) (All-get_or (IsWithin moment) requests i r (slice_get_within requests i r at) h.within)
 

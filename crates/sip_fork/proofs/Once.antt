@@ -1,5 +1,6 @@
 -- One answer at most goes to the caller with each input of an open request.
-use Rattle.std.proofs.Common.{◌≡◌, ℕ, ◌+◌, ◌≤◌, ◌==◌, Bool, true, false, cond, not, List, [], ◌∷◌, ◌++◌, length, map, filter, Option, Some, None, IfSome, Contains, refl, ap, subst, arith, option_map}
+use Rattle.std.proofs.Common.{◌≡◌, ℕ, ◌+◌, ◌≤◌, ◌==◌, Bool, true, false, cond, not, List, [], ◌∷◌, ◌++◌, length, map, filter, Option, Some, None, IfSome, Contains, refl}
+use Rattle.std.proofs.Common.{ap, subst, arith, option_map}
 use Rattle.std.specs.Prelude.{◌&&◌, ◌||◌}
 use Rattle.std.specs.List.{AllByRecursion, list_all}
 use Rattle.std.proofs.lemmas.Bool.Decides.{nat_tests}
@@ -15,7 +16,9 @@ use Rattle.sip_dialog_lessons.specs.state.declared.open_request.Side.TheVariants
 use Rattle.sip_dialog_lessons.specs.state.declared.open_request.Upward.{Upward}
 use Rattle.sip_dialog_lessons.specs.state.declared.server.Server.{Server}
 use Rattle.sip_dialog_lessons.specs.state.State.{is_invite, is_final, is_answering, is_success, is_provisional}
-use Rattle.model_steps.specs.context_model.Branches.{Change, is_same_branch, turned, phased, with_phase, marked, given_up, all_final, answered, best_upward, upward_of, upward_list, settled, invite_heard, other_heard, heard, relayed_from, relayed_provisional, is_accepted, relayed_success, with_answer, acks_of, further, target_responded, cancel_responded, responded, branch_overdue}
+use Rattle.model_steps.specs.context_model.Branches.{Change, is_same_branch, turned, phased, with_phase, marked, given_up, all_final, answered, best_upward, upward_of}
+use Rattle.model_steps.specs.context_model.Branches.{upward_list, settled, invite_heard, other_heard, heard, relayed_from, relayed_provisional, is_accepted}
+use Rattle.model_steps.specs.context_model.Branches.{relayed_success, with_answer, acks_of, further, target_responded, cancel_responded, responded, branch_overdue}
 use Rattle.model_steps.specs.context_model.Opening.{opening, tried, trying}
 use Rattle.sip_context.specs.declared.input.Input.{Input}
 use Rattle.sip_context.specs.declared.input.Input.TheVariants.{Response, BranchDeadline, SideDeadline, SendFault, Cancel, Ack, BranchAgain, AnswerAgain}
@@ -37,7 +40,8 @@ alone : (server : Server) (now : ℕ) (acks : List Packet) (r : OpenRequest) →
 alone server now acks r = short (best_upward server r)
 
 -- an answer goes up, and no best one behind it
-before_none : (server : Server) (now : ℕ) (acks : List Packet) (u : Upward) (r : OpenRequest) → best_upward server (answered now u r) ≡ None → Once (settled server now acks (Some u) r)
+before_none : (server : Server) (now : ℕ) (acks : List Packet) (u : Upward) (r : OpenRequest) → best_upward server (answered now u r) ≡ None
+    → Once (settled server now acks (Some u) r)
 before_none server now acks u r none = by_best (best_upward server (answered now u r)) none where
   by_best : (o : Option Upward) → o ≡ None → length ((u ∷ []) ++ upward_list o) ≤ 1
   by_best None e = omega arith
@@ -164,7 +168,8 @@ provisional_once server now r b status m there target = by_tests (status == 100)
   by_tests false true v is = alone server now [] told
   by_tests false false true is =
       let u : Upward = relayed_from b status m in
-      before_none server now [] u told (unfinished server (answered now u told) (waits r b (heard r now status b.phase) there target (heard_waits r now status b.phase is)))
+      before_none server now [] u told (unfinished server (answered now u told) (waits r b (heard r now status b.phase) there target
+      (heard_waits r now status b.phase is)))
   by_tests false false false is = alone server now [] told
 
 -- a 2xx that goes up is final
@@ -184,19 +189,23 @@ further_late r b (Done due first) status m late = by_test (is_invite r && is_suc
   by_test false = tt
 further_late r b Ended status m late = tt
 
-target_once : (server : Server) (now : ℕ) (r : OpenRequest) (b : Branch) (status : ℕ) (m : Message) → Contains r.branches b → b.is_cancel ≡ false → Once (target_responded server now r b status m)
+target_once : (server : Server) (now : ℕ) (r : OpenRequest) (b : Branch) (status : ℕ) (m : Message) → Contains r.branches b → b.is_cancel ≡ false
+    → Once (target_responded server now r b status m)
 target_once server now r b status m there target = by_tests (is_provisional status) (is_final b.phase) refl where
   by_tests : (t u : Bool) → is_provisional status ≡ t
       → Once (cond t (settled server now [] (relayed_provisional r b status m) (with_phase b (heard r now status b.phase) r))
-      (cond u (settled server now [] (further r b b.phase status m) r) (settled server now (acks_of server r b status m) (relayed_success r b status m) (with_answer r b now status m))))
+      (cond u (settled server now [] (further r b b.phase status m) r) (settled server now (acks_of server r b status m) (relayed_success r b status m)
+      (with_answer r b now status m))))
   by_tests true u is = provisional_once server now r b status m there target
   by_tests false true is = final_once server now [] (further r b b.phase status m) r (further_late r b b.phase status m is)
-  by_tests false false is = final_once server now (acks_of server r b status m) (relayed_success r b status m) (with_answer r b now status m) (success_late r b status m is)
+  by_tests false false is = final_once server now (acks_of server r b status m) (relayed_success r b status m) (with_answer r b now status m)
+      (success_late r b status m is)
 
 cancel_once : (server : Server) (now : ℕ) (r : OpenRequest) (b : Branch) (status : ℕ) (m : Message) → Once (cancel_responded server now r b status m)
 cancel_once server now r b status m = by_tests (is_provisional status) (is_final b.phase) where
   by_tests : (t u : Bool)
-      → Once (cond t (settled server now [] None (with_phase b (other_heard b.phase) r)) (cond u (settled server now [] None r) (settled server now [] None (with_phase b (Done (now + 5000) status) r))))
+      → Once (cond t (settled server now [] None (with_phase b (other_heard b.phase) r))
+      (cond u (settled server now [] None r) (settled server now [] None (with_phase b (Done (now + 5000) status) r))))
   by_tests true u = alone server now [] (with_phase b (other_heard b.phase) r)
   by_tests false true = alone server now [] r
   by_tests false false = alone server now [] (with_phase b (Done (now + 5000) status) r)

@@ -11,7 +11,10 @@ use Rattle.sip_fork.specs.Queue.{IsQueue}
 -- where one is set, or refused
 pub IsQueue-added : (old new : List Timer) (due : ℕ) (name : Name) (result : Result ℕ TimerError) → IsQueue old
     → IfOk result (λ key. new ≡ placed (record { key = key; due = due; name = name }) old) → OnErr result (new ≡ old) → IsQueue new
-IsQueue-added old new due name (Ok key) h ok err = record { ordered = subst (λ (ts : List Timer). AreOrdered ts) (sym ok) (AreOrdered-placed (record { key = key; due = due; name = name }) old h.ordered) }
+IsQueue-added old new due name (Ok key) h ok err = record {
+  ordered = subst (λ (ts : List Timer). AreOrdered ts) (sym ok)
+      (AreOrdered-placed (record { key = key; due = due; name = name }) old h.ordered);
+}
 IsQueue-added old new due name (Err e) h ok err = record { ordered = subst (λ (ts : List Timer). AreOrdered ts) (sym err) h.ordered }
 
 -- where one is cancelled

@@ -8,6 +8,12 @@ use Rattle.sip_request.specs.transactions_model.Ties.{named, part_timers}
 use Rattle.sip_request.specs.transactions_model.declared.timer_keys.TimerKeys.{TimerKeys}
 use Rattle.sip_fork.proofs.Lists.{count-cons}
 
-pub count_part : (p : Timer → Bool) (number : ℕ) (owner : Owner) (keys : TimerKeys) (ts : List (Letter × ℕ)) → count_by p (part_timers number owner keys ts) ≡ count_by (λ (t : Letter × ℕ). p (named number owner keys t)) ts
+pub count_part : (p : Timer → Bool) (number : ℕ) (owner : Owner) (keys : TimerKeys) (ts : List (Letter × ℕ))
+    → count_by p (part_timers number owner keys ts) ≡ count_by (λ (t : Letter × ℕ). p (named number owner keys t)) ts
 count_part p number owner keys [] = refl
-count_part p number owner keys (t ∷ ts) = omega (arith, count_part p number owner keys ts, count-cons p (named number owner keys t) (part_timers number owner keys ts), count-cons (λ (u : Letter × ℕ). p (named number owner keys u)) t ts)
+count_part p number owner keys (t ∷ ts) = omega (
+  arith,
+  count_part p number owner keys ts,
+  count-cons p (named number owner keys t) (part_timers number owner keys ts),
+  count-cons (λ (u : Letter × ℕ). p (named number owner keys u)) t ts,
+)

@@ -53,24 +53,29 @@ module _ (timing : Timing) (k : ℕ) where
   fails : (m : ℕ) → Later m → leb m k ≡ false
   fails m late = grind (arith, nat_tests, late)
 
-  branch_passes : (r : OpenRequest) (bs : List Branch) (keys : List TimerKeys) → AllByRecursion Later (filter_map (λ (b : Branch). phase_deadline b.phase) bs) → AllByRecursion Later (filter_map (branch_due r) bs)
+  branch_passes : (r : OpenRequest) (bs : List Branch) (keys : List TimerKeys) → AllByRecursion Later (filter_map (λ (b : Branch). phase_deadline b.phase) bs)
+      → AllByRecursion Later (filter_map (branch_due r) bs)
       → count_by by_then (branches_timers r bs keys) ≡ 0
   branch_passes r [] keys ends again = refl
   branch_passes r (b ∷ bs) [] ends again = refl
   branch_passes r (b ∷ bs) (key ∷ keys) ends again =
       let mine : List Timer = part_timers r.number (owner_of b) key (branch_timers r b) in
       let rest : List Timer = branches_timers r bs keys in
-      let moments : count_by by_then mine ≡ count_by (λ (t : Letter × ℕ). leb t.1 k) (branch_timers r b) = count_part by_then r.number (owner_of b) key (branch_timers r b) in
-      let ending : (m : ℕ) → phase_deadline b.phase ≡ Some m → Later m = of_first Later (phase_deadline b.phase) (filter_map (λ (x : Branch). phase_deadline x.phase) bs) ends in
+      let moments : count_by by_then mine ≡ count_by (λ (t : Letter × ℕ). leb t.1 k) (branch_timers r b) =
+      count_part by_then r.number (owner_of b) key (branch_timers r b) in
+      let ending : (m : ℕ) → phase_deadline b.phase ≡ Some m → Later m = of_first Later (phase_deadline b.phase) (filter_map (λ (x : Branch). phase_deadline x.phase) bs)
+      ends in
       let none : count_by (λ (t : Letter × ℕ). leb t.1 k) (branch_timers r b) ≡ 0 =
       none_of_part (λ m. leb m k) (branch_due r b) (phase_deadline b.phase) (branch_timers r b) (timing.branch_reasons r b)
-      (λ m e. fails m (of_first Later (branch_due r b) (filter_map (branch_due r) bs) again m e)) (λ m e. fails m (ending m e)) (λ m until e lt. fails m (let le : k + 1 ≤ until = ending until e in omega (arith, le, lt))) in
+      (λ m e. fails m (of_first Later (branch_due r b) (filter_map (branch_due r) bs) again m e)) (λ m e. fails m (ending m e))
+      (λ m until e lt. fails m (let le : k + 1 ≤ until = ending until e in omega (arith, le, lt))) in
       omega (
         arith,
         moments,
         none,
         count-append by_then mine rest,
-        branch_passes r bs keys (of_rest Later (phase_deadline b.phase) (filter_map (λ (x : Branch). phase_deadline x.phase) bs) ends) (of_rest Later (branch_due r b) (filter_map (branch_due r) bs) again),
+        branch_passes r bs keys (of_rest Later (phase_deadline b.phase) (filter_map (λ (x : Branch). phase_deadline x.phase) bs) ends)
+            (of_rest Later (branch_due r b) (filter_map (branch_due r) bs) again),
       )
 
   row_passes : (r : Request) → AllByRecursion Later (deadlines_of r.open_request) → AllByRecursion Later (resends_of r.open_request) → count_by by_then (named_by r) ≡ 0
@@ -78,18 +83,24 @@ module _ (timing : Timing) (k : ℕ) where
       let call : OpenRequest = r.open_request in
       let of_side : List Timer = part_timers call.number Of.Server r.side (side_timers call) in
       let of_branches : List Timer = branches_timers call call.branches r.branches in
-      let side_ends : AllByRecursion Later (option_to_list (side_deadline call.side)) = front Later (option_to_list (side_deadline call.side)) (filter_map (λ (b : Branch). phase_deadline b.phase) call.branches) ends in
-      let branch_ends : AllByRecursion Later (filter_map (λ (b : Branch). phase_deadline b.phase) call.branches) = back Later (option_to_list (side_deadline call.side)) (filter_map (λ (b : Branch). phase_deadline b.phase) call.branches) ends in
-      let side_again : AllByRecursion Later (option_to_list (answer_due call)) = front Later (option_to_list (answer_due call)) (filter_map (branch_due call) call.branches) again in
-      let branch_again : AllByRecursion Later (filter_map (branch_due call) call.branches) = back Later (option_to_list (answer_due call)) (filter_map (branch_due call) call.branches) again in
-      let moments : count_by by_then of_side ≡ count_by (λ (t : Letter × ℕ). leb t.1 k) (side_timers call) = count_part by_then call.number Of.Server r.side (side_timers call) in
+      let side_ends : AllByRecursion Later (option_to_list (side_deadline call.side)) =
+      front Later (option_to_list (side_deadline call.side)) (filter_map (λ (b : Branch). phase_deadline b.phase) call.branches) ends in
+      let branch_ends : AllByRecursion Later (filter_map (λ (b : Branch). phase_deadline b.phase) call.branches) =
+      back Later (option_to_list (side_deadline call.side)) (filter_map (λ (b : Branch). phase_deadline b.phase) call.branches) ends in
+      let side_again : AllByRecursion Later (option_to_list (answer_due call)) = front Later (option_to_list (answer_due call))
+      (filter_map (branch_due call) call.branches) again in
+      let branch_again : AllByRecursion Later (filter_map (branch_due call) call.branches) =
+      back Later (option_to_list (answer_due call)) (filter_map (branch_due call) call.branches) again in
+      let moments : count_by by_then of_side ≡ count_by (λ (t : Letter × ℕ). leb t.1 k) (side_timers call) =
+      count_part by_then call.number Of.Server r.side (side_timers call) in
       let none : count_by (λ (t : Letter × ℕ). leb t.1 k) (side_timers call) ≡ 0 =
       none_of_part (λ m. leb m k) (answer_due call) (side_deadline call.side) (side_timers call) (timing.side_reasons call)
       (λ m e. fails m (of_option Later (answer_due call) side_again m e)) (λ m e. fails m (of_option Later (side_deadline call.side) side_ends m e))
       (λ m until e lt. fails m (let le : k + 1 ≤ until = of_option Later (side_deadline call.side) side_ends until e in omega (arith, le, lt))) in
       omega (arith, moments, none, branch_passes call call.branches r.branches branch_ends branch_again, count-append by_then of_side of_branches)
 
-  pub rows_pass : (rows : List Request) → NoneBefore (k + 1) (map (λ (r : Request). r.open_request) rows) → NoneAgainBefore (k + 1) (map (λ (r : Request). r.open_request) rows)
+  pub rows_pass : (rows : List Request) → NoneBefore (k + 1) (map (λ (r : Request). r.open_request) rows)
+      → NoneAgainBefore (k + 1) (map (λ (r : Request). r.open_request) rows)
       → sum_by (λ (r : Request). count_by (λ (t : Timer). leb t.due k) (named_by r)) rows ≡ 0
   rows_pass [] ends again = refl
   rows_pass (r ∷ rows) ends again =
@@ -97,6 +108,8 @@ module _ (timing : Timing) (k : ℕ) where
       omega (
         arith,
         sum_by-cons (λ (x : Request). count_by (λ (t : Timer). leb t.due k) (named_by x)) r rows,
-        row_passes r (front Later (deadlines_of r.open_request) (flat_map deadlines_of others) ends) (front Later (resends_of r.open_request) (flat_map resends_of others) again),
-        rows_pass rows (back Later (deadlines_of r.open_request) (flat_map deadlines_of others) ends) (back Later (resends_of r.open_request) (flat_map resends_of others) again),
+        row_passes r (front Later (deadlines_of r.open_request) (flat_map deadlines_of others) ends)
+            (front Later (resends_of r.open_request) (flat_map resends_of others) again),
+        rows_pass rows (back Later (deadlines_of r.open_request) (flat_map deadlines_of others) ends)
+            (back Later (resends_of r.open_request) (flat_map resends_of others) again),
       )

@@ -1,5 +1,6 @@
 -- The timers that stand are a queue in which what stood keeps its place.
-use Rattle.std.proofs.Common.{◌≡◌, ℕ, zero, suc, ◌+◌, ◌<◌, ◌≤◌, Bool, true, false, cond, List, [], ◌∷◌, ◌++◌, length, map, take, drop, get_or, set, remove, slice_get, Some, refl, sym, ap, ◌∙◌, subst, append-nil, arith, ltb}
+use Rattle.std.proofs.Common.{◌≡◌, ℕ, zero, suc, ◌+◌, ◌<◌, ◌≤◌, Bool, true, false, cond, List, [], ◌∷◌, ◌++◌, length, map, take, drop, get_or, set, remove, slice_get}
+use Rattle.std.proofs.Common.{Some, refl, sym, ap, ◌∙◌, subst, append-nil, arith, ltb}
 use Rattle.std.specs.Prelude.{not, filter, count_by, reverse}
 use Rattle.std.specs.List.{AllByRecursion, flat_map, sum_by}
 use Rattle.std.proofs.lemmas.Bool.Decides.{nat_tests}
@@ -18,7 +19,8 @@ use Rattle.sip_timers.proofs.Setting.{AreSome-none}
 use Rattle.sip_dialog_lessons.specs.state.declared.branch.Branch.{Branch}
 use Rattle.sip_dialog_lessons.specs.state.declared.open_request.OpenRequest.{OpenRequest}
 use Rattle.sip_request.specs.transactions_model.Matching.{AreBranched}
-use Rattle.sip_request.specs.transactions_model.Queue.{Entry, entry_of, same_entry, has, part_entries, request_entries, entries_of, all_behind, AreApart, AreDueInOrder, queue_after}
+use Rattle.sip_request.specs.transactions_model.Queue.{Entry, entry_of, same_entry, has, part_entries, request_entries, entries_of, all_behind, AreApart, AreDueInOrder}
+use Rattle.sip_request.specs.transactions_model.Queue.{queue_after}
 use Rattle.sip_request.specs.transactions_model.Ties.{branch_timers, branches_timers, owner_of, part_timers, side_timers}
 use Rattle.sip_request.specs.transactions_model.declared.timer_keys.TimerKeys.{TimerKeys}
 use Rattle.sip_request.specs.Named.{HasKeys, named_by}
@@ -80,7 +82,8 @@ entries-turned n o keys ts = map-reverse entry_of (part_timers n o keys ts) ∙ 
 abbrev branch_entries : OpenRequest → Branch → List Entry
 branch_entries r b = part_entries r.number (owner_of b) (branch_timers r b)
 
-entries-branches : (r : OpenRequest) (bs : List Branch) (ks : List TimerKeys) → length ks ≡ length bs → entries (branches_in_order r bs ks) ≡ flat_map (branch_entries r) bs
+entries-branches : (r : OpenRequest) (bs : List Branch) (ks : List TimerKeys) → length ks ≡ length bs
+    → entries (branches_in_order r bs ks) ≡ flat_map (branch_entries r) bs
 entries-branches r [] ks e = refl
 entries-branches r (b ∷ bs) [] e = absurd (cc)
 entries-branches r (b ∷ bs) (k ∷ ks) e =
@@ -90,11 +93,15 @@ entries-branches r (b ∷ bs) (k ∷ ks) e =
 
 pub entries-named : (r : Request) → HasKeys r.open_request r.branches → entries (named_in_order r) ≡ request_entries r.open_request
 entries-named r has_keys =
-    map-append entry_of (reverse (part_timers r.open_request.number Of.Server r.side (side_timers r.open_request))) (branches_in_order r.open_request r.open_request.branches r.branches)
-    ∙ ap (λ es. es ++ entries (branches_in_order r.open_request r.open_request.branches r.branches)) (entries-turned r.open_request.number Of.Server r.side (side_timers r.open_request))
-    ∙ ap (λ es. part_entries r.open_request.number Of.Server (side_timers r.open_request) ++ es) (entries-branches r.open_request r.open_request.branches r.branches has_keys)
+    map-append entry_of (reverse (part_timers r.open_request.number Of.Server r.side (side_timers r.open_request)))
+    (branches_in_order r.open_request r.open_request.branches r.branches)
+    ∙ ap (λ es. es ++ entries (branches_in_order r.open_request r.open_request.branches r.branches))
+    (entries-turned r.open_request.number Of.Server r.side (side_timers r.open_request))
+    ∙ ap (λ es. part_entries r.open_request.number Of.Server (side_timers r.open_request) ++ es)
+    (entries-branches r.open_request r.open_request.branches r.branches has_keys)
 
-count-branches : (p : Timer → Bool) (r : OpenRequest) (bs : List Branch) (ks : List TimerKeys) → count_by p (branches_in_order r bs ks) ≡ count_by p (branches_timers r bs ks)
+count-branches : (p : Timer → Bool) (r : OpenRequest) (bs : List Branch) (ks : List TimerKeys)
+    → count_by p (branches_in_order r bs ks) ≡ count_by p (branches_timers r bs ks)
 count-branches p r [] ks = refl
 count-branches p r (b ∷ bs) [] = refl
 count-branches p r (b ∷ bs) (k ∷ ks) =
@@ -117,7 +124,8 @@ count-named p r =
       count-branches p r.open_request r.open_request.branches r.branches,
     )
 
-pub count-row : (p : Entry → Bool) (r : Request) → HasKeys r.open_request r.branches → count_by (λ t. p (entry_of t)) (named_by r) ≡ count_by p (request_entries r.open_request)
+pub count-row : (p : Entry → Bool) (r : Request) → HasKeys r.open_request r.branches →
+    count_by (λ t. p (entry_of t)) (named_by r) ≡ count_by p (request_entries r.open_request)
 count-row p r has_keys = sym (count-named (λ t. p (entry_of t)) r) ∙ sym (count-entries p (named_in_order r)) ∙ ap (λ es. count_by p es) (entries-named r has_keys)
 
 -- ---- what all name
@@ -131,7 +139,8 @@ entries_of-one r = append-nil (request_entries r)
 abbrev AreKeyed : List Request → Type 0
 AreKeyed rows = AllByRecursion (λ (r : Request). HasKeys r.open_request r.branches) rows
 
-count-rows : (p : Entry → Bool) (rows : List Request) → AreKeyed rows → sum_by (λ (r : Request). count_by (λ t. p (entry_of t)) (named_by r)) rows ≡ count_by p (entries_of (contexts rows))
+count-rows : (p : Entry → Bool) (rows : List Request) → AreKeyed rows → sum_by (λ (r : Request). count_by (λ t. p (entry_of t)) (named_by r)) rows
+    ≡ count_by p (entries_of (contexts rows))
 count-rows p [] keys = refl
 count-rows p (r ∷ rows) keys =
     omega (
@@ -148,7 +157,8 @@ every-row : (reached : ℕ) (rows : List Request) → AllByRecursion (IsKept rea
 every-row reached [] all = tt
 every-row reached (r ∷ rows) all = (all.0.keys, every-row reached rows all.1)
 
-exact_of : (pending : List Timer) (reached : ℕ) (rows : List Request) → AreTied pending reached rows → (p : Entry → Bool) → count_by p (entries pending) ≡ count_by p (entries_of (contexts rows))
+exact_of : (pending : List Timer) (reached : ℕ) (rows : List Request) → AreTied pending reached rows → (p : Entry → Bool)
+    → count_by p (entries pending) ≡ count_by p (entries_of (contexts rows))
 exact_of pending reached rows tied p =
     count-entries p pending ∙ tied.same (λ t. p (entry_of t)) ∙ count-rows p rows (every-row reached rows (recursion_from_All (IsKept reached) rows tied.kept))
 
@@ -158,7 +168,8 @@ exact_of pending reached rows tied p =
 none_before : (before : List Timer) (t : Timer) → IsNew before t → count_by (same_entry (entry_of t)) (entries before) ≡ 0
 none_before [] t new = refl
 none_before (u ∷ us) t new = by_test (same_entry (entry_of t) (entry_of u)) refl (none_before us t new.1) where
-  by_test : (b : Bool) → same_entry (entry_of t) (entry_of u) ≡ b → count_by (same_entry (entry_of t)) (entries us) ≡ 0 → count_by (same_entry (entry_of t)) (entry_of u ∷ entries us) ≡ 0
+  by_test : (b : Bool) → same_entry (entry_of t) (entry_of u) ≡ b → count_by (same_entry (entry_of t)) (entries us) ≡ 0
+      → count_by (same_entry (entry_of t)) (entry_of u ∷ entries us) ≡ 0
   by_test true is rest =
       let e : entry_of t ≡ entry_of u = entry_is (entry_of t) (entry_of u) is in
       absurd (new.0 (sym (ap (λ (x : Entry). x.due) e)) (sym (ap (λ (x : Entry). x.name) e)))
@@ -178,11 +189,13 @@ module _ (old new : List Timer) (a b rs xs : List Request) (before named : List 
     (ordered : AreOrdered old) (sets : SetsInOrder old before new named) where
   in_three : (ys : List Request) → entries_of (contexts (a ++ (ys ++ b))) ≡ (entries_of (contexts b) ++ entries_of (contexts ys)) ++ entries_of (contexts a)
   in_three ys =
-      ap (λ rs. entries_of rs) (map-append (λ (r : Request). r.open_request) a (ys ++ b) ∙ ap (λ rs. contexts a ++ rs) (map-append (λ (r : Request). r.open_request) ys b))
+      ap (λ rs. entries_of rs) (map-append (λ (r : Request). r.open_request) a (ys ++ b)
+      ∙ ap (λ rs. contexts a ++ rs) (map-append (λ (r : Request). r.open_request) ys b))
       ∙ entries_of-append (contexts a) (contexts ys ++ contexts b)
       ∙ ap (λ es. es ++ entries_of (contexts a)) (entries_of-append (contexts ys) (contexts b))
 
-  count-three : (p : Entry → Bool) (ys : List Request) → count_by p (entries_of (contexts (a ++ (ys ++ b)))) ≡ count_by p (entries_of (contexts b)) + count_by p (entries_of (contexts ys)) + count_by p (entries_of (contexts a))
+  count-three : (p : Entry → Bool) (ys : List Request) → count_by p (entries_of (contexts (a ++ (ys ++ b))))
+      ≡ count_by p (entries_of (contexts b)) + count_by p (entries_of (contexts ys)) + count_by p (entries_of (contexts a))
   count-three p ys =
       omega (
         arith,
@@ -242,7 +255,8 @@ module _ (old new : List Timer) (a b rs xs : List Request) (before named : List 
     once_before = λ e. omega (arith, exact_old (same_entry e), apart_old e);
     once = apart_new;
     within = λ p. omega (arith, count-three p xs, ap (λ es. count_by p es) named_are);
-    elsewhere = every named (λ t names is_new. none_elsewhere t names is_new) (by_entries (λ (e : Entry). 1 ≤ count_by (same_entry e) (entries named)) named (all_there (entries named)));
+    elsewhere = every named (λ t names is_new. none_elsewhere t names is_new) (by_entries (λ (e : Entry). 1 ≤ count_by (same_entry e) (entries named)) named
+        (all_there (entries named)));
     others = left;
   }
 
@@ -286,7 +300,8 @@ pub apart_of : Apart → (pending : List Timer) (reached : ℕ) (rows : List Req
 apart_of apart pending reached rows tied = apart (contexts rows) tied.numbered (branched-rows reached rows (recursion_from_All (IsKept reached) rows tied.kept))
 
 module _ (apart : Apart) (old new : List Timer) (reached later : ℕ) (rows : List Request) (tied : AreTied old reached rows) (ordered : IsQueue old) where
-  keys_at : (i : ℕ) (r : Request) → slice_get rows i ≡ Some r → IsKept reached r → (p : Entry → Bool) → count_by p (entries (named_by r)) ≡ count_by p (entries_of (contexts (r ∷ [])))
+  keys_at : (i : ℕ) (r : Request) → slice_get rows i ≡ Some r → IsKept reached r → (p : Entry → Bool)
+      → count_by p (entries (named_by r)) ≡ count_by p (entries_of (contexts (r ∷ [])))
   keys_at i r at kept p = count-entries p (named_by r) ∙ count-row p r kept.keys ∙ ap (λ es. count_by p es) (sym (entries_of-one r.open_request))
 
   row_kept : (i : ℕ) (r : Request) → slice_get rows i ≡ Some r → IsKept reached r
@@ -296,7 +311,8 @@ module _ (apart : Apart) (old new : List Timer) (reached later : ℕ) (rows : Li
   old_at i r at = split-at rows i r (slice_get_within rows i r at) (get_or_from_slice_get rows i r r at)
 
   -- one request becomes another one
-  pub changed_queue : (i : ℕ) (r x : Request) → slice_get rows i ≡ Some r → AreTied new later (set rows i x) → HasKeys x.open_request x.branches → SetsInOrder old (named_by r) new (named_in_order x) → KeepsOrder old new (contexts (set rows i x))
+  pub changed_queue : (i : ℕ) (r x : Request) → slice_get rows i ≡ Some r → AreTied new later (set rows i x) → HasKeys x.open_request x.branches
+      → SetsInOrder old (named_by r) new (named_in_order x) → KeepsOrder old new (contexts (set rows i x))
   changed_queue i r x at tied_new has_keys sets =
       let within : i < length rows = slice_get_within rows i r at in
       let a : List Request = take i rows in
@@ -306,8 +322,10 @@ module _ (apart : Apart) (old new : List Timer) (reached later : ℕ) (rows : Li
       record {
         queue = subst (λ (ys : List Request). entries new ≡ queue_after (entries old) (entries_of (contexts ys))) (sym after_is)
             (in_queue old new a b (r ∷ []) (x ∷ []) (named_by r) (named_in_order x)
-            (subst (λ (ys : List Request). (p : Entry → Bool) → count_by p (entries old) ≡ count_by p (entries_of (contexts ys))) before_is (exact_of old reached rows tied))
-            (subst (λ (ys : List Request). (p : Entry → Bool) → count_by p (entries new) ≡ count_by p (entries_of (contexts ys))) after_is (exact_of new later (set rows i x) tied_new))
+            (subst (λ (ys : List Request). (p : Entry → Bool) → count_by p (entries old) ≡ count_by p (entries_of (contexts ys))) before_is
+            (exact_of old reached rows tied))
+            (subst (λ (ys : List Request). (p : Entry → Bool) → count_by p (entries new) ≡ count_by p (entries_of (contexts ys))) after_is
+            (exact_of new later (set rows i x) tied_new))
             (subst (λ (ys : List Request). AreApart (contexts ys)) before_is (apart_of apart old reached rows tied))
             (subst (λ (ys : List Request). AreApart (contexts ys)) after_is (apart_of apart new later (set rows i x) tied_new))
             (keys_at i r at (row_kept i r at))
@@ -316,14 +334,16 @@ module _ (apart : Apart) (old new : List Timer) (reached later : ℕ) (rows : Li
       }
 
   -- one is closed
-  pub closed_queue : (i : ℕ) (r : Request) → slice_get rows i ≡ Some r → AreTied new later (remove rows i) → SetsInOrder old [] new [] → KeepsOrder old new (contexts (remove rows i))
+  pub closed_queue : (i : ℕ) (r : Request) → slice_get rows i ≡ Some r → AreTied new later (remove rows i) → SetsInOrder old [] new []
+      → KeepsOrder old new (contexts (remove rows i))
   closed_queue i r at tied_new sets =
       let a : List Request = take i rows in
       let b : List Request = drop (suc i) rows in
       let before_is : rows ≡ a ++ ((r ∷ []) ++ b) = old_at i r at in
       record {
         queue = in_queue old new a b (r ∷ []) [] (named_by r) []
-            (subst (λ (ys : List Request). (p : Entry → Bool) → count_by p (entries old) ≡ count_by p (entries_of (contexts ys))) before_is (exact_of old reached rows tied))
+            (subst (λ (ys : List Request). (p : Entry → Bool) → count_by p (entries old) ≡ count_by p (entries_of (contexts ys))) before_is
+            (exact_of old reached rows tied))
             (exact_of new later (remove rows i) tied_new)
             (subst (λ (ys : List Request). AreApart (contexts ys)) before_is (apart_of apart old reached rows tied))
             (apart_of apart new later (remove rows i) tied_new)
@@ -333,11 +353,13 @@ module _ (apart : Apart) (old new : List Timer) (reached later : ℕ) (rows : Li
       }
 
   -- one is opened
-  pub opened_queue : (x : Request) → AreTied new later (rows ++ x ∷ []) → HasKeys x.open_request x.branches → SetsInOrder old [] new (named_in_order x) → KeepsOrder old new (contexts (rows ++ x ∷ []))
+  pub opened_queue : (x : Request) → AreTied new later (rows ++ x ∷ []) → HasKeys x.open_request x.branches → SetsInOrder old [] new (named_in_order x)
+      → KeepsOrder old new (contexts (rows ++ x ∷ []))
   opened_queue x tied_new has_keys sets =
       record {
         queue = in_queue old new rows [] [] (x ∷ []) [] (named_in_order x)
-            (subst (λ (ys : List Request). (p : Entry → Bool) → count_by p (entries old) ≡ count_by p (entries_of (contexts ys))) (sym (append-nil rows)) (exact_of old reached rows tied))
+            (subst (λ (ys : List Request). (p : Entry → Bool) → count_by p (entries old) ≡ count_by p (entries_of (contexts ys))) (sym (append-nil rows))
+            (exact_of old reached rows tied))
             (exact_of new later (rows ++ x ∷ []) tied_new)
             (subst (λ (ys : List Request). AreApart (contexts ys)) (sym (append-nil rows)) (apart_of apart old reached rows tied))
             (apart_of apart new later (rows ++ x ∷ []) tied_new)
@@ -354,7 +376,8 @@ all_due moment (t ∷ ts) none = by_due (ltb t.due moment) refl (λ fewer. all_d
   counted : due_before moment (t ∷ ts) ≡ cond (ltb t.due moment) 1 0 + due_before moment ts
   counted = sum_by-cons (λ (u : Timer). cond (ltb u.due moment) 1 0) t ts
 
-  by_due : (b : Bool) → ltb t.due moment ≡ b → (due_before moment ts ≡ 0 → AllByRecursion (λ (x : Entry). moment ≤ x.due) (entries ts)) → AllByRecursion (λ (x : Entry). moment ≤ x.due) (entry_of t ∷ entries ts)
+  by_due : (b : Bool) → ltb t.due moment ≡ b → (due_before moment ts ≡ 0 → AllByRecursion (λ (x : Entry). moment ≤ x.due) (entries ts))
+      → AllByRecursion (λ (x : Entry). moment ≤ x.due) (entry_of t ∷ entries ts)
   by_due true is rest = absurd (omega (arith, none, counted, ap (λ (v : Bool). cond {A = ℕ} v 1 0) is))
   by_due false is rest = (grind (arith, nat_tests), rest (omega (arith, none, counted, ap (λ (v : Bool). cond {A = ℕ} v 1 0) is)))
 
@@ -369,7 +392,8 @@ there_alike e xs ys same = by_test (has e ys) refl where
   by_test true is = has_by_count e xs (omega (arith, same, has_counts e ys is)) ∙ sym is
   by_test false is = lacks_by_count e xs (omega (arith, same, lacks_counts e ys is)) ∙ sym is
 
-pub queue_of_rows : Apart → (pending : List Timer) (reached : ℕ) (rows : List Request) → AreTied pending reached rows → IsQueue pending → IsQueueOf pending (contexts rows)
+pub queue_of_rows : Apart → (pending : List Timer) (reached : ℕ) (rows : List Request) → AreTied pending reached rows → IsQueue pending
+    → IsQueueOf pending (contexts rows)
 queue_of_rows apart pending reached rows tied ordered = record {
   in_order = due_in_order pending ordered.ordered;
   exact = λ e. there_alike e (entries pending) (entries_of (contexts rows)) (exact_of pending reached rows tied (same_entry e));
@@ -379,7 +403,8 @@ queue_of_rows apart pending reached rows tied ordered = record {
 -- where each is among some, all that are among them are left
 all_left : (these : List Entry) (es : List Entry) → AllByRecursion (λ e. has e these ≡ true) es → filter (λ e. has e these) es ≡ es
 all_left these [] all = refl
-all_left these (e ∷ es) all = ap (λ (b : Bool). cond b (e ∷ filter (λ x. has x these) es) (filter (λ x. has x these) es)) all.0 ∙ ap (λ xs. e ∷ xs) (all_left these es all.1)
+all_left these (e ∷ es) all = ap (λ (b : Bool). cond b (e ∷ filter (λ x. has x these) es) (filter (λ x. has x these) es)) all.0
+    ∙ ap (λ xs. e ∷ xs) (all_left these es all.1)
 
 -- a queue of what stands stays as it is
 pub queue_stays : (pending : List Timer) (requests : List OpenRequest) → IsQueueOf pending requests → KeepsOrder pending pending requests

@@ -11,7 +11,8 @@ use Rattle.sip_dialog_lessons.specs.state.declared.open_request.Side.TheVariants
 use Rattle.sip_dialog_lessons.specs.state.declared.open_request.Upward.{Upward}
 use Rattle.sip_dialog_lessons.specs.state.declared.branch.Branch.{Branch}
 use Rattle.sip_dialog_lessons.specs.state.declared.branch.Phase.TheVariants.{Done, Ended}
-use Rattle.model_steps.specs.context_model.Branches.{Change, after_upward, all_final, best_upward, branch_overdue, cancel_branch, is_cancellable, is_same_branch, new_cancels, overdue, phased, settled, side_overdue}
+use Rattle.model_steps.specs.context_model.Branches.{Change, after_upward, all_final, best_upward, branch_overdue, cancel_branch, is_cancellable, is_same_branch}
+use Rattle.model_steps.specs.context_model.Branches.{new_cancels, overdue, phased, settled, side_overdue}
 use Rattle.model_steps.specs.context_model.Branches.{target_overdue, held_branch, turned, upward_list, upward_of, with_cancel, with_cancels, with_phase}
 use Rattle.model_steps.specs.context_model.Sending.{branch_packets}
 use Rattle.sip_fork.specs.Quiet.{IsThrough, alone}
@@ -50,8 +51,10 @@ settled_alone server now r h =
     let best : best_upward server r ≡ None = ap (λ (t : Bool). cond (t && all_final r) (option_map (upward_of server r) (best_of r.finals)) None) h.answered in
     let none : new_cancels now r ≡ [] = ap (map (cancel_branch now)) (none_filtered r.branches h.none) in
     ap (settled_by server now r) best
-    ∙ ap (λ (x : OpenRequest). record { request = x; acks = []; upward = []; cancels = flat_map (branch_packets server false r) (new_cancels now r) }) (ap (λ (bs : List Branch). record r { branches = bs }) (none_sent now r.branches h.none))
-    ∙ ap (λ (ps : List Packet). record { request = r; acks = []; upward = []; cancels = ps }) (ap (λ (bs : List Branch). flat_map (branch_packets server false r) bs) none)
+    ∙ ap (λ (x : OpenRequest). record { request = x; acks = []; upward = []; cancels = flat_map (branch_packets server false r) (new_cancels now r) })
+    (ap (λ (bs : List Branch). record r { branches = bs }) (none_sent now r.branches h.none))
+    ∙ ap (λ (ps : List Packet). record { request = r; acks = []; upward = []; cancels = ps })
+    (ap (λ (bs : List Branch). flat_map (branch_packets server false r) bs) none)
 
 -- one that ends is sent no CANCEL
 ended_spared : (c w : Bool) → (not c && w && false) ≡ false
@@ -67,13 +70,15 @@ none_phased b (x ∷ xs) none = by_test (is_cancellable x) refl none (none_phase
   either true is = ended_spared x.is_cancel x.wants_cancel
   either false is = is
 
-  by_test : (t : Bool) → is_cancellable x ≡ t → (t || list_any is_cancellable xs) ≡ false → (list_any is_cancellable xs ≡ false → list_any is_cancellable (map (phased b Ended) xs) ≡ false)
+  by_test : (t : Bool) → is_cancellable x ≡ t → (t || list_any is_cancellable xs) ≡ false
+      → (list_any is_cancellable xs ≡ false → list_any is_cancellable (map (phased b Ended) xs) ≡ false)
       → list_any is_cancellable (map (phased b Ended) (x ∷ xs)) ≡ false
   by_test true is e rest = absurd (cc)
   by_test false is e rest = ap (λ (t : Bool). t || list_any is_cancellable (map (phased b Ended) xs)) (either (is_same_branch x b) is) ∙ rest e
 
 -- a branch ends, and nothing follows
-pub branch_alone : (server : Server) (now : ℕ) (r : OpenRequest) (b : Branch) → IsThrough r → branch_overdue r b ≡ with_phase b Ended r → overdue server now r b ≡ alone (with_phase b Ended r)
+pub branch_alone : (server : Server) (now : ℕ) (r : OpenRequest) (b : Branch) → IsThrough r → branch_overdue r b ≡ with_phase b Ended r
+    → overdue server now r b ≡ alone (with_phase b Ended r)
 branch_alone server now r b h ends =
     ap (λ (x : OpenRequest). settled server now [] None x) ends
     ∙ settled_alone server now (with_phase b Ended r) (record { answered = h.answered; none = none_phased b r.branches h.none })

@@ -11,7 +11,9 @@ use Rattle.sip_dialog_lessons.specs.state.declared.open_request.Side.TheVariants
 use Rattle.sip_dialog_lessons.specs.state.declared.open_request.Upward.{Upward}
 use Rattle.sip_dialog_lessons.specs.state.declared.server.Server.{Server}
 use Rattle.sip_dialog_lessons.specs.state.State.{is_invite, is_final, is_answering, is_success, is_decline, is_provisional}
-use Rattle.model_steps.specs.context_model.Branches.{Change, is_same_branch, with_phase, with_final, marked, given_up, after_upward, answered, best_upward, settled, other_heard, heard, relayed_provisional, relayed_success, linger, final_of, told_to, with_answer, acks_of, further, target_responded, cancel_responded, responded, target_overdue, branch_overdue, acknowledged_side, was_refused}
+use Rattle.model_steps.specs.context_model.Branches.{Change, is_same_branch, with_phase, with_final, marked, given_up, after_upward, answered, best_upward, settled}
+use Rattle.model_steps.specs.context_model.Branches.{other_heard, heard, relayed_provisional, relayed_success, linger, final_of, told_to, with_answer, acks_of, further}
+use Rattle.model_steps.specs.context_model.Branches.{target_responded, cancel_responded, responded, target_overdue, branch_overdue, acknowledged_side, was_refused}
 use Rattle.model_steps.specs.context_model.Opening.{opening, tried, trying}
 use Rattle.sip_context.specs.declared.input.Input.{Input}
 use Rattle.sip_context.specs.declared.input.Input.TheVariants.{Response, BranchDeadline, SideDeadline, SendFault, Cancel, Ack, BranchAgain, AnswerAgain}
@@ -36,7 +38,8 @@ upward_same : (now : ℕ) (o : Option Upward) (r x : OpenRequest) → Same r x �
 upward_same now None r x same = same
 upward_same now (Some u) r x same = same
 
-settled_same : (server : Server) (now : ℕ) (acks : List Packet) (relayed : Option Upward) (r x : OpenRequest) → Same r x → Same r (settled server now acks relayed x).request
+settled_same : (server : Server) (now : ℕ) (acks : List Packet) (relayed : Option Upward) (r x : OpenRequest) → Same r x
+    → Same r (settled server now acks relayed x).request
 settled_same server now acks relayed r x same =
     let told : OpenRequest = after_upward now relayed x in
     upward_same now (best_upward server told) r told (upward_same now relayed r x same)
@@ -64,11 +67,13 @@ cancel_same server now r b status m =
     let done : OpenRequest = with_phase b (Done (now + 5000) status) r in
     either_change (is_provisional status) r (settled server now [] None told) (cond (is_final b.phase) (settled server now [] None r) (settled server now [] None done))
     (settled_same server now [] None r told (refl, refl))
-    (either_change (is_final b.phase) r (settled server now [] None r) (settled server now [] None done) (settled_same server now [] None r r (refl, refl)) (settled_same server now [] None r done (refl, refl)))
+    (either_change (is_final b.phase) r (settled server now [] None r) (settled server now [] None done) (settled_same server now [] None r r (refl, refl))
+    (settled_same server now [] None r done (refl, refl)))
 
 responded_same : (server : Server) (now : ℕ) (r : OpenRequest) (b : Branch) (status : ℕ) (m : Message) → Same r (responded server now r b status m).request
 responded_same server now r b status m =
-    either_change b.is_cancel r (cancel_responded server now r b status m) (target_responded server now r b status m) (cancel_same server now r b status m) (target_same server now r b status m)
+    either_change b.is_cancel r (cancel_responded server now r b status m) (target_responded server now r b status m) (cancel_same server now r b status m)
+    (target_same server now r b status m)
 
 -- ---- a deadline
 

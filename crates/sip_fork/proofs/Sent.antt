@@ -1,5 +1,6 @@
 -- The open request, and its branch, that a branch text names, by their places.
-use Rattle.std.proofs.Common.{◌≡◌, ℕ, ◌<◌, ◌≤◌, zero, suc, Bool, true, false, cond, List, [], ◌∷◌, length, get_or, slice_get, position, Option, Some, None, refl, sym, ◌∙◌, ap, subst, arith, eqb, nat_lt}
+use Rattle.std.proofs.Common.{◌≡◌, ℕ, ◌<◌, ◌≤◌, zero, suc, Bool, true, false, cond, List, [], ◌∷◌, length, get_or, slice_get, position, Option, Some, None, refl, sym}
+use Rattle.std.proofs.Common.{◌∙◌, ap, subst, arith, eqb, nat_lt}
 use Rattle.std.specs.Prelude.{count_by, find}
 use Rattle.std.specs.List.{All, AllPairs, AllByRecursion, position_or_len}
 use Rattle.std.specs.Option.{option_and_then, option_map}
@@ -31,7 +32,8 @@ none_greater number (r ∷ rs) all =
     let none : cond {A = ℕ} (eqb r.number number) 1 0 ≡ 0 = ap (λ (b : Bool). cond {A = ℕ} b 1 0) differs in
     omega (arith, none, none_greater number rs (All-tail (λ (x : OpenRequest). number < x.number) r rs all), count-cons (is_of_datagram number) r rs)
 
-tail_pairs : (r : OpenRequest) (rs : List OpenRequest) → AllPairs (λ (a b : OpenRequest). a.number < b.number) (r ∷ rs) → AllPairs (λ (a b : OpenRequest). a.number < b.number) rs
+tail_pairs : (r : OpenRequest) (rs : List OpenRequest) → AllPairs (λ (a b : OpenRequest). a.number < b.number) (r ∷ rs)
+    → AllPairs (λ (a b : OpenRequest). a.number < b.number) rs
 tail_pairs r rs rise i j d lt inside = rise (suc i) (suc j) d (omega (arith, lt)) (omega (arith, inside))
 
 pub one_number : (rs : List OpenRequest) → AllPairs (λ (a b : OpenRequest). a.number < b.number) rs → (number : ℕ) → count_by (is_of_datagram number) rs ≤ 1
@@ -53,14 +55,19 @@ one_number (r ∷ rs) rise number = by_test (eqb r.number number) refl (one_numb
 -- their numbers are of their types
 pub have_numbers : (reached : ℕ) (rows : List Request) → All (IsKept reached) rows → AllByRecursion HasNumbers (contexts rows)
 have_numbers reached [] kept = tt
-have_numbers reached (r ∷ rows) kept = (let k : IsKept reached r = All-head (IsKept reached) r rows kept in k.numbers, have_numbers reached rows (All-tail (IsKept reached) r rows kept))
+have_numbers reached (r ∷ rows) kept = (
+  let k : IsKept reached r = All-head (IsKept reached) r rows kept in
+      k.numbers,
+  have_numbers reached rows (All-tail (IsKept reached) r rows kept),
+)
 
 -- ---- places
 
 -- what stands at the place that is found is what is found
 pub found_at : {X : Type 0} (test : X → Bool) (xs : List X) → option_and_then (slice_get xs) (position test xs) ≡ find test xs
 found_at test xs = by_test (nat_lt (position_or_len test xs) (length xs)) refl ∙ sym (find_at test xs) where
-  by_test : (b : Bool) → nat_lt (position_or_len test xs) (length xs) ≡ b → option_and_then (slice_get xs) (cond b (Some (position_or_len test xs)) None) ≡ slice_get xs (position_or_len test xs)
+  by_test : (b : Bool) → nat_lt (position_or_len test xs) (length xs) ≡ b → option_and_then (slice_get xs) (cond b (Some (position_or_len test xs)) None)
+      ≡ slice_get xs (position_or_len test xs)
   by_test true is = refl
   by_test false is = let past : length xs ≤ position_or_len test xs = grind (arith, nat_tests, is) in sym (slice_get_past xs (position_or_len test xs) past)
 
@@ -80,7 +87,8 @@ stands_at {X = X} test xs i found = by_test (nat_lt (position_or_len test xs) (l
 
 -- ---- the branch
 
-module _ (server : Server) (text method : List ℕ) (requests : List OpenRequest) (same : found_branch server text method requests ≡ branch_by_id server text method requests) where
+module _ (server : Server) (text method : List ℕ) (requests : List OpenRequest) (same : found_branch server text method requests
+    ≡ branch_by_id server text method requests) where
   -- what stands at these places is what is found
   abbrev AreFound : Option (ℕ × ℕ) → Type 0
   AreFound places = option_map (branch_at requests) places ≡ option_map (λ (found : OpenRequest × Branch). Some found) (found_branch server text method requests)
@@ -90,11 +98,13 @@ module _ (server : Server) (text method : List ℕ) (requests : List OpenRequest
 
   -- the text names no branch
   pub not_named : None ≡ branch_id_of server.word text → AreFound None
-  not_named none = nothing (ap (λ (o : Option BranchId). option_and_then (λ (id : BranchId). option_and_then (sent_in id.target method) (find (is_of_datagram id.number) requests)) o) (sym none))
+  not_named none = nothing (ap (λ (o : Option BranchId). option_and_then (λ (id : BranchId).
+      option_and_then (sent_in id.target method) (find (is_of_datagram id.number) requests)) o) (sym none))
 
   module _ (id : BranchId) (named : Some id ≡ branch_id_of server.word text) where
     by_id : branch_by_id server text method requests ≡ option_and_then (sent_in id.target method) (find (is_of_datagram id.number) requests)
-    by_id = ap (λ (o : Option BranchId). option_and_then (λ (id : BranchId). option_and_then (sent_in id.target method) (find (is_of_datagram id.number) requests)) o) (sym named)
+    by_id = ap (λ (o : Option BranchId). option_and_then (λ (id : BranchId). option_and_then (sent_in id.target method) (find (is_of_datagram id.number) requests)) o)
+        (sym named)
 
     -- no request has the number
     pub no_request : None ≡ find (is_of_datagram id.number) requests → AreFound None
@@ -107,14 +117,17 @@ module _ (server : Server) (text method : List ℕ) (requests : List OpenRequest
       -- it has no such branch
       pub no_branch : None ≡ position (is_sent id.target method r) r.branches → AreFound None
       no_branch none =
-          nothing (this_one ∙ ap (option_map (λ (b : Branch). (r, b))) (sym (found_at (is_sent id.target method r) r.branches) ∙ ap (option_and_then (slice_get r.branches)) (sym none)))
+          nothing (this_one ∙ ap (option_map (λ (b : Branch). (r, b))) (sym (found_at (is_sent id.target method r) r.branches)
+          ∙ ap (option_and_then (slice_get r.branches)) (sym none)))
 
       -- the branch at a place is the first such one
       pub this_branch : (at : ℕ) → Some at ≡ position (is_sent id.target method r) r.branches → AreFound (Some (place, at))
       this_branch at found =
           let stands = stands_at (is_sent id.target method r) r.branches at (sym found) in
-          let sent : find (is_sent id.target method r) r.branches ≡ Some stands.0 = sym (found_at (is_sent id.target method r) r.branches) ∙ ap (option_and_then (slice_get r.branches)) (sym found) ∙ stands.1 in
+          let sent : find (is_sent id.target method r) r.branches ≡ Some stands.0 = sym (found_at (is_sent id.target method r) r.branches)
+          ∙ ap (option_and_then (slice_get r.branches)) (sym found) ∙ stands.1 in
           let is : found_branch server text method requests ≡ Some (r, stands.0) = same ∙ this_one ∙ ap (option_map (λ (b : Branch). (r, b))) sent in
           let here : branch_at requests (place, at) ≡ Some (r, stands.0) =
-          ap (option_and_then (λ (x : OpenRequest). option_map (λ (b : Branch). (x, b)) (slice_get x.branches at))) there ∙ ap (option_map (λ (b : Branch). (r, b))) stands.1 in
+          ap (option_and_then (λ (x : OpenRequest). option_map (λ (b : Branch). (x, b)) (slice_get x.branches at))) there
+          ∙ ap (option_map (λ (b : Branch). (r, b))) stands.1 in
           ap (λ (o : Option (OpenRequest × Branch)). Some o) here ∙ sym (ap (option_map (λ (found : OpenRequest × Branch). Some found)) is)

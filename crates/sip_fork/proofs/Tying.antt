@@ -1,5 +1,6 @@
 -- Exactly the timers that open requests name stand, also after one was opened, changed or closed.
-use Rattle.std.proofs.Common.{◌≡◌, ℕ, ◌+◌, ◌<◌, ◌^◌, zero, Bool, true, false, cond, List, [], ◌∷◌, ◌++◌, map, take, drop, suc, get_or, set, remove, slice_get, position, Some, refl, sym, ◌∙◌, ap, subst, arith, eqb}
+use Rattle.std.proofs.Common.{◌≡◌, ℕ, ◌+◌, ◌<◌, ◌^◌, zero, Bool, true, false, cond, List, [], ◌∷◌, ◌++◌, map, take, drop, suc, get_or, set, remove, slice_get, position}
+use Rattle.std.proofs.Common.{Some, refl, sym, ◌∙◌, ap, subst, arith, eqb}
 use Rattle.std.specs.Prelude.{count_by}
 use Rattle.std.specs.List.{All}
 use Rattle.std.specs.Option.{option_map}
@@ -25,30 +26,35 @@ use Rattle.sip_fork.proofs.Mapped.{position-map}
 use Rattle.sip_fork.proofs.Numbered.{numbered-push, numbered-remove, numbered-set}
 
 -- what a request names at a place
-pub at_place : (p : Timer → Bool) (rows : List Request) (i : ℕ) (r : Request) → slice_get rows i ≡ Some r → count_by p (named_by (get_or rows i r)) ≡ count_by p (named_by r)
+pub at_place : (p : Timer → Bool) (rows : List Request) (i : ℕ) (r : Request) → slice_get rows i ≡ Some r
+    → count_by p (named_by (get_or rows i r)) ≡ count_by p (named_by r)
 at_place p rows i r at = ap (λ (x : Request). count_by p (named_by x)) (get_or_from_slice_get rows i r r at)
 
 -- the request at a place is kept
-pub kept_at : (pending : List Timer) (reached : ℕ) (rows : List Request) (i : ℕ) (r : Request) → AreTied pending reached rows → slice_get rows i ≡ Some r → IsKept reached r
+pub kept_at : (pending : List Timer) (reached : ℕ) (rows : List Request) (i : ℕ) (r : Request) → AreTied pending reached rows → slice_get rows i ≡ Some r
+    → IsKept reached r
 kept_at pending reached rows i r h at =
     subst (λ (x : Request). IsKept reached x) (get_or_from_slice_get rows i r r at) (All-get_or (IsKept reached) rows i r (slice_get_within rows i r at) h.kept)
 
 -- its timers stand
-pub held_at : (pending : List Timer) (reached : ℕ) (rows : List Request) (i : ℕ) (r : Request) → AreTied pending reached rows → slice_get rows i ≡ Some r → IsHeld pending (named_by r)
+pub held_at : (pending : List Timer) (reached : ℕ) (rows : List Request) (i : ℕ) (r : Request) → AreTied pending reached rows → slice_get rows i ≡ Some r
+    → IsHeld pending (named_by r)
 held_at pending reached rows i r h at = record {
   stand = λ p. omega (arith, h.same p, get_or-le-sum_by (λ (x : Request). count_by p (named_by x)) rows i r (slice_get_within rows i r at), at_place p rows i r at);
   keys_differ = h.keys_differ;
 }
 
 -- its moments are numbers of 64 bits
-pub timed_at : (pending : List Timer) (reached : ℕ) (rows : List Request) (i : ℕ) (r : Request) → AreTied pending reached rows → slice_get rows i ≡ Some r → IsNear (2 ^ 64) r.open_request
+pub timed_at : (pending : List Timer) (reached : ℕ) (rows : List Request) (i : ℕ) (r : Request) → AreTied pending reached rows → slice_get rows i ≡ Some r
+    → IsNear (2 ^ 64) r.open_request
 timed_at pending reached rows i r h at =
     let kept : IsKept reached r = kept_at pending reached rows i r h at in
     let early : reached < 2 ^ 62 = h.early in
     IsNear-within (reached + 1) (2 ^ 64) (omega (arith, early)) r.open_request kept.within
 
 -- a request that fits can be kept
-pub ready : (pending : List Timer) (reached room : ℕ) (rows : List Request) (plan : Plan) → AreTied pending reached rows → HasKeys plan.request plan.keys → IsFitting reached room plan.request → IsReady reached room plan
+pub ready : (pending : List Timer) (reached room : ℕ) (rows : List Request) (plan : Plan) → AreTied pending reached rows → HasKeys plan.request plan.keys
+    → IsFitting reached room plan.request → IsReady reached room plan
 ready pending reached room rows plan h keys fitting =
     let early : reached < 2 ^ 62 = h.early in
     record {
@@ -58,11 +64,19 @@ ready pending reached room rows plan h keys fitting =
       moments = omega (arith, early);
     }
 
-pub kept_new : (reached room : ℕ) (r : Request) (next : OpenRequest) → r.open_request ≡ next → HasKeys r.open_request r.branches → HasNumbers next → AreBranched next.branches → IsFitting reached room next → IsKept reached r
-kept_new reached room r next is keys numbers branched fitting = record { keys = keys; fits = rw is fitting.fits; within = rw is fitting.within; numbers = rw is numbers; branched = rw is branched }
+pub kept_new : (reached room : ℕ) (r : Request) (next : OpenRequest) → r.open_request ≡ next → HasKeys r.open_request r.branches → HasNumbers next
+    → AreBranched next.branches → IsFitting reached room next → IsKept reached r
+kept_new reached room r next is keys numbers branched fitting = record {
+  keys = keys;
+  fits = rw is fitting.fits;
+  within = rw is fitting.within;
+  numbers = rw is numbers;
+  branched = rw is branched;
+}
 
 -- one was closed
-pub closed : (old new : List Timer) (reached later : ℕ) (rows : List Request) (i : ℕ) (r : Request) → AreTied old reached rows → slice_get rows i ≡ Some r → later ≡ reached → Moves old (named_by r) new [] → AreTied new later (remove rows i)
+pub closed : (old new : List Timer) (reached later : ℕ) (rows : List Request) (i : ℕ) (r : Request) → AreTied old reached rows → slice_get rows i ≡ Some r
+    → later ≡ reached → Moves old (named_by r) new [] → AreTied new later (remove rows i)
 closed old new reached later rows i r h at still m = rw still (record {
   same = λ p. omega (arith, h.same p, m.same p, sum_by-remove (λ (x : Request). count_by p (named_by x)) rows i r (slice_get_within rows i r at), at_place p rows i r at);
   keys_differ = m.keys_differ h.keys_differ;
@@ -72,10 +86,17 @@ closed old new reached later rows i r h at still m = rw still (record {
 })
 
 -- one was changed
-pub changed : (old new : List Timer) (reached later : ℕ) (rows : List Request) (i : ℕ) (r next : Request) → AreTied old reached rows → slice_get rows i ≡ Some r → next.open_request.number ≡ r.open_request.number → later ≡ reached → IsKept reached next
+pub changed : (old new : List Timer) (reached later : ℕ) (rows : List Request) (i : ℕ) (r next : Request) → AreTied old reached rows → slice_get rows i ≡ Some r
+    → next.open_request.number ≡ r.open_request.number → later ≡ reached → IsKept reached next
     → Moves old (named_by r) new (named_by next) → AreTied new later (set rows i next)
 changed old new reached later rows i r next h at same still kept m = rw still (record {
-  same = λ p. omega (arith, h.same p, m.same p, sum_by-set (λ (x : Request). count_by p (named_by x)) rows i next r (slice_get_within rows i r at), at_place p rows i r at);
+  same = λ p. omega (
+    arith,
+    h.same p,
+    m.same p,
+    sum_by-set (λ (x : Request). count_by p (named_by x)) rows i next r (slice_get_within rows i r at),
+    at_place p rows i r at,
+  );
   keys_differ = m.keys_differ h.keys_differ;
   kept = All-set (IsKept reached) rows i next kept h.kept;
   early = h.early;
@@ -83,7 +104,8 @@ changed old new reached later rows i r next h at same still kept m = rw still (r
 })
 
 -- one was opened
-pub opened : (old new : List Timer) (reached later : ℕ) (rows : List Request) (next : Request) → AreTied old reached rows → All (λ (r : Request). r.open_request.number < next.open_request.number) rows → later ≡ reached → IsKept reached next
+pub opened : (old new : List Timer) (reached later : ℕ) (rows : List Request) (next : Request) → AreTied old reached rows
+    → All (λ (r : Request). r.open_request.number < next.open_request.number) rows → later ≡ reached → IsKept reached next
     → Moves old [] new (named_by next) → AreTied new later (rows ++ next ∷ [])
 opened old new reached later rows next h last still kept m = rw still (record {
   same = λ p. omega (arith, h.same p, m.same p, sum_by_push (λ (x : Request). count_by p (named_by x)) rows next);
@@ -96,7 +118,8 @@ opened old new reached later rows next h last still kept m = rw still (record {
 -- ---- what the model says
 
 -- what is seen of a list in which one takes another's place
-pub set-map : (rows : List Request) (i : ℕ) (next : Request) → map (λ (r : Request). r.open_request) (set rows i next) ≡ set (map (λ (r : Request). r.open_request) rows) i next.open_request
+pub set-map : (rows : List Request) (i : ℕ) (next : Request) → map (λ (r : Request). r.open_request) (set rows i next)
+    ≡ set (map (λ (r : Request). r.open_request) rows) i next.open_request
 set-map [] i next = refl
 set-map (r ∷ rows) zero next = refl
 set-map (r ∷ rows) (suc i) next = ap (λ (xs : List OpenRequest). r.open_request ∷ xs) (set-map rows i next)
@@ -104,40 +127,46 @@ set-map (r ∷ rows) (suc i) next = ap (λ (xs : List OpenRequest). r.open_reque
 remove-map : (rows : List Request) (i : ℕ) → map (λ (r : Request). r.open_request) (remove rows i) ≡ remove (map (λ (r : Request). r.open_request) rows) i
 remove-map rows i =
     let f : Request → OpenRequest = λ r. r.open_request in
-    map-append f (take i rows) (drop (suc i) rows) ∙ ap (λ xs. xs ++ map f (drop (suc i) rows)) (sym (take-map f i rows)) ∙ ap (λ ys. take i (map f rows) ++ ys) (sym (drop-map f (suc i) rows))
+    map-append f (take i rows) (drop (suc i) rows) ∙ ap (λ xs. xs ++ map f (drop (suc i) rows)) (sym (take-map f i rows))
+    ∙ ap (λ ys. take i (map f rows) ++ ys) (sym (drop-map f (suc i) rows))
 
-walks_out : (next : OpenRequest) → has_left next ≡ true → (x : OpenRequest) (xs : List OpenRequest) → replaced next (x ∷ xs) ≡ cond (eqb x.number next.number) xs (x ∷ replaced next xs)
+walks_out : (next : OpenRequest) → has_left next ≡ true → (x : OpenRequest) (xs : List OpenRequest)
+    → replaced next (x ∷ xs) ≡ cond (eqb x.number next.number) xs (x ∷ replaced next xs)
 walks_out next left x xs = ap (λ (t : Bool). cond (eqb x.number next.number) (cond t xs (next ∷ xs)) (x ∷ replaced next xs)) left
 
-walks_in : (next : OpenRequest) → has_left next ≡ false → (x : OpenRequest) (xs : List OpenRequest) → replaced next (x ∷ xs) ≡ cond (eqb x.number next.number) (next ∷ xs) (x ∷ replaced next xs)
+walks_in : (next : OpenRequest) → has_left next ≡ false → (x : OpenRequest) (xs : List OpenRequest)
+    → replaced next (x ∷ xs) ≡ cond (eqb x.number next.number) (next ∷ xs) (x ∷ replaced next xs)
 walks_in next stays x xs = ap (λ (t : Bool). cond (eqb x.number next.number) (cond t xs (next ∷ xs)) (x ∷ replaced next xs)) stays
 
 -- one that has left is taken out
-pub replaced_out : (next : OpenRequest) (rows : List Request) (i : ℕ) → has_left next ≡ true → position (λ (x : OpenRequest). eqb x.number next.number) (map (λ (r : Request). r.open_request) rows) ≡ Some i
+pub replaced_out : (next : OpenRequest) (rows : List Request) (i : ℕ) → has_left next ≡ true
+    → position (λ (x : OpenRequest). eqb x.number next.number) (map (λ (r : Request). r.open_request) rows) ≡ Some i
     → map (λ (r : Request). r.open_request) (remove rows i) ≡ replaced next (map (λ (r : Request). r.open_request) rows)
 replaced_out next rows i left found =
-    remove-map rows i ∙ sym (removed_at (λ (x : OpenRequest). eqb x.number next.number) (replaced next) (walks_out next left) (map (λ (r : Request). r.open_request) rows) i next found)
+    remove-map rows i ∙ sym (removed_at (λ (x : OpenRequest). eqb x.number next.number) (replaced next) (walks_out next left) (map (λ (r : Request). r.open_request) rows)
+    i next found)
 
 -- another one takes its place again
-pub replaced_in : (next : OpenRequest) (requests : List OpenRequest) (i : ℕ) → has_left next ≡ false → position (λ (x : OpenRequest). eqb x.number next.number) requests ≡ Some i → set requests i next ≡ replaced next requests
+pub replaced_in : (next : OpenRequest) (requests : List OpenRequest) (i : ℕ) → has_left next ≡ false
+    → position (λ (x : OpenRequest). eqb x.number next.number) requests ≡ Some i → set requests i next ≡ replaced next requests
 replaced_in next requests i stays found = sym (replaced_at (λ (x : OpenRequest). eqb x.number next.number) (replaced next) next (walks_in next stays) requests i found)
 
 -- the place of a request of this number
-pub place_of : (next : OpenRequest) (rows : List Request) (i : ℕ) (r : Request) → next.number ≡ r.open_request.number → position (λ (x : Request). eqb x.open_request.number r.open_request.number) rows ≡ Some i
+pub place_of : (next : OpenRequest) (rows : List Request) (i : ℕ) (r : Request) → next.number ≡ r.open_request.number
+    → position (λ (x : Request). eqb x.open_request.number r.open_request.number) rows ≡ Some i
     → position (λ (x : OpenRequest). eqb x.number next.number) (map (λ (r : Request). r.open_request) rows) ≡ Some i
 place_of next rows i r same found =
-    position-map (λ (x : Request). x.open_request) (λ (x : OpenRequest). eqb x.number next.number) rows ∙ subst (λ (n : ℕ). position (λ (x : Request). eqb x.open_request.number n) rows ≡ Some i) (sym same) found
+    position-map (λ (x : Request). x.open_request) (λ (x : OpenRequest). eqb x.number next.number) rows
+    ∙ subst (λ (n : ℕ). position (λ (x : Request). eqb x.open_request.number n) rows ≡ Some i) (sym same) found
 
 -- ---- what is seen of the rows
 
 abbrev pub contexts : List Request → List OpenRequest
 contexts rows = map (λ (r : Request). r.open_request) rows
 
-pub seen_changed : (rows new : List Request) (i : ℕ) (next : Request) (request : OpenRequest) → new ≡ set rows i next → next.open_request ≡ request → contexts new ≡ set (contexts rows) i request
+pub seen_changed : (rows new : List Request) (i : ℕ) (next : Request) (request : OpenRequest) → new ≡ set rows i next → next.open_request ≡ request
+    → contexts new ≡ set (contexts rows) i request
 seen_changed rows new i next request e is = ap (λ (xs : List Request). contexts xs) e ∙ set-map rows i next ∙ ap (λ (x : OpenRequest). set (contexts rows) i x) is
-
-pub seen_opened : (rows new : List Request) (next : Request) (request : OpenRequest) → new ≡ rows ++ next ∷ [] → next.open_request ≡ request → contexts new ≡ contexts rows ++ request ∷ []
-seen_opened rows new next request e is = ap (λ (xs : List Request). contexts xs) e ∙ map-append (λ (r : Request). r.open_request) rows (next ∷ []) ∙ ap (λ (x : OpenRequest). contexts rows ++ x ∷ []) is
 
 -- what is seen at a place
 pub seen_at : (rows : List Request) (i : ℕ) (r : Request) → slice_get rows i ≡ Some r → slice_get (contexts rows) i ≡ Some r.open_request

@@ -14,7 +14,8 @@ module _ {X : Type 0} (test : X → Bool) (F : List X → List X) where
         ∙ ap (λ (rest : List X). x ∷ rest) (walk xs i (omega (arith, lt)) passes (λ k less. before (suc k) (omega (arith, less))))
 
   -- one that puts another element in its place
-  pub replaced_at : (y : X) → ((x : X) (xs : List X) → F (x ∷ xs) ≡ cond (test x) (y ∷ xs) (x ∷ F xs)) → (xs : List X) (i : ℕ) → position test xs ≡ Some i → F xs ≡ set xs i y
+  pub replaced_at : (y : X) → ((x : X) (xs : List X) → F (x ∷ xs) ≡ cond (test x) (y ∷ xs) (x ∷ F xs)) → (xs : List X) (i : ℕ) → position test xs ≡ Some i
+      → F xs ≡ set xs i y
   replaced_at y walks xs i found = let is = position-Some test xs i y found in walk xs i is.0 is.1 is.2 where
     walk : (xs : List X) (i : ℕ) → i < length xs → test (get_or xs i y) ≡ true → ((k : ℕ) → k < i → test (get_or xs k y) ≡ false) → F xs ≡ set xs i y
     walk [] i lt passes before = absurd (omega (arith, lt))

@@ -1,6 +1,7 @@
 -- Open requests with exactly the timers that they name (RFC 3261 16, 17).
 use Rattle.std.specs.Prelude.{ℕ, ◌≡◌, ◌<◌, ◌≤◌, ◌+◌, ◌^◌, Bool, List, count_by, map}
 use Rattle.std.specs.List.{All, sum_by}
+use Rattle.sip_base.specs.declared.word_hasher.WordHasher.{WordHasher}
 use Rattle.sip_timers.specs.declared.timer.Timer.{Timer}
 use Rattle.sip_timers.specs.Timers.{KeysDiffer}
 use Rattle.sip_dialog_lessons.specs.state.declared.open_request.OpenRequest.{OpenRequest}
@@ -14,8 +15,8 @@ use Rattle.sip_request.specs.Named.{HasKeys, named_by}
 use Rattle.sip_request.specs.Near.{most_timers}
 
 -- What the table of open requests shows: them, in rising order of their numbers; the timers that stand, in the order in
--- which they fire; the last moment that came, and the greatest by which timers were told that they aren't due; and for how
--- many more requests, and how many more timers, no memory is taken.
+-- which they fire; the last moment that came, and the greatest by which timers were told that they aren't due; for how
+-- many more requests, and how many more timers, no memory is taken; and the secret under which their keys are hashed.
 pub record Contexts : Type 0 where
   pub requests : List OpenRequest
   pub pending : List Timer
@@ -23,6 +24,7 @@ pub record Contexts : Type 0 where
   pub reached : ℕ
   pub places : ℕ
   pub room : ℕ
+  pub secret : WordHasher
 
 -- two open requests have one number and one key
 pub record IsSame (r x : OpenRequest) : Type 0 where

@@ -4,6 +4,7 @@ ghost use Rattle.std.specs.Prelude.{◌≡◌, ◌<◌, ◌≤◌, ◌==◌, [],
 ghost use Rattle.std.specs.Prelude.{option_map, None, Some, IfOk, IfErr, IfSome, OnOk, MatchOption};
 ghost use Rattle.std.specs.List.{All, AllPairs};
 ghost use Rattle.std.specs.Option.{option_and_then};
+ghost use Rattle.sip_base.specs.Keyed.{fed_first};
 ghost use Rattle.sip_transaction_table.specs.Key.{same_key};
 ghost use Rattle.sip_timers.specs.declared.error.TimerError.TheVariants.{NoMemory};
 ghost use Rattle.sip_dialog_lessons.specs.state.State.{has_key, with_one_more};
@@ -83,6 +84,7 @@ impl<T: Timers> Model for Contexts<T> {
       reached = c.timers.reached;
       places = c.table.room;
       room = c.timers.room;
+      secret = c.table.secret;
     } };
 
     ghost invariant = { λ c. AreWhole c.timers.pending c.moment c.timers.reached c.table.rows };
@@ -95,6 +97,7 @@ impl<T: Timers> Contexts<T> {
         ensures pending { IfOk result (λ contexts. contexts.pending ≡ []) }
         ensures moment { IfOk result (λ contexts. contexts.moment ≡ 0) }
         ensures reached { IfOk result (λ contexts. contexts.reached ≡ 0) }
+        ensures secret { IfOk result (λ contexts. contexts.secret ≡ fed_first keys) }
         ensures refused { IfErr result (λ e. e ≡ NoMemory) }
     {
         let table = Table::new(alloc, keys)?;
@@ -190,6 +193,7 @@ impl<T: Timers> Contexts<T> {
         ensures ok { OnOk result (1 ≤ self.new.places) }
         ensures places { self.old.places ≤ self.new.places }
         ensures room { self.new.room ≡ self.old.room }
+        ensures secret { self.new.secret ≡ self.old.secret }
     {
         self.table.reserve_one()
     }
@@ -204,6 +208,7 @@ impl<T: Timers> Contexts<T> {
         ensures ok { OnOk result (timers ≤ self.new.room) }
         ensures room { self.old.room ≤ self.new.room }
         ensures refused { IfErr result (λ e. e ≡ NoMemory) }
+        ensures secret { self.new.secret ≡ self.old.secret }
     {
         self.timers.reserve(timers)
     }
@@ -244,6 +249,7 @@ impl<T: Timers> Contexts<T> {
         ensures ok { OnOk result (most_timers request.now ≤ self.new.room) }
         ensures room { self.old.room ≤ self.new.room }
         ensures refused { IfErr result (λ e. e ≡ NoMemory) }
+        ensures secret { self.new.secret ≡ self.old.secret }
     {
         let _open = &self.table;
         sip_request::reserve(&mut self.timers, request)
@@ -263,6 +269,7 @@ impl<T: Timers> Contexts<T> {
         ensures reached { self.new.reached ≡ self.old.reached }
         ensures places { self.old.places ≤ self.new.places }
         ensures room { self.old.room ≤ self.new.room + most_timers change }
+        ensures secret { self.new.secret ≡ self.old.secret }
     {
         let _stood = self.table.get(place);
         if change.closes() {
@@ -301,6 +308,7 @@ impl<T: Timers> Contexts<T> {
         ensures reached { self.new.reached ≡ self.old.reached }
         ensures places { self.old.places ≤ self.new.places }
         ensures room { self.old.room ≤ self.new.room }
+        ensures secret { self.new.secret ≡ self.old.secret }
     {
         time_passes();
         let row = self.table.get(place);
@@ -330,6 +338,7 @@ impl<T: Timers> Contexts<T> {
         ensures reached { self.new.reached ≡ self.old.reached }
         ensures places { self.old.places ≤ self.new.places + 1 }
         ensures room { self.old.room ≤ self.new.room + most_timers opening }
+        ensures secret { self.new.secret ≡ self.old.secret }
     {
         open_row(&mut self.table, &mut self.timers, opening);
     }
@@ -383,6 +392,7 @@ impl<T: Timers> Contexts<T> {
         ensures reached { self.new.reached ≡ max self.old.reached (moment - 1) }
         ensures places { self.new.places ≡ self.old.places }
         ensures room { self.old.room ≤ self.new.room }
+        ensures secret { self.new.secret ≡ self.old.secret }
     {
         timers_stand_for_moments();
         time_passes();

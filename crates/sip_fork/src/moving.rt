@@ -36,6 +36,7 @@ pub(crate) fn close_row<T: Timers>(table: &mut Table<Standing>, timers: &mut Que
     ensures places { table.old.room ≤ table.new.room }
     ensures room { timers.old.room ≤ timers.new.room }
     ensures still { timers.new.reached ≡ timers.old.reached }
+    ensures secret { table.new.secret ≡ table.old.secret }
 {
     timers_are_apart();
     timers.stand_in_order();
@@ -81,6 +82,7 @@ pub(crate) fn change_row<T: Timers>(
     ensures places { table.new.room ≡ table.old.room }
     ensures room { timers.old.room ≤ timers.new.room + most_timers change }
     ensures still { timers.new.reached ≡ timers.old.reached }
+    ensures secret { table.new.secret ≡ table.old.secret }
 {
     timers_are_apart();
     timers.stand_in_order();
@@ -110,6 +112,7 @@ pub(crate) fn end_row<T: Timers>(
     ensures places { table.new.room ≡ table.old.room }
     ensures room { timers.old.room ≤ timers.new.room }
     ensures still { timers.new.reached ≡ timers.old.reached }
+    ensures secret { table.new.secret ≡ table.old.secret }
 {
     timers_are_apart();
     timers.stand_in_order();
@@ -152,6 +155,7 @@ pub(crate) fn open_row<T: Timers>(
     ensures places { table.old.room ≤ table.new.room + 1 }
     ensures room { timers.old.room ≤ timers.new.room + most_timers opening }
     ensures still { timers.new.reached ≡ timers.old.reached }
+    ensures secret { table.new.secret ≡ table.old.secret }
 {
     timers_are_apart();
     timers.stand_in_order();

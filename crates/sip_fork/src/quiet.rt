@@ -1,4 +1,4 @@
-ghost use Rattle.std.specs.Prelude.{◌≡◌, ◌==◌, ◌&&◌, true, ℕ, count_by, not};
+ghost use Rattle.std.specs.Prelude.{◌≡◌, ◌==◌, true, ℕ, count_by};
 ghost use Rattle.std.specs.List.{list_any};
 ghost use Rattle.sip_dialog_lessons.specs.state.declared.branch.Branch.{Branch};
 ghost use Rattle.sip_dialog_lessons.specs.state.declared.branch.Phase.TheVariants.{Ended};

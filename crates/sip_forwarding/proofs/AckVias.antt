@@ -11,7 +11,8 @@ use Rattle.sip_edit.specs.ReceivedRequest.{received_fields}
 use Rattle.sip_edit.specs.TopVia.{received_via}
 
 -- the value on top says it
-pub on_top : (fields : List Field) (value : List ℕ) (via : Via) → first_value Name.Via fields ≡ Some value → option_and_then via_of (first_value Name.Via fields) ≡ Some via → via_of value ≡ Some via
+pub on_top : (fields : List Field) (value : List ℕ) (via : Via) → first_value Name.Via fields ≡ Some value
+    → option_and_then via_of (first_value Name.Via fields) ≡ Some via → via_of value ≡ Some via
 on_top fields value via is read = sym (ap (option_and_then via_of) is) ∙ read
 
 -- it gets what it says that it gets

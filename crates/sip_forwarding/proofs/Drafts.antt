@@ -30,14 +30,17 @@ use Rattle.sip_forwarding.proofs.Marks.{input_sent, opening_sent}
 -- ---- lessons
 
 -- what a request tells, to which other words lead
-pub renewed_is : (rows : List HostAddress) (id : DialogId) (kept m : Message) (lessons : List Lesson) → kept ≡ m → Adds rows [] lessons (λ server now dialogs. after_request server now id kept dialogs)
+pub renewed_is : (rows : List HostAddress) (id : DialogId) (kept m : Message) (lessons : List Lesson) → kept ≡ m
+    → Adds rows [] lessons (λ server now dialogs. after_request server now id kept dialogs)
     → Adds rows [] lessons (λ server now dialogs. after_request server now id m dialogs)
 renewed_is rows id kept m lessons same told = λ server now dialogs e. told server now dialogs e ∙ ap (λ (x : Message). after_request server now id x dialogs) same
 
 -- and alone
-pub renewed_alone : (rows : List HostAddress) (id : DialogId) (m : Message) (first lessons : List Lesson) → first ≡ [] → Adds rows first lessons (λ server now dialogs. after_request server now id m dialogs)
+pub renewed_alone : (rows : List HostAddress) (id : DialogId) (m : Message) (first lessons : List Lesson) → first ≡ []
+    → Adds rows first lessons (λ server now dialogs. after_request server now id m dialogs)
     → Adds rows [] lessons (λ server now dialogs. after_request server now id m dialogs)
-renewed_alone rows id m first lessons none told = λ server now dialogs e. told server now dialogs e ∙ ap (λ (l : List Lesson). after_request server now id m (after_lessons now l dialogs)) none
+renewed_alone rows id m first lessons none told = λ server now dialogs e. told server now dialogs e
+    ∙ ap (λ (l : List Lesson). after_request server now id m (after_lessons now l dialogs)) none
 
 -- what a change tells
 pub change_told : (rows : List HostAddress) (r : OpenRequest) (upward sent : List Upward) (first lessons : List Lesson) → first ≡ [] → upward ≡ sent
@@ -48,29 +51,38 @@ change_told rows r upward sent first lessons none same told = λ server now e di
     ∙ ap (λ (us : List Upward). after_leaving now r (after_answers server now r us dialogs)) same
 
 -- what an opening tells
-pub opening_told : (rows : List HostAddress) (server : Server) (now : ℕ) (call next : OpenRequest) (upward : List Upward) (first lessons : List Lesson) → next ≡ (opening server now call).request
-    → upward ≡ (opening server now call).upward → Adds rows first lessons (λ other moment dialogs. after_leaving moment next (after_answers other moment next upward dialogs))
+pub opening_told : (rows : List HostAddress) (server : Server) (now : ℕ) (call next : OpenRequest) (upward : List Upward) (first lessons : List Lesson)
+    → next ≡ (opening server now call).request
+    → upward ≡ (opening server now call).upward → Adds rows first lessons (λ other moment dialogs.
+    after_leaving moment next (after_answers other moment next upward dialogs))
     → Adds rows first lessons (λ other moment dialogs. dialogs_after other moment (opening server now call) dialogs)
 opening_told rows server now call next upward first lessons same up told = λ other moment dialogs e.
     told other moment dialogs e ∙ ap (λ (r : OpenRequest). after_leaving moment r (after_answers other moment r upward (after_lessons moment first dialogs))) same
-    ∙ ap (λ (us : List Upward). after_leaving moment (opening server now call).request (after_answers other moment (opening server now call).request us (after_lessons moment first dialogs))) up
+    ∙ ap (λ (us : List Upward). after_leaving moment (opening server now call).request
+    (after_answers other moment (opening server now call).request us (after_lessons moment first dialogs))) up
 
 -- ---- a request that is sent on
 
-pub packets_are : (server : Server) (now : ℕ) (call to : OpenRequest) (packets : List Packet) → call ≡ to → packets ≡ opening_packets server now call → packets ≡ opening_packets server now to
+pub packets_are : (server : Server) (now : ℕ) (call to : OpenRequest) (packets : List Packet) → call ≡ to → packets ≡ opening_packets server now call
+    → packets ≡ opening_packets server now to
 packets_are server now call to packets same is = is ∙ ap (opening_packets server now) same
 
-pub sent_are : (server : Server) (now : ℕ) (call to : OpenRequest) (packets : List Packet) → call ≡ to → packets ≡ opening_packets server now call → AreSent (opening_packets server now to) [] packets
-sent_are server now call to packets same is = subst (AreSent (opening_packets server now to) []) (sym (packets_are server now call to packets same is)) (opening_sent server now to)
+pub sent_are : (server : Server) (now : ℕ) (call to : OpenRequest) (packets : List Packet) → call ≡ to → packets ≡ opening_packets server now call
+    → AreSent (opening_packets server now to) [] packets
+sent_are server now call to packets same is = subst (AreSent (opening_packets server now to) []) (sym (packets_are server now call to packets same is))
+    (opening_sent server now to)
 
-pub request_is : (server : Server) (now : ℕ) (call to request : OpenRequest) → call ≡ to → request ≡ (opening server now call).request → request ≡ (opening server now to).request
+pub request_is : (server : Server) (now : ℕ) (call to request : OpenRequest) → call ≡ to → request ≡ (opening server now call).request
+    → request ≡ (opening server now to).request
 request_is server now call to request same is = is ∙ ap (λ (r : OpenRequest). (opening server now r).request) same
 
-pub opens_so : (server : Server) (a : Arrival) (key : Key) (call to request : OpenRequest) → call ≡ to → request ≡ (opening server a.now call).request → IsOpenable a key (opening server a.now to).request → IsOpenable a key request
+pub opens_so : (server : Server) (a : Arrival) (key : Key) (call to request : OpenRequest) → call ≡ to → request ≡ (opening server a.now call).request
+    → IsOpenable a key (opening server a.now to).request → IsOpenable a key request
 opens_so server a key call to request same is opens = subst (IsOpenable a key) (sym (request_is server a.now call to request same is)) opens
 
 -- behind lessons that do something, what the opening tells
-pub told_behind : (rows : List HostAddress) (server : Server) (now : ℕ) (call to : OpenRequest) (first lessons : List Lesson) (edit : Server → ℕ → List Dialog → List Dialog) → call ≡ to
+pub told_behind : (rows : List HostAddress) (server : Server) (now : ℕ) (call to : OpenRequest) (first lessons : List Lesson) (edit : Server → ℕ → List Dialog
+    → List Dialog) → call ≡ to
     → Adds rows [] first edit → Adds rows first lessons (λ other moment dialogs. dialogs_after other moment (opening server now call) dialogs)
     → Teach rows server now lessons (λ dialogs. dialogs_after server now (opening server now to) (edit server now dialogs))
 told_behind rows server now call to first lessons edit same before after = λ e dialogs.
@@ -82,10 +94,12 @@ pub told_alone : (rows : List HostAddress) (server : Server) (now : ℕ) (call t
     → Adds rows first lessons (λ other moment dialogs. dialogs_after other moment (opening server now call) dialogs)
     → Teach rows server now lessons (λ dialogs. dialogs_after server now (opening server now to) dialogs)
 told_alone rows server now call to first lessons same none after =
-    told_behind rows server now call to first lessons (λ other moment dialogs. dialogs) same (λ other moment dialogs e. ap (λ (l : List Lesson). after_lessons moment l dialogs) none) after
+    told_behind rows server now call to first lessons (λ other moment dialogs. dialogs) same
+    (λ other moment dialogs e. ap (λ (l : List Lesson). after_lessons moment l dialogs) none) after
 
 -- no dialog begins
-pub none_begins : (server : Server) (now : ℕ) (a : Arrival) (m : Message) (branches : List Branch) (call : OpenRequest) (first lessons : List Lesson) → call ≡ forking a m branches → beginnings first ≡ 0
+pub none_begins : (server : Server) (now : ℕ) (a : Arrival) (m : Message) (branches : List Branch) (call : OpenRequest) (first lessons : List Lesson)
+    → call ≡ forking a m branches → beginnings first ≡ 0
     → beginnings lessons ≤ beginnings first + count_by is_early_or_success (opening server now call).upward → beginnings lessons ≡ 0
 none_begins server now a m branches call first lessons same none few =
     by_counts (beginnings lessons) (beginnings first) (count_by is_early_or_success (opening server now call).upward) none
@@ -103,16 +117,20 @@ pub behind_none : (old new rest : List Packet) → old ≡ [] → new ≡ old ++
 behind_none old new rest none is = is ∙ ap (λ (v : List Packet). v ++ rest) none
 
 -- lessons behind none
-pub few_alone : (first lessons : List Lesson) (upward sent : List Upward) → first ≡ [] → upward ≡ sent → beginnings lessons ≤ beginnings first + count_by is_early_or_success upward
+pub few_alone : (first lessons : List Lesson) (upward sent : List Upward) → first ≡ [] → upward ≡ sent
+    → beginnings lessons ≤ beginnings first + count_by is_early_or_success upward
     → beginnings lessons ≤ count_by is_early_or_success sent
 few_alone first lessons upward sent none same few =
-    by_counts (beginnings lessons) (beginnings first) (count_by is_early_or_success upward) (count_by is_early_or_success sent) (ap beginnings none) (ap (count_by is_early_or_success) same) few where
+    by_counts (beginnings lessons) (beginnings first) (count_by is_early_or_success upward) (count_by is_early_or_success sent) (ap beginnings none)
+    (ap (count_by is_early_or_success) same) few where
       by_counts : (all before more most : ℕ) → before ≡ 0 → more ≡ most → all ≤ before + more → all ≤ most
       by_counts all before more most b m few = omega arith
 
-pub draft_is : (rows : List HostAddress) (server : Server) (now : ℕ) (before : OpenRequest) (input : Input) (r : OpenRequest) (sent : Sent) (d : Drafted) → IsInputTo before input
+pub draft_is : (rows : List HostAddress) (server : Server) (now : ℕ) (before : OpenRequest) (input : Input) (r : OpenRequest) (sent : Sent) (d : Drafted)
+    → IsInputTo before input
     → outcome r sent ≡ outcome_of server now before input → d.packets ≡ change_packets (change_of (outcome r sent)) ++ sent.copies
-    → Teach rows server now d.lessons (λ dialogs. dialogs_after server now (change_of (outcome r sent)) dialogs) → beginnings d.lessons ≤ count_by is_early_or_success sent.upward
+    → Teach rows server now d.lessons (λ dialogs. dialogs_after server now (change_of (outcome r sent)) dialogs)
+    → beginnings d.lessons ≤ count_by is_early_or_success sent.upward
     → IsDraft rows server now (outcome_of server now before input) d
 draft_is rows server now before input r sent d there e packets taught few =
     record {

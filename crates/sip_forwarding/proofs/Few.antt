@@ -1,5 +1,6 @@
 -- How many dialogs may begin by what goes to the caller.
-use Rattle.std.proofs.Common.{◌≡◌, ◌∙◌, ℕ, zero, suc, ◌+◌, ◌<◌, ◌≤◌, ◌==◌, Bool, true, false, not, ◌&&◌, cond, List, [], ◌∷◌, map, length, slice_index_or, Contains, is_some, Option, Some, None, refl, sym, ap, subst, arith}
+use Rattle.std.proofs.Common.{◌≡◌, ◌∙◌, ℕ, zero, suc, ◌+◌, ◌<◌, ◌≤◌, ◌==◌, Bool, true, false, not, ◌&&◌, cond, List, [], ◌∷◌, map, length, slice_index_or, Contains}
+use Rattle.std.proofs.Common.{is_some, Option, Some, None, refl, sym, ap, subst, arith}
 use Rattle.std.specs.Prelude.{◌||◌, count_by, filter, nat_le, option_map}
 use Rattle.std.specs.List.{AllByRecursion, list_all}
 use Rattle.std.proofs.lemmas.Bool.Decides.{nat_tests}
@@ -17,7 +18,9 @@ use Rattle.sip_dialog_lessons.specs.state.declared.open_request.Side.TheVariants
 use Rattle.sip_dialog_lessons.specs.state.declared.open_request.OpenRequest.{OpenRequest}
 use Rattle.sip_dialog_lessons.specs.state.declared.open_request.Upward.{Upward}
 use Rattle.sip_dialog_lessons.specs.state.State.{is_invite, is_answering, is_final, is_provisional, is_success}
-use Rattle.sip_forwarding.specs.context_model.Branches.{Change, settled, answered, upward_list, upward_of, best_upward, all_final, turned, phased, with_phase, invite_heard, other_heard, heard, relayed_from, relayed_provisional, relayed_success, is_accepted, further, with_answer, acks_of, responded, target_responded, cancel_responded, branch_overdue, given_up, marked}
+use Rattle.sip_forwarding.specs.context_model.Branches.{Change, settled, answered, upward_list, upward_of, best_upward, all_final, turned, phased, with_phase}
+use Rattle.sip_forwarding.specs.context_model.Branches.{invite_heard, other_heard, heard, relayed_from, relayed_provisional, relayed_success, is_accepted, further}
+use Rattle.sip_forwarding.specs.context_model.Branches.{with_answer, acks_of, responded, target_responded, cancel_responded, branch_overdue, given_up, marked}
 use Rattle.sip_forwarding.specs.context_model.Sending.{made_answer}
 use Rattle.sip_forwarding.specs.context_model.Opening.{unsent, forking, trying, tried, opening, is_tried}
 use Rattle.sip_dialog_lessons.specs.Telling.{is_early_or_success}
@@ -39,7 +42,8 @@ AreUnsent finals = AllByRecursion (λ (f : Final). f.status ≡ 503) finals
 unsent_are : (bs : List Branch) → AreUnsent (unsent bs)
 unsent_are [] = tt
 unsent_are (b ∷ bs) = by_test (not (is_some b.address)) (unsent_are bs) where
-  by_test : (t : Bool) → AreUnsent (unsent bs) → AreUnsent (map (λ (b : Branch). record { status = 503; message = None }) (cond t (b ∷ filter (λ (b : Branch). not (is_some b.address)) bs) (filter (λ (b : Branch). not (is_some b.address)) bs)))
+  by_test : (t : Bool) → AreUnsent (unsent bs) → AreUnsent (map (λ (b : Branch). record { status = 503; message = None })
+      (cond t (b ∷ filter (λ (b : Branch). not (is_some b.address)) bs) (filter (λ (b : Branch). not (is_some b.address)) bs)))
   by_test true rest = (refl, rest)
   by_test false rest = rest
 
@@ -58,9 +62,11 @@ picked_unsent test (f ∷ fs) all = by_test (test f) (picked test fs) (picked_un
 
 -- what it goes up as begins no dialog
 goes_up : (others : List Final) (f : Final) → f.status ≡ 503 → (going_up others f).status ≡ 500
-goes_up others f is = ap (λ (t : Bool). (cond t (record { status = 500; message = None }) (cond (is_challenge_status f.status) (challenging others f) f)).status) (ap (λ (n : ℕ). n == 503) is)
+goes_up others f is = ap (λ (t : Bool). (cond t (record { status = 500; message = None }) (cond (is_challenge_status f.status) (challenging others f) f)).status)
+    (ap (λ (n : ℕ). n == 503) is)
 
-begins_none : (server : Server) (r : OpenRequest) (o : Option (Final × List Final)) → IsUnsentPick o → beginners (upward_list (option_map (upward_of server r) (option_map (λ x. going_up x.1 x.0) o))) ≡ 0
+begins_none : (server : Server) (r : OpenRequest) (o : Option (Final × List Final)) → IsUnsentPick o
+    → beginners (upward_list (option_map (upward_of server r) (option_map (λ x. going_up x.1 x.0) o))) ≡ 0
 begins_none server r None is = refl
 begins_none server r (Some x) is = ap (λ (n : ℕ). 0 + cond {A = ℕ} (not (nat_le n 100) && nat_le n 299) 1 0) (goes_up x.1 x.0 is)
 
@@ -81,9 +87,11 @@ tried_unsent server now r all = by_test (is_tried r) where
   by_test false = all
 
 -- so no dialog begins when a request is sent on
-pub opening_begins_none : (server : Server) (now : ℕ) (a : Arrival) (m : Message) (branches : List Branch) → beginners (opening server now (forking a m branches)).upward ≡ 0
+pub opening_begins_none : (server : Server) (now : ℕ) (a : Arrival) (m : Message) (branches : List Branch)
+    → beginners (opening server now (forking a m branches)).upward ≡ 0
 opening_begins_none server now a m branches =
-    best_begins_none server (tried now (trying server (forking a m branches)) (forking a m branches)) (tried_unsent server now (forking a m branches) (unsent_are branches))
+    best_begins_none server (tried now (trying server (forking a m branches)) (forking a m branches))
+    (tried_unsent server now (forking a m branches) (unsent_are branches))
 
 -- ---- at an input
 
@@ -102,7 +110,8 @@ settled_few : (server : Server) (now : ℕ) (acks : List Packet) (r : OpenReques
 settled_few server now acks r = best_begins_one (best_upward server r)
 
 -- an answer goes to the caller, and no best one behind it
-relayed_few : (server : Server) (now : ℕ) (acks : List Packet) (u : Upward) (r : OpenRequest) → best_upward server (answered now u r) ≡ None → beginners (settled server now acks (Some u) r).upward ≤ 1
+relayed_few : (server : Server) (now : ℕ) (acks : List Packet) (u : Upward) (r : OpenRequest) → best_upward server (answered now u r) ≡ None
+    → beginners (settled server now acks (Some u) r).upward ≤ 1
 relayed_few server now acks u r none = subst (λ (o : Option Upward). beginners (u ∷ upward_list o) ≤ 1) (sym none) (one_begins u)
 
 and_false : (a b : Bool) → b ≡ false → (a && b) ≡ false
@@ -141,15 +150,19 @@ closed_by_final now u r late = by_side r.side (is_provisional u.status) late whe
 success_is_final : (status : ℕ) → is_success status ≡ true → is_provisional status ≡ false
 success_is_final status is = grind (arith, nat_tests)
 
-success_few : (server : Server) (now : ℕ) (acks : List Packet) (r : OpenRequest) (b : Branch) (status : ℕ) (m : Message) (after : OpenRequest) → beginners (settled server now acks (relayed_success r b status m) after).upward ≤ 1
+success_few : (server : Server) (now : ℕ) (acks : List Packet) (r : OpenRequest) (b : Branch) (status : ℕ) (m : Message) (after : OpenRequest)
+    → beginners (settled server now acks (relayed_success r b status m) after).upward ≤ 1
 success_few server now acks r b status m after = by_test (is_success status && (is_answering r.side || is_accepted r)) refl where
-  by_test : (t : Bool) → (is_success status && (is_answering r.side || is_accepted r)) ≡ t → beginners (settled server now acks (cond t (Some (relayed_from b status m)) None) after).upward ≤ 1
+  by_test : (t : Bool) → (is_success status && (is_answering r.side || is_accepted r)) ≡ t
+      → beginners (settled server now acks (cond t (Some (relayed_from b status m)) None) after).upward ≤ 1
   by_test true is =
       relayed_few server now acks (relayed_from b status m) after
-      (none_if_closed server (answered now (relayed_from b status m) after) (closed_by_final now (relayed_from b status m) after (success_is_final status (first_true (is_success status) (is_answering r.side || is_accepted r) is))))
+      (none_if_closed server (answered now (relayed_from b status m) after) (closed_by_final now (relayed_from b status m) after
+      (success_is_final status (first_true (is_success status) (is_answering r.side || is_accepted r) is))))
   by_test false is = settled_few server now acks after
 
-further_few : (server : Server) (now : ℕ) (acks : List Packet) (r : OpenRequest) (b : Branch) (phase : Phase) (status : ℕ) (m : Message) → beginners (settled server now acks (further r b phase status m) r).upward ≤ 1
+further_few : (server : Server) (now : ℕ) (acks : List Packet) (r : OpenRequest) (b : Branch) (phase : Phase) (status : ℕ) (m : Message)
+    → beginners (settled server now acks (further r b phase status m) r).upward ≤ 1
 further_few server now acks r b (Unheard due) status m = settled_few server now acks r
 further_few server now acks r b (Heard due) status m = settled_few server now acks r
 further_few server now acks r b (Cancelled due) status m = settled_few server now acks r
@@ -161,7 +174,8 @@ further_few server now acks r b Ended status m = settled_few server now acks r
 
 -- ---- a provisional response: its branch has no final answer, so that not all have
 
-heard_open : (invite : Bool) (now status : ℕ) (phase : Phase) → is_final phase ≡ false → is_final (cond invite (invite_heard now status phase) (other_heard phase)) ≡ false
+heard_open : (invite : Bool) (now status : ℕ) (phase : Phase) → is_final phase ≡ false
+    → is_final (cond invite (invite_heard now status phase) (other_heard phase)) ≡ false
 heard_open true now status (Unheard due) is = by_test (status == 100) where
   by_test : (t : Bool) → is_final (cond t (Heard (due + 153000)) (Heard (now + 185000))) ≡ false
   by_test true = refl
@@ -190,20 +204,24 @@ finals_in bs = list_all (λ (b : Branch). is_final b.phase) (filter (λ (b : Bra
 open_in_front : (b : Branch) (phase : Phase) (rest : List Branch) → b.is_cancel ≡ false → is_final phase ≡ false → finals_in (phased b phase b ∷ rest) ≡ false
 open_in_front b phase rest target undone =
     ap (λ (t : Bool). finals_in (cond t (turned b phase b) b ∷ rest)) (same_self b.number b.is_cancel)
-    ∙ ap (λ (c : Bool). list_all (λ (b : Branch). is_final b.phase) (cond (not c) (turned b phase b ∷ filter (λ (b : Branch). not b.is_cancel) rest) (filter (λ (b : Branch). not b.is_cancel) rest))) target
+    ∙ ap (λ (c : Bool). list_all (λ (b : Branch). is_final b.phase) (cond (not c) (turned b phase b ∷ filter (λ (b : Branch). not b.is_cancel) rest)
+    (filter (λ (b : Branch). not b.is_cancel) rest))) target
     ∙ ap (λ (t : Bool). t && finals_in rest) undone
 
 open_behind : (x : Branch) (rest : List Branch) → finals_in rest ≡ false → finals_in (x ∷ rest) ≡ false
 open_behind x rest is = by_test (not x.is_cancel) where
-  by_test : (t : Bool) → list_all (λ (b : Branch). is_final b.phase) (cond t (x ∷ filter (λ (b : Branch). not b.is_cancel) rest) (filter (λ (b : Branch). not b.is_cancel) rest)) ≡ false
+  by_test : (t : Bool) → list_all (λ (b : Branch). is_final b.phase) (cond t (x ∷ filter (λ (b : Branch). not b.is_cancel) rest)
+      (filter (λ (b : Branch). not b.is_cancel) rest)) ≡ false
   by_test true = and_false (is_final x.phase) (finals_in rest) is
   by_test false = is
 
-still_open : (xs : List Branch) (k : ℕ) (b : Branch) (phase : Phase) → k < length xs → slice_index_or xs k b ≡ b → b.is_cancel ≡ false → is_final phase ≡ false → finals_in (map (phased b phase) xs) ≡ false
+still_open : (xs : List Branch) (k : ℕ) (b : Branch) (phase : Phase) → k < length xs → slice_index_or xs k b ≡ b → b.is_cancel ≡ false → is_final phase ≡ false
+    → finals_in (map (phased b phase) xs) ≡ false
 still_open [] k b phase lt is target undone = absurd (omega arith)
 still_open (x ∷ xs) zero b phase lt is target undone =
     ap (λ (v : Branch). finals_in (phased b phase v ∷ map (phased b phase) xs)) is ∙ open_in_front b phase (map (phased b phase) xs) target undone
-still_open (x ∷ xs) (suc k) b phase lt is target undone = open_behind (phased b phase x) (map (phased b phase) xs) (still_open xs k b phase (omega arith) is target undone)
+still_open (x ∷ xs) (suc k) b phase lt is target undone = open_behind (phased b phase x) (map (phased b phase) xs)
+    (still_open xs k b phase (omega arith) is target undone)
 
 provisional_few : (server : Server) (now : ℕ) (acks : List Packet) (r : OpenRequest) (b : Branch) (status : ℕ) (m : Message) → Contains r.branches b → b.is_cancel ≡ false
     → beginners (settled server now acks (relayed_provisional r b status m) (with_phase b (heard r now status b.phase) r)).upward ≤ 1
@@ -211,7 +229,8 @@ provisional_few server now acks r b status m there target = by_test (not (status
   after : OpenRequest
   after = with_phase b (heard r now status b.phase) r
 
-  by_test : (t : Bool) → (not (status == 100) && not (is_final b.phase) && is_answering r.side) ≡ t → beginners (settled server now acks (cond t (Some (relayed_from b status m)) None) after).upward ≤ 1
+  by_test : (t : Bool) → (not (status == 100) && not (is_final b.phase) && is_answering r.side) ≡ t
+      → beginners (settled server now acks (cond t (Some (relayed_from b status m)) None) after).upward ≤ 1
   by_test true is =
       relayed_few server now acks (relayed_from b status m) after
       (none_if_open server (answered now (relayed_from b status m) after)
@@ -230,12 +249,15 @@ cancel_few server now r b status m =
     either_few (is_provisional status) _ _ (settled_few server now [] (with_phase b (other_heard b.phase) r))
     (either_few (is_final b.phase) _ _ (settled_few server now [] r) (settled_few server now [] (with_phase b (Done (now + 5000) status) r)))
 
-target_few : (server : Server) (now : ℕ) (r : OpenRequest) (b : Branch) (status : ℕ) (m : Message) → Contains r.branches b → b.is_cancel ≡ false → beginners (target_responded server now r b status m).upward ≤ 1
+target_few : (server : Server) (now : ℕ) (r : OpenRequest) (b : Branch) (status : ℕ) (m : Message) → Contains r.branches b → b.is_cancel ≡ false
+    → beginners (target_responded server now r b status m).upward ≤ 1
 target_few server now r b status m there target =
     either_few (is_provisional status) _ _ (provisional_few server now [] r b status m there target)
-    (either_few (is_final b.phase) _ _ (further_few server now [] r b b.phase status m) (success_few server now (acks_of server r b status m) r b status m (with_answer r b now status m)))
+    (either_few (is_final b.phase) _ _ (further_few server now [] r b b.phase status m)
+    (success_few server now (acks_of server r b status m) r b status m (with_answer r b now status m)))
 
-responded_few : (server : Server) (now : ℕ) (r : OpenRequest) (b : Branch) (status : ℕ) (m : Message) → Contains r.branches b → beginners (responded server now r b status m).upward ≤ 1
+responded_few : (server : Server) (now : ℕ) (r : OpenRequest) (b : Branch) (status : ℕ) (m : Message) → Contains r.branches b
+    → beginners (responded server now r b status m).upward ≤ 1
 responded_few server now r b status m there = by_test b.is_cancel refl where
   by_test : (t : Bool) → b.is_cancel ≡ t → beginners (cond t (cancel_responded server now r b status m) (target_responded server now r b status m)).upward ≤ 1
   by_test true is = cancel_few server now r b status m

@@ -19,7 +19,9 @@ use Rattle.sip_dialog_lessons.specs.state.declared.open_request.OpenRequest.{Ope
 use Rattle.sip_dialog_lessons.specs.state.declared.open_request.Upward.{Upward}
 use Rattle.sip_dialog_lessons.specs.state.State.{is_invite, is_answering, is_failure, is_final, is_provisional, is_success}
 use Rattle.sip_forwarding.specs.context_model.Sending.{answer_to, to_branch, branch_packets, ack_packets, sent_of, ticket_branch, request_of}
-use Rattle.sip_forwarding.specs.context_model.Branches.{Change, settled, after_upward, best_upward, new_cancels, responded, target_responded, cancel_responded, acks_of, relayed_provisional, relayed_success, further, with_phase, with_answer, heard, other_heard, marked, given_up, branch_overdue}
+use Rattle.sip_forwarding.specs.context_model.Branches.{Change, settled, after_upward, best_upward, new_cancels, responded, target_responded, cancel_responded, acks_of}
+use Rattle.sip_forwarding.specs.context_model.Branches.{relayed_provisional, relayed_success, further, with_phase, with_answer, heard, other_heard, marked, given_up}
+use Rattle.sip_forwarding.specs.context_model.Branches.{branch_overdue}
 use Rattle.sip_forwarding.specs.context_model.Opening.{opening, tried, trying}
 use Rattle.sip_forwarding.specs.context_model.Retransmission.{answers_again, is_lasting, acks_again}
 use Rattle.model_steps.specs.Effect.{upward_packets, change_packets, opening_packets}
@@ -48,7 +50,12 @@ either_marked again false xs ys a b = b
 
 to_branch_marked : (r : OpenRequest) (b : Branch) (target : ℕ) (again : Bool) (m : Message) → AreMarked again (to_branch r b target again m)
 to_branch_marked r b target again m = by_address b.address where
-  by_address : (o : Option Addr) → AreMarked again (option_map_or (λ address. record { to = address; bytes = text_of m; ticket = record { datagram = r.number; branch = target }; again = again } ∷ []) o [])
+  by_address : (o : Option Addr) → AreMarked again (option_map_or (λ address. record {
+    to = address;
+    bytes = text_of m;
+    ticket = record { datagram = r.number; branch = target };
+    again = again;
+  } ∷ []) o [])
   by_address None = tt
   by_address (Some address) = (refl, tt)
 
@@ -57,7 +64,8 @@ branch_marked server again r b = to_branch_marked r b (ticket_branch b) again (s
 
 branches_first : (server : Server) (r : OpenRequest) (bs : List Branch) → AreMarked false (flat_map (branch_packets server false r) bs)
 branches_first server r [] = tt
-branches_first server r (b ∷ bs) = joined_marked false (branch_packets server false r b) (flat_map (branch_packets server false r) bs) (branch_marked server false r b) (branches_first server r bs)
+branches_first server r (b ∷ bs) = joined_marked false (branch_packets server false r b) (flat_map (branch_packets server false r) bs) (branch_marked server false r b)
+    (branches_first server r bs)
 
 upward_first : (r : OpenRequest) (upward : List Upward) → AreMarked false (upward_packets r upward)
 upward_first r [] = tt
@@ -72,7 +80,8 @@ acks_marked server r b (Unheard due) = tt
 acks_marked server r b (Heard due) = tt
 acks_marked server r b (Cancelled due) = tt
 acks_marked server r b (Done due status) =
-    either_marked true (is_invite r && not b.is_cancel && is_failure status) (ack_packets server true r b b.final_to) [] (to_branch_marked r b 0 true (ack_with b.final_to (request_of server r b))) tt
+    either_marked true (is_invite r && not b.is_cancel && is_failure status) (ack_packets server true r b b.final_to) []
+    (to_branch_marked r b 0 true (ack_with b.final_to (request_of server r b))) tt
 acks_marked server r b Ended = tt
 
 -- ---- changes
@@ -81,13 +90,15 @@ acks_marked server r b Ended = tt
 abbrev pub IsFirst : Change → Type 0
 IsFirst change = AreMarked false (change_packets change)
 
-settled_first : (server : Server) (now : ℕ) (acks : List Packet) (relayed : Option Upward) (r : OpenRequest) → AreMarked false acks → IsFirst (settled server now acks relayed r)
+settled_first : (server : Server) (now : ℕ) (acks : List Packet) (relayed : Option Upward) (r : OpenRequest) → AreMarked false acks
+    → IsFirst (settled server now acks relayed r)
 settled_first server now acks relayed r first =
     let told : OpenRequest = after_upward now relayed r in
     let after : OpenRequest = after_upward now (best_upward server told) told in
     let change : Change = settled server now acks relayed r in
     joined_marked false (acks ++ upward_packets change.request change.upward) change.cancels
-    (joined_marked false acks (upward_packets change.request change.upward) first (upward_first change.request change.upward)) (branches_first server after (new_cancels now after))
+    (joined_marked false acks (upward_packets change.request change.upward) first (upward_first change.request change.upward))
+    (branches_first server after (new_cancels now after))
 
 -- whichever of two
 either_first : (t : Bool) (c d : Change) → IsFirst c → IsFirst d → IsFirst (cond t c d)
@@ -102,7 +113,8 @@ responded_first server now r b status m =
     (either_first (is_provisional status) _ _ (settled_first server now [] (relayed_provisional r b status m) (with_phase b (heard r now status b.phase) r) tt)
     (either_first (is_final b.phase) _ _ (settled_first server now [] (further r b b.phase status m) r tt)
     (settled_first server now (acks_of server r b status m) (relayed_success r b status m) (with_answer r b now status m)
-    (either_marked false (is_invite r && is_failure status) (ack_packets server false r b (first_value Name.To m.fields)) [] (to_branch_marked r b 0 false (ack_with (first_value Name.To m.fields) (request_of server r b))) tt))))
+    (either_marked false (is_invite r && is_failure status) (ack_packets server false r b (first_value Name.To m.fields)) []
+    (to_branch_marked r b 0 false (ack_with (first_value Name.To m.fields) (request_of server r b))) tt))))
 
 -- ---- what is sent as it is marked
 
@@ -117,7 +129,8 @@ all_again (p ∷ ps) all = ap (λ (t : Bool). cond t (p ∷ retransmissions ps) 
 firsts_in_front : (firsts again : List Packet) → AreMarked false firsts → AreMarked true again → originals (firsts ++ again) ≡ firsts
 firsts_in_front [] again all more = none_first again more
 firsts_in_front (p ∷ ps) again all more =
-    ap (λ (t : Bool). cond (not t) (p ∷ originals (ps ++ again)) (originals (ps ++ again))) all.0 ∙ ap (λ (xs : List Packet). p ∷ xs) (firsts_in_front ps again all.1 more)
+    ap (λ (t : Bool). cond (not t) (p ∷ originals (ps ++ again)) (originals (ps ++ again))) all.0
+    ∙ ap (λ (xs : List Packet). p ∷ xs) (firsts_in_front ps again all.1 more)
 
 agains_behind : (firsts again : List Packet) → AreMarked false firsts → AreMarked true again → retransmissions (firsts ++ again) ≡ again
 agains_behind [] again all more = all_again again more
@@ -140,7 +153,8 @@ opening_sent server now r = record { originals = alone_first (opening_packets se
   first : AreMarked false (opening_packets server now r)
   first =
       joined_marked false (upward_packets r (trying server r) ++ change_packets (opening server now r)) (flat_map (branch_packets server false r) r.branches)
-      (joined_marked false (upward_packets r (trying server r)) (change_packets (opening server now r)) (upward_first r (trying server r)) (settled_first server now [] None (tried now (trying server r) r) tt))
+      (joined_marked false (upward_packets r (trying server r)) (change_packets (opening server now r)) (upward_first r (trying server r))
+      (settled_first server now [] None (tried now (trying server r) r) tt))
       (branches_first server r r.branches)
 
 -- what an input sends for the first time

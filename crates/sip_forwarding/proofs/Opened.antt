@@ -44,7 +44,8 @@ key_is : (m : Message) (key : Key) → key_of m ≡ Some key → request_key m �
 key_is m key is = ap (λ (o : Option Key). unwrap_or o (record { branch = []; host = []; port = 0; method = [] })) is
 
 -- so a request that comes can be opened
-pub openable : (server : Server) (a : Arrival) (m : Message) (key : Key) (branches : List Branch) → key_of m ≡ Some key → Fits (opening server a.now (forking a m branches)).request
+pub openable : (server : Server) (a : Arrival) (m : Message) (key : Key) (branches : List Branch) → key_of m ≡ Some key
+    → Fits (opening server a.now (forking a m branches)).request
     → IsWithin a.now (opening server a.now (forking a m branches)).request → AreBranched (opening server a.now (forking a m branches)).request.branches
     → IsOpenable a key (opening server a.now (forking a m branches)).request
 openable server a m key branches is fits within branched =

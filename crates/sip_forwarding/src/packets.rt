@@ -1,6 +1,6 @@
 //! In which order an event's packets go: ACKs, then answers to the caller, then CANCELs (this project's profile).
 //! Their bytes are made in `sip_context_packets`.
-ghost use Rattle.std.specs.Prelude.{◌≡◌, ◌++◌, ◌∷◌, [], map, false, IfOk, OnOk};
+ghost use Rattle.std.specs.Prelude.{◌≡◌, ◌++◌, ◌∷◌, [], false, IfOk, OnOk};
 ghost use Rattle.sip_message_form.specs.Text.{text_of};
 ghost use Rattle.sip_context_branches.specs.context_model.Sending as Sendings;
 ghost use Rattle.sip_context.specs.Sent.{change_of};

@@ -1,5 +1,6 @@
 -- One more datagram of a source, among those that are counted.
-use Rattle.std.proofs.Common.{◌≡◌, ℕ, ◌+◌, ◌<◌, ◌≤◌, zero, suc, Bool, true, false, cond, not, ◌||◌, List, [], ◌∷◌, ◌++◌, length, set, get_or, position, Some, None, if◌then◌else◌, refl, sym, ap, ◌∙◌, arith, nat_lt}
+use Rattle.std.proofs.Common.{◌≡◌, ℕ, ◌+◌, ◌<◌, ◌≤◌, zero, suc, Bool, true, false, cond, not, ◌||◌, List, [], ◌∷◌, ◌++◌, length, set, get_or, position, Some, None}
+use Rattle.std.proofs.Common.{if◌then◌else◌, refl, sym, ap, ◌∙◌, arith, nat_lt}
 use Rattle.std.specs.List.{list_any, position_or_len}
 use Rattle.std.proofs.lemmas.Bool.Decides.{nat_tests}
 use Rattle.std.proofs.lemmas.Grind.{common_steps}
@@ -21,7 +22,8 @@ any_at ip (x ∷ xs) (suc i) d h t = by (is_of ip x) (any_at ip xs i d (omega (a
     by true e = refl
     by false e = e
 
-set_at : (ip : List ℕ) (xs : List UnheardSource) (i : ℕ) (d : UnheardSource) → i < length xs → is_of ip (get_or xs i d) ≡ true → ((k : ℕ) → k < i → is_of ip (get_or xs k d) ≡ false)
+set_at : (ip : List ℕ) (xs : List UnheardSource) (i : ℕ) (d : UnheardSource) → i < length xs → is_of ip (get_or xs i d) ≡ true
+    → ((k : ℕ) → k < i → is_of ip (get_or xs k d) ≡ false)
     → set xs i (one_more (get_or xs i d)) ≡ counted_among ip xs
 set_at ip [] i d h t f = absurd (omega (arith, h))
 set_at ip (x ∷ xs) zero d h t f = sym (ap (λ (b : Bool). if b then one_more x ∷ xs else x ∷ counted_among ip xs) t)
@@ -29,12 +31,14 @@ set_at ip (x ∷ xs) (suc i) d h t f =
     ap (λ (rest : List UnheardSource). x ∷ rest) (set_at ip xs i d (omega (arith, h)) t (λ k l. f (suc k) (omega (arith, l))))
     ∙ sym (ap (λ (b : Bool). if b then one_more x ∷ xs else x ∷ counted_among ip xs) (f zero (omega arith)))
 
-pub noted_one : (ip : List ℕ) (xs : List UnheardSource) (i : ℕ) (y d : UnheardSource) → position (is_of ip) xs ≡ Some i → y ≡ one_more (get_or xs i d) → set xs i y ≡ sources_behind ip xs
+pub noted_one : (ip : List ℕ) (xs : List UnheardSource) (i : ℕ) (y d : UnheardSource) → position (is_of ip) xs ≡ Some i → y ≡ one_more (get_or xs i d)
+    → set xs i y ≡ sources_behind ip xs
 noted_one ip xs i y d e is =
     let at = position-Some (is_of ip) xs i d e in
     ap (λ (z : UnheardSource). set xs i z) is
     ∙ set_at ip xs i d at.0 at.1 at.2
-    ∙ sym (ap (λ (b : Bool). if b then counted_among ip xs else if nat_lt (length xs) most_sources then xs ++ record { ip = ip; count = 1 } ∷ [] else xs) (any_at ip xs i d at.0 at.1))
+    ∙ sym (ap (λ (b : Bool). if b then counted_among ip xs else if nat_lt (length xs) most_sources then xs ++ record { ip = ip; count = 1 } ∷ [] else xs)
+    (any_at ip xs i d at.0 at.1))
 
 none_before : (p : UnheardSource → Bool) (xs : List UnheardSource) → length xs ≤ position_or_len p xs → list_any p xs ≡ false
 none_before p [] h = refl
@@ -47,7 +51,8 @@ none_before p (x ∷ xs) h = by (p x) refl (none_before p xs)
 none_there : (p : UnheardSource → Bool) (xs : List UnheardSource) → position p xs ≡ None → list_any p xs ≡ false
 none_there p xs e = none_before p xs (grind (arith, common_steps))
 
-pub noted_new : (ip : List ℕ) (xs : List UnheardSource) → position (is_of ip) xs ≡ None → length xs < most_sources → xs ++ record { ip = ip; count = 1 } ∷ [] ≡ sources_behind ip xs
+pub noted_new : (ip : List ℕ) (xs : List UnheardSource) → position (is_of ip) xs ≡ None → length xs < most_sources
+    → xs ++ record { ip = ip; count = 1 } ∷ [] ≡ sources_behind ip xs
 noted_new ip xs e h = rw (none_there (is_of ip) xs e) (let few : nat_lt (length xs) most_sources ≡ true = grind (arith, nat_tests) in rw few refl)
 
 pub noted_full : (ip : List ℕ) (xs : List UnheardSource) → position (is_of ip) xs ≡ None → most_sources ≤ length xs → xs ≡ sources_behind ip xs

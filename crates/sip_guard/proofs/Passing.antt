@@ -9,7 +9,8 @@ use Rattle.sip_guard.specs.Guard.{AllowanceState, LinkState, PassesOver, instead
 use Rattle.sip_guard.specs.Unheard.{noted}
 
 -- as long as no more are passed over than may be, the link heard what it had heard before
-pub heard_before : (old new : AllowanceState) (before after : LinkState) (count : ℕ) → PassesOver old new before after count → count < most_passed → after.heard ≡ before.heard
+pub heard_before : (old new : AllowanceState) (before after : LinkState) (count : ℕ) → PassesOver old new before after count → count < most_passed
+    → after.heard ≡ before.heard
 heard_before old new before after count passes few =
     let less : nat_lt count most_passed ≡ true = lt-ltb count most_passed few in
     passes.told ∙ ap (λ (less : Bool). left_of (if less then AskedAgain else HeardNothing) before.heard) less

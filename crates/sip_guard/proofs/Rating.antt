@@ -1,5 +1,6 @@
 -- What an allowance comes to over time.
-use Rattle.std.proofs.Common.{◌≡◌, ℕ, ◌+◌, ◌*◌, ◌-◌, ◌<◌, ◌≤◌, ◌↔◌, zero, suc, Bool, true, false, IsTrue, List, [], ◌∷◌, length, slice_get, Some, if◌then◌else◌, refl, sym, ap, subst, ◌∙◌, arith, mul-le-mul_left}
+use Rattle.std.proofs.Common.{◌≡◌, ℕ, ◌+◌, ◌*◌, ◌-◌, ◌<◌, ◌≤◌, ◌↔◌, zero, suc, Bool, true, false, IsTrue, List, [], ◌∷◌, length, slice_get, Some, if◌then◌else◌, refl}
+use Rattle.std.proofs.Common.{sym, ap, subst, ◌∙◌, arith, mul-le-mul_left}
 use Rattle.std.proofs.lemmas.Bool.Decides.{nat_tests}
 use Rattle.std.proofs.lemmas.Option.{slice_get_within}
 use Rattle.sip_guard.specs.declared.limit.Limit.{Limit}
@@ -29,7 +30,8 @@ reaches limit (m ∷ before) zero moment e =
 reaches limit (m ∷ before) (suc k) moment e = omega (arith, reaches limit before k moment e)
 
 -- and no more than the greatest of these
-is_reached : (limit : Limit) (moments : List ℕ) (most : ℕ) → ((k moment : ℕ) → slice_get moments k ≡ Some moment → 1000 * (k + 1) + limit.per_second * moment ≤ most) → peak limit moments ≤ most
+is_reached : (limit : Limit) (moments : List ℕ) (most : ℕ) → ((k moment : ℕ) → slice_get moments k ≡ Some moment → 1000 * (k + 1) + limit.per_second * moment ≤ most)
+    → peak limit moments ≤ most
 is_reached limit [] most h = omega arith
 is_reached limit (m ∷ before) most h =
     let first = h zero m refl in

@@ -1,5 +1,6 @@
 -- A link that hears no more of a source than its allowance.
-use Rattle.std.specs.Prelude.{◌≡◌, ◌≤◌, ◌<◌, nat_lt, ℕ, zero, suc, Bool, true, false, not, ◌||◌, max, List, [], ◌∷◌, length, if◌then◌else◌, Option, Some, None, option_map, option_and_then, Result, Ok, Err, ◌⊎◌}
+use Rattle.std.specs.Prelude.{◌≡◌, ◌≤◌, ◌<◌, nat_lt, ℕ, zero, suc, Bool, true, false, not, ◌||◌, max, List, [], ◌∷◌, length, if◌then◌else◌, Option, Some, None}
+use Rattle.std.specs.Prelude.{option_map, option_and_then, Result, Ok, Err, ◌⊎◌}
 use Rattle.std.specs.List.{list_all, list_any}
 use Rattle.sip_loop_link.specs.Told.{counted, heard_of, and_then, and_counted, left_of}
 use Rattle.sip_loop_link.specs.declared.datagram.Instead.{Instead}
@@ -133,7 +134,8 @@ pub record PassesOver (old new : AllowanceState) (before after : LinkState) (cou
 
 -- a receive of a link: what it answers is what it heard, and if it failed, nothing
 abbrev pub Receives : LinkState → LinkState → Result (Option Addr) LinkFault → Type 0
-Receives before after (Ok from) = (after.aside ≡ before.aside) × (after.heard ≡ and_then before.heard (heard_of from after.held)) × (after.given ≡ before.given) × (after.waits ≡ before.waits)
+Receives before after (Ok from) = (after.aside ≡ before.aside) × (after.heard ≡ and_then before.heard (heard_of from after.held)) × (after.given ≡ before.given)
+    × (after.waits ≡ before.waits)
     × (after.receives ≡ counted before.receives) × (after.failures ≡ before.failures)
 Receives before after (Err fault) = (after.aside ≡ before.aside) × (after.heard ≡ before.heard) × (after.given ≡ before.given) × (after.waits ≡ before.waits)
     × (after.receives ≡ counted before.receives) × (after.failures ≡ counted before.failures)

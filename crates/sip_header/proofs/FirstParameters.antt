@@ -14,5 +14,6 @@ pub is_behind_first : (sought : List ℕ) (first : Assigned) (others : List Para
     → parameter_of sought others ≡ parameter_of sought (behind_first (Some first) others)
 is_behind_first sought first others other = rw other refl
 
-pub none_first : (sought : List ℕ) (first : Option Assigned) (others : List Parameter) → first ≡ None → parameter_of sought others ≡ parameter_of sought (behind_first first others)
+pub none_first : (sought : List ℕ) (first : Option Assigned) (others : List Parameter) → first ≡ None
+    → parameter_of sought others ≡ parameter_of sought (behind_first first others)
 none_first sought first others none = rw none refl

@@ -15,14 +15,17 @@ and_is [] value = refl
 and_is (first ∷ []) value = refl
 and_is (first ∷ next ∷ others) value = refl
 
-by_test : (t : Bool) (values : List (List ℕ)) (field : Field) → found_of (values ++ map (λ (f : Field). f.value) (cond t (field ∷ []) [])) ≡ cond t (and_value (found_of values) field.value) (found_of values)
+by_test : (t : Bool) (values : List (List ℕ)) (field : Field) → found_of (values ++ map (λ (f : Field). f.value) (cond t (field ∷ []) []))
+    ≡ cond t (and_value (found_of values) field.value) (found_of values)
 by_test true values field = and_is values field.value
 by_test false values field = ap found_of (simp append-nil)
 
 pub and_field : (name : FieldName) (fields : List Field) (field : Field)
-    → found_of (values_of name (fields ++ field ∷ [])) ≡ cond (is_same_name field.name name) (and_value (found_of (values_of name fields)) field.value) (found_of (values_of name fields))
+    → found_of (values_of name (fields ++ field ∷ [])) ≡ cond (is_same_name field.name name) (and_value (found_of (values_of name fields)) field.value)
+    (found_of (values_of name fields))
 and_field name fields field =
-    let apart : values_of name (fields ++ field ∷ []) ≡ values_of name fields ++ map (λ (f : Field). f.value) (cond (is_same_name field.name name) (field ∷ []) []) = simp (filter-append, map-append) in
+    let apart : values_of name (fields ++ field ∷ []) ≡ values_of name fields ++ map (λ (f : Field). f.value) (cond (is_same_name field.name name) (field ∷ []) []) =
+    simp (filter-append, map-append) in
     ap found_of apart ∙ by_test (is_same_name field.name name) (values_of name fields) field
 
 pub value_is : (name : FieldName) (values : List (List ℕ)) → value_in name (found_of values) ≡ the_one name values

@@ -18,7 +18,8 @@ use Rattle.sip_uri.specs.declared.user.UserInfo.{UserInfo}
 use Rattle.sip_uri.specs.declared.uri.Uri.{Uri}
 use Rattle.sip_uri.specs.Scheme.{is_scheme_byte, is_scheme_name, scheme_of}
 use Rattle.sip_uri.specs.Host.{place_of, is_not}
-use Rattle.sip_uri.specs.Reading.{◌>>=◌, userinfo_of, user_from, user_of, parameters_behind, headers_behind, before_parameters, parameter_text_of, header_text_of, rest_of, reading_of}
+use Rattle.sip_uri.specs.Reading.{◌>>=◌, userinfo_of, user_from, user_of, parameters_behind, headers_behind, before_parameters, parameter_text_of, header_text_of}
+use Rattle.sip_uri.specs.Reading.{rest_of, reading_of}
 use Rattle.sip_text.specs.Splits.{split_at_byte, in_front}
 use Rattle.sip_uri.proofs.Tests as Tests
 use Rattle.sip_uri.proofs.ReadingLaws.{is_written, reading_is}
@@ -32,7 +33,8 @@ use Rattle.sip_header.specs.declared.contact_item.ContactItem.{ContactItem}
 use Rattle.sip_header.specs.declared.contact_item.ContactItem.TheVariants.{Star, Address}
 use Rattle.sip_text.specs.Cuts.{quoting_after, quoting_behind, is_mark, split_from, split_outside, parts_at, IsParted, IsCutAt}
 use Rattle.sip_header.specs.Parameters.{parameters_in}
-use Rattle.sip_header.specs.NameAddr.{is_opaque_byte, is_opaque, other_of, uri_by, any_uri_of, with_parameters, is_bare_byte, bare_in, is_display, behind_bracket, bracketed_by, name_addr_by, name_addr_of, IsOtherUri, IsAnyUri, IsBracketed, IsBare, IsNameAddr}
+use Rattle.sip_header.specs.NameAddr.{is_opaque_byte, is_opaque, other_of, uri_by, any_uri_of, with_parameters, is_bare_byte, bare_in, is_display, behind_bracket}
+use Rattle.sip_header.specs.NameAddr.{bracketed_by, name_addr_by, name_addr_of, IsOtherUri, IsAnyUri, IsBracketed, IsBare, IsNameAddr}
 use Rattle.sip_header.specs.ContactItem.{contact_of, IsContact}
 use Rattle.sip_header.specs.Route.{route_of, IsRoute}
 use Rattle.sip_header.proofs.Words.{AllPassing, all_passing, all_weaker}
@@ -60,7 +62,8 @@ uncut_rest b bs true o e = absurd cc
 uncut_rest b bs false None e = (refl, refl)
 uncut_rest b bs false (Some x) e = absurd cc
 
-cut_again : (quoting : Quoting) (mark : ℕ) (front rest : List ℕ) → split_from quoting mark front ≡ None → quoting_behind quoting front ≡ Outside → split_from quoting mark (front ++ mark ∷ rest) ≡ Some (front, rest)
+cut_again : (quoting : Quoting) (mark : ℕ) (front rest : List ℕ) → split_from quoting mark front ≡ None → quoting_behind quoting front ≡ Outside
+    → split_from quoting mark (front ++ mark ∷ rest) ≡ Some (front, rest)
 cut_again quoting mark [] rest uncut out = rw out (rw (same_byte mark) refl)
 cut_again quoting mark (b ∷ bs) rest uncut out =
     let r = uncut_rest b bs (is_mark quoting mark b) (split_from (quoting_after quoting b) mark bs) uncut in
@@ -71,7 +74,8 @@ read_cut : (mark : ℕ) (text front rest : List ℕ) → IsCutAt mark text front
 read_cut mark text front rest is = ap (split_outside mark) is.whole ∙ cut_again Outside mark front rest is.uncut is.closed
 
 cut_step : (quoting : Quoting) (mark b : ℕ) (bs : List ℕ) (t : Bool) (o : Option (List ℕ × List ℕ)) (x : List ℕ × List ℕ) → is_mark quoting mark b ≡ t
-    → ((y : List ℕ × List ℕ) → o ≡ Some y → CutFrom (quoting_after quoting b) mark bs y) → cond t (Some ([], bs)) (in_front (b ∷ []) o) ≡ Some x → CutFrom quoting mark (b ∷ bs) x
+    → ((y : List ℕ × List ℕ) → o ≡ Some y → CutFrom (quoting_after quoting b) mark bs y) → cond t (Some ([], bs)) (in_front (b ∷ []) o) ≡ Some x
+    → CutFrom quoting mark (b ∷ bs) x
 cut_step quoting mark b bs true o x is rest e =
     let same : ◌≡◌ {A = List ℕ × List ℕ} ([], bs) x = cc in
     let at = at_mark quoting mark b is in
@@ -85,7 +89,8 @@ cut_step quoting mark b bs false (Some y) x is rest e =
 
 cut_from : (quoting : Quoting) (mark : ℕ) (text : List ℕ) (x : List ℕ × List ℕ) → split_from quoting mark text ≡ Some x → CutFrom quoting mark text x
 cut_from quoting mark [] x e = absurd cc
-cut_from quoting mark (b ∷ bs) x e = cut_step quoting mark b bs (is_mark quoting mark b) (split_from (quoting_after quoting b) mark bs) x refl (λ y h. cut_from (quoting_after quoting b) mark bs y h) e
+cut_from quoting mark (b ∷ bs) x e = cut_step quoting mark b bs (is_mark quoting mark b) (split_from (quoting_after quoting b) mark bs) x refl
+    (λ y h. cut_from (quoting_after quoting b) mark bs y h) e
 
 written_cut : (mark : ℕ) (text : List ℕ) (x : List ℕ × List ℕ) → split_outside mark text ≡ Some x → IsCutAt mark text x.0 x.1
 written_cut mark text x e =
@@ -155,13 +160,15 @@ named_cut text named = ap (split_outside 58) named.whole ∙ through 58 named.sc
 named_reading : (text : List ℕ) → IsNamed text → reading_of text ≡ Err Refusal.Scheme
 unfolding reading_of
 named_reading text named =
-    let others : list_all (is_not 58) named.scheme ≡ true = Tests.others is_plain 58 refl named.scheme (passing_all is_plain named.scheme (plain_name named.scheme named.is_name)) in
+    let others : list_all (is_not 58) named.scheme ≡ true = Tests.others is_plain 58 refl named.scheme
+    (passing_all is_plain named.scheme (plain_name named.scheme named.is_name)) in
     let split : split_at_byte 58 text ≡ Some (named.scheme, named.rest) = ap (split_at_byte 58) named.whole ∙ Tests.split_again 58 named.scheme named.rest others refl in
     let scheme : scheme_of named.scheme ≡ Err Refusal.Scheme = rw (named.not_sip, named.not_sips, named.is_name) refl in
     rw (split, scheme) refl
 
 -- what stands behind the scheme is never refused as a scheme
-chain : {A : Type 0} (r : Result A UriError) (f : A → Result Uri UriError) → (r ≡ Err Refusal.Scheme → ⊥) → ((x : A) → f x ≡ Err Refusal.Scheme → ⊥) → (r >>= f) ≡ Err Refusal.Scheme → ⊥
+chain : {A : Type 0} (r : Result A UriError) (f : A → Result Uri UriError) → (r ≡ Err Refusal.Scheme → ⊥) → ((x : A) → f x ≡ Err Refusal.Scheme → ⊥)
+    → (r >>= f) ≡ Err Refusal.Scheme → ⊥
 chain (Ok x) f first never e = never x e
 chain (Err fault) f first never e =
     let same : fault ≡ Refusal.Scheme = cc in
@@ -185,24 +192,29 @@ user_never text (Some x) e = by_info (userinfo_of x.0) e
 rest_never : (scheme : Scheme) (text : List ℕ) → rest_of scheme text ≡ Err Refusal.Scheme → ⊥
 unfolding rest_of
 rest_never scheme text e =
-    chain (user_of text) _ (user_never text (split_at_byte 64 text)) (λ user. chain (ok_or (place_of (before_parameters user.1)) Refusal.Syntax) _ (syntax_or (place_of (before_parameters user.1)))
+    chain (user_of text) _ (user_never text (split_at_byte 64 text)) (λ user. chain (ok_or (place_of (before_parameters user.1)) Refusal.Syntax) _
+    (syntax_or (place_of (before_parameters user.1)))
     (λ place. chain (ok_or (parameters_behind (parameter_text_of user.1)) Refusal.Syntax) _ (syntax_or (parameters_behind (parameter_text_of user.1)))
     (λ parameters. chain (ok_or (headers_behind (header_text_of user.1)) Refusal.Syntax) _ (syntax_or (headers_behind (header_text_of user.1))) (λ headers h. cc)))) e
 
-named_if : (text name rest : List ℕ) (a b c : Bool) → text ≡ name ++ 58 ∷ rest → is_same_text name (codes "sip") ≡ a → is_same_text name (codes "sips") ≡ b → is_scheme_name name ≡ c
+named_if : (text name rest : List ℕ) (a b c : Bool) → text ≡ name ++ 58 ∷ rest → is_same_text name (codes "sip") ≡ a → is_same_text name (codes "sips") ≡ b
+    → is_scheme_name name ≡ c
     → cond a (Ok Named.Sip) (cond b (Ok Named.Sips) (cond c (Err Refusal.Scheme) (Err Refusal.Syntax))) ≡ Err Refusal.Scheme → IsNamed text
 named_if text name rest true b c whole p q r e = absurd cc
 named_if text name rest false true c whole p q r e = absurd cc
 named_if text name rest false false false whole p q r e = absurd cc
 named_if text name rest false false true whole p q r e = record { scheme = name; rest = rest; whole = whole; is_name = r; not_sip = p; not_sips = q }
 
-named_by : (text name rest : List ℕ) (r : Result Scheme UriError) → text ≡ name ++ 58 ∷ rest → scheme_of name ≡ r → (r >>= λ scheme. rest_of scheme rest) ≡ Err Refusal.Scheme → IsNamed text
+named_by : (text name rest : List ℕ) (r : Result Scheme UriError) → text ≡ name ++ 58 ∷ rest → scheme_of name ≡ r
+    → (r >>= λ scheme. rest_of scheme rest) ≡ Err Refusal.Scheme → IsNamed text
 named_by text name rest (Ok scheme) whole is e = absurd (rest_never scheme rest e)
 named_by text name rest (Err fault) whole is e =
     let same : fault ≡ Refusal.Scheme = cc in
-    named_if text name rest (is_same_text name (codes "sip")) (is_same_text name (codes "sips")) (is_scheme_name name) whole refl refl refl (is ∙ ap (λ (k : UriError). Err k) same)
+    named_if text name rest (is_same_text name (codes "sip")) (is_same_text name (codes "sips")) (is_scheme_name name) whole refl refl refl
+    (is ∙ ap (λ (k : UriError). Err k) same)
 
-named_split : (text : List ℕ) (o : Option (List ℕ × List ℕ)) → split_at_byte 58 text ≡ o → (ok_or o Refusal.Syntax >>= λ parts. scheme_of parts.0 >>= λ scheme. rest_of scheme parts.1) ≡ Err Refusal.Scheme → IsNamed text
+named_split : (text : List ℕ) (o : Option (List ℕ × List ℕ)) → split_at_byte 58 text ≡ o
+    → (ok_or o Refusal.Syntax >>= λ parts. scheme_of parts.0 >>= λ scheme. rest_of scheme parts.1) ≡ Err Refusal.Scheme → IsNamed text
 named_split text None is e = absurd cc
 named_split text (Some x) is e = named_by text x.0 x.1 (scheme_of x.0) (Tests.split_is 58 text x.0 x.1 is) refl e
 
@@ -224,17 +236,34 @@ read_uri : (text : List ℕ) (uri : AnyUri) → IsAnyUri text uri → any_uri_of
 read_uri text (Sip uri) is = ap (uri_by text) (reading_is text uri is)
 read_uri text (Other kept) is =
     let other : IsOtherUri text = is.0 in
-    let named : IsNamed text = record { scheme = other.scheme; rest = other.rest; whole = other.whole; is_name = other.is_name; not_sip = other.not_sip; not_sips = other.not_sips } in
+    let named : IsNamed text = record {
+      scheme = other.scheme;
+      rest = other.rest;
+      whole = other.whole;
+      is_name = other.is_name;
+      not_sip = other.not_sip;
+      not_sips = other.not_sips;
+    } in
     let opaque : is_opaque (split_outside 58 text) ≡ true = ap is_opaque (named_cut text named) ∙ opaque_is other.scheme other.rest other.more other.are_opaque in
     let other_is : other_of text ≡ Some (Other text) = rw opaque refl in
     ap (uri_by text) (named_reading text named) ∙ other_is ∙ ap (λ (w : List ℕ). Some (Other w)) (sym is.1)
 
-other_back : (text : List ℕ) (uri : AnyUri) (t : Bool) → IsNamed text → is_opaque (split_outside 58 text) ≡ t → cond t (Some (Other text)) None ≡ Some uri → IsAnyUri text uri
+other_back : (text : List ℕ) (uri : AnyUri) (t : Bool) → IsNamed text → is_opaque (split_outside 58 text) ≡ t → cond t (Some (Other text)) None ≡ Some uri
+    → IsAnyUri text uri
 other_back text uri false named is e = absurd cc
 other_back text uri true named is e =
     let same : Other text ≡ uri = cc in
     let opaque = opaque_back named.scheme named.rest (ap is_opaque (sym (named_cut text named)) ∙ is) in
-    let other : IsOtherUri text = record { scheme = named.scheme; rest = named.rest; whole = named.whole; is_name = named.is_name; not_sip = named.not_sip; not_sips = named.not_sips; more = opaque.0; are_opaque = opaque.1 } in
+    let other : IsOtherUri text = record {
+      scheme = named.scheme;
+      rest = named.rest;
+      whole = named.whole;
+      is_name = named.is_name;
+      not_sip = named.not_sip;
+      not_sips = named.not_sips;
+      more = opaque.0;
+      are_opaque = opaque.1;
+    } in
     subst (IsAnyUri text) same (other, refl)
 
 uri_back : (text : List ℕ) (uri : AnyUri) (r : Result Uri UriError) → reading_of text ≡ r → uri_by text r ≡ Some uri → IsAnyUri text uri
@@ -253,7 +282,8 @@ written_uri text uri e = uri_back text uri (reading_of text) refl e
 with_is : (o : Option (List Parameter)) (u : Option AnyUri) (address : NameAddr) → o ≡ Some address.parameters → u ≡ Some address.uri → with_parameters o u ≡ Some address
 with_is o u address p q = ap (λ (w : Option (List Parameter)). with_parameters w u) p ∙ ap (with_parameters (Some address.parameters)) q
 
-with_back : (o : Option (List Parameter)) (u : Option AnyUri) (address : NameAddr) → with_parameters o u ≡ Some address → (o ≡ Some address.parameters) × (u ≡ Some address.uri)
+with_back : (o : Option (List Parameter)) (u : Option AnyUri) (address : NameAddr) → with_parameters o u ≡ Some address
+    → (o ≡ Some address.parameters) × (u ≡ Some address.uri)
 with_back o None address e = absurd cc
 with_back None (Some u) address e = absurd cc
 with_back (Some ps) (Some u) address e =
@@ -289,11 +319,13 @@ read_bracketed value address is =
     let parameters : behind_bracket (parts_at 59 is.behind) ≡ Some address.parameters =
     ap behind_bracket (sym (only_parts 59 is.behind (is.gap ∷ is.texts) is.parted)) ∙ here ∙ read_parameters is.texts address.parameters is.are_parameters in
     let inside : bracketed_by (split_outside 62 is.rest) ≡ Some address =
-    ap bracketed_by (read_cut 62 is.rest is.inner is.behind is.ends) ∙ with_is (behind_bracket (parts_at 59 is.behind)) (any_uri_of (trimmed is.inner)) address parameters (read_uri (trimmed is.inner) address.uri is.is_uri) in
+    ap bracketed_by (read_cut 62 is.rest is.inner is.behind is.ends) ∙ with_is (behind_bracket (parts_at 59 is.behind)) (any_uri_of (trimmed is.inner)) address parameters
+    (read_uri (trimmed is.inner) address.uri is.is_uri) in
     ap (name_addr_by value) (read_cut 60 value is.display is.rest is.begins) ∙ rw is.is_display_name inside
 
 -- a text behind `<`, cut at its `>`
-bracketed_parts : (value : List ℕ) (address : NameAddr) (x y : List ℕ × List ℕ) (parts : List (List ℕ)) → IsCutAt 60 value x.0 x.1 → is_display x.0 ≡ true → IsCutAt 62 x.1 y.0 y.1 → IsParted 59 y.1 parts
+bracketed_parts : (value : List ℕ) (address : NameAddr) (x y : List ℕ × List ℕ) (parts : List (List ℕ)) → IsCutAt 60 value x.0 x.1 → is_display x.0 ≡ true
+    → IsCutAt 62 x.1 y.0 y.1 → IsParted 59 y.1 parts
     → with_parameters (behind_bracket parts) (any_uri_of (trimmed y.0)) ≡ Some address → IsBracketed value address
 bracketed_parts value address x y [] begins display ends parted e =
     let w = with_back None (any_uri_of (trimmed y.0)) address e in
@@ -318,13 +350,16 @@ bracketed_parts value address x y (gap ∷ texts) begins display ends parted e =
       are_parameters = written_parameters texts address.parameters kept.1;
     }
 
-bracketed_back : (value : List ℕ) (address : NameAddr) (x : List ℕ × List ℕ) (o : Option (List ℕ × List ℕ)) → IsCutAt 60 value x.0 x.1 → is_display x.0 ≡ true → split_outside 62 x.1 ≡ o
+bracketed_back : (value : List ℕ) (address : NameAddr) (x : List ℕ × List ℕ) (o : Option (List ℕ × List ℕ)) → IsCutAt 60 value x.0 x.1 → is_display x.0 ≡ true
+    → split_outside 62 x.1 ≡ o
     → bracketed_by o ≡ Some address → IsBracketed value address
 bracketed_back value address x None begins display is e = absurd cc
-bracketed_back value address x (Some y) begins display is e = bracketed_parts value address x y (parts_at 59 y.1) begins display (written_cut 62 x.1 y is) (are_parted 59 y.1) e
+bracketed_back value address x (Some y) begins display is e = bracketed_parts value address x y (parts_at 59 y.1) begins display (written_cut 62 x.1 y is)
+    (are_parted 59 y.1) e
 
 -- a value with a `<`
-written_bracketed : (value : List ℕ) (address : NameAddr) (x : List ℕ × List ℕ) → split_outside 60 value ≡ Some x → name_addr_by value (Some x) ≡ Some address → IsBracketed value address
+written_bracketed : (value : List ℕ) (address : NameAddr) (x : List ℕ × List ℕ) → split_outside 60 value ≡ Some x → name_addr_by value (Some x) ≡ Some address
+    → IsBracketed value address
 written_bracketed value address x is e =
     let kept = kept_if (is_display x.0) (bracketed_by (split_outside 62 x.1)) address e in
     bracketed_back value address x (split_outside 62 x.1) (written_cut 60 value x is) kept.0 refl kept.1
@@ -334,10 +369,12 @@ written_bracketed value address x is e =
 read_bare : (value : List ℕ) (address : NameAddr) → IsBare value address → name_addr_of value ≡ Some address
 read_bare value address is =
     let uri : with_parameters (parameters_in is.texts) (any_uri_of (trimmed is.first)) ≡ Some address =
-    with_is (parameters_in is.texts) (any_uri_of (trimmed is.first)) address (read_parameters is.texts address.parameters is.are_parameters) (read_uri (trimmed is.first) address.uri is.is_uri) in
+    with_is (parameters_in is.texts) (any_uri_of (trimmed is.first)) address (read_parameters is.texts address.parameters is.are_parameters)
+    (read_uri (trimmed is.first) address.uri is.is_uri) in
     ap (name_addr_by value) is.no_bracket ∙ ap bare_in (sym (only_parts 59 value (is.first ∷ is.texts) is.parted)) ∙ rw (bare_all is.first is.plain) uri
 
-bare_parts : (value : List ℕ) (address : NameAddr) (parts : List (List ℕ)) → split_outside 60 value ≡ None → IsParted 59 value parts → bare_in parts ≡ Some address → IsBare value address
+bare_parts : (value : List ℕ) (address : NameAddr) (parts : List (List ℕ)) → split_outside 60 value ≡ None → IsParted 59 value parts → bare_in parts ≡ Some address
+    → IsBare value address
 bare_parts value address [] bracket parted e = absurd cc
 bare_parts value address (first ∷ texts) bracket parted e =
     let kept = kept_if (list_all is_bare_byte first) (with_parameters (parameters_in texts) (any_uri_of (trimmed first))) address e in
@@ -358,7 +395,8 @@ pub read_name_addr : (value : List ℕ) (address : NameAddr) → IsNameAddr valu
 read_name_addr value address (inl is) = read_bracketed value address is
 read_name_addr value address (inr is) = read_bare value address is
 
-name_addr_back : (value : List ℕ) (address : NameAddr) (o : Option (List ℕ × List ℕ)) → split_outside 60 value ≡ o → name_addr_by value o ≡ Some address → IsNameAddr value address
+name_addr_back : (value : List ℕ) (address : NameAddr) (o : Option (List ℕ × List ℕ)) → split_outside 60 value ≡ o → name_addr_by value o ≡ Some address
+    → IsNameAddr value address
 name_addr_back value address None is e = inr (bare_parts value address (parts_at 59 value) is (are_parted 59 value) e)
 name_addr_back value address (Some x) is e = inl (written_bracketed value address x is e)
 
@@ -382,13 +420,15 @@ read_contact value (Address address) is = by_test (bytes_eq value (codes "*")) r
         absurd cc
     by_test false here = rw here (ap (option_map (λ (a : NameAddr). Address a)) (read_name_addr value address is))
 
-address_back : (value : List ℕ) (item : ContactItem) (o : Option NameAddr) → name_addr_of value ≡ o → option_map (λ address. Address address) o ≡ Some item → IsContact value item
+address_back : (value : List ℕ) (item : ContactItem) (o : Option NameAddr) → name_addr_of value ≡ o → option_map (λ address. Address address) o ≡ Some item
+    → IsContact value item
 address_back value item None is e = absurd cc
 address_back value item (Some address) is e =
     let same : Address address ≡ item = cc in
     subst (IsContact value) same (written_name_addr value address is)
 
-contact_back : (value : List ℕ) (item : ContactItem) (t : Bool) → bytes_eq value (codes "*") ≡ t → cond t (Some Star) (option_map (λ address. Address address) (name_addr_of value)) ≡ Some item → IsContact value item
+contact_back : (value : List ℕ) (item : ContactItem) (t : Bool) → bytes_eq value (codes "*") ≡ t
+    → cond t (Some Star) (option_map (λ address. Address address) (name_addr_of value)) ≡ Some item → IsContact value item
 contact_back value item true is e =
     let same : Star ≡ item = cc in
     subst (IsContact value) same ((bytes_eq-Decides value (codes "*")).0 is)
@@ -404,7 +444,8 @@ read_route value address is =
     let cut : is_some (split_outside 60 value) ≡ true = ap is_some (read_cut 60 value is.display is.rest is.begins) in
     rw cut (read_bracketed value address is)
 
-route_back : (value : List ℕ) (address : NameAddr) (o : Option (List ℕ × List ℕ)) → split_outside 60 value ≡ o → cond (is_some o) (name_addr_by value o) None ≡ Some address → IsRoute value address
+route_back : (value : List ℕ) (address : NameAddr) (o : Option (List ℕ × List ℕ)) → split_outside 60 value ≡ o
+    → cond (is_some o) (name_addr_by value o) None ≡ Some address → IsRoute value address
 route_back value address None is e = absurd cc
 route_back value address (Some x) is e = written_bracketed value address x is e
 

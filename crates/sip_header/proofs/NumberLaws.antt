@@ -77,12 +77,15 @@ written_by value cseq cut number is_number from = with_blanks cut.blanks cut.are
           is_token = ap is_token_text (sym from.method_is) ∙ from.is_token;
         }
 
-by_number : (value : List ℕ) (cseq : CSeq) (cut : IsCutText value) (o : Option ℕ) → decimal_of cut.word ≡ o → option_and_then (cseq_from cut.rest) o ≡ Some cseq → IsCSeq value cseq
+by_number : (value : List ℕ) (cseq : CSeq) (cut : IsCutText value) (o : Option ℕ) → decimal_of cut.word ≡ o → option_and_then (cseq_from cut.rest) o ≡ Some cseq
+    → IsCSeq value cseq
 by_number value cseq cut None is e = absurd cc
-by_number value cseq cut (Some number) is e = written_by value cseq cut number is (from_by cut.rest number cseq (nat_lt number (2 ^ 31)) (is_token_text cut.rest) refl refl e)
+by_number value cseq cut (Some number) is e = written_by value cseq cut number is (from_by cut.rest number cseq (nat_lt number (2 ^ 31)) (is_token_text cut.rest) refl
+    refl e)
 
 pub is_written : (value : List ℕ) (cseq : CSeq) → cseq_of value ≡ Some cseq → IsCSeq value cseq
 is_written value cseq e =
     let cut : IsCutText value = cut_text value in
     by_number value cseq cut (decimal_of cut.word) refl
-    (ap (λ (m : List ℕ). option_and_then (cseq_from m) (decimal_of cut.word)) (sym cut.is_rest) ∙ ap (λ (d : List ℕ). option_and_then (cseq_from (behind_word value)) (decimal_of d)) (sym cut.is_word) ∙ e)
+    (ap (λ (m : List ℕ). option_and_then (cseq_from m) (decimal_of cut.word)) (sym cut.is_rest)
+    ∙ ap (λ (d : List ℕ). option_and_then (cseq_from (behind_word value)) (decimal_of d)) (sym cut.is_word) ∙ e)

@@ -14,7 +14,8 @@ use Rattle.sip_header.specs.declared.via.Sender.{Sender}
 use Rattle.sip_header.specs.declared.via.Via.{Via}
 use Rattle.sip_text.specs.Cuts.{quoting_after, is_mark, split_from, split_outside, parts_at, IsParted}
 use Rattle.sip_text.specs.Splits.{in_front}
-use Rattle.sip_header.specs.Parameters.{is_value, needs_value, IsAssigned, IsParameterBy, IsParameter, bare_parameter, valued_parameter, parameter_by, parameter_in, parameters_in}
+use Rattle.sip_header.specs.Parameters.{is_value, needs_value, IsAssigned, IsParameterBy, IsParameter, bare_parameter, valued_parameter, parameter_by, parameter_in}
+use Rattle.sip_header.specs.Parameters.{parameters_in}
 use Rattle.sip_header.specs.Via.{sender_of, via_from, via_in, via_of, IsVia}
 use Rattle.sip_header.proofs.Words.{AllPassing, all_passing, all_weaker}
 use Rattle.sip_text.proofs.PartLaws.{are_parted, only_parts}
@@ -75,7 +76,8 @@ plain_text text token =
     let core : is_token_text s.core ≡ true = ap is_token_text (sym (Trims.core_is text s)) ∙ token in
     subst (AllPassing is_plain) (sym s.whole)
     (all_append is_plain (s.before ++ s.core) s.behind
-    (all_append is_plain s.before s.core (all_weaker is_blank is_plain s.before blank_plain s.blanks_before) (all_weaker is_token_byte is_plain s.core token_plain (all_passing is_token_byte s.core (token_bytes s.core core))))
+    (all_append is_plain s.before s.core (all_weaker is_blank is_plain s.before blank_plain s.blanks_before)
+    (all_weaker is_token_byte is_plain s.core token_plain (all_passing is_token_byte s.core (token_bytes s.core core))))
     (all_weaker is_blank is_plain s.behind blank_plain s.blanks_behind))
 
 -- ---- what was split makes up the text
@@ -88,7 +90,8 @@ at_mark Escaped mark b is = absurd cc
 pub record IsSplitAt (mark : ℕ) (text : List ℕ) (x : List ℕ × List ℕ) : Type 0 where
   pub whole : text ≡ x.0 ++ mark ∷ x.1
 
-split_step : (mark b : ℕ) (bs : List ℕ) (t : Bool) (o : Option (List ℕ × List ℕ)) (x : List ℕ × List ℕ) → (t ≡ true → b ≡ mark) → ((y : List ℕ × List ℕ) → o ≡ Some y → IsSplitAt mark bs y)
+split_step : (mark b : ℕ) (bs : List ℕ) (t : Bool) (o : Option (List ℕ × List ℕ)) (x : List ℕ × List ℕ) → (t ≡ true → b ≡ mark)
+    → ((y : List ℕ × List ℕ) → o ≡ Some y → IsSplitAt mark bs y)
     → cond t (Some ([], bs)) (in_front (b ∷ []) o) ≡ Some x → IsSplitAt mark (b ∷ bs) x
 split_step mark b bs true o x is rest e =
     let same : ◌≡◌ {A = List ℕ × List ℕ} ([], bs) x = cc in
@@ -101,7 +104,8 @@ split_step mark b bs false (Some y) x is rest e =
 
 pub split_back : (quoting : Quoting) (mark : ℕ) (text : List ℕ) (x : List ℕ × List ℕ) → split_from quoting mark text ≡ Some x → IsSplitAt mark text x
 split_back quoting mark [] x e = absurd cc
-split_back quoting mark (b ∷ bs) x e = split_step mark b bs (is_mark quoting mark b) (split_from (quoting_after quoting b) mark bs) x (at_mark quoting mark b) (λ y h. split_back (quoting_after quoting b) mark bs y h) e
+split_back quoting mark (b ∷ bs) x e = split_step mark b bs (is_mark quoting mark b) (split_from (quoting_after quoting b) mark bs) x (at_mark quoting mark b)
+    (λ y h. split_back (quoting_after quoting b) mark bs y h) e
 
 -- ---- one parameter
 
@@ -155,7 +159,8 @@ read_parameters (text ∷ texts) (p ∷ ps) h =
     ∙ ap (option_map (λ (others : List Parameter). p ∷ others)) (read_parameters texts ps h.1)
 
 several_back : (text : List ℕ) (texts : List (List ℕ)) (ps : List Parameter) (first : Option Parameter) (others : Option (List Parameter)) → parameter_in text ≡ first
-    → ((rest : List Parameter) → others ≡ Some rest → AllZip IsParameter texts rest) → option_and_then (λ parameter. option_map (λ xs. parameter ∷ xs) others) first ≡ Some ps → AllZip IsParameter (text ∷ texts) ps
+    → ((rest : List Parameter) → others ≡ Some rest → AllZip IsParameter texts rest) →
+    option_and_then (λ parameter. option_map (λ xs. parameter ∷ xs) others) first ≡ Some ps → AllZip IsParameter (text ∷ texts) ps
 several_back text texts ps None others is rest e = absurd cc
 several_back text texts ps (Some p) None is rest e = absurd cc
 several_back text texts ps (Some p) (Some xs) is rest e =
@@ -176,9 +181,11 @@ pub read_via : (value : List ℕ) (via : Via) → IsVia value via → via_of val
 read_via value via is =
     ap via_in (sym (only_parts 59 value (is.first ∷ is.texts) is.parted))
     ∙ ap (option_and_then (λ s. option_map (λ p. via_from s p) (parameters_in is.texts))) is.is_sender
-    ∙ ap (option_map (λ (p : List Parameter). via_from (record { transport = via.transport; host = via.host; port = via.port }) p)) (read_parameters is.texts via.parameters is.are_parameters)
+    ∙ ap (option_map (λ (p : List Parameter). via_from (record { transport = via.transport; host = via.host; port = via.port }) p))
+    (read_parameters is.texts via.parameters is.are_parameters)
 
-via_back : (value : List ℕ) (via : Via) (first : List ℕ) (texts : List (List ℕ)) (s : Option Sender) (ps : Option (List Parameter)) → IsParted 59 value (first ∷ texts) → sender_of first ≡ s → parameters_in texts ≡ ps
+via_back : (value : List ℕ) (via : Via) (first : List ℕ) (texts : List (List ℕ)) (s : Option Sender) (ps : Option (List Parameter)) → IsParted 59 value (first ∷ texts)
+    → sender_of first ≡ s → parameters_in texts ≡ ps
     → option_and_then (λ sender. option_map (λ p. via_from sender p) ps) s ≡ Some via → IsVia value via
 via_back value via first texts None ps parted is_s is_ps e = absurd cc
 via_back value via first texts (Some s) None parted is_s is_ps e = absurd cc

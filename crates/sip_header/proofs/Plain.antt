@@ -33,15 +33,18 @@ differs p m b fails passes = by_test (b == m) refl
 same_byte : (n : ℕ) → (n == n) ≡ true
 same_byte n = grind arith
 
-pub through : (p : ℕ → Bool) (mark : ℕ) (left right : List ℕ) → p mark ≡ false → p 34 ≡ false → AllPassing p left → split_from Outside mark (left ++ mark ∷ right) ≡ Some (left, right)
+pub through : (p : ℕ → Bool) (mark : ℕ) (left right : List ℕ) → p mark ≡ false → p 34 ≡ false → AllPassing p left
+    → split_from Outside mark (left ++ mark ∷ right) ≡ Some (left, right)
 through p mark [] right fails quote all = rw (same_byte mark) refl
-through p mark (b ∷ left) right fails quote all = rw (differs p mark b fails all.0, differs p 34 b quote all.0) (ap (in_front (b ∷ [])) (through p mark left right fails quote all.1))
+through p mark (b ∷ left) right fails quote all = rw (differs p mark b fails all.0, differs p 34 b quote all.0)
+    (ap (in_front (b ∷ [])) (through p mark left right fails quote all.1))
 
 nowhere : (p : ℕ → Bool) (mark : ℕ) (left : List ℕ) → p mark ≡ false → p 34 ≡ false → AllPassing p left → split_from Outside mark left ≡ None
 nowhere p mark [] fails quote all = refl
 nowhere p mark (b ∷ left) fails quote all = rw (differs p mark b fails all.0, differs p 34 b quote all.0) (ap (in_front (b ∷ [])) (nowhere p mark left fails quote all.1))
 
-pub parts_close : (p : ℕ → Bool) (front : List ℕ) (behind : Option (List ℕ)) → p 59 ≡ false → p 34 ≡ false → AllPassing p front → parts_at 59 (front ++ closing behind) ≡ front ∷ parts_behind 59 behind
+pub parts_close : (p : ℕ → Bool) (front : List ℕ) (behind : Option (List ℕ)) → p 59 ≡ false → p 34 ≡ false → AllPassing p front
+    → parts_at 59 (front ++ closing behind) ≡ front ∷ parts_behind 59 behind
 parts_close p front None fails quote all = ap (parts_at 59) (append-nil front) ∙ one_part 59 front (sym (nowhere p 59 front fails quote all))
 parts_close p front (Some rest) fails quote all = parts_split 59 (front ++ 59 ∷ rest) front rest (sym (through p 59 front rest fails quote all))
 
@@ -49,10 +52,12 @@ less_close : (front : List ℕ) (behind : Option (List ℕ)) → IsLess (front +
 less_close front None = tt
 less_close front (Some rest) = omega (arith, length-append front (59 ∷ rest))
 
-begins : (p : ℕ → Bool) (front : List ℕ) (parameter : Parameter) (behind : Option (List ℕ)) → p 59 ≡ false → p 34 ≡ false → AllPassing p front → parameter_in front ≡ Some parameter → Begins (front ++ closing behind) parameter behind
+begins : (p : ℕ → Bool) (front : List ℕ) (parameter : Parameter) (behind : Option (List ℕ)) → p 59 ≡ false → p 34 ≡ false → AllPassing p front
+    → parameter_in front ≡ Some parameter → Begins (front ++ closing behind) parameter behind
 begins p front parameter behind fails quote all is =
     record {
-      says = ap parameters_in (parts_close p front behind fails quote all) ∙ ap (option_and_then (λ first. option_map (λ others. first ∷ others) (parameters_in (parts_behind 59 behind)))) is;
+      says = ap parameters_in (parts_close p front behind fails quote all) ∙ ap (option_and_then
+          (λ first. option_map (λ others. first ∷ others) (parameters_in (parts_behind 59 behind)))) is;
       less = less_close front behind;
     }
 
@@ -109,28 +114,42 @@ marked : (name value : List ℕ) → AllPassing is_token_byte name → AllPassin
 marked [] value n v = (refl, all_weaker is_token_byte is_marked value token_marked v)
 marked (b ∷ name) value n v = (token_marked b n.0, marked name value n.1 v)
 
-name_here : (name : List ℕ) (behind : Option (List ℕ)) → is_token_text name ≡ true → needs_value name ≡ false → Begins (name ++ closing behind) (record { name = name; value = None }) behind
+name_here : (name : List ℕ) (behind : Option (List ℕ)) → is_token_text name ≡ true → needs_value name ≡ false
+    → Begins (name ++ closing behind) (record { name = name; value = None }) behind
 name_here name behind token none =
-    begins is_token_byte name (record { name = name; value = None }) behind refl refl (tokens name token) (read_parameter name (record { name = name; value = None }) (trimmed_token name token, token, none))
+    begins is_token_byte name (record { name = name; value = None }) behind refl refl (tokens name token)
+    (read_parameter name (record { name = name; value = None }) (trimmed_token name token, token, none))
 
-pub name_begins : (name rest kept : List ℕ) (behind : Option (List ℕ)) → is_token_text name ≡ true → rest ≡ closing behind → needs_value name ≡ false → kept ≡ name → Begins (name ++ rest) (record { name = kept; value = None }) behind
+pub name_begins : (name rest kept : List ℕ) (behind : Option (List ℕ)) → is_token_text name ≡ true → rest ≡ closing behind → needs_value name ≡ false → kept ≡ name
+    → Begins (name ++ rest) (record { name = kept; value = None }) behind
 name_begins name rest kept behind token closed none same = rw (closed, same) (name_here name behind token none)
 
-pub value_here : (name value : List ℕ) (behind : Option (List ℕ)) → is_token_text name ≡ true → is_token_text value ≡ true → Begins ((name ++ 61 ∷ value) ++ closing behind) (record { name = name; value = Some value }) behind
+pub value_here : (name value : List ℕ) (behind : Option (List ℕ)) → is_token_text name ≡ true → is_token_text value ≡ true
+    → Begins ((name ++ 61 ∷ value) ++ closing behind) (record { name = name; value = Some value }) behind
 value_here name value behind token is =
-    let assigned : IsAssigned (name ++ 61 ∷ value) name value = record { left = name; right = value; whole = refl; is_name = trimmed_token name token; is_value = trimmed_token value is } in
+    let assigned : IsAssigned (name ++ 61 ∷ value) name value = record {
+      left = name;
+      right = value;
+      whole = refl;
+      is_name = trimmed_token name token;
+      is_value = trimmed_token value is;
+    } in
     let fits : is_value value ≡ true = rw is refl in
     begins is_marked (name ++ 61 ∷ value) (record { name = name; value = Some value }) behind refl refl (marked name value (tokens name token) (tokens value is))
     (read_parameter (name ++ 61 ∷ value) (record { name = name; value = Some value }) (assigned, token, fits))
 
-pub value_begins : (name text value rest kept given : List ℕ) (behind : Option (List ℕ)) → is_token_text name ≡ true → value ≡ token_at text → rest ≡ behind_token text → (length value == 0) ≡ false → rest ≡ closing behind
+pub value_begins : (name text value rest kept given : List ℕ) (behind : Option (List ℕ)) → is_token_text name ≡ true → value ≡ token_at text → rest ≡ behind_token text
+    → (length value == 0) ≡ false → rest ≡ closing behind
     → kept ≡ name → given ≡ value → Begins (name ++ 61 ∷ text) (record { name = kept; value = Some given }) behind
 value_begins name text value rest kept given behind token front back some closed same is =
     let whole : text ≡ value ++ closing behind = token_whole text value rest front back ∙ ap (λ (w : List ℕ). value ++ w) closed in
-    let parts : (name ++ 61 ∷ value) ++ closing behind ≡ name ++ 61 ∷ text = append_assoc name (61 ∷ value) (closing behind) ∙ ap (λ (w : List ℕ). name ++ 61 ∷ w) (sym whole) in
-    rw (same, is) (subst (λ (w : List ℕ). Begins w (record { name = name; value = Some value }) behind) parts (value_here name value behind token (is_token_here text value front some)))
+    let parts : (name ++ 61 ∷ value) ++ closing behind ≡ name ++ 61 ∷ text = append_assoc name (61 ∷ value) (closing behind)
+    ∙ ap (λ (w : List ℕ). name ++ 61 ∷ w) (sym whole) in
+    rw (same, is) (subst (λ (w : List ℕ). Begins w (record { name = name; value = Some value }) behind) parts
+    (value_here name value behind token (is_token_here text value front some)))
 
-pub part_begins : (text part : List ℕ) (parameter : Parameter) (behind : Option (List ℕ)) → parts_at 59 text ≡ part ∷ parts_behind 59 behind → IsLess text behind → parameter_in part ≡ Some parameter → Begins text parameter behind
+pub part_begins : (text part : List ℕ) (parameter : Parameter) (behind : Option (List ℕ)) → parts_at 59 text ≡ part ∷ parts_behind 59 behind → IsLess text behind
+    → parameter_in part ≡ Some parameter → Begins text parameter behind
 part_begins text part parameter behind parted less is =
     record {
       says = ap parameters_in parted ∙ ap (option_and_then (λ first. option_map (λ others. first ∷ others) (parameters_in (parts_behind 59 behind)))) is;
@@ -146,38 +165,49 @@ some_by parameter (Some ps) = refl
 pub goes_on : (text : List ℕ) (parameter : Parameter) (behind : Option (List ℕ)) → Begins text parameter behind → GoesOn text behind
 goes_on text parameter behind b = record { says = ap is_some b.says ∙ some_by parameter (parameters_in (parts_behind 59 behind)); less = b.less }
 
-pub some_behind : (text : List ℕ) (parameter : Parameter) (behind : Option (List ℕ)) → Begins text parameter behind → is_some (parameters_in (parts_at 59 text)) ≡ true → is_some (parameters_in (parts_behind 59 behind)) ≡ true
+pub some_behind : (text : List ℕ) (parameter : Parameter) (behind : Option (List ℕ)) → Begins text parameter behind → is_some (parameters_in (parts_at 59 text)) ≡ true
+    → is_some (parameters_in (parts_behind 59 behind)) ≡ true
 some_behind text parameter behind b e = sym (goes_on text parameter behind b).says ∙ e
 
-said : (text : List ℕ) (parameter : Parameter) (behind : Option (List ℕ)) → Begins text parameter behind → is_some (parameters_in (parts_at 59 text)) ≡ true → said_in (parts_at 59 text) ≡ parameter ∷ said_in (parts_behind 59 behind)
+said : (text : List ℕ) (parameter : Parameter) (behind : Option (List ℕ)) → Begins text parameter behind → is_some (parameters_in (parts_at 59 text)) ≡ true
+    → said_in (parts_at 59 text) ≡ parameter ∷ said_in (parts_behind 59 behind)
 said text parameter behind b e =
-    let rest : parameters_in (parts_behind 59 behind) ≡ Some (said_in (parts_behind 59 behind)) = some_said (parts_behind 59 behind) (some_behind text parameter behind b e) in
-    let here : parameters_in (parts_at 59 text) ≡ Some (parameter ∷ said_in (parts_behind 59 behind)) = b.says ∙ ap (λ (o : Option (List Parameter)). option_map (λ others. parameter ∷ others) o) rest in
+    let rest : parameters_in (parts_behind 59 behind) ≡ Some (said_in (parts_behind 59 behind)) =
+    some_said (parts_behind 59 behind) (some_behind text parameter behind b e) in
+    let here : parameters_in (parts_at 59 text) ≡ Some (parameter ∷ said_in (parts_behind 59 behind)) = b.says
+    ∙ ap (λ (o : Option (List Parameter)). option_map (λ others. parameter ∷ others) o) rest in
     rw here refl
 
-pub named_here : (name text : List ℕ) (parameter : Parameter) (behind : Option (List ℕ)) → Begins text parameter behind → is_some (parameters_in (parts_at 59 text)) ≡ true → is_same_text parameter.name name ≡ true
+pub named_here : (name text : List ℕ) (parameter : Parameter) (behind : Option (List ℕ)) → Begins text parameter behind
+    → is_some (parameters_in (parts_at 59 text)) ≡ true → is_same_text parameter.name name ≡ true
     → Some parameter ≡ parameter_of name (said_in (parts_at 59 text))
 named_here name text parameter behind b e same = rw (said text parameter behind b e, same) refl
 
-pub named_later : (name text : List ℕ) (parameter : Parameter) (behind : Option (List ℕ)) → Begins text parameter behind → is_some (parameters_in (parts_at 59 text)) ≡ true → is_same_text parameter.name name ≡ false
+pub named_later : (name text : List ℕ) (parameter : Parameter) (behind : Option (List ℕ)) → Begins text parameter behind
+    → is_some (parameters_in (parts_at 59 text)) ≡ true → is_same_text parameter.name name ≡ false
     → parameter_of name (said_in (parts_at 59 text)) ≡ parameter_of name (said_in (parts_behind 59 behind))
 named_later name text parameter behind b e other = rw (said text parameter behind b e, other) refl
 
 -- ---- the first of them is of two tokens
 
-pub assigned_begins : (text name rest given value last : List ℕ) (behind : Option (List ℕ)) → name ≡ token_at text → rest ≡ behind_token text → (length name == 0) ≡ false → rest ≡ 61 ∷ given
-    → value ≡ token_at given → last ≡ behind_token given → (length value == 0) ≡ false → last ≡ closing behind → Begins text (record { name = name; value = Some value }) behind
+pub assigned_begins : (text name rest given value last : List ℕ) (behind : Option (List ℕ)) → name ≡ token_at text → rest ≡ behind_token text → (length name == 0) ≡ false
+    → rest ≡ 61 ∷ given
+    → value ≡ token_at given → last ≡ behind_token given → (length value == 0) ≡ false → last ≡ closing behind
+    → Begins text (record { name = name; value = Some value }) behind
 assigned_begins text name rest given value last behind front back some mark of_value after some_value closed =
     let token : is_token_text name ≡ true = is_token_here text name front some in
     let whole : name ++ 61 ∷ given ≡ text = sym (token_whole text name rest front back ∙ ap (λ (w : List ℕ). name ++ w) mark) in
-    subst (λ (w : List ℕ). Begins w (record { name = name; value = Some value }) behind) whole (value_begins name given value last name value behind token of_value after some_value closed refl refl)
+    subst (λ (w : List ℕ). Begins w (record { name = name; value = Some value }) behind) whole
+    (value_begins name given value last name value behind token of_value after some_value closed refl refl)
 
 none_by : {X : Type 0} (parameter : X) (o : Option (List X)) → is_some o ≡ false → None ≡ option_map (λ others. parameter ∷ others) o
 none_by parameter None e = refl
 none_by parameter (Some ps) e = absurd cc
 
-pub none_begun : (text : List ℕ) (parameter : Parameter) (behind : Option (List ℕ)) → Begins text parameter behind → is_some (parameters_in (parts_behind 59 behind)) ≡ false → None ≡ parameters_in (parts_at 59 text)
+pub none_begun : (text : List ℕ) (parameter : Parameter) (behind : Option (List ℕ)) → Begins text parameter behind
+    → is_some (parameters_in (parts_behind 59 behind)) ≡ false → None ≡ parameters_in (parts_at 59 text)
 none_begun text parameter behind b e = none_by parameter (parameters_in (parts_behind 59 behind)) e ∙ sym b.says
 
-pub begun : (text : List ℕ) (parameter : Parameter) (behind : Option (List ℕ)) → Begins text parameter behind → is_some (parameters_in (parts_behind 59 behind)) ≡ true → parameters_in (parts_at 59 text) ≡ Some (parameter ∷ said_in (parts_behind 59 behind))
+pub begun : (text : List ℕ) (parameter : Parameter) (behind : Option (List ℕ)) → Begins text parameter behind → is_some (parameters_in (parts_behind 59 behind)) ≡ true
+    → parameters_in (parts_at 59 text) ≡ Some (parameter ∷ said_in (parts_behind 59 behind))
 begun text parameter behind b e = b.says ∙ ap (λ (o : Option (List Parameter)). option_map (λ others. parameter ∷ others) o) (some_said (parts_behind 59 behind) e)

@@ -16,16 +16,19 @@ record IsSingle {X : Type 0} (absent repeated : X) (by : List ℕ → X) (whole 
   one : (value : List ℕ) → whole (value ∷ []) ≡ by value
   several : (value next : List ℕ) (others : List (List ℕ)) → whole (value ∷ next ∷ others) ≡ repeated
 
-none_there : {X : Type 0} {absent repeated : X} {by : List ℕ → X} {whole : List (List ℕ) → X} (s : IsSingle absent repeated by whole) (values : List (List ℕ)) → None ≡ first values → whole values ≡ absent
+none_there : {X : Type 0} {absent repeated : X} {by : List ℕ → X} {whole : List (List ℕ) → X} (s : IsSingle absent repeated by whole) (values : List (List ℕ))
+    → None ≡ first values → whole values ≡ absent
 none_there s [] e = s.none
 none_there s (value ∷ values) e = absurd cc
 
-several_there : {X : Type 0} {absent repeated : X} {by : List ℕ → X} {whole : List (List ℕ) → X} (s : IsSingle absent repeated by whole) (values : List (List ℕ)) → 1 < length values → whole values ≡ repeated
+several_there : {X : Type 0} {absent repeated : X} {by : List ℕ → X} {whole : List (List ℕ) → X} (s : IsSingle absent repeated by whole) (values : List (List ℕ))
+    → 1 < length values → whole values ≡ repeated
 several_there s [] lt = absurd (omega arith)
 several_there s (value ∷ []) lt = absurd (omega arith)
 several_there s (value ∷ next ∷ others) lt = s.several value next others
 
-one_there : {X : Type 0} {absent repeated : X} {by : List ℕ → X} {whole : List (List ℕ) → X} (s : IsSingle absent repeated by whole) (value : List ℕ) (values : List (List ℕ))
+one_there : {X : Type 0} {absent repeated : X} {by : List ℕ → X} {whole : List (List ℕ) → X} (s : IsSingle absent repeated by whole) (value : List ℕ)
+    (values : List (List ℕ))
     → Some value ≡ first values → length values ≤ 1 → whole values ≡ by value
 one_there s value [] e le = absurd cc
 one_there s value (v ∷ []) e le =
@@ -44,7 +47,8 @@ no_expires fields e = none_there expires_single (values_of Name.Expires fields) 
 pub some_expires : (fields : List Field) → 1 < length (values_of Name.Expires fields) → expires_of fields ≡ Expires.Malformed
 some_expires fields lt = several_there expires_single (values_of Name.Expires fields) lt
 
-pub one_expires : (value : List ℕ) (fields : List Field) → Some value ≡ first_value Name.Expires fields → length (values_of Name.Expires fields) ≤ 1 → expires_of fields ≡ expires_from (seconds_of value)
+pub one_expires : (value : List ℕ) (fields : List Field) → Some value ≡ first_value Name.Expires fields → length (values_of Name.Expires fields) ≤ 1
+    → expires_of fields ≡ expires_from (seconds_of value)
 one_expires value fields e le = one_there expires_single value (values_of Name.Expires fields) (e ∙ first_is Name.Expires fields) le
 
 -- ---- Max-Forwards
@@ -58,5 +62,6 @@ no_hops fields e = none_there hops_single (values_of Name.MaxForwards fields) (e
 pub some_hops : (fields : List Field) → 1 < length (values_of Name.MaxForwards fields) → max_forwards_of fields ≡ MaxForwards.Malformed
 some_hops fields lt = several_there hops_single (values_of Name.MaxForwards fields) lt
 
-pub one_hops : (value : List ℕ) (fields : List Field) → Some value ≡ first_value Name.MaxForwards fields → length (values_of Name.MaxForwards fields) ≤ 1 → max_forwards_of fields ≡ hops_from (decimal_of value)
+pub one_hops : (value : List ℕ) (fields : List Field) → Some value ≡ first_value Name.MaxForwards fields → length (values_of Name.MaxForwards fields) ≤ 1
+    → max_forwards_of fields ≡ hops_from (decimal_of value)
 one_hops value fields e le = one_there hops_single value (values_of Name.MaxForwards fields) (e ∙ first_is Name.MaxForwards fields) le

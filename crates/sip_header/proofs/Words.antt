@@ -76,7 +76,8 @@ pub number_is_full : (digits : List ℕ) (n : ℕ) → decimal_of digits ≡ Som
 number_is_full [] n e = tt
 number_is_full (d ∷ ds) n e =
     all_weaker is_ascii_digit is_full (d ∷ ds) digit_is_full
-    (all_passing is_ascii_digit (d ∷ ds) (and_both (list_all is_ascii_digit (d ∷ ds)) (nat_lt (digits_value 10 (d ∷ ds)) (2 ^ 64)) (if_some (list_all is_ascii_digit (d ∷ ds) && nat_lt (digits_value 10 (d ∷ ds)) (2 ^ 64)) _ n e)).0)
+    (all_passing is_ascii_digit (d ∷ ds) (and_both (list_all is_ascii_digit (d ∷ ds)) (nat_lt (digits_value 10 (d ∷ ds)) (2 ^ 64))
+    (if_some (list_all is_ascii_digit (d ∷ ds) && nat_lt (digits_value 10 (d ∷ ds)) (2 ^ 64)) _ n e)).0)
 
 pub not_blank : (b : ℕ) → is_full b ≡ true → is_blank b ≡ false
 not_blank b e = by_test (is_blank b) e
@@ -84,13 +85,6 @@ not_blank b e = by_test (is_blank b) e
     by_test : (t : Bool) → not t ≡ true → t ≡ false
     by_test true e = absurd cc
     by_test false e = refl
-
-pub is_a_blank : (b : ℕ) → is_full b ≡ false → is_blank b ≡ true
-is_a_blank b e = by_test (is_blank b) e
-  where
-    by_test : (t : Bool) → not t ≡ false → t ≡ true
-    by_test true e = refl
-    by_test false e = absurd cc
 
 pub blank_not_full : (b : ℕ) → is_blank b ≡ true → is_full b ≡ false
 blank_not_full b e = rw e refl
@@ -117,7 +111,8 @@ pub record IsWordCut (text word rest : List ℕ) : Type 0 where
   pub is_word : word_at text ≡ word
   pub is_rest : behind_word text ≡ rest
 
-pub word_cut : (word : List ℕ) (blank : ℕ) (blanks rest : List ℕ) → AllPassing is_full word → AllPassing is_blank (blank ∷ blanks) → Stops is_blank rest → IsWordCut (word ++ ((blank ∷ blanks) ++ rest)) word rest
+pub word_cut : (word : List ℕ) (blank : ℕ) (blanks rest : List ℕ) → AllPassing is_full word → AllPassing is_blank (blank ∷ blanks) → Stops is_blank rest
+    → IsWordCut (word ++ ((blank ∷ blanks) ++ rest)) word rest
 word_cut word blank blanks rest full are_blank stops =
     let next : Stops is_full ((blank ∷ blanks) ++ rest) = blank_not_full blank are_blank.0 in
     record {

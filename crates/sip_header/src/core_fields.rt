@@ -1,6 +1,5 @@
 //! From, To, Call-ID and CSeq of a message read together, each of which stands once (RFC 3261 8.1.1).
 //! Via and Max-Forwards, which a request needs too, are read apart.
-ghost use Rattle.std.specs.Prelude.{◌≡◌};
 ghost use Rattle.sip_header.specs.CoreFields.{Gives, core_in, core_of};
 ghost use Rattle.sip_header.specs.Found.{value_in, address_in, call_id_found, cseq_found};
 

@@ -1,4 +1,4 @@
-ghost use Rattle.std.specs.Prelude.{◌≡◌, ℕ};
+ghost use Rattle.std.specs.Prelude.{◌≡◌};
 ghost use Rattle.sip_header.specs.declared.error.HeaderError.TheVariants.{NoMemory};
 
 use sip_message_fields::FieldName;

@@ -1,6 +1,6 @@
 //! Values that hold an address (RFC 3261 20.10), as those of From, To and Contact: a URI, in brackets or without, and parameters.
 //! `written_address` reads the plainest of them without making a URI.
-ghost use Rattle.std.specs.Prelude.{◌≡◌, IfOk, option_map, if◌then◌else◌, Some, None};
+ghost use Rattle.std.specs.Prelude.{◌≡◌, IfOk, if◌then◌else◌, Some, None};
 ghost use Rattle.std.specs.List.{list_all};
 ghost use Rattle.sip_text.specs.Cuts.{parts_at, split_outside};
 ghost use Rattle.sip_header.specs.NameAddr.{is_opaque_byte, is_opaque, other_of, with_parameters, is_bare_byte, bare_in};
@@ -23,18 +23,7 @@ pub enum AnyUri<'a> {
 }
 
 impl<'a> AnyUri<'a> {
-    ghost use Rattle.sip_header.specs.NameAddr.{sip_uri};
     ghost use Rattle.sip_header.specs.Route.{uri_text};
-
-    /// The SIP or SIPS URI that it is, if it is one. Takes no memory.
-    pub fn sip_uri(&self) -> Option<&Uri>
-        ensures { option_map (λ uri. uri.now) result ≡ sip_uri self.now }
-    {
-        match self {
-            AnyUri::Sip(uri) => Some(uri),
-            AnyUri::Other(_) => None,
-        }
-    }
 
     /// Its text: of a SIP or SIPS URI the written form, of another the bytes that were read. `AllocError` is the
     /// only refusal.

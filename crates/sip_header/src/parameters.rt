@@ -3,7 +3,6 @@ ghost use Rattle.std.specs.Prelude.{◌≡◌, ◌++◌, ◌∷◌, true, false,
 ghost use Rattle.std.specs.Str.{byte};
 ghost use Rattle.sip_text.specs.Words.{is_token_text};
 ghost use Rattle.sip_text.specs.Cuts.{parts_at, parts_behind};
-ghost use Rattle.sip_text.specs.Escapes.{unquoted};
 ghost use Rattle.sip_header.specs.Parameters.{is_value, needs_value, bare_parameter, valued_parameter, parameter_in, parameters_in};
 ghost use Rattle.sip_header.specs.Parameters.{said_in, closing, Begins, GoesOn, parameter_of, value_of, tag_of, branch_of};
 

@@ -10,7 +10,8 @@ use Rattle.sip_header_credentials.specs.declared.credentials.Item.{Item}
 use Rattle.sip_header_credentials.specs.declared.credentials.Credentials.{Credentials}
 use Rattle.sip_text.specs.declared.cuts.Quoting.TheVariants.{Outside}
 use Rattle.sip_text.specs.Cuts.{split_outside, parts_at, IsParted, is_full, word_at, behind_word, IsWordAndRest}
-use Rattle.sip_header_credentials.specs.Credentials.{value_said, IsItem, item_from, item_by, item_in, items_in, names_differ, credentials_from, from_items, credentials_of, IsCredentials}
+use Rattle.sip_header_credentials.specs.Credentials.{value_said, IsItem, item_from, item_by, item_in, items_in, names_differ, credentials_from, from_items}
+use Rattle.sip_header_credentials.specs.Credentials.{credentials_of, IsCredentials}
 use Rattle.sip_header.proofs.Words.{AllPassing, Stops, behind_is, while_is, IsCutText, cut_text, blank_not_full}
 use Rattle.sip_text.proofs.PartLaws.{are_parted, only_parts}
 use Rattle.sip_header.proofs.ParameterLaws.{through, plain_text, IsSplitAt, split_back}
@@ -49,7 +50,8 @@ read_item text item is =
     let from : item_from item.name (trimmed is.right) ≡ Some item = rw (is.is_token, is.is_value) refl in
     ap item_by split ∙ ap (λ (n : List ℕ). item_from n (trimmed is.right)) is.is_name ∙ from
 
-item_back : (text : List ℕ) (x : List ℕ × List ℕ) (item : Item) (a : Bool) (o : Option (List ℕ)) → IsSplitAt 61 text x → is_token_text (trimmed x.0) ≡ a → value_said (trimmed x.1) ≡ o
+item_back : (text : List ℕ) (x : List ℕ × List ℕ) (item : Item) (a : Bool) (o : Option (List ℕ)) → IsSplitAt 61 text x → is_token_text (trimmed x.0) ≡ a
+    → value_said (trimmed x.1) ≡ o
     → cond a (option_map (λ value. record { name = trimmed x.0; value = value }) o) None ≡ Some item → IsItem text item
 item_back text x item false o split token said e = absurd cc
 item_back text x item true None split token said e = absurd cc
@@ -70,7 +72,8 @@ read_items (text ∷ texts) (item ∷ items) h =
     ∙ ap (option_map (λ (others : List Item). item ∷ others)) (read_items texts items h.1)
 
 several_back : (text : List ℕ) (texts : List (List ℕ)) (items : List Item) (first : Option Item) (others : Option (List Item)) → item_in text ≡ first
-    → ((rest : List Item) → others ≡ Some rest → AllZip IsItem texts rest) → option_and_then (λ i. option_map (λ xs. i ∷ xs) others) first ≡ Some items → AllZip IsItem (text ∷ texts) items
+    → ((rest : List Item) → others ≡ Some rest → AllZip IsItem texts rest) → option_and_then (λ i. option_map (λ xs. i ∷ xs) others) first ≡ Some items
+    → AllZip IsItem (text ∷ texts) items
 several_back text texts items None others is rest e = absurd cc
 several_back text texts items (Some i) None is rest e = absurd cc
 several_back text texts items (Some i) (Some xs) is rest e =
@@ -91,13 +94,16 @@ pub read_credentials : (value : List ℕ) (credentials : Credentials) → IsCred
 read_credentials value credentials is =
     let word : word_at value ≡ is.scheme = word_is value is.scheme is.rest is.is_cut in
     let digest : is_same_text (word_at value) (codes "Digest") ≡ true = ap (λ (w : List ℕ). is_same_text w (codes "Digest")) word ∙ is.is_digest in
-    let texts : parts_at 44 (behind_word value) ≡ is.texts = ap (parts_at 44) (rest_is value is.scheme is.rest is.is_cut) ∙ sym (only_parts 44 is.rest is.texts is.parted) in
+    let texts : parts_at 44 (behind_word value) ≡ is.texts = ap (parts_at 44) (rest_is value is.scheme is.rest is.is_cut) ∙ sym (only_parts 44 is.rest is.texts is.parted)
+    in
     let from : from_items is.items ≡ Some (credentials_from is.items) = rw is.differ refl in
     let whole : option_and_then from_items (items_in (parts_at 44 (behind_word value))) ≡ Some credentials =
-    ap (λ (ts : List (List ℕ)). option_and_then from_items (items_in ts)) texts ∙ ap (option_and_then from_items) (read_items is.texts is.items is.are_items) ∙ from ∙ ap (λ (c : Credentials). Some c) is.are_said in
+    ap (λ (ts : List (List ℕ)). option_and_then from_items (items_in ts)) texts ∙ ap (option_and_then from_items) (read_items is.texts is.items is.are_items) ∙ from
+    ∙ ap (λ (c : Credentials). Some c) is.are_said in
     rw digest whole
 
-items_back : (value : List ℕ) (credentials : Credentials) (cut : IsWordAndRest value (word_at value) (behind_word value)) (texts : List (List ℕ)) (o : Option (List Item)) (a : Bool) → is_same_text (word_at value) (codes "Digest") ≡ a
+items_back : (value : List ℕ) (credentials : Credentials) (cut : IsWordAndRest value (word_at value) (behind_word value)) (texts : List (List ℕ)) (o : Option (List Item))
+    (a : Bool) → is_same_text (word_at value) (codes "Digest") ≡ a
     → IsParted 44 (behind_word value) texts → items_in texts ≡ o → cond a (option_and_then from_items o) None ≡ Some credentials → IsCredentials value credentials
 items_back value credentials cut texts o false digest parted is e = absurd cc
 items_back value credentials cut texts None true digest parted is e = absurd cc
@@ -107,7 +113,18 @@ items_back value credentials cut texts (Some items) true digest parted is e = di
     differ_by false differ e = absurd cc
     differ_by true differ e =
         let same : credentials_from items ≡ credentials = cc in
-        record { scheme = word_at value; rest = behind_word value; texts = texts; items = items; is_cut = cut; is_digest = digest; parted = parted; are_items = written_items texts items is; differ = differ; are_said = same }
+        record {
+          scheme = word_at value;
+          rest = behind_word value;
+          texts = texts;
+          items = items;
+          is_cut = cut;
+          is_digest = digest;
+          parted = parted;
+          are_items = written_items texts items is;
+          differ = differ;
+          are_said = same;
+        }
 
 -- behind a word alone stands no item
 no_rest : (value : List ℕ) (cut : IsCutText value) → cut.blanks ≡ [] → cut.rest ≡ []
@@ -126,13 +143,15 @@ no_rest value cut none = by_rest cut.rest refl
             clash : is_full b ≡ true → is_full b ≡ false → ⊥
             clash t f = cc
 
-word_cut_of : (value : List ℕ) (cut : IsCutText value) (blanks : List ℕ) → cut.blanks ≡ blanks → (blanks ≡ [] → ⊥) → IsWordAndRest value (word_at value) (behind_word value)
+word_cut_of : (value : List ℕ) (cut : IsCutText value) (blanks : List ℕ) → cut.blanks ≡ blanks → (blanks ≡ [] → ⊥)
+    → IsWordAndRest value (word_at value) (behind_word value)
 word_cut_of value cut [] is some = absurd (some refl)
 word_cut_of value cut (b ∷ bs) is some =
     record {
       blank = b;
       blanks = bs;
-      whole = cut.whole ∙ ap (λ (w : List ℕ). cut.word ++ (w ++ cut.rest)) is ∙ ap (λ (w : List ℕ). w ++ ((b ∷ bs) ++ cut.rest)) (sym cut.is_word) ∙ ap (λ (w : List ℕ). word_at value ++ ((b ∷ bs) ++ w)) (sym cut.is_rest);
+      whole = cut.whole ∙ ap (λ (w : List ℕ). cut.word ++ (w ++ cut.rest)) is ∙ ap (λ (w : List ℕ). w ++ ((b ∷ bs) ++ cut.rest)) (sym cut.is_word)
+          ∙ ap (λ (w : List ℕ). word_at value ++ ((b ∷ bs) ++ w)) (sym cut.is_rest);
       is_word = subst (AllPassing is_full) (sym cut.is_word) cut.full;
       are_blank = subst (AllPassing is_blank) is cut.are_blank;
       is_rest = subst (λ (w : List ℕ). front_trimmed w ≡ w) (sym cut.is_rest) (front_again cut.rest cut.stops);
@@ -148,7 +167,8 @@ written_credentials value credentials e = by_blanks (cut_text value)
   where
     by_blanks : IsCutText value → IsCredentials value credentials
     by_blanks cut =
-        items_back value credentials (word_cut_of value cut cut.blanks refl some) (parts_at 44 (behind_word value)) (items_in (parts_at 44 (behind_word value))) (is_same_text (word_at value) (codes "Digest")) refl (are_parted 44 (behind_word value)) refl e
+        items_back value credentials (word_cut_of value cut cut.blanks refl some) (parts_at 44 (behind_word value)) (items_in (parts_at 44 (behind_word value)))
+        (is_same_text (word_at value) (codes "Digest")) refl (are_parted 44 (behind_word value)) refl e
       where
         some : cut.blanks ≡ [] → ⊥
         some none =

@@ -1,5 +1,6 @@
 -- An item in its usual form is read in one pass.
-use Rattle.std.proofs.Common.{◌≡◌, ℕ, zero, suc, ◌+◌, ◌≤◌, Bool, true, false, cond, List, [], ◌∷◌, ◌++◌, length, take, drop, Option, Some, None, refl, sym, ap, ◌∙◌, arith, append_assoc, length-append}
+use Rattle.std.proofs.Common.{◌≡◌, ℕ, zero, suc, ◌+◌, ◌≤◌, Bool, true, false, cond, List, [], ◌∷◌, ◌++◌, length, take, drop, Option, Some, None, refl, sym, ap, ◌∙◌}
+use Rattle.std.proofs.Common.{arith, append_assoc, length-append}
 use Rattle.std.specs.Prelude.{option_map, ◌==◌, ◌&&◌, not}
 use Rattle.std.specs.Option.{option_and_then}
 use Rattle.std.proofs.lemmas.List.{append-nil}
@@ -23,7 +24,8 @@ use Rattle.sip_header_credentials.proofs.CredentialLaws.{read_item}
 
 -- ---- a text cut at the first of a byte
 
-split_step : (mark b : ℕ) (bs front rest : List ℕ) (t : Bool) (o : Option (List ℕ × List ℕ)) → (b == mark) ≡ t → split_at_byte mark bs ≡ o → ((f r : List ℕ) → o ≡ Some (f, r) → bs ≡ f ++ mark ∷ r)
+split_step : (mark b : ℕ) (bs front rest : List ℕ) (t : Bool) (o : Option (List ℕ × List ℕ)) → (b == mark) ≡ t → split_at_byte mark bs ≡ o
+    → ((f r : List ℕ) → o ≡ Some (f, r) → bs ≡ f ++ mark ∷ r)
     → cond t (Some ([], bs)) (in_front (b ∷ []) o) ≡ Some (front, rest) → b ∷ bs ≡ front ++ mark ∷ rest
 split_step mark b bs front rest true o same is before e =
     let pair : ◌≡◌ {A = List ℕ × List ℕ} ([], bs) (front, rest) = cc in
@@ -85,19 +87,23 @@ module _ (left text written said : List ℕ) (rest : Option (List ℕ)) (cut : p
     (is_said : value_said (trimmed written) ≡ Some said) (token : is_token_text (trimmed left) ≡ true) where
   item_parts : parts_at 44 (left ++ 61 ∷ text) ≡ (left ++ 61 ∷ written) ∷ parts_behind 44 rest
   item_parts =
-      let value : parts_at 44 text ≡ written ∷ parts_behind 44 rest = cut ∙ ap (onto written) (parts_end rest) ∙ ap (λ (w : List ℕ). w ∷ parts_behind 44 rest) (append-nil written) in
+      let value : parts_at 44 text ≡ written ∷ parts_behind 44 rest = cut ∙ ap (onto written) (parts_end rest)
+      ∙ ap (λ (w : List ℕ). w ∷ parts_behind 44 rest) (append-nil written) in
       let equals : parts_at 44 (61 ∷ text) ≡ onto (61 ∷ []) (parts_at 44 text) = refl in
       parts_plain left (61 ∷ text) (plain_text left token) ∙ ap (onto left) (equals ∙ ap (onto (61 ∷ [])) value)
 
-  item_first : items_in (parts_at 44 (left ++ 61 ∷ text)) ≡ option_map (λ (others : List Item). record { name = trimmed left; value = said } ∷ others) (items_in (parts_behind 44 rest))
+  item_first : items_in (parts_at 44 (left ++ 61 ∷ text)) ≡ option_map (λ (others : List Item). record { name = trimmed left; value = said } ∷ others)
+      (items_in (parts_behind 44 rest))
   item_first =
       let item : item_in (left ++ 61 ∷ written) ≡ Some (record { name = trimmed left; value = said }) =
-      read_item (left ++ 61 ∷ written) (record { name = trimmed left; value = said }) (record { left = left; right = written; whole = refl; is_name = refl; is_token = token; is_value = is_said }) in
+      read_item (left ++ 61 ∷ written) (record { name = trimmed left; value = said })
+      (record { left = left; right = written; whole = refl; is_name = refl; is_token = token; is_value = is_said }) in
       ap items_in item_parts ∙ ap (λ (o : Option Item). option_and_then (λ i. option_map (λ others. i ∷ others) (items_in (parts_behind 44 rest))) o) item
 
 -- ---- a token
 
-pub token_first : (text written said : List ℕ) (rest : Option (List ℕ)) → text ≡ written ++ comma_and rest → said ≡ trimmed written → is_token_text said ≡ true → IsValueFirst text said rest
+pub token_first : (text written said : List ℕ) (rest : Option (List ℕ)) → text ≡ written ++ comma_and rest → said ≡ trimmed written → is_token_text said ≡ true
+    → IsValueFirst text said rest
 token_first text written said rest whole is token =
     let trim : is_token_text (trimmed written) ≡ true = ap is_token_text (sym is) ∙ token in
     let cut : parts_at 44 text ≡ onto written (parts_at 44 (comma_and rest)) = ap (parts_at 44) whole ∙ parts_plain written (comma_and rest) (plain_text written trim) in
@@ -131,7 +137,8 @@ module _ (tail : List ℕ) where
     pub parts : parts_from Inside 44 xs ≡ onto (front_of xs ++ 34 ∷ []) (parts_at 44 tail)
     pub says : inside_quotes (front_of xs ++ 34 ∷ []) ≡ Some (front_of xs)
 
-  quoted_by : (b : ℕ) (xs : List ℕ) (t : Bool) → stands_for_itself b ≡ t → (drop (length (plain_front xs)) xs ≡ 34 ∷ tail → IsQuotedFirst xs) → drop (length (plain_front (b ∷ xs))) (b ∷ xs) ≡ 34 ∷ tail → IsQuotedFirst (b ∷ xs)
+  quoted_by : (b : ℕ) (xs : List ℕ) (t : Bool) → stands_for_itself b ≡ t → (drop (length (plain_front xs)) xs ≡ 34 ∷ tail → IsQuotedFirst xs)
+      → drop (length (plain_front (b ∷ xs))) (b ∷ xs) ≡ 34 ∷ tail → IsQuotedFirst (b ∷ xs)
   quoted_by b xs true is before e =
       let front : plain_front (b ∷ xs) ≡ b ∷ plain_front xs = quote_unfolds b xs true is in
       let taken : front_of (b ∷ xs) ≡ b ∷ front_of xs = ap (λ (w : List ℕ). take (length w) (b ∷ xs)) front in
@@ -139,7 +146,8 @@ module _ (tail : List ℕ) where
       let h : IsQuotedFirst xs = before left in
       let n : ((b == 34) ≡ false) × ((b == 92) ≡ false) = not_quote (b == 34) (b == 92) is in
       let one : parts_from Inside 44 (b ∷ xs) ≡ onto (b ∷ []) (parts_from Inside 44 xs) = rw (n.0, n.1) refl in
-      let parts : parts_from Inside 44 (b ∷ xs) ≡ onto (b ∷ (front_of xs ++ 34 ∷ [])) (parts_at 44 tail) = one ∙ ap (onto (b ∷ [])) h.parts ∙ onto_twice (b ∷ []) (front_of xs ++ 34 ∷ []) (parts_at 44 tail) in
+      let parts : parts_from Inside 44 (b ∷ xs) ≡ onto (b ∷ (front_of xs ++ 34 ∷ [])) (parts_at 44 tail) = one ∙ ap (onto (b ∷ [])) h.parts
+      ∙ onto_twice (b ∷ []) (front_of xs ++ 34 ∷ []) (parts_at 44 tail) in
       let says : inside_quotes (b ∷ (front_of xs ++ 34 ∷ [])) ≡ Some (b ∷ front_of xs) = said_more b (front_of xs ++ 34 ∷ []) (front_of xs) is h.says in
       record {
         parts = parts ∙ ap (λ (w : List ℕ). onto (w ++ 34 ∷ []) (parts_at 44 tail)) (sym taken);
@@ -164,20 +172,25 @@ ends_so [] = refl
 ends_so (c ∷ []) = refl
 ends_so (c ∷ d ∷ xs) = ends_so (d ∷ xs)
 
-pub quoted_first : (text inside tail said : List ℕ) (rest : Option (List ℕ)) → text ≡ 34 ∷ inside → said ≡ take (length (plain_front inside)) inside → drop (length (plain_front inside)) inside ≡ 34 ∷ tail → tail ≡ comma_and rest → IsValueFirst text said rest
+pub quoted_first : (text inside tail said : List ℕ) (rest : Option (List ℕ)) → text ≡ 34 ∷ inside → said ≡ take (length (plain_front inside)) inside
+    → drop (length (plain_front inside)) inside ≡ 34 ∷ tail → tail ≡ comma_and rest → IsValueFirst text said rest
 quoted_first text inside tail said rest whole is behind ends =
     let h : IsQuotedFirst tail inside = quoted_is tail inside behind in
     let front : List ℕ = take (length (plain_front inside)) inside in
     let written : List ℕ = 34 ∷ (front ++ 34 ∷ []) in
     let equals : parts_at 44 (34 ∷ inside) ≡ onto (34 ∷ []) (parts_from Inside 44 inside) = refl in
     let cut : parts_at 44 text ≡ onto written (parts_at 44 (comma_and rest)) =
-    ap (parts_at 44) whole ∙ equals ∙ ap (onto (34 ∷ [])) h.parts ∙ onto_twice (34 ∷ []) (front ++ 34 ∷ []) (parts_at 44 tail) ∙ ap (λ (w : List ℕ). onto written (parts_at 44 w)) ends in
+    ap (parts_at 44) whole ∙ equals ∙ ap (onto (34 ∷ [])) h.parts ∙ onto_twice (34 ∷ []) (front ++ 34 ∷ []) (parts_at 44 tail)
+    ∙ ap (λ (w : List ℕ). onto written (parts_at 44 w)) ends in
     let trim : trimmed written ≡ written = Trims.tight_again written (refl, ends_so (34 ∷ front)) in
     let says : value_said written ≡ Some front = h.says in
     let said_is : value_said (trimmed written) ≡ Some said = ap value_said trim ∙ says ∙ ap (λ (w : List ℕ). Some w) (sym is) in
     let size : length text ≡ suc (length inside) = ap length whole in
     let size_behind : length (drop (length (plain_front inside)) inside) ≡ suc (length (comma_and rest)) = ap length behind ∙ ap (λ (w : List ℕ). suc (length w)) ends in
-    record { items = λ left is_name. item_first left text written said rest cut said_is is_name; shorter = omega (arith, size, size_behind, fewer inside (length (plain_front inside))) }
+    record {
+      items = λ left is_name. item_first left text written said rest cut said_is is_name;
+      shorter = omega (arith, size, size_behind, fewer inside (length (plain_front inside)));
+    }
   where
     fewer : (xs : List ℕ) (n : ℕ) → length (drop n xs) ≤ length xs
     fewer xs zero = omega arith
@@ -194,7 +207,8 @@ tight_token : (bytes : List ℕ) → AllPassing is_token_byte bytes → Trims.Is
 tight_token [] all = tt
 tight_token (b ∷ bs) all = (token_not_blank b all.0, ends_token b bs all)
 
-pub name_first : (text inner name rest right : List ℕ) → inner ≡ front_trimmed text → name ≡ token_at inner → rest ≡ behind_token inner → (length name == 0) ≡ false → rest ≡ 61 ∷ right → IsNameFirst text name right
+pub name_first : (text inner name rest right : List ℕ) → inner ≡ front_trimmed text → name ≡ token_at inner → rest ≡ behind_token inner → (length name == 0) ≡ false
+    → rest ≡ 61 ∷ right → IsNameFirst text name right
 name_first text inner name rest right trim front back some mark =
     let s : IsSplit is_blank text = split_of is_blank text in
     let token : is_token_text name ≡ true = is_token_here inner name front some in
@@ -214,7 +228,8 @@ usual_first text right name said rest item n value made =
     ∙ ap (λ (m : List ℕ). option_map (λ (others : List Item). record { name = m; value = said } ∷ others) (items_in (parts_behind 44 rest))) n.is_name
     ∙ ap (λ (i : Item). option_map (λ (others : List Item). i ∷ others) (items_in (parts_behind 44 rest))) (sym made)
 
-pub usual_shorter : (text right name said : List ℕ) (rest : Option (List ℕ)) → IsNameFirst text name right → IsValueFirst right said rest → length (comma_and rest) ≤ length text
+pub usual_shorter : (text right name said : List ℕ) (rest : Option (List ℕ)) → IsNameFirst text name right → IsValueFirst right said rest
+    → length (comma_and rest) ≤ length text
 usual_shorter text right name said rest n value =
     let size : length text ≡ length n.left + length (61 ∷ right) = ap length n.whole ∙ length-append n.left (61 ∷ right) in
     omega (arith, size, value.shorter)
@@ -222,6 +237,7 @@ usual_shorter text right name said rest n value =
 -- ---- one item more
 
 pub goes_on : (items : List Item) (item : Item) (text : List ℕ) (rest : Option (List ℕ)) (total : Option (List Item))
-    → items_in (parts_at 44 text) ≡ option_map (λ (others : List Item). item ∷ others) (items_in (parts_behind 44 rest)) → behind items (items_in (parts_at 44 text)) ≡ total
+    → items_in (parts_at 44 text) ≡ option_map (λ (others : List Item). item ∷ others) (items_in (parts_behind 44 rest))
+    → behind items (items_in (parts_at 44 text)) ≡ total
     → behind (items ++ item ∷ []) (items_in (parts_behind 44 rest)) ≡ total
 goes_on items item text rest total is so_far = behind_more items item (items_in (parts_behind 44 rest)) ∙ ap (behind items) (sym is) ∙ so_far

@@ -39,7 +39,8 @@ filter-none p (x ∷ xs) h = rw h.0 (filter-none p xs h.1)
 pub filter-wider : {X : Type 0} (p q : X → Bool) (xs : List X) → ((x : X) → p x ≡ true → q x ≡ true) → filter p (filter q xs) ≡ filter p xs
 filter-wider p q [] wider = refl
 filter-wider p q (x ∷ xs) wider = by_test (p x) (q x) refl (wider x) (filter-wider p q xs wider) where
-  by_test : (passes kept : Bool) → p x ≡ passes → (passes ≡ true → kept ≡ true) → filter p (filter q xs) ≡ filter p xs → filter p (cond kept (x ∷ filter q xs) (filter q xs)) ≡ cond passes (x ∷ filter p xs) (filter p xs)
+  by_test : (passes kept : Bool) → p x ≡ passes → (passes ≡ true → kept ≡ true) → filter p (filter q xs) ≡ filter p xs
+      → filter p (cond kept (x ∷ filter q xs) (filter q xs)) ≡ cond passes (x ∷ filter p xs) (filter p xs)
   by_test true true is h e = rw is (ap (λ ys. x ∷ ys) e)
   by_test true false is h e = let bad = h refl in absurd (cc)
   by_test false true is h e = rw is e

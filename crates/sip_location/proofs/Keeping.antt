@@ -31,13 +31,15 @@ none_of aor key (k ∷ ks) other = rw (other, none_of aor key ks other) refl
 -- its live bindings are those that are live
 pub live_of_kept : (aor : Aor) (now : ℕ) (kept : List KeptBinding) → filter (is_live now) (bindings_of aor kept) ≡ live aor now (bindings_of aor kept)
 live_of_kept aor now [] = refl
-live_of_kept aor now (k ∷ ks) = rw (same_itself aor) (ap (λ (rest : List Binding). cond (nat_lt now k.expires_at) (binding_of aor k ∷ rest) rest) (live_of_kept aor now ks))
+live_of_kept aor now (k ∷ ks) = rw (same_itself aor) (ap (λ (rest : List Binding). cond (nat_lt now k.expires_at) (binding_of aor k ∷ rest) rest)
+    (live_of_kept aor now ks))
 
 -- as many as are live of what is kept
 pub as_many : (aor : Aor) (now : ℕ) (kept : List KeptBinding) → length (filter (λ k. nat_lt now k.expires_at) kept) ≡ length (filter (is_live now) (bindings_of aor kept))
 as_many aor now [] = refl
 as_many aor now (k ∷ ks) = by_test (nat_lt now k.expires_at) (as_many aor now ks) where
   by_test : (t : Bool) → length (filter (λ j. nat_lt now j.expires_at) ks) ≡ length (filter (is_live now) (bindings_of aor ks))
-      → length (cond t (k ∷ filter (λ j. nat_lt now j.expires_at) ks) (filter (λ j. nat_lt now j.expires_at) ks)) ≡ length (cond t (binding_of aor k ∷ filter (is_live now) (bindings_of aor ks)) (filter (is_live now) (bindings_of aor ks)))
+      → length (cond t (k ∷ filter (λ j. nat_lt now j.expires_at) ks) (filter (λ j. nat_lt now j.expires_at) ks))
+      ≡ length (cond t (binding_of aor k ∷ filter (is_live now) (bindings_of aor ks)) (filter (is_live now) (bindings_of aor ks)))
   by_test true e = ap suc e
   by_test false e = e

@@ -42,27 +42,33 @@ within false q ys = none ys
 
 -- binding by binding, as it is defined
 newer_is : (r : Registration) (b : Binding) → is_newer r b ≡ list_any (λ c. is_of_call r b && speaks_of b c) r.contacts
-newer_is r b = both (bytes_eq b.call_id r.call_id) (nat_le r.cseq b.cseq) (list_any (speaks_of b) r.contacts) ∙ sym (within (is_of_call r b) (speaks_of b) r.contacts) where
-  both : (x y z : Bool) → (x && y && z) ≡ ((x && y) && z)
-  both true y z = refl
-  both false y z = refl
+newer_is r b = both (bytes_eq b.call_id r.call_id) (nat_le r.cseq b.cseq) (list_any (speaks_of b) r.contacts)
+    ∙ sym (within (is_of_call r b) (speaks_of b) r.contacts) where
+      both : (x y z : Bool) → (x && y && z) ≡ ((x && y) && z)
+      both true y z = refl
+      both false y z = refl
 
-pub by_contacts : (r : Registration) (bindings : List Binding) → list_any (λ c. list_any (λ b. is_of_call r b && speaks_of b c) bindings) r.contacts ≡ has_old_cseq r bindings
+pub by_contacts : (r : Registration) (bindings : List Binding) → list_any (λ c. list_any (λ b. is_of_call r b && speaks_of b c) bindings) r.contacts
+    ≡ has_old_cseq r bindings
 by_contacts r bindings =
-    sym (any_same (is_newer r) (λ b. list_any (λ c. is_of_call r b && speaks_of b c) r.contacts) (newer_is r) bindings ∙ swapped (λ (b : Binding) (c : ContactItem). is_of_call r b && speaks_of b c) bindings r.contacts)
+    sym (any_same (is_newer r) (λ b. list_any (λ c. is_of_call r b && speaks_of b c) r.contacts) (newer_is r) bindings
+    ∙ swapped (λ (b : Binding) (c : ContactItem). is_of_call r b && speaks_of b c) bindings r.contacts)
 
 -- where none is of the call, none is newer
 pub none_of_call : (r : Registration) (bindings : List Binding) → list_any (is_of_call r) bindings ≡ false → false ≡ has_old_cseq r bindings
 none_of_call r [] e = refl
 none_of_call r (b ∷ bs) e = by_test (is_of_call r b) refl e (none_of_call r bs) where
-  by_test : (t : Bool) → is_of_call r b ≡ t → (t || list_any (is_of_call r) bs) ≡ false → (list_any (is_of_call r) bs ≡ false → false ≡ has_old_cseq r bs) → false ≡ has_old_cseq r (b ∷ bs)
+  by_test : (t : Bool) → is_of_call r b ≡ t → (t || list_any (is_of_call r) bs) ≡ false → (list_any (is_of_call r) bs ≡ false → false ≡ has_old_cseq r bs)
+      → false ≡ has_old_cseq r (b ∷ bs)
   by_test true is e rest = absurd cc
   by_test false is e rest = rw (newer_is r b, is, within false (speaks_of b) r.contacts) (rest e)
 
 -- a contact of another scheme speaks of none
-pub other_speaks_of_none : (r : Registration) (bindings : List Binding) (contact : ContactItem) (address : NameAddr) (text : List ℕ) → contact ≡ Address address → address.uri ≡ Other text
+pub other_speaks_of_none : (r : Registration) (bindings : List Binding) (contact : ContactItem) (address : NameAddr) (text : List ℕ) → contact ≡ Address address
+    → address.uri ≡ Other text
     → false ≡ list_any (λ b. is_of_call r b && speaks_of b contact) bindings
-other_speaks_of_none r bindings contact address text is other = sym (any_same (λ b. is_of_call r b && speaks_of b contact) (λ b. false) (λ b. rw (is, other) (never (is_of_call r b))) bindings ∙ none bindings) where
-  never : (t : Bool) → (t && false) ≡ false
-  never true = refl
-  never false = refl
+other_speaks_of_none r bindings contact address text is other = sym (any_same (λ b. is_of_call r b && speaks_of b contact) (λ b. false)
+    (λ b. rw (is, other) (never (is_of_call r b))) bindings ∙ none bindings) where
+      never : (t : Bool) → (t && false) ≡ false
+      never true = refl
+      never false = refl

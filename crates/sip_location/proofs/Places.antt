@@ -37,7 +37,8 @@ put_is binding (b ∷ bs) = by_test (same b.uri binding.uri) refl (put_is bindin
 pub put_last : (binding : Binding) (bs : List Binding) → length bs ≤ place binding.uri bs → bs ++ binding ∷ [] ≡ put binding bs
 put_last binding [] none = refl
 put_last binding (b ∷ bs) none = by_test (same b.uri binding.uri) refl (put_last binding bs) where
-  by_test : (t : Bool) → same b.uri binding.uri ≡ t → (length bs ≤ place binding.uri bs → bs ++ binding ∷ [] ≡ put binding bs) → (b ∷ bs) ++ binding ∷ [] ≡ put binding (b ∷ bs)
+  by_test : (t : Bool) → same b.uri binding.uri ≡ t → (length bs ≤ place binding.uri bs → bs ++ binding ∷ [] ≡ put binding bs)
+      → (b ∷ bs) ++ binding ∷ [] ≡ put binding (b ∷ bs)
   by_test true e more = let here : place binding.uri (b ∷ bs) ≡ 0 = rw e refl in absurd (omega (arith, here, none))
   by_test false e more =
       let behind : place binding.uri (b ∷ bs) ≡ 1 + place binding.uri bs = rw e refl in
@@ -61,12 +62,14 @@ pub rest_taken : (n : ℕ) (bs : List Binding) → take (length bs - n) (drop n 
 rest_taken n bs = ap (λ (m : ℕ). take m (drop n bs)) (sym (length-drop n bs)) ∙ all_taken (drop n bs)
 
 -- a binding takes the place of the one that is equal to it, where there is one alone
-pub put_over : (binding : Binding) (bs : List Binding) → place binding.uri bs < length bs → list_any (λ b. same b.uri binding.uri) (drop (place binding.uri bs + 1) bs) ≡ false
+pub put_over : (binding : Binding) (bs : List Binding) → place binding.uri bs < length bs
+    → list_any (λ b. same b.uri binding.uri) (drop (place binding.uri bs + 1) bs) ≡ false
     → set bs (place binding.uri bs) binding ≡ put binding bs
 put_over binding [] within none = absurd (omega (arith, within))
 put_over binding (b ∷ bs) within none = by_test (same b.uri binding.uri) refl (put_over binding bs) where
   by_test : (t : Bool) → same b.uri binding.uri ≡ t
-      → (place binding.uri bs < length bs → list_any (λ b. same b.uri binding.uri) (drop (place binding.uri bs + 1) bs) ≡ false → set bs (place binding.uri bs) binding ≡ put binding bs)
+      → (place binding.uri bs < length bs → list_any (λ b. same b.uri binding.uri) (drop (place binding.uri bs + 1) bs) ≡ false
+      → set bs (place binding.uri bs) binding ≡ put binding bs)
       → set (b ∷ bs) (place binding.uri (b ∷ bs)) binding ≡ put binding (b ∷ bs)
   by_test true e more =
       let here : place binding.uri (b ∷ bs) ≡ 0 = rw e refl in

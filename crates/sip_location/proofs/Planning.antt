@@ -35,9 +35,11 @@ live_in_own aor now rows = filter-wider (λ b. is_of aor b && is_live now b) (is
 
 -- the outcome of a REGISTER by its tests
 abbrev pub outcome : Bool → Bool → Bool → Bool → Bool → List Binding → List Binding → Result (List Binding) LocationError
-outcome none star brief old many rows after = cond none (Ok rows) (cond star (Err BadStar) (cond brief (Err TooBrief) (cond old (Err OldCSeq) (cond many (Err TooMany) (Ok after)))))
+outcome none star brief old many rows after = cond none (Ok rows) (cond star (Err BadStar)
+    (cond brief (Err TooBrief) (cond old (Err OldCSeq) (cond many (Err TooMany) (Ok after)))))
 
-still_ok : (none star brief old many : Bool) (rows after others then : List Binding) → IsOk (outcome none star brief old many rows after) → IsOk (outcome none star brief old many others then)
+still_ok : (none star brief old many : Bool) (rows after others then : List Binding) → IsOk (outcome none star brief old many rows after)
+    → IsOk (outcome none star brief old many others then)
 still_ok true star brief old many rows after others then h = h
 still_ok false true brief old many rows after others then h = h
 still_ok false false true old many rows after others then h = h
@@ -45,7 +47,8 @@ still_ok false false false true many rows after others then h = h
 still_ok false false false false true rows after others then h = h
 still_ok false false false false false rows after others then h = h
 
-still_refused : (none star brief old many : Bool) (rows after others then : List Binding) (e : LocationError) → outcome none star brief old many rows after ≡ Err e → outcome none star brief old many others then ≡ Err e
+still_refused : (none star brief old many : Bool) (rows after others then : List Binding) (e : LocationError) → outcome none star brief old many rows after ≡ Err e
+    → outcome none star brief old many others then ≡ Err e
 still_refused true star brief old many rows after others then e h = absurd (cc)
 still_refused false true brief old many rows after others then e h = h
 still_refused false false true old many rows after others then e h = h
@@ -55,7 +58,8 @@ still_refused false false false false false rows after others then e h = absurd 
 
 abbrev over : Registration → ℕ → List Binding → List Binding → List Binding → Result (List Binding) LocationError
 over r now rows others lives =
-    outcome (asks_nothing r.contacts) (has_bad_star r) (is_too_brief r) (has_old_cseq r lives) (ltb 16 (length (after_contacts r now r.contacts lives))) rows (others ++ after_contacts r now r.contacts lives)
+    outcome (asks_nothing r.contacts) (has_bad_star r) (is_too_brief r) (has_old_cseq r lives) (ltb 16 (length (after_contacts r now r.contacts lives))) rows
+    (others ++ after_contacts r now r.contacts lives)
 
 pub edited_of_own : (rows : List Binding) (r : Registration) (now : ℕ) → edited (of_aor r.aor rows) r now ≡ edited rows r now
 edited_of_own rows r now = ap (after_contacts r now r.contacts) (live_in_own r.aor now rows)
@@ -64,14 +68,16 @@ pub ok_of_own : (rows : List Binding) (r : Registration) (now : ℕ) → IsOk (r
 ok_of_own rows r now h =
     let own = of_aor r.aor rows in
     let lives = live r.aor now rows in
-    still_ok (asks_nothing r.contacts) (has_bad_star r) (is_too_brief r) (has_old_cseq r lives) (ltb 16 (length (after_contacts r now r.contacts lives))) own (of_others r.aor own ++ after_contacts r now r.contacts lives) rows (of_others r.aor rows ++ after_contacts r now r.contacts lives)
+    still_ok (asks_nothing r.contacts) (has_bad_star r) (is_too_brief r) (has_old_cseq r lives) (ltb 16 (length (after_contacts r now r.contacts lives))) own
+    (of_others r.aor own ++ after_contacts r now r.contacts lives) rows (of_others r.aor rows ++ after_contacts r now r.contacts lives)
     (subst (λ (x : List Binding). IsOk (over r now own (of_others r.aor own) x)) (live_in_own r.aor now rows) h)
 
 pub refused_of_own : (rows : List Binding) (r : Registration) (now : ℕ) (e : LocationError) → registered (of_aor r.aor rows) r now ≡ Err e → registered rows r now ≡ Err e
 refused_of_own rows r now e h =
     let own = of_aor r.aor rows in
     let lives = live r.aor now rows in
-    still_refused (asks_nothing r.contacts) (has_bad_star r) (is_too_brief r) (has_old_cseq r lives) (ltb 16 (length (after_contacts r now r.contacts lives))) own (of_others r.aor own ++ after_contacts r now r.contacts lives) rows (of_others r.aor rows ++ after_contacts r now r.contacts lives) e
+    still_refused (asks_nothing r.contacts) (has_bad_star r) (is_too_brief r) (has_old_cseq r lives) (ltb 16 (length (after_contacts r now r.contacts lives))) own
+    (of_others r.aor own ++ after_contacts r now r.contacts lives) rows (of_others r.aor rows ++ after_contacts r now r.contacts lives) e
     (subst (λ (x : List Binding). over r now own (of_others r.aor own) x ≡ Err e) (live_in_own r.aor now rows) h)
 
 pub refusal_of_own : (rows : List Binding) (r : Registration) (now : ℕ) (e : LocationError) → IsRefusal (of_aor r.aor rows) r now e → IsRefusal rows r now e
@@ -79,27 +85,31 @@ refusal_of_own rows r now e h = elim h [ inl memory ↦ inl memory | inr refused
 
 -- the edited bindings are of the address of record
 pub edited_are_own : (rows : List Binding) (r : Registration) (now : ℕ) → AllByRecursion (λ b. is_of r.aor b ≡ true) (edited rows r now)
-edited_are_own rows r now = all_weaker (IsLiveOf r.aor now) (λ b. is_of r.aor b ≡ true) (edited rows r now) (λ b e. both (is_of r.aor b) (is_live now b) e) (edited_lives rows r now) where
-  both : (mine lives : Bool) → (mine && lives) ≡ true → mine ≡ true
-  both true lives e = refl
-  both false lives e = e
+edited_are_own rows r now = all_weaker (IsLiveOf r.aor now) (λ b. is_of r.aor b ≡ true) (edited rows r now) (λ b e. both (is_of r.aor b) (is_live now b) e)
+    (edited_lives rows r now) where
+      both : (mine lives : Bool) → (mine && lives) ≡ true → mine ≡ true
+      both true lives e = refl
+      both false lives e = e
 
 -- rows in which a plan was carried out say the same as those after its REGISTER
 pub carried_out : (rows new : List Binding) (plan : Planned) (r : Registration) (now : ℕ) → of_aor plan.aor new ≡ plan.bindings
-    → ((other : Aor) → is_same_aor other plan.aor ≡ false → of_aor other new ≡ of_aor other rows) → IsPlan rows r now plan → SameOutcome now (Ok new) (registered rows r now)
+    → ((other : Aor) → is_same_aor other plan.aor ≡ false → of_aor other new ≡ of_aor other rows) → IsPlan rows r now plan
+    → SameOutcome now (Ok new) (registered rows r now)
 carried_out rows new plan r now own others is = by_outcome (registered rows r now) refl is.0 where
   own_at : of_aor r.aor new ≡ edited rows r now
   own_at = subst (λ (x : Aor). of_aor x new ≡ plan.bindings) is.1 own ∙ is.2
 
   others_at : (other : Aor) → is_same_aor other r.aor ≡ false → live other now new ≡ live other now rows
-  others_at other unlike = live_of_own other now new ∙ ap (filter (is_live now)) (others other (subst (λ (x : Aor). is_same_aor other x ≡ false) (sym is.1) unlike)) ∙ sym (live_of_own other now rows)
+  others_at other unlike = live_of_own other now new ∙ ap (filter (is_live now)) (others other (subst (λ (x : Aor). is_same_aor other x ≡ false) (sym is.1) unlike))
+      ∙ sym (live_of_own other now rows)
 
   both : (mine lives : Bool) → (mine && lives) ≡ true → lives ≡ true
   both true lives e = e
   both false lives e = absurd (cc)
 
   all_live : filter (is_live now) (edited rows r now) ≡ edited rows r now
-  all_live = filter-all (is_live now) (edited rows r now) (all_weaker (IsLiveOf r.aor now) (λ b. is_live now b ≡ true) (edited rows r now) (λ b e. both (is_of r.aor b) (is_live now b) e) (edited_lives rows r now))
+  all_live = filter-all (is_live now) (edited rows r now) (all_weaker (IsLiveOf r.aor now) (λ b. is_live now b ≡ true) (edited rows r now)
+      (λ b e. both (is_of r.aor b) (is_live now b) e) (edited_lives rows r now))
 
   mine_at : live r.aor now new ≡ edited rows r now
   mine_at = live_of_own r.aor now new ∙ ap (filter (is_live now)) own_at ∙ all_live

@@ -33,7 +33,8 @@ valid_contact value Star is = tt
 valid_contact value (Address address) is = valid_address value address is
 
 -- one more
-with_item : (value : List ℕ) (values : List (List ℕ)) (item : Option ContactItem) → contact_of value ≡ item → AreValidContacts (filter_map contact_of values) → AreValidContacts (filter_map contact_of (value ∷ values))
+with_item : (value : List ℕ) (values : List (List ℕ)) (item : Option ContactItem) → contact_of value ≡ item → AreValidContacts (filter_map contact_of values)
+    → AreValidContacts (filter_map contact_of (value ∷ values))
 with_item value values None e others = rw e others
 with_item value values (Some item) e others = rw e (valid_contact value item (written_contact value item e), others)
 

@@ -40,15 +40,18 @@ filter-swap p q (x ∷ xs) = by_tests (p x) (q x) refl refl (filter-swap p q xs)
   by_tests false false is so e = e
 
 -- what lives of an address of record among some rows behind those of others: the test of the others may be made last
-live_behind : (aor mine : Aor) (moment : ℕ) (rows edited : List Binding) → live aor moment (of_others mine rows ++ edited) ≡ of_others mine (live aor moment rows) ++ live aor moment edited
+live_behind : (aor mine : Aor) (moment : ℕ) (rows edited : List Binding) → live aor moment (of_others mine rows ++ edited) ≡ of_others mine (live aor moment rows)
+    ++ live aor moment edited
 live_behind aor mine moment rows edited =
     let p : Binding → Bool = λ b. is_of aor b && is_live moment b in
     filter-append p (of_others mine rows) edited ∙ ap (λ others. others ++ filter p edited) (filter-swap p (λ b. not (is_of mine b)) rows)
 
 -- the same rows of one address behind the others of rows that say the same
-behind_same : (mine : Aor) (now : ℕ) (left right edited : List Binding) → SameBindings now left right → SameBindings now (of_others mine left ++ edited) (of_others mine right ++ edited)
+behind_same : (mine : Aor) (now : ℕ) (left right edited : List Binding) → SameBindings now left right
+    → SameBindings now (of_others mine left ++ edited) (of_others mine right ++ edited)
 behind_same mine now left right edited h = λ aor moment after.
-    live_behind aor mine moment left edited ∙ ap (λ lives. of_others mine lives ++ live aor moment edited) (h aor moment after) ∙ sym (live_behind aor mine moment right edited)
+    live_behind aor mine moment left edited ∙ ap (λ lives. of_others mine lives ++ live aor moment edited) (h aor moment after)
+    ∙ sym (live_behind aor mine moment right edited)
 
 -- an update of an address of record whose live bindings are these, beside others
 abbrev over : Registration → ℕ → List Binding → List Binding → Result (List Binding) LocationError
@@ -60,7 +63,8 @@ over r now others lives =
 
 updated_same : (left right : List Binding) (r : Registration) (now : ℕ) → SameBindings now left right → SameOutcome now (updated left r now) (updated right r now)
 updated_same left right r now h =
-    subst (λ (lives : List Binding). SameOutcome now (over r now (of_others r.aor left) lives) (over r now (of_others r.aor right) (live r.aor now right))) (sym (h r.aor now (omega arith)))
+    subst (λ (lives : List Binding). SameOutcome now (over r now (of_others r.aor left) lives) (over r now (of_others r.aor right) (live r.aor now right)))
+    (sym (h r.aor now (omega arith)))
     (by_tests (has_bad_star r) (is_too_brief r) (has_old_cseq r (live r.aor now right)) (ltb 16 (length edited))) where
       edited : List Binding
       edited = after_contacts r now r.contacts (live r.aor now right)
@@ -75,7 +79,8 @@ updated_same left right r now h =
       by_tests false false false false = behind_same r.aor now left right edited h
 
 -- A REGISTER gives rows that say the same from its moment on the same outcome
-pub registered_same : (left right : List Binding) (r : Registration) (now : ℕ) → SameBindings now left right → SameOutcome now (registered left r now) (registered right r now)
+pub registered_same : (left right : List Binding) (r : Registration) (now : ℕ) → SameBindings now left right
+    → SameOutcome now (registered left r now) (registered right r now)
 registered_same left right r now h = by_contacts (asks_nothing r.contacts) where
   by_contacts : (none : Bool) → SameOutcome now (cond none (Ok left) (updated left r now)) (cond none (Ok right) (updated right r now))
   by_contacts true = h
@@ -91,7 +96,8 @@ live_later aor now later (b ∷ bs) le =
       lives_before : (now later : ℕ) (b : Binding) → now ≤ later → is_live later b ≡ true → is_live now b ≡ true
       lives_before now later b le e = grind (arith, nat_tests)
 
-      by_tests : (mine at_now at_later : Bool) → is_live later b ≡ at_later → (at_later ≡ true → at_now ≡ true) → live aor later bs ≡ filter (is_live later) (live aor now bs)
+      by_tests : (mine at_now at_later : Bool) → is_live later b ≡ at_later → (at_later ≡ true → at_now ≡ true)
+          → live aor later bs ≡ filter (is_live later) (live aor now bs)
           → cond (mine && at_later) (b ∷ live aor later bs) (live aor later bs) ≡ filter (is_live later) (cond (mine && at_now) (b ∷ live aor now bs) (live aor now bs))
       by_tests true true true is h e = rw is (ap (λ rest. b ∷ rest) e)
       by_tests true true false is h e = rw is e
@@ -109,6 +115,7 @@ pub same_as_registered : (rows new after : List Binding) (r : Registration) (now
 same_as_registered rows new after r now e others mine = same_at_once now new after (λ aor. by_test aor (is_same_aor aor r.aor) refl) where
   by_test : (aor : Aor) (t : Bool) → is_same_aor aor r.aor ≡ t → live aor now new ≡ live aor now after
   by_test aor true is = subst (λ (x : Aor). live x now new ≡ live x now after) (sym (same_is aor r.aor is)) (mine ∙ sym (live_edited rows after r now e))
-  by_test aor false is = others aor is ∙ sym (live_elsewhere rows after r now now aor e (λ same. not_itself (subst (λ (x : Aor). is_same_aor x r.aor ≡ false) same is))) where
-    not_itself : is_same_aor r.aor r.aor ≡ false → ⊥
-    not_itself f = let t : is_same_aor r.aor r.aor ≡ true = same_itself r.aor in absurd (cc)
+  by_test aor false is = others aor is ∙ sym (live_elsewhere rows after r now now aor e
+      (λ same. not_itself (subst (λ (x : Aor). is_same_aor x r.aor ≡ false) same is))) where
+        not_itself : is_same_aor r.aor r.aor ≡ false → ⊥
+        not_itself f = let t : is_same_aor r.aor r.aor ≡ true = same_itself r.aor in absurd (cc)

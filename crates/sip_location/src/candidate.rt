@@ -1,7 +1,7 @@
 //! A binding while a REGISTER is planned (RFC 3261 10.3 step 7), told from others by its URI. What is kept of it is a `Row`.
 ghost use Rattle.std.specs.Prelude.{◌≡◌, ◌+◌, ◌*◌, ◌<◌, ◌≤◌, ◌^◌, IfOk};
 ghost use Rattle.sip_uri.specs.Uri.{IsValid};
-ghost use Rattle.sip_location.specs.KeptBinding.{IsUriText, binding_of, kept_of};
+ghost use Rattle.sip_location.specs.KeptBinding.{binding_of, kept_of};
 ghost use Rattle.sip_location.specs.Registration as Definitions;
 
 use crate::registration::Registration;

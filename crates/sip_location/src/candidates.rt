@@ -1,6 +1,6 @@
 //! What the Contacts of a REGISTER do to a list of bindings (RFC 3261 10.3 steps 6 and 7): all go, one goes, or one is put.
 //! Which of these a Contact asks for is read in `edits`.
-ghost use Rattle.std.specs.Prelude.{◌≡◌, ◌<◌, [], not, length, IfOk, OnOk};
+ghost use Rattle.std.specs.Prelude.{◌≡◌, ◌<◌, [], length, IfOk, OnOk};
 ghost use Rattle.std.specs.List.{list_any, position_or_len};
 ghost use Rattle.sip_uri_equality.specs.Equality as Equality;
 ghost use Rattle.sip_location.specs.Binding.{without_contact, put};

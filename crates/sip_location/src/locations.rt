@@ -6,7 +6,7 @@ ghost use Rattle.sip_uri.specs.Aor.{is_same_aor};
 ghost use Rattle.sip_location.specs.declared.binding.Binding.{Binding};
 ghost use Rattle.sip_location.specs.declared.error.LocationError.TheVariants.{NoMemory};
 ghost use Rattle.sip_location.specs.declared.registration.Registration.{Registration};
-ghost use Rattle.sip_location.specs.Binding.{is_live, live};
+ghost use Rattle.sip_location.specs.Binding.{live};
 ghost use Rattle.sip_location.specs.Filed.{bindings_of};
 ghost use Rattle.sip_location.specs.Locations.{of_aor, IsPlan, IsRefusal};
 ghost use Rattle.sip_location.specs.Registration.{edited, registered};

@@ -1,8 +1,10 @@
 //! A REGISTER that asks for the one binding again that its address of record has, as most do: a binding is refreshed before
-//! it expires (RFC 3261 10.2.4). Its Contact has the text that is kept, so neither of them is read.
-ghost use Rattle.std.specs.Prelude.{◌≡◌, ◌<◌, ◌^◌, ◌∷◌, [], true, IfOk, IfSome};
+//! it expires (RFC 3261 10.2.4). Its Contact has the text that is kept, which is known to be a URI's, so neither of them is read.
+ghost use Rattle.std.specs.Prelude.{◌≡◌, ◌<◌, ◌^◌, ◌∷◌, [], true, None, IfOk, IfSome};
+ghost use Rattle.std.specs.Str.{byte};
+ghost use Rattle.sip_text.specs.Splits.{split_at_byte};
 ghost use Rattle.sip_uri.specs.Uri.{text_of};
-ghost use Rattle.sip_location.specs.KeptBinding.{binding_of};
+ghost use Rattle.sip_location.specs.KeptBinding.{binding_of, IsUriText};
 ghost use Rattle.sip_location.specs.Newer as Newer;
 ghost use Rattle.sip_location.specs.Refreshing.{asked_by, IsContactOf, IsAskedAgain, IsMade};
 
@@ -11,8 +13,7 @@ use crate::registration::Refresh;
 use crate::row::Row;
 use crate::rows::Rows;
 use crate::standing::is_live_row;
-use sip_text::same_bytes;
-use sip_uri::plain_uri_at;
+use sip_text::{same_bytes, split_once};
 use std::alloc::{AllocError, Global};
 
 /// The row of the only binding that is kept.
@@ -23,8 +24,17 @@ fn only_row(rows: &[Row]) -> Option<&Row>
     if others.is_empty() { Some(row) } else { None }
 }
 
-/// Whether the value of a Contact is a URI of this text in brackets and nothing else; `false` says nothing.
+/// Whether no `;` stands in a text, so that a URI of this text has no parameters.
+fn has_no_semicolon(text: &[u8]) -> bool
+    ensures { result ≡ true → split_at_byte (byte ";") text.now ≡ None }
+{
+    split_once(text, b';').is_none()
+}
+
+/// Whether the value of a Contact is this text of a URI in brackets and nothing else, and the URI has no parameters; `false`
+/// says nothing.
 fn is_contact_of(value: &[u8], text: &[u8]) -> bool
+    requires { IsUriText text.now }
     ensures { result ≡ true → IsContactOf value.now text.now }
 {
     let Some((b'<', rest)) = value.split_first() else {
@@ -37,10 +47,7 @@ fn is_contact_of(value: &[u8], text: &[u8]) -> bool
     if !same_bytes(uri, text) || !same_bytes(end, b">") {
         return false;
     }
-    match plain_uri_at(text) {
-        Some((_, _, behind)) => behind.is_empty(),
-        None => false,
-    }
+    has_no_semicolon(text)
 }
 
 /// Whether a binding was made in the same Call-ID by a CSeq that isn't lower.

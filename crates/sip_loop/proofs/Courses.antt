@@ -1,7 +1,8 @@
 -- Pieces of serving, and one behind the other.
 use Rattle.std.specs.List.{AllByRecursion}
 use Rattle.sip_replay_script.specs.EventText.{is_sayable}
-use Rattle.std.proofs.Common.{◌≡◌, ◌≢◌, true, false, ℕ, ◌+◌, List, [], ◌∷◌, ◌++◌, length, length-append, Option, None, Some, refl, sym, ◌∙◌, ap, ap₂, subst, append-nil, append_assoc}
+use Rattle.std.proofs.Common.{◌≡◌, ◌≢◌, true, false, ℕ, ◌+◌, List, [], ◌∷◌, ◌++◌, length, length-append, Option, None, Some, refl, sym, ◌∙◌, ap, ap₂, subst, append-nil}
+use Rattle.std.proofs.Common.{append_assoc}
 use Rattle.rand_core.specs.Stream.{Stream}
 use Rattle.sip_loop_link.specs.declared.datagram.Given.{Given}
 use Rattle.sip_loop_link.specs.declared.datagram.Heard.{Heard}
@@ -16,8 +17,10 @@ use Rattle.model_order.specs.Order.{Standing, queue_from}
 use Rattle.model_bounds.specs.model.Run.{Link, IsRun}
 use Rattle.model_order.proofs.Along.{queue_behind}
 use Rattle.sip_loop.specs.Printing.{Prints}
-use Rattle.sip_loop.specs.Serving.{AreDrawn, AreInTurn, AreTold, AreAt, Asked, Asks, Cause, Clear, FallsAt, FallsDue, Fires, HasFailed, IsToldMore, Kept, Logs, MayCome, MayFallDue, Point, Reads, Sends, Stage, Stopped, Takes, Tells, Told, Turn, Unlogged, Untold}
-use Rattle.sip_loop.specs.Serving.{ahead, between_turns, event_for, event_taken, event_told, failing, gathered, heard_of_turn, moment_read, packets_of, reading_of, records_logged, records_of, steps_taken, told_by, told_more, turn_asked, turn_behind, untold_in}
+use Rattle.sip_loop.specs.Serving.{AreDrawn, AreInTurn, AreTold, AreAt, Asked, Asks, Cause, Clear, FallsAt, FallsDue, Fires, HasFailed, IsToldMore, Kept, Logs, MayCome}
+use Rattle.sip_loop.specs.Serving.{MayFallDue, Point, Reads, Sends, Stage, Stopped, Takes, Tells, Told, Turn, Unlogged, Untold}
+use Rattle.sip_loop.specs.Serving.{ahead, between_turns, event_for, event_taken, event_told, failing, gathered, heard_of_turn, moment_read, packets_of, reading_of}
+use Rattle.sip_loop.specs.Serving.{records_logged, records_of, steps_taken, told_by, told_more, turn_asked, turn_behind, untold_in}
 use Rattle.sip_loop.specs.Courses.{Course, IsThrough, waiting_at}
 use Rattle.sip_loop.proofs.Faults.{faulted_nothing, faulted_on, held_through, whole_nothing, whole_on}
 use Rattle.sip_loop.proofs.Gathering.{ahead_behind, gathered_behind, path_on, records_both, told_if_none, told_none, told_nothing, told_on}
@@ -82,7 +85,8 @@ module _ (server : Server) where
     asked = refl;
   }
 
-  pub course_on : (old middle new : Standing) (from mid to : Point) (before half after : Told) (records more : List Record) (reads asks more_reads more_asks : ℕ) → IsThrough mid.stage
+  pub course_on : (old middle new : Standing) (from mid to : Point) (before half after : Told) (records more : List Record) (reads asks more_reads more_asks : ℕ)
+      → IsThrough mid.stage
       → Course server old middle from mid before half records reads asks → Course server middle new mid to half after more more_reads more_asks
       → Course server old new from to before after (records ++ more) (reads + more_reads) (asks + more_asks)
   course_on old middle new from mid to before half after records more reads asks more_reads more_asks is first second =
@@ -95,11 +99,16 @@ module _ (server : Server) where
         path = path_on from mid to first.done second.done first.path second.path;
         history = second.history ++ first.history;
         is_run =
-            subst (λ (es : List Event). IsRun server old.state es (ahead (second.done ++ first.done)) (gathered steps_taken (second.done ++ first.done)) (second.history ++ first.history) new.state) (sym (gathered_behind event_taken second.done first.done))
-            (subst (λ (o : Option ℕ). IsRun server old.state (gathered event_taken first.done ++ gathered event_taken second.done) o (gathered steps_taken (second.done ++ first.done)) (second.history ++ first.history) new.state) (sym until)
-            (subst (λ (ss : List StepOut). IsRun server old.state (gathered event_taken first.done ++ gathered event_taken second.done) (ahead second.done) ss (second.history ++ first.history) new.state) (sym (gathered_behind steps_taken second.done first.done))
-            (run_on server old.state middle.state new.state (gathered event_taken first.done) (gathered event_taken second.done) (ahead second.done) (gathered steps_taken first.done) (gathered steps_taken second.done) first.history second.history
-            (subst (λ (o : Option ℕ). IsRun server old.state (gathered event_taken first.done) o (gathered steps_taken first.done) first.history middle.state) none first.is_run) second.is_run)));
+            subst (λ (es : List Event). IsRun server old.state es (ahead (second.done ++ first.done)) (gathered steps_taken (second.done ++ first.done))
+            (second.history ++ first.history) new.state) (sym (gathered_behind event_taken second.done first.done))
+            (subst (λ (o : Option ℕ). IsRun server old.state (gathered event_taken first.done ++ gathered event_taken second.done) o
+            (gathered steps_taken (second.done ++ first.done)) (second.history ++ first.history) new.state) (sym until)
+            (subst (λ (ss : List StepOut). IsRun server old.state (gathered event_taken first.done ++ gathered event_taken second.done) (ahead second.done) ss
+            (second.history ++ first.history) new.state) (sym (gathered_behind steps_taken second.done first.done))
+            (run_on server old.state middle.state new.state (gathered event_taken first.done) (gathered event_taken second.done) (ahead second.done)
+            (gathered steps_taken first.done) (gathered steps_taken second.done) first.history second.history
+            (subst (λ (o : Option ℕ). IsRun server old.state (gathered event_taken first.done) o (gathered steps_taken first.done) first.history middle.state) none
+            first.is_run) second.is_run)));
         turns = in_turn_on server old middle first.history second.history first.queue first.turns second.turns;
         queue = queue_behind old middle new first.history second.history first.queue second.queue;
         sayable =
@@ -113,7 +122,8 @@ module _ (server : Server) where
             ∙ ap₂ (λ (a b : List Record). a ++ b) first.recorded second.recorded;
         told_but_last =
             gathered_behind event_taken second.done first.done
-            ∙ ap₂ (λ (a b : List Event). a ++ b) (first.told_but_last ∙ ap (λ (l : List Event). gathered event_told first.done ++ l) (none_untold mid.stage is) ∙ append-nil (gathered event_told first.done)) second.told_but_last
+            ∙ ap₂ (λ (a b : List Event). a ++ b) (first.told_but_last ∙ ap (λ (l : List Event). gathered event_told first.done ++ l) (none_untold mid.stage is)
+            ∙ append-nil (gathered event_told first.done)) second.told_but_last
             ∙ sym (append_assoc (gathered event_told first.done) (gathered event_told second.done) (untold_in to.stage))
             ∙ ap (λ (l : List Event). l ++ untold_in to.stage) (sym (gathered_behind event_told second.done first.done));
         through = λ s. (
@@ -131,7 +141,8 @@ module _ (server : Server) where
   -- ---- one doing
 
   -- the clock is read
-  pub course_reads : (state : Standing) (m at : ℕ) (h : Option (List (Option Heard))) (g : Option (List Given)) (r r2 : Option (List ℕ)) (w p : Kept) (ws : Stream) → IsToldMore r (at ∷ []) r2
+  pub course_reads : (state : Standing) (m at : ℕ) (h : Option (List (Option Heard))) (g : Option (List Given)) (r r2 : Option (List ℕ)) (w p : Kept) (ws : Stream)
+      → IsToldMore r (at ∷ []) r2
       → Course server state state (between_turns m) (waiting_at (Some at) [] m) (told_by h g r w p ws) (told_by h g r2 w p ws) [] 1 0
   course_reads state m at h g r r2 w p ws told = record {
     done = Reads at ∷ [];
@@ -152,7 +163,8 @@ module _ (server : Server) where
   }
 
   -- the link is asked
-  pub course_asks : (state : Standing) (m at : ℕ) (turn : Turn) (h h2 : Option (List (Option Heard))) (g : Option (List Given)) (r : Option (List ℕ)) (w p : Kept) (ws ws2 : Stream) → reading_of turn ≡ at
+  pub course_asks : (state : Standing) (m at : ℕ) (turn : Turn) (h h2 : Option (List (Option Heard))) (g : Option (List Given)) (r : Option (List ℕ)) (w p : Kept)
+      (ws ws2 : Stream) → reading_of turn ≡ at
       → h2 ≡ told_more h (heard_of_turn turn ∷ []) → AreDrawn ws (turn ∷ []) ws2
       → Course server state state (waiting_at (Some at) [] m) (asked_at at turn m) (told_by h g r w p ws) (told_by h2 g r w p ws2) [] 0 1
   course_asks state m at turn h h2 g r w p ws ws2 is heard drawn = record {
@@ -174,7 +186,8 @@ module _ (server : Server) where
   }
 
   -- a packet is given to the link
-  pub course_sends : (state : Standing) (turn : Option ℕ) (p : Packet) (sending : Sending) (rest : List Packet) (m : ℕ) (h : Option (List (Option Heard))) (g g2 : Option (List Given)) (r : Option (List ℕ)) (w l : Kept) (ws : Stream)
+  pub course_sends : (state : Standing) (turn : Option ℕ) (p : Packet) (sending : Sending) (rest : List Packet) (m : ℕ) (h : Option (List (Option Heard)))
+      (g g2 : Option (List Given)) (r : Option (List ℕ)) (w l : Kept) (ws : Stream)
       → g2 ≡ told_more g (record { to = p.to; bytes = p.bytes; sending = sending } ∷ [])
       → Course server state state (waiting_at turn (p ∷ rest) m) (sent_at turn (failing p sending) rest m) (told_by h g r w l ws) (told_by h g2 r w l ws) [] 0 0
   course_sends state turn p sending rest m h g g2 r w l ws given = record {
@@ -196,7 +209,8 @@ module _ (server : Server) where
   }
 
   -- what is due happens, and the event behind it isn't taken
-  pub course_fires : (old new : Standing) (p : Point) (at : ℕ) (outs : List StepOut) (history : List Link) (t : Told) → MayFallDue at p → AreAt at outs → IsRun server old.state [] (Some at) outs history new.state → AreInTurn server old.queue history
+  pub course_fires : (old new : Standing) (p : Point) (at : ℕ) (outs : List StepOut) (history : List Link) (t : Told) → MayFallDue at p → AreAt at outs
+      → IsRun server old.state [] (Some at) outs history new.state → AreInTurn server old.queue history
       → new.queue ≡ queue_from old.queue history → records_of outs ≡ [] → Course server old new p (stopped_at p (FallsDue at) outs) t t [] 0 0
   course_fires old new p at outs history t comes falls run turns queue none = record {
     done = Fires (FallsDue at) outs ∷ [];
@@ -206,7 +220,14 @@ module _ (server : Server) where
     turns = turns;
     queue = queue;
     sayable = tt;
-    told = let told = told_nothing t in record { heard = told.heard; given = told.given; readings = told.readings; words = told.words; noted = told.noted; printed = told.printed };
+    told = let told = told_nothing t in record {
+      heard = told.heard;
+      given = told.given;
+      readings = told.readings;
+      words = told.words;
+      noted = told.noted;
+      printed = told.printed;
+    };
     whole = record { journal = λ some. absurd (some refl); log = λ some. absurd (some refl) };
     faulted = (refl, refl);
     recorded = none;
@@ -218,10 +239,13 @@ module _ (server : Server) where
 
   -- ---- an event
 
-  module _ (old new : Standing) (p : Point) (cause : Cause) (outs : List StepOut) (own : StepOut) (history : List Link) (comes : MayCome cause p) (falls : FallsAt cause outs)
-      (run : IsRun server old.state (event_for cause ∷ []) None (outs ++ own ∷ []) history new.state) (turns : AreInTurn server old.queue history) (queue : new.queue ≡ queue_from old.queue history) (recorded : records_of (outs ++ own ∷ []) ≡ own.records) (says : is_sayable (event_for cause) ≡ true) where
+  module _ (old new : Standing) (p : Point) (cause : Cause) (outs : List StepOut) (own : StepOut) (history : List Link) (comes : MayCome cause p)
+      (falls : FallsAt cause outs)
+      (run : IsRun server old.state (event_for cause ∷ []) None (outs ++ own ∷ []) history new.state) (turns : AreInTurn server old.queue history)
+      (queue : new.queue ≡ queue_from old.queue history) (recorded : records_of (outs ++ own ∷ []) ≡ own.records) (says : is_sayable (event_for cause) ≡ true) where
     -- it was taken, and isn't told
-    pub course_takes : (t t2 : Told) → AreTold t t2 [] → HasFailed t2.journal → t2.log.faulted ≡ t.log.faulted → Course server old new p (taken_at p cause outs own) t t2 own.records 0 0
+    pub course_takes : (t t2 : Told) → AreTold t t2 [] → HasFailed t2.journal → t2.log.faulted ≡ t.log.faulted
+        → Course server old new p (taken_at p cause outs own) t t2 own.records 0 0
     course_takes t t2 told failed same = record {
       done = Takes cause outs own ∷ [];
       path = (p, refl, record { comes = comes; falls = falls; leads = refl });
@@ -241,11 +265,16 @@ module _ (server : Server) where
     }
 
     -- it was told, and its lines aren't printed
-    pub course_tells : (h : Option (List (Option Heard))) (g : Option (List Given)) (r : Option (List ℕ)) (w w2 l l2 : Kept) (ws : Stream) → Notes w.bytes w2.bytes (event_for cause ∷ []) → (w.faulted ≡ false) × (w2.faulted ≡ false) → Prints l.bytes l2.bytes [] → HasFailed l2
+    pub course_tells : (h : Option (List (Option Heard))) (g : Option (List Given)) (r : Option (List ℕ)) (w w2 l l2 : Kept) (ws : Stream)
+        → Notes w.bytes w2.bytes (event_for cause ∷ []) → (w.faulted ≡ false) × (w2.faulted ≡ false) → Prints l.bytes l2.bytes [] → HasFailed l2
         → Course server old new p (unlogged_at p cause outs own) (told_by h g r w l ws) (told_by h g r w2 l2 ws) own.records 0 0
     course_tells h g r w w2 l l2 ws noted whole printed failed = record {
       done = Tells (event_for cause) ∷ Takes cause outs own ∷ [];
-      path = (taken_at p cause outs own, (p, refl, record { comes = comes; falls = falls; leads = refl }), record { cause = cause; records = own.records; untold = refl; same = refl; leads = refl });
+      path = (
+        taken_at p cause outs own,
+        (p, refl, record { comes = comes; falls = falls; leads = refl }),
+        record { cause = cause; records = own.records; untold = refl; same = refl; leads = refl },
+      );
       history = history;
       is_run = subst (λ (ss : List StepOut). IsRun server old.state (event_for cause ∷ []) None ss history new.state) (sym (append-nil (outs ++ own ∷ []))) run;
       turns = turns;
@@ -270,7 +299,11 @@ module _ (server : Server) where
       done = Logs own.records ∷ Tells (event_for cause) ∷ Takes cause outs own ∷ [];
       path = (
         unlogged_at p cause outs own,
-        (taken_at p cause outs own, (p, refl, record { comes = comes; falls = falls; leads = refl }), record { cause = cause; records = own.records; untold = refl; same = refl; leads = refl }),
+        (
+          taken_at p cause outs own,
+          (p, refl, record { comes = comes; falls = falls; leads = refl }),
+          record { cause = cause; records = own.records; untold = refl; same = refl; leads = refl },
+        ),
         record { unlogged = refl; leads = ap₂ (λ (l : List Packet) (n : ℕ). waiting_at (turn_behind cause p.turn) l n) waits stands },
       );
       history = history;

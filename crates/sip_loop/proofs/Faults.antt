@@ -15,8 +15,10 @@ whole_nothing t = record { journal = λ some. absurd (some refl); log = λ some.
 
 pub whole_on : (before half : Told) (done more : List Doing) → AreHeld before half → AreWhole before done → AreWhole half more → AreWhole before (more ++ done)
 whole_on before half done more held h k = record {
-  journal = λ some. none_both (gathered event_told done) (gathered event_told more) h.journal (λ told. sym held.0 ∙ k.journal told) (subst (λ (l : List Event). l ≢ []) (gathered_behind event_told more done) some);
-  log = λ some. none_both (gathered records_logged done) (gathered records_logged more) h.log (λ logged. sym held.1 ∙ k.log logged) (subst (λ (l : List Record). l ≢ []) (gathered_behind records_logged more done) some);
+  journal = λ some. none_both (gathered event_told done) (gathered event_told more) h.journal (λ told. sym held.0 ∙ k.journal told)
+      (subst (λ (l : List Event). l ≢ []) (gathered_behind event_told more done) some);
+  log = λ some. none_both (gathered records_logged done) (gathered records_logged more) h.log (λ logged. sym held.1 ∙ k.log logged)
+      (subst (λ (l : List Record). l ≢ []) (gathered_behind records_logged more done) some);
 }
 
 pub faulted_nothing : (stage : Stage) (t : Told) → IsThrough stage → AreFaulted stage t t

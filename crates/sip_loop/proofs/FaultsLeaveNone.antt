@@ -19,11 +19,13 @@ use Rattle.sip_run.specs.Due.{NothingDueBy}
 -- that a fault which comes once nothing is due leaves nothing due
 abbrev pub FaultLeaves : Type 0
 FaultLeaves =
-    (server : Server) (first : ℕ) (history : List Link) (old new : ProxyState) (at : ℕ) (ticket : Ticket) (out : StepOut) → IsChain server (first_state first) history old → IsFault server old at ticket out new
+    (server : Server) (first : ℕ) (history : List Link) (old new : ProxyState) (at : ℕ) (ticket : Ticket) (out : StepOut) → IsChain server (first_state first) history old
+    → IsFault server old at ticket out new
     → NoneBy (moment_of old at) old.requests → NoneAgainBy (moment_of old at) old.requests → NoneBy new.moment new.requests × NoneAgainBy new.moment new.requests
 
 -- the same at the moment of the state before it
-pub fault_leaves_none : FaultLeaves → (server : Server) (first : ℕ) (history : List Link) (old new : ProxyState) (ticket : Ticket) (out : StepOut) → IsChain server (first_state first) history old → IsFault server old old.moment ticket out new
+pub fault_leaves_none : FaultLeaves → (server : Server) (first : ℕ) (history : List Link) (old new : ProxyState) (ticket : Ticket) (out : StepOut)
+    → IsChain server (first_state first) history old → IsFault server old old.moment ticket out new
     → NothingDueBy (moment_of old old.moment) old → NothingDueBy new.moment new
 fault_leaves_none leaves server first history old new ticket out chain fault none =
     let left = leaves server first history old new old.moment ticket out chain fault none.none none.none_again in
@@ -33,15 +35,19 @@ fault_leaves_none leaves server first history old new ticket out chain fault non
 
 -- what had to fire has fired
 abbrev pub AllHaveFired : Type 0
-AllHaveFired = (server : Server) (first : ℕ) (history : List Link) (last : ProxyState) → IsChain server (first_state first) history last → AllByRecursion (λ (link : Link). HasFired link.act link.after) history
+AllHaveFired = (server : Server) (first : ℕ) (history : List Link) (last : ProxyState) → IsChain server (first_state first) history last
+    → AllByRecursion (λ (link : Link). HasFired link.act link.after) history
 
-module _ (fired : AllHaveFired) (server : Server) (first : ℕ) (history : List Link) (old new : ProxyState) (at : ℕ) (out : StepOut) (chain : IsChain server (first_state first) history old) where
+module _ (fired : AllHaveFired) (server : Server) (first : ℕ) (history : List Link) (old new : ProxyState) (at : ℕ) (out : StepOut)
+    (chain : IsChain server (first_state first) history old) where
   pub arrival_leaves_none : (word : ℕ) (from : Addr) (bytes : List ℕ) → IsStep server old (ForEvent (Datagram at word from bytes)) out new → NothingDueBy new.moment new
   arrival_leaves_none word from bytes step =
-      let none = (fired server first (record { config = server.config; before = old; act = ForEvent (Datagram at word from bytes); out = out; after = new } ∷ history) new (refl, step, chain)).0 in
+      let none = (fired server first (record { config = server.config; before = old; act = ForEvent (Datagram at word from bytes); out = out; after = new } ∷ history) new
+      (refl, step, chain)).0 in
       record { none = none.0; none_again = none.1 }
 
   pub silence_leaves_none : IsStep server old (ForEvent (Time at)) out new → NothingDueBy new.moment new
   silence_leaves_none step =
-      let none = (fired server first (record { config = server.config; before = old; act = ForEvent (Time at); out = out; after = new } ∷ history) new (refl, step, chain)).0 in
+      let none = (fired server first (record { config = server.config; before = old; act = ForEvent (Time at); out = out; after = new } ∷ history) new
+      (refl, step, chain)).0 in
       record { none = none.0; none_again = none.1 }

@@ -13,13 +13,15 @@ use Rattle.sip_record.specs.Record.{Notes}
 use Rattle.sip_loop.specs.Printing.{Prints}
 use Rattle.sip_loop.proofs.Noted.{notes_nothing, notes_both, notes_untold}
 use Rattle.sip_loop.proofs.Printed.{prints_nothing, prints_both}
-use Rattle.sip_loop.specs.Serving.{AreDrawn, AreTold, Arrival, Doing, IsPath, IsToldMore, Kept, Point, Silence, Told, Turn, ahead, behind_word, event_told, gathered, heard_then, moment_read, packet_given, packets_of, records_logged, records_of, told_by, told_more, turn_asked}
+use Rattle.sip_loop.specs.Serving.{AreDrawn, AreTold, Arrival, Doing, IsPath, IsToldMore, Kept, Point, Silence, Told, Turn, ahead, behind_word, event_told, gathered}
+use Rattle.sip_loop.specs.Serving.{heard_then, moment_read, packet_given, packets_of, records_logged, records_of, told_by, told_more, turn_asked}
 
 -- ---- lists
 
 pub gathered_behind : {A : Type 0} (adds : Doing → List A) (more done : List Doing) → gathered adds (more ++ done) ≡ gathered adds done ++ gathered adds more
 gathered_behind adds [] done = sym (append-nil (gathered adds done))
-gathered_behind adds (doing ∷ more) done = ap (λ l. l ++ adds doing) (gathered_behind adds more done) ∙ append_assoc (gathered adds done) (gathered adds more) (adds doing)
+gathered_behind adds (doing ∷ more) done = ap (λ l. l ++ adds doing) (gathered_behind adds more done)
+    ∙ append_assoc (gathered adds done) (gathered adds more) (adds doing)
 
 pub ahead_behind : (more done : List Doing) → ahead done ≡ None → ahead (more ++ done) ≡ ahead more
 ahead_behind [] done h = h
@@ -50,7 +52,8 @@ pub told_one : {A : Type 0} (o : Option (List A)) (x : A) → and_then o x ≡ t
 told_one None x = refl
 told_one (Some l) x = refl
 
-told_if_both : {A : Type 0} (before middle after : Option (List A)) (first second : List A) → IsToldMore before first middle → IsToldMore middle second after → IsToldMore before (first ++ second) after
+told_if_both : {A : Type 0} (before middle after : Option (List A)) (first second : List A) → IsToldMore before first middle → IsToldMore middle second after
+    → IsToldMore before (first ++ second) after
 told_if_both before middle None first second h1 h2 = tt
 told_if_both before None (Some c) first second h1 h2 = absurd h2
 told_if_both None (Some b) (Some c) first second h1 h2 = absurd h1
@@ -85,7 +88,8 @@ told_nothing t = record {
 }
 
 -- a journal that failed tells nothing
-pub told_failed : (h : Option (List (Option Heard))) (g : Option (List Given)) (r : Option (List ℕ)) (w w2 l : Kept) (ws : Stream) → w2.bytes ≡ None → AreTold (told_by h g r w l ws) (told_by h g r w2 l ws) []
+pub told_failed : (h : Option (List (Option Heard))) (g : Option (List Given)) (r : Option (List ℕ)) (w w2 l : Kept) (ws : Stream) → w2.bytes ≡ None
+    → AreTold (told_by h g r w l ws) (told_by h g r w2 l ws) []
 told_failed h g r w w2 l ws none = record {
   heard = told_none h;
   given = told_none g;

@@ -1,5 +1,6 @@
 -- What is handed out, and the faults of it.
-use Rattle.std.proofs.Common.{◌≡◌, ℕ, ◌+◌, ◌≤◌, ◌<◌, ◌^◌, true, false, List, [], ◌∷◌, ◌++◌, length, drop, zero, suc, Option, None, Some, Result, Ok, Err, OnErr, refl, sym, ◌∙◌, ap, subst, arith, append-nil}
+use Rattle.std.proofs.Common.{◌≡◌, ℕ, ◌+◌, ◌≤◌, ◌<◌, ◌^◌, true, false, List, [], ◌∷◌, ◌++◌, length, drop, zero, suc, Option, None, Some, refl, sym, ◌∙◌, ap, subst, arith}
+use Rattle.std.proofs.Common.{append-nil}
 use Rattle.std.specs.Prelude.{find, get_or, ◌==◌}
 use Rattle.std.proofs.lemmas.List.{drop_more}
 use Rattle.sip_loop_link.specs.declared.datagram.Given.{Given}
@@ -53,12 +54,16 @@ module _ (server : Server) (now : ℕ) (ticket : Ticket) (state : ProxyState) wh
 pub counts_as : (state : ProxyState) (at : ℕ) → at ≡ state.moment → state.moment ≡ moment_of state at
 counts_as state at is = omega (arith, is)
 
-pub takes_fault : FaultLeaves → (server : Server) (old new : Standing) (at first : ℕ) (history : List Link) (ticket : Ticket) (out : StepOut) → IsChain server (first_state first) history old.state → NothingDueBy old.state.moment old.state → at ≡ old.state.moment
-    → at < 2 ^ 62 → refusal_at at ≡ None → IsStep server old.state (ForEvent (Fault at ticket)) out new.state → IsQueueAfter old new → new.state.moment ≡ out.at → length out.packets + sends_left new.state ≤ sends_left old.state
+pub takes_fault : FaultLeaves → (server : Server) (old new : Standing) (at first : ℕ) (history : List Link) (ticket : Ticket) (out : StepOut)
+    → IsChain server (first_state first) history old.state → NothingDueBy old.state.moment old.state → at ≡ old.state.moment
+    → at < 2 ^ 62 → refusal_at at ≡ None → IsStep server old.state (ForEvent (Fault at ticket)) out new.state → IsQueueAfter old new → new.state.moment ≡ out.at
+    → length out.packets + sends_left new.state ≤ sends_left old.state
     → (IsFault server old.state old.state.moment ticket out new.state → IsNoFurther old.state new.state) → TakesFault server old ticket out new
 takes_fault leaves server old new at first history ticket out chain none is small not_refused step queue stands fewer further =
-    let then : IsStep server old.state (ForEvent (Fault old.state.moment ticket)) out new.state = subst (λ (n : ℕ). IsStep server old.state (ForEvent (Fault n ticket)) out new.state) is step in
-    let due : NothingDueBy (moment_of old.state old.state.moment) old.state = subst (λ (n : ℕ). NothingDueBy n old.state) (counts_as old.state old.state.moment refl) none in
+    let then : IsStep server old.state (ForEvent (Fault old.state.moment ticket)) out new.state =
+    subst (λ (n : ℕ). IsStep server old.state (ForEvent (Fault n ticket)) out new.state) is step in
+    let due : NothingDueBy (moment_of old.state old.state.moment) old.state = subst (λ (n : ℕ). NothingDueBy n old.state) (counts_as old.state old.state.moment refl) none
+    in
     record {
       step = then;
       queue = queue;
@@ -69,7 +74,8 @@ takes_fault leaves server old new at first history ticket out chain none is smal
       none_due = fault_leaves_none leaves server first history old.state new.state ticket out chain then due;
       stands = stands;
       sayable = subst (λ (n : ℕ). is_moment n ≡ true) is (is_small at small);
-      no_records = then.does.records ∙ fault_records server (moment_of old.state old.state.moment) ticket (record old.state { moment = moment_of old.state old.state.moment });
+      no_records = then.does.records ∙ fault_records server (moment_of old.state old.state.moment) ticket
+          (record old.state { moment = moment_of old.state old.state.moment });
       fewer = fewer;
       no_further = further then;
     }
@@ -88,15 +94,12 @@ behind_more (x ∷ xs) more (suc n) lt =
     let next : suc (n + 1) ≡ suc n + 1 = omega arith in
     subst (λ (m : ℕ). drop m (x ∷ (xs ++ more)) ≡ drop m (x ∷ xs) ++ more) next (behind_more xs more n (omega (arith, lt)))
 
--- what holds in any case
-pub on_err_of : {X E : Type 0} {P : Type 0} (r : Result X E) → P → OnErr r P
-on_err_of (Ok x) h = tt
-on_err_of (Err e) h = h
-
 -- ---- a piece that breaks off behind another
 
-pub breaks_on : (server : Server) (old middle new : Standing) (from mid : Point) (before half after : Told) (records : List Record) (reads asks more_reads : ℕ) (e : ServeError) → IsThrough mid.stage
-    → Course server old middle from mid before half records reads asks → Breaks server middle new mid half after more_reads e → Breaks server old new from before after (reads + more_reads) e
+pub breaks_on : (server : Server) (old middle new : Standing) (from mid : Point) (before half after : Told) (records : List Record) (reads asks more_reads : ℕ)
+    (e : ServeError) → IsThrough mid.stage
+    → Course server old middle from mid before half records reads asks → Breaks server middle new mid half after more_reads e
+    → Breaks server old new from before after (reads + more_reads) e
 breaks_on server old middle new from mid before half after records reads asks more_reads e is first second = record {
   to = second.to;
   records = records ++ second.records;
@@ -106,7 +109,8 @@ breaks_on server old middle new from mid before half after records reads asks mo
 }
 
 -- memory ran out, whatever was done
-pub breaks_memory : (server : Server) (old new : Standing) (from to : Point) (before after : Told) (records : List Record) (reads asks : ℕ) (e : ServeError) → e ≡ refusals.NoMemory → untold_in to.stage ≡ []
+pub breaks_memory : (server : Server) (old new : Standing) (from to : Point) (before after : Told) (records : List Record) (reads asks : ℕ) (e : ServeError)
+    → e ≡ refusals.NoMemory → untold_in to.stage ≡ []
     → Course server old new from to before after records reads asks → Breaks server old new from before after reads e
 breaks_memory server old new from to before after records reads asks e is told course = record {
   to = to;
@@ -118,7 +122,8 @@ breaks_memory server old new from to before after records reads asks e is told c
 
 -- ---- one packet
 
-module _ (server : Server) (old : Standing) (packets : List Packet) (place : ℕ) (p : Packet) (lt : place < length packets) (is : p ≡ get_or packets place p) (others : Others) (turn : Option ℕ)
+module _ (server : Server) (old : Standing) (packets : List Packet) (place : ℕ) (p : Packet) (lt : place < length packets) (is : p ≡ get_or packets place p)
+    (others : Others) (turn : Option ℕ)
     (g g2 : Option (List Given)) (w : Kept) where
   -- a point of which so much is known
   from_place : (T : Point → Type 0) → T (waiting_at turn (p ∷ drop (place + 1) packets) old.state.moment) → T (waiting_at turn (drop place packets) old.state.moment)
@@ -126,53 +131,71 @@ module _ (server : Server) (old : Standing) (packets : List Packet) (place : ℕ
 
   -- it went out
   pub went : g2 ≡ and_then g (record { to = p.to; bytes = p.bytes; sending = Went })
-      → Course server old old (waiting_at turn (drop place packets) old.state.moment) (waiting_at turn (drop (place + 1) packets) old.state.moment) (told_with others g w) (told_with others g2 w) [] 0 0
+      → Course server old old (waiting_at turn (drop place packets) old.state.moment) (waiting_at turn (drop (place + 1) packets) old.state.moment) (told_with others g w)
+      (told_with others g2 w) [] 0 0
   went given =
       from_place (λ from. Course server old old from (waiting_at turn (drop (place + 1) packets) old.state.moment) (told_with others g w) (told_with others g2 w) [] 0 0)
       (course_sends server old turn p Went (drop (place + 1) packets) old.state.moment others.heard g g2 others.readings w others.log others.words (given ∙ told_one g _))
 
   -- it failed
   failed : g2 ≡ and_then g (record { to = p.to; bytes = p.bytes; sending = Failed })
-      → Course server old old (waiting_at turn (drop place packets) old.state.moment) (sent_at turn (Some p) (drop (place + 1) packets) old.state.moment) (told_with others g w) (told_with others g2 w) [] 0 0
+      → Course server old old (waiting_at turn (drop place packets) old.state.moment) (sent_at turn (Some p) (drop (place + 1) packets) old.state.moment)
+      (told_with others g w) (told_with others g2 w) [] 0 0
   failed given =
-      from_place (λ from. Course server old old from (sent_at turn (Some p) (drop (place + 1) packets) old.state.moment) (told_with others g w) (told_with others g2 w) [] 0 0)
-      (course_sends server old turn p Failed (drop (place + 1) packets) old.state.moment others.heard g g2 others.readings w others.log others.words (given ∙ told_one g _))
+      from_place (λ from. Course server old old from (sent_at turn (Some p) (drop (place + 1) packets) old.state.moment) (told_with others g w) (told_with others g2 w) []
+      0 0)
+      (course_sends server old turn p Failed (drop (place + 1) packets) old.state.moment others.heard g g2 others.readings w others.log others.words
+      (given ∙ told_one g _))
 
   -- and its fault wasn't taken
   pub unfaulted : (e : ServeError) → e ≡ refusals.NoMemory → g2 ≡ and_then g (record { to = p.to; bytes = p.bytes; sending = Failed })
       → Breaks server old old (waiting_at turn (drop place packets) old.state.moment) (told_with others g w) (told_with others g2 w) 0 e
   unfaulted e lack given =
-      breaks_memory server old old (waiting_at turn (drop place packets) old.state.moment) (sent_at turn (Some p) (drop (place + 1) packets) old.state.moment) (told_with others g w) (told_with others g2 w) [] 0 0 e lack refl (failed given)
+      breaks_memory server old old (waiting_at turn (drop place packets) old.state.moment) (sent_at turn (Some p) (drop (place + 1) packets) old.state.moment)
+      (told_with others g w) (told_with others g2 w) [] 0 0 e lack refl (failed given)
 
   -- it was
-  module _ (new : Standing) (out : StepOut) (given : g2 ≡ and_then g (record { to = p.to; bytes = p.bytes; sending = Failed })) (taken : TakesFault server old p.ticket out new) where
+  module _ (new : Standing) (out : StepOut) (given : g2 ≡ and_then g (record { to = p.to; bytes = p.bytes; sending = Failed }))
+      (taken : TakesFault server old p.ticket out new) where
     comes : MayFail old.state.moment p (sent_at turn (Some p) (drop (place + 1) packets) old.state.moment)
     comes = record { clear = refl; failed = refl; same = refl }
 
-    fault_event : (w2 : Kept) (waiting : List Packet) → waiting ≡ drop (place + 1) packets ++ out.packets → Notes w.bytes w2.bytes (Fault old.state.moment p.ticket ∷ []) → (w.faulted ≡ false) × (w2.faulted ≡ false)
-        → Course server old new (sent_at turn (Some p) (drop (place + 1) packets) old.state.moment) (waiting_at turn waiting new.state.moment) (told_with others g2 w) (told_with others g2 w2) [] 0 0
+    fault_event : (w2 : Kept) (waiting : List Packet) → waiting ≡ drop (place + 1) packets ++ out.packets → Notes w.bytes w2.bytes (Fault old.state.moment p.ticket ∷ [])
+        → (w.faulted ≡ false) × (w2.faulted ≡ false)
+        → Course server old new (sent_at turn (Some p) (drop (place + 1) packets) old.state.moment) (waiting_at turn waiting new.state.moment) (told_with others g2 w)
+        (told_with others g2 w2) [] 0 0
     fault_event w2 waiting waits noted whole =
-        subst (λ (rs : List Record). Course server old new (sent_at turn (Some p) (drop (place + 1) packets) old.state.moment) (waiting_at turn waiting new.state.moment) (told_with others g2 w) (told_with others g2 w2) rs 0 0) taken.no_records
-        (course_event server old new (sent_at turn (Some p) (drop (place + 1) packets) old.state.moment) (Unsent old.state.moment p) [] out (record { config = server.config; before = old.state; act = ForEvent (Fault old.state.moment p.ticket); out = out; after = new.state } ∷ []) comes refl
-        (record { chain = (refl, taken.step, refl); paced = (tt, tt); of_events = refl; of_steps = refl; configured = (refl, tt) }) ((refl, taken.in_turn), tt) taken.queue (append-nil out.records) taken.sayable
+        subst (λ (rs : List Record). Course server old new (sent_at turn (Some p) (drop (place + 1) packets) old.state.moment) (waiting_at turn waiting new.state.moment)
+        (told_with others g2 w) (told_with others g2 w2) rs 0 0) taken.no_records
+        (course_event server old new (sent_at turn (Some p) (drop (place + 1) packets) old.state.moment) (Unsent old.state.moment p) [] out
+        (record { config = server.config; before = old.state; act = ForEvent (Fault old.state.moment p.ticket); out = out; after = new.state } ∷ []) comes refl
+        (record { chain = (refl, taken.step, refl); paced = (tt, tt); of_events = refl; of_steps = refl; configured = (refl, tt) }) ((refl, taken.in_turn), tt)
+        taken.queue (append-nil out.records) taken.sayable
         waiting new.state.moment others.heard g2 others.readings w w2 others.log others.log others.words
         (waits ∙ ap (λ (l : List Packet). drop (place + 1) packets ++ l) (sym (append-nil out.packets))) taken.stands noted whole
-        (subst (λ (rs : List Record). Prints others.log.bytes others.log.bytes rs) (sym taken.no_records) (prints_nothing others.log.bytes)) (λ some. absurd (some taken.no_records)) refl)
+        (subst (λ (rs : List Record). Prints others.log.bytes others.log.bytes rs) (sym taken.no_records) (prints_nothing others.log.bytes))
+        (λ some. absurd (some taken.no_records)) refl)
 
     -- and told
-    pub faulted : (w2 : Kept) (after : List Packet) → after ≡ packets ++ out.packets → Notes w.bytes w2.bytes (Fault old.state.moment p.ticket ∷ []) → (w.faulted ≡ false) × (w2.faulted ≡ false)
-        → Course server old new (waiting_at turn (drop place packets) old.state.moment) (waiting_at turn (drop (place + 1) after) new.state.moment) (told_with others g w) (told_with others g2 w2) [] 0 0
+    pub faulted : (w2 : Kept) (after : List Packet) → after ≡ packets ++ out.packets → Notes w.bytes w2.bytes (Fault old.state.moment p.ticket ∷ [])
+        → (w.faulted ≡ false) × (w2.faulted ≡ false)
+        → Course server old new (waiting_at turn (drop place packets) old.state.moment) (waiting_at turn (drop (place + 1) after) new.state.moment) (told_with others g w)
+        (told_with others g2 w2) [] 0 0
     faulted w2 after added noted whole =
-        course_on server old old new (waiting_at turn (drop place packets) old.state.moment) (sent_at turn (Some p) (drop (place + 1) packets) old.state.moment) (waiting_at turn (drop (place + 1) after) new.state.moment)
+        course_on server old old new (waiting_at turn (drop place packets) old.state.moment) (sent_at turn (Some p) (drop (place + 1) packets) old.state.moment)
+        (waiting_at turn (drop (place + 1) after) new.state.moment)
         (told_with others g w) (told_with others g2 w) (told_with others g2 w2) [] [] 0 0 0 0 tt (failed given)
         (fault_event w2 (drop (place + 1) after) (ap (drop (place + 1)) added ∙ behind_more packets out.packets place lt) noted whole)
 
     -- and told, and memory ran out
-    pub faulted_some : (w2 : Kept) (e : ServeError) → e ≡ refusals.NoMemory → Notes w.bytes w2.bytes (Fault old.state.moment p.ticket ∷ []) → (w.faulted ≡ false) × (w2.faulted ≡ false)
+    pub faulted_some : (w2 : Kept) (e : ServeError) → e ≡ refusals.NoMemory → Notes w.bytes w2.bytes (Fault old.state.moment p.ticket ∷ [])
+        → (w.faulted ≡ false) × (w2.faulted ≡ false)
         → Breaks server old new (waiting_at turn (drop place packets) old.state.moment) (told_with others g w) (told_with others g2 w2) 0 e
     faulted_some w2 e lack noted whole =
-        breaks_memory server old new (waiting_at turn (drop place packets) old.state.moment) (waiting_at turn (drop (place + 1) packets ++ out.packets) new.state.moment) (told_with others g w) (told_with others g2 w2) [] 0 0 e lack refl
-        (course_on server old old new (waiting_at turn (drop place packets) old.state.moment) (sent_at turn (Some p) (drop (place + 1) packets) old.state.moment) (waiting_at turn (drop (place + 1) packets ++ out.packets) new.state.moment)
+        breaks_memory server old new (waiting_at turn (drop place packets) old.state.moment) (waiting_at turn (drop (place + 1) packets ++ out.packets) new.state.moment)
+        (told_with others g w) (told_with others g2 w2) [] 0 0 e lack refl
+        (course_on server old old new (waiting_at turn (drop place packets) old.state.moment) (sent_at turn (Some p) (drop (place + 1) packets) old.state.moment)
+        (waiting_at turn (drop (place + 1) packets ++ out.packets) new.state.moment)
         (told_with others g w) (told_with others g2 w) (told_with others g2 w2) [] [] 0 0 0 0 tt (failed given)
         (fault_event w2 (drop (place + 1) packets ++ out.packets) refl noted whole))
 
@@ -186,16 +209,21 @@ module _ (server : Server) (old : Standing) (packets : List Packet) (place : ℕ
       course = course_on server old old new (waiting_at turn (drop place packets) old.state.moment) (sent_at turn (Some p) (drop (place + 1) packets) old.state.moment)
           (taken_at (sent_at turn (Some p) (drop (place + 1) packets) old.state.moment) (Unsent old.state.moment p) [] out)
           (told_with others g w) (told_with others g2 w) (told_with others g2 w2) [] out.records 0 0 0 0 tt (failed given)
-          (course_takes server old new (sent_at turn (Some p) (drop (place + 1) packets) old.state.moment) (Unsent old.state.moment p) [] out (record { config = server.config; before = old.state; act = ForEvent (Fault old.state.moment p.ticket); out = out; after = new.state } ∷ []) comes refl
-          (record { chain = (refl, taken.step, refl); paced = (tt, tt); of_events = refl; of_steps = refl; configured = (refl, tt) }) ((refl, taken.in_turn), tt) taken.queue (append-nil out.records) taken.sayable
+          (course_takes server old new (sent_at turn (Some p) (drop (place + 1) packets) old.state.moment) (Unsent old.state.moment p) [] out
+          (record { config = server.config; before = old.state; act = ForEvent (Fault old.state.moment p.ticket); out = out; after = new.state } ∷ []) comes refl
+          (record { chain = (refl, taken.step, refl); paced = (tt, tt); of_events = refl; of_steps = refl; configured = (refl, tt) }) ((refl, taken.in_turn), tt)
+          taken.queue (append-nil out.records) taken.sayable
           (told_with others g2 w) (told_with others g2 w2) (told_failed others.heard g2 others.readings w w2 others.log others.words failed_now.0) failed_now refl);
       why = record { cause = Unsent old.state.moment p; records = out.records; untold = refl };
     }
 
 -- nothing was given
-pub unsent : (server : Server) (state : Standing) (waiting : List Packet) (others : Others) (turn : Option ℕ) (g g2 : Option (List Given)) (w : Kept) (e : ServeError) → g2 ≡ g → e ≡ refusals.NoMemory
+pub unsent : (server : Server) (state : Standing) (waiting : List Packet) (others : Others) (turn : Option ℕ) (g g2 : Option (List Given)) (w : Kept) (e : ServeError)
+    → g2 ≡ g → e ≡ refusals.NoMemory
     → Breaks server state state (waiting_at turn waiting state.state.moment) (told_with others g w) (told_with others g2 w) 0 e
 unsent server state waiting others turn g g2 w e same lack =
-    subst (λ (x : Option (List Given)). Breaks server state state (waiting_at turn waiting state.state.moment) (told_with others g w) (told_with others x w) 0 e) (sym same)
-    (breaks_memory server state state (waiting_at turn waiting state.state.moment) (waiting_at turn waiting state.state.moment) (told_with others g w) (told_with others g w) [] 0 0 e lack refl
+    subst (λ (x : Option (List Given)). Breaks server state state (waiting_at turn waiting state.state.moment) (told_with others g w) (told_with others x w) 0 e)
+    (sym same)
+    (breaks_memory server state state (waiting_at turn waiting state.state.moment) (waiting_at turn waiting state.state.moment) (told_with others g w)
+    (told_with others g w) [] 0 0 e lack refl
     (course_nothing server state (waiting_at turn waiting state.state.moment) (told_with others g w) tt))

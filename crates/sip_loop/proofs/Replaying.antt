@@ -7,7 +7,8 @@ use Rattle.sip_replay_script.specs.Events.{SaysEvents}
 use Rattle.model_bounds.specs.state.declared.server.Server.{Server}
 use Rattle.model_order.specs.Order.{Standing}
 use Rattle.sip_loop.specs.Replays.{ReplaysTo}
-use Rattle.sip_loop.specs.Serving.{AreFaulted, Asked, Asks, Clear, Doing, Fires, IsPath, IsServed, IsUnserved, Logs, Point, Reads, Sends, Serves, Stage, Stopped, Takes, Tells, Told, Unlogged, Untold}
+use Rattle.sip_loop.specs.Serving.{AreFaulted, Asked, Asks, Clear, Doing, Fires, IsPath, IsServed, IsUnserved, Logs, Point, Reads, Sends, Serves, Stage, Stopped, Takes}
+use Rattle.sip_loop.specs.Serving.{Tells, Told, Unlogged, Untold}
 use Rattle.sip_loop.specs.Serving.{ahead, between_turns, event_taken, event_told, gathered, steps_taken, untold_in}
 use Rattle.sip_loop.specs.declared.served.ServeError.{ServeError}
 
@@ -23,7 +24,8 @@ over first (Logs records ∷ done) m path = refl
 over first (Sends p sending ∷ done) m path = refl
 
 -- what was told is what was taken
-replays : (server : Server) (old new : Standing) (before after : Told) (done : List Doing) (front all : List ℕ) → Serves server old new before after done → gathered event_taken done ≡ gathered event_told done
+replays : (server : Server) (old new : Standing) (before after : Told) (done : List Doing) (front all : List ℕ) → Serves server old new before after done
+    → gathered event_taken done ≡ gathered event_told done
     → before.journal.bytes ≡ Some (Some front) → after.journal.bytes ≡ Some (Some all) → ReplaysTo server old new front all (ahead done) (gathered steps_taken done)
 replays server old new before after done front all serves told was is =
     let noted : NotesText front all (gathered event_told done) =
@@ -43,7 +45,8 @@ replays server old new before after done front all serves told was is =
 pub served_replays : (turns : ℕ) (server : Server) (old new : Standing) (before after : Told) (front all : List ℕ) → (served : IsServed turns server old new before after)
     → before.journal.bytes ≡ Some (Some front) → after.journal.bytes ≡ Some (Some all) → ReplaysTo server old new front all None (gathered steps_taken served.done)
 served_replays turns server old new before after front all served was is =
-    subst (λ (o : Option ℕ). ReplaysTo server old new front all o (gathered steps_taken served.done)) (over (between_turns old.state.moment) served.done new.state.moment served.in_order)
+    subst (λ (o : Option ℕ). ReplaysTo server old new front all o (gathered steps_taken served.done))
+    (over (between_turns old.state.moment) served.done new.state.moment served.in_order)
     (replays server old new before after served.done front all served.serves served.all_told was is)
 
 -- a journal that tells its bytes was told all
@@ -54,8 +57,10 @@ none_untold (Stopped cause) before after all h is = refl
 none_untold (Untold cause records) before after all h is = absurd (let none : after.journal.bytes ≡ None = h.0.0 in cc)
 none_untold (Unlogged records) before after all h is = refl
 
-pub unserved_replays : (turns : ℕ) (server : Server) (old new : Standing) (before after : Told) (e : ServeError) (front all : List ℕ) → (unserved : IsUnserved turns server old new before after e)
-    → before.journal.bytes ≡ Some (Some front) → after.journal.bytes ≡ Some (Some all) → ReplaysTo server old new front all (ahead unserved.done) (gathered steps_taken unserved.done)
+pub unserved_replays : (turns : ℕ) (server : Server) (old new : Standing) (before after : Told) (e : ServeError) (front all : List ℕ)
+    → (unserved : IsUnserved turns server old new before after e)
+    → before.journal.bytes ≡ Some (Some front) → after.journal.bytes ≡ Some (Some all)
+    → ReplaysTo server old new front all (ahead unserved.done) (gathered steps_taken unserved.done)
 unserved_replays turns server old new before after e front all unserved was is =
     replays server old new before after unserved.done front all unserved.serves
     (unserved.told_but_last

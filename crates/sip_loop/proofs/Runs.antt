@@ -15,12 +15,14 @@ use Rattle.sip_loop.specs.Serving.{AreInTurn, IsTurnOf}
 
 -- ---- histories
 
-pub chain_on : (server : Server) (first middle last : ProxyState) (history later : List Link) → IsChain server first history middle → IsChain server middle later last → IsChain server first (later ++ history) last
+pub chain_on : (server : Server) (first middle last : ProxyState) (history later : List Link) → IsChain server first history middle → IsChain server middle later last
+    → IsChain server first (later ++ history) last
 chain_on server first middle last history [] before behind = subst (λ state. IsChain server first history state) (sym behind) before
 chain_on server first middle last history (link ∷ later) before behind = (behind.0, behind.1, chain_on server first middle link.before history later before behind.2)
 
 -- a run up to its last event is one up to any moment behind it
-paced_act : (until : Option ℕ) (act : Act) (history : List Link) → (IsUpTo None act × IsPaced (next_moment None act) history) → (IsUpTo until act × IsPaced (next_moment until act) history)
+paced_act : (until : Option ℕ) (act : Act) (history : List Link) → (IsUpTo None act × IsPaced (next_moment None act) history)
+    → (IsUpTo until act × IsPaced (next_moment until act) history)
 paced_act until (ForEvent event) history h = h
 paced_act until (Passing at) history h = absurd h.0
 
@@ -44,13 +46,15 @@ steps_behind : (history later : List Link) → steps_of (later ++ history) ≡ s
 steps_behind history [] = refl
 steps_behind history (link ∷ later) = ap (λ (l : List StepOut). link.out ∷ l) (steps_behind history later)
 
-configured_on : (server : Server) (history later : List Link) → AllByRecursion (IsUnder server.config) history → AllByRecursion (IsUnder server.config) later → AllByRecursion (IsUnder server.config) (later ++ history)
+configured_on : (server : Server) (history later : List Link) → AllByRecursion (IsUnder server.config) history → AllByRecursion (IsUnder server.config) later
+    → AllByRecursion (IsUnder server.config) (later ++ history)
 configured_on server history [] h k = h
 configured_on server history (link ∷ later) h k = (k.0, configured_on server history later h k.1)
 
 -- a run that is over, and one behind it
 pub run_on : (server : Server) (first middle last : ProxyState) (events more : List Event) (until : Option ℕ) (steps further : List StepOut) (history later : List Link)
-    → IsRun server first events None steps history middle → IsRun server middle more until further later last → IsRun server first (events ++ more) until (steps ++ further) (later ++ history) last
+    → IsRun server first events None steps history middle → IsRun server middle more until further later last
+    → IsRun server first (events ++ more) until (steps ++ further) (later ++ history) last
 run_on server first middle last events more until steps further history later h k = record {
   chain = chain_on server first middle last history later h.chain k.chain;
   paced = paced_on until history later h.paced k.paced;
@@ -67,7 +71,9 @@ run_on server first middle last events more until steps further history later h 
 pub run_nothing : (server : Server) (state : ProxyState) (until : Option ℕ) → IsRun server state [] until [] [] state
 run_nothing server state until = record { chain = refl; paced = tt; of_events = refl; of_steps = refl; configured = tt }
 
-pub in_turn_on : (server : Server) (old mid : Standing) (history later : List Link) → mid.queue ≡ queue_from old.queue history → AreInTurn server old.queue history → AreInTurn server mid.queue later
+pub in_turn_on : (server : Server) (old mid : Standing) (history later : List Link) → mid.queue ≡ queue_from old.queue history → AreInTurn server old.queue history
+    → AreInTurn server mid.queue later
     → AreInTurn server old.queue (later ++ history)
 in_turn_on server old mid history later is h k =
-    queued_joined (λ (standing : List Entry) (link : Link). IsTurnOf server standing link.before link.act link.out link.after) old.queue history later h (subst (λ (q : List Entry). AreInTurn server q later) is k)
+    queued_joined (λ (standing : List Entry) (link : Link). IsTurnOf server standing link.before link.act link.out link.after) old.queue history later h
+    (subst (λ (q : List Entry). AreInTurn server q later) is k)

@@ -42,6 +42,7 @@ small_arrival state at h = by_test (is_too_large at) refl where
       subst (λ (v : Bool). cond {A = Option StepError} v (Some MomentTooLarge) (cond (is_too_large state.next) (Some Worn) None) ≡ None) e h in cc)
   by_test false e = small at (2 ^ 62) e
 
-pub datagram_says : (state : ProxyState) (at word : ℕ) (from : Addr) (held : List ℕ) → refusal_of state at ≡ None → IsWritable from held → is_sayable (Datagram at word from held) ≡ true
+pub datagram_says : (state : ProxyState) (at word : ℕ) (from : Addr) (held : List ℕ) → refusal_of state at ≡ None → IsWritable from held
+    → is_sayable (Datagram at word from held) ≡ true
 datagram_says state at word from held none writable =
     ap₂ (λ (a b : Bool). a && b) (small_arrival state at none) (ap₂ (λ (a b : Bool). a && b) (not_zero from.port writable.0) (within (length held) 65508 writable.1))

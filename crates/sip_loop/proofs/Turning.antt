@@ -1,5 +1,6 @@
 -- A turn, of its pieces, and turns, one behind the other.
-use Rattle.std.proofs.Common.{◌≡◌, ◌≢◌, ◌⊎◌, false, inl, inr, ℕ, ◌+◌, ◌≤◌, ◌<◌, zero, suc, List, [], ◌∷◌, ◌++◌, Option, None, Some, refl, sym, ◌∙◌, ap, subst, arith, append-nil}
+use Rattle.std.proofs.Common.{◌≡◌, ◌≢◌, ◌⊎◌, false, inl, inr, ℕ, ◌+◌, ◌≤◌, ◌<◌, zero, suc, List, [], ◌∷◌, ◌++◌, Option, None, Some, refl, sym, ◌∙◌, ap, subst, arith}
+use Rattle.std.proofs.Common.{append-nil}
 use Rattle.std.specs.Prelude.{IsSome}
 use Rattle.rand_core.specs.Stream.{Stream}
 use Rattle.sip_loop_link.specs.declared.datagram.Given.{Given}
@@ -27,7 +28,8 @@ use Rattle.sip_run.specs.Refusals.{refusal_of_event}
 use Rattle.sip_loop.specs.Counts.{counted_times, IsAskedWithin}
 use Rattle.sip_loop.specs.Printing.{Prints}
 use Rattle.sip_loop.specs.ServeErrors.{IsOfHanding, refusal_of_step}
-use Rattle.sip_loop.specs.Serving.{AreInTurn, Arrival, Brought, HasFailed, IsServed, IsToldMore, IsTurnOf, IsUnserved, IsWhy, Kept, MayBring, Point, Serves, Silence, Told, Turn}
+use Rattle.sip_loop.specs.Serving.{AreInTurn, Arrival, Brought, HasFailed, IsServed, IsToldMore, IsTurnOf, IsUnserved, IsWhy, Kept, MayBring, Point, Serves, Silence}
+use Rattle.sip_loop.specs.Serving.{Told, Turn}
 use Rattle.sip_loop.specs.Serving.{behind_word, between_turns, event_of_turn, reading_of, told_by, word_from}
 use Rattle.sip_loop.specs.Courses.{Breaks, BreaksOff, Course, Goes, IsWhyStep, LinkFails, StepFails, TakesTurn, TurnBreaks, TurnGoes, waiting_at}
 use Rattle.sip_loop.specs.declared.served.ServeError.{ServeError}
@@ -46,7 +48,8 @@ is_some None h = absurd (h refl)
 is_some (Some x) h = refl
 
 -- a step that isn't refused for want of memory is refused as the server says
-why_step : (turn : Turn) (state : ProxyState) (e : StepError) → (refusal_of_event state (event_of_turn turn) ≡ None → e ≡ steps.NoMemory) → IsWhyStep (refusal_of_step e) state turn
+why_step : (turn : Turn) (state : ProxyState) (e : StepError) → (refusal_of_event state (event_of_turn turn) ≡ None → e ≡ steps.NoMemory)
+    → IsWhyStep (refusal_of_step e) state turn
 why_step turn state steps.NoMemory h = tt
 why_step turn state steps.MomentTooLarge h = is_some (refusal_of_event state (event_of_turn turn)) (λ none. let e = h none in cc)
 why_step turn state steps.Worn h = is_some (refusal_of_event state (event_of_turn turn)) (λ none. let e = h none in cc)
@@ -78,9 +81,12 @@ not_journal steps.Worn e = cc
 
 -- ---- a turn's event
 
-pub takes_arrival : (server : Server) (old new : Standing) (at word : ℕ) (from : Addr) (bytes held : List ℕ) (heard heard_now : Option (List (Option Heard))) (words left : Stream) (out : StepOut) → bytes ≡ held
-    → heard_now ≡ and_then heard (Some (record { from = from; bytes = held })) → word ≡ word_from words → left ≡ behind_word words → refusal_of old.state at ≡ None → IsWritable from held
-    → IsStep server old.state (ForEvent (Datagram at word from bytes)) out new.state → IsQueueAfter old new → TakesTurn server old at heard heard_now words left (Arrival at (record { from = from; bytes = held }) word) out new
+pub takes_arrival : (server : Server) (old new : Standing) (at word : ℕ) (from : Addr) (bytes held : List ℕ) (heard heard_now : Option (List (Option Heard)))
+    (words left : Stream) (out : StepOut) → bytes ≡ held
+    → heard_now ≡ and_then heard (Some (record { from = from; bytes = held })) → word ≡ word_from words → left ≡ behind_word words → refusal_of old.state at ≡ None
+    → IsWritable from held
+    → IsStep server old.state (ForEvent (Datagram at word from bytes)) out new.state → IsQueueAfter old new
+    → TakesTurn server old at heard heard_now words left (Arrival at (record { from = from; bytes = held }) word) out new
 takes_arrival server old new at word from bytes held heard heard_now words left out same told drawn behind none writable step queue = record {
   is_at = refl;
   step = subst (λ (l : List ℕ). IsStep server old.state (ForEvent (Datagram at word from l)) out new.state) same step;
@@ -91,12 +97,22 @@ takes_arrival server old new at word from bytes held heard heard_now words left 
   draws = (drawn, behind);
 }
 
-pub takes_silence : (server : Server) (old new : Standing) (at : ℕ) (heard heard_now : Option (List (Option Heard))) (words : Stream) (out : StepOut) → heard_now ≡ and_then heard None → refusal_at at ≡ None
+pub takes_silence : (server : Server) (old new : Standing) (at : ℕ) (heard heard_now : Option (List (Option Heard))) (words : Stream) (out : StepOut)
+    → heard_now ≡ and_then heard None → refusal_at at ≡ None
     → IsStep server old.state (ForEvent (Time at)) out new.state → IsQueueAfter old new → TakesTurn server old at heard heard_now words words (Silence at) out new
-takes_silence server old new at heard heard_now words out told none step queue = record { is_at = refl; step = step; queue = queue; not_refused = none; sayable = small_moment at none; hears = told ∙ told_one heard None; draws = refl }
+takes_silence server old new at heard heard_now words out told none step queue = record {
+  is_at = refl;
+  step = step;
+  queue = queue;
+  not_refused = none;
+  sayable = small_moment at none;
+  hears = told ∙ told_one heard None;
+  draws = refl;
+}
 
 pub fails_arrival : (old : ProxyState) (at word : ℕ) (from : Addr) (held : List ℕ) (heard heard_now : Option (List (Option Heard))) (words left : Stream) (e : StepError)
-    → heard_now ≡ and_then heard (Some (record { from = from; bytes = held })) → word ≡ word_from words → left ≡ behind_word words → (refusal_of old at ≡ None → e ≡ steps.NoMemory)
+    → heard_now ≡ and_then heard (Some (record { from = from; bytes = held })) → word ≡ word_from words → left ≡ behind_word words
+    → (refusal_of old at ≡ None → e ≡ steps.NoMemory)
     → StepFails old at heard heard_now words left (refusal_of_step e)
 fails_arrival old at word from held heard heard_now words left e told drawn behind refused = record {
   turn = Arrival at (record { from = from; bytes = held }) word;
@@ -106,7 +122,8 @@ fails_arrival old at word from held heard heard_now words left e told drawn behi
   why = why_step (Arrival at (record { from = from; bytes = held }) word) old e refused;
 }
 
-pub fails_silence : (old : ProxyState) (at : ℕ) (heard heard_now : Option (List (Option Heard))) (words : Stream) (e : StepError) → heard_now ≡ and_then heard None → (refusal_at at ≡ None → e ≡ steps.NoMemory)
+pub fails_silence : (old : ProxyState) (at : ℕ) (heard heard_now : Option (List (Option Heard))) (words : Stream) (e : StepError) → heard_now ≡ and_then heard None
+    → (refusal_at at ≡ None → e ≡ steps.NoMemory)
     → StepFails old at heard heard_now words words (refusal_of_step e)
 fails_silence old at heard heard_now words e told refused = record {
   turn = Silence at;
@@ -120,16 +137,19 @@ moment_is : (turn : Turn) → event_moment (event_of_turn turn) ≡ reading_of t
 moment_is (Silence at) = refl
 moment_is (Arrival at heard word) = refl
 
-in_turn : (server : Server) (queue : List Entry) (old new : ProxyState) (turn : Turn) (out : StepOut) → NothingDueBy (moment_of old (event_moment (event_of_turn turn))) old → refusal_of_event old (event_of_turn turn) ≡ None
+in_turn : (server : Server) (queue : List Entry) (old new : ProxyState) (turn : Turn) (out : StepOut)
+    → NothingDueBy (moment_of old (event_moment (event_of_turn turn))) old → refusal_of_event old (event_of_turn turn) ≡ None
     → IsTurnOf server queue old (ForEvent (event_of_turn turn)) out new
 in_turn server queue old new (Silence at) out none not_refused = record { none_due = none; not_refused = not_refused }
 in_turn server queue old new (Arrival at heard word) out none not_refused = record { none_due = none; not_refused = not_refused }
 
 -- ---- the rest of a turn
 
-module _ (server : Server) (old : Standing) (at : ℕ) (none_due : NothingDueBy (moment_of old.state at) old.state) (h h2 : Option (List (Option Heard))) (g : Option (List Given)) (r : Option (List ℕ)) (w l : Kept) (ws ws2 : Stream) where
+module _ (server : Server) (old : Standing) (at : ℕ) (none_due : NothingDueBy (moment_of old.state at) old.state) (h h2 : Option (List (Option Heard)))
+    (g : Option (List Given)) (r : Option (List ℕ)) (w l : Kept) (ws ws2 : Stream) where
   -- the link failed
-  pub turn_unheard : (new : Standing) (e : ServeError) → new ≡ old → LinkFails h h2 ws ws2 e → TurnBreaks server old new at (told_by h g r w l ws) (told_by h2 g r w l ws2) e
+  pub turn_unheard : (new : Standing) (e : ServeError) → new ≡ old → LinkFails h h2 ws ws2 e
+      → TurnBreaks server old new at (told_by h g r w l ws) (told_by h2 g r w l ws2) e
   turn_unheard new e same fails =
       subst (λ (x : ServeError). TurnBreaks server old new at (told_by h g r w l ws) (told_by h2 g r w l ws2) x) (sym fails.failed)
       (subst (λ (s : Standing). TurnBreaks server old s at (told_by h g r w l ws) (told_by h2 g r w l ws2) refusals.Link) (sym same)
@@ -156,7 +176,8 @@ module _ (server : Server) (old : Standing) (at : ℕ) (none_due : NothingDueBy 
   }
 
   -- the step wasn't taken
-  pub turn_untaken : (new : Standing) (e : ServeError) → new ≡ old → StepFails old.state at h h2 ws ws2 e → TurnBreaks server old new at (told_by h g r w l ws) (told_by h2 g r w l ws2) e
+  pub turn_untaken : (new : Standing) (e : ServeError) → new ≡ old → StepFails old.state at h h2 ws ws2 e
+      → TurnBreaks server old new at (told_by h g r w l ws) (told_by h2 g r w l ws2) e
   turn_untaken new e same fails =
       subst (λ (s : Standing). TurnBreaks server old s at (told_by h g r w l ws) (told_by h2 g r w l ws2) e) (sym same)
       (record {
@@ -167,7 +188,8 @@ module _ (server : Server) (old : Standing) (at : ℕ) (none_due : NothingDueBy 
         why = why_not fails.turn e fails.is_at fails.why;
       })
 
-  pub turn_broken : (new : Standing) (e : ServeError) → new ≡ old → (LinkFails h h2 ws ws2 e ⊎ StepFails old.state at h h2 ws ws2 e) → TurnBreaks server old new at (told_by h g r w l ws) (told_by h2 g r w l ws2) e
+  pub turn_broken : (new : Standing) (e : ServeError) → new ≡ old → (LinkFails h h2 ws ws2 e ⊎ StepFails old.state at h h2 ws ws2 e)
+      → TurnBreaks server old new at (told_by h g r w l ws) (told_by h2 g r w l ws2) e
   turn_broken new e same (inl fails) = turn_unheard new e same fails
   turn_broken new e same (inr fails) = turn_untaken new e same fails
 
@@ -177,8 +199,11 @@ module _ (server : Server) (old : Standing) (at : ℕ) (none_due : NothingDueBy 
     asks = course_asks server old old.state.moment at turn h h2 g r w l ws ws2 takes.is_at takes.hears takes.draws
 
     turns : AreInTurn server old.queue (record { config = server.config; before = old.state; act = ForEvent (event_of_turn turn); out = out; after = middle.state } ∷ [])
-    turns =
-        (in_turn server old.queue old.state middle.state turn out (subst (λ (n : ℕ). NothingDueBy (moment_of old.state n) old.state) (sym (moment_is turn ∙ takes.is_at)) none_due) takes.not_refused, tt)
+    turns = (
+      in_turn server old.queue old.state middle.state turn out (subst (λ (n : ℕ). NothingDueBy (moment_of old.state n) old.state) (sym (moment_is turn ∙ takes.is_at))
+          none_due) takes.not_refused,
+      tt,
+    )
 
     comes : MayBring turn (asked_at at turn old.state.moment)
     comes = record { asked = refl; whole = refl; all_sent = refl }
@@ -189,88 +214,112 @@ module _ (server : Server) (old : Standing) (at : ℕ) (none_due : NothingDueBy 
       to = taken_at (asked_at at turn old.state.moment) (Brought turn) [] out;
       records = [] ++ out.records;
       asks = 1 + 0;
-      course = course_on server old old middle (waiting_at (Some at) [] old.state.moment) (asked_at at turn old.state.moment) (taken_at (asked_at at turn old.state.moment) (Brought turn) [] out)
+      course = course_on server old old middle (waiting_at (Some at) [] old.state.moment) (asked_at at turn old.state.moment)
+          (taken_at (asked_at at turn old.state.moment) (Brought turn) [] out)
           (told_by h g r w l ws) (told_by h2 g r w l ws2) (told_by h2 g r w2 l ws2) [] out.records 0 1 0 0 tt asks
-          (course_takes server old middle (asked_at at turn old.state.moment) (Brought turn) [] out (record { config = server.config; before = old.state; act = ForEvent (event_of_turn turn); out = out; after = middle.state } ∷ []) comes refl
-          (record { chain = (refl, takes.step, refl); paced = (tt, tt); of_events = refl; of_steps = refl; configured = (refl, tt) }) turns takes.queue (append-nil out.records) takes.sayable
+          (course_takes server old middle (asked_at at turn old.state.moment) (Brought turn) [] out
+          (record { config = server.config; before = old.state; act = ForEvent (event_of_turn turn); out = out; after = middle.state } ∷ []) comes refl
+          (record { chain = (refl, takes.step, refl); paced = (tt, tt); of_events = refl; of_steps = refl; configured = (refl, tt) }) turns takes.queue
+          (append-nil out.records) takes.sayable
           (told_by h2 g r w l ws2) (told_by h2 g r w2 l ws2) (told_failed h2 g r w w2 l ws2 failed.0) failed refl);
       why = record { cause = Brought turn; records = out.records; untold = refl };
     }
 
     -- it was told, and its lines weren't printed
-    pub turn_unlogged : (w2 l2 : Kept) (e : ServeError) → Notes w.bytes w2.bytes (event_of_turn turn ∷ []) → (w.faulted ≡ false) × (w2.faulted ≡ false) → HasFailed l2 → ((e ≡ refusals.NoMemory) ⊎ (e ≡ refusals.Audit))
+    pub turn_unlogged : (w2 l2 : Kept) (e : ServeError) → Notes w.bytes w2.bytes (event_of_turn turn ∷ []) → (w.faulted ≡ false) × (w2.faulted ≡ false) → HasFailed l2
+        → ((e ≡ refusals.NoMemory) ⊎ (e ≡ refusals.Audit))
         → TurnBreaks server old middle at (told_by h g r w l ws) (told_by h2 g r w2 l2 ws2) e
     turn_unlogged w2 l2 e noted whole failed why = record {
       to = unlogged_at (asked_at at turn old.state.moment) (Brought turn) [] out;
       records = [] ++ out.records;
       asks = 1 + 0;
-      course = course_on server old old middle (waiting_at (Some at) [] old.state.moment) (asked_at at turn old.state.moment) (unlogged_at (asked_at at turn old.state.moment) (Brought turn) [] out)
+      course = course_on server old old middle (waiting_at (Some at) [] old.state.moment) (asked_at at turn old.state.moment)
+          (unlogged_at (asked_at at turn old.state.moment) (Brought turn) [] out)
           (told_by h g r w l ws) (told_by h2 g r w l ws2) (told_by h2 g r w2 l2 ws2) [] out.records 0 1 0 0 tt asks
-          (course_tells server old middle (asked_at at turn old.state.moment) (Brought turn) [] out (record { config = server.config; before = old.state; act = ForEvent (event_of_turn turn); out = out; after = middle.state } ∷ []) comes refl
-          (record { chain = (refl, takes.step, refl); paced = (tt, tt); of_events = refl; of_steps = refl; configured = (refl, tt) }) turns takes.queue (append-nil out.records) takes.sayable h2 g r w w2 l l2 ws2 noted whole (prints_untold l.bytes l2.bytes [] failed.0) failed);
+          (course_tells server old middle (asked_at at turn old.state.moment) (Brought turn) [] out
+          (record { config = server.config; before = old.state; act = ForEvent (event_of_turn turn); out = out; after = middle.state } ∷ []) comes refl
+          (record { chain = (refl, takes.step, refl); paced = (tt, tt); of_events = refl; of_steps = refl; configured = (refl, tt) }) turns takes.queue
+          (append-nil out.records) takes.sayable h2 g r w w2 l l2 ws2 noted whole (prints_untold l.bytes l2.bytes [] failed.0) failed);
       why = by_case why;
     } where
       by_case : ((e ≡ refusals.NoMemory) ⊎ (e ≡ refusals.Audit)) → IsWhy e (unlogged_at (asked_at at turn old.state.moment) (Brought turn) [] out) middle.state
       by_case (inl is) = subst (λ (x : ServeError). IsWhy x (unlogged_at (asked_at at turn old.state.moment) (Brought turn) [] out) middle.state) (sym is) refl
-      by_case (inr is) = subst (λ (x : ServeError). IsWhy x (unlogged_at (asked_at at turn old.state.moment) (Brought turn) [] out) middle.state) (sym is) (record { records = out.records; unlogged = refl })
+      by_case (inr is) = subst (λ (x : ServeError). IsWhy x (unlogged_at (asked_at at turn old.state.moment) (Brought turn) [] out) middle.state) (sym is)
+          (record { records = out.records; unlogged = refl })
 
     -- and they were
-    pub turn_logged : (w2 l2 : Kept) → Notes w.bytes w2.bytes (event_of_turn turn ∷ []) → (w.faulted ≡ false) × (w2.faulted ≡ false) → Prints l.bytes l2.bytes out.records → (out.records ≢ [] → l.faulted ≡ false) → l2.faulted ≡ l.faulted
-        → Course server old middle (waiting_at (Some at) [] old.state.moment) (waiting_at None out.packets middle.state.moment) (told_by h g r w l ws) (told_by h2 g r w2 l2 ws2) out.records 0 1
+    pub turn_logged : (w2 l2 : Kept) → Notes w.bytes w2.bytes (event_of_turn turn ∷ []) → (w.faulted ≡ false) × (w2.faulted ≡ false) → Prints l.bytes l2.bytes out.records
+        → (out.records ≢ [] → l.faulted ≡ false) → l2.faulted ≡ l.faulted
+        → Course server old middle (waiting_at (Some at) [] old.state.moment) (waiting_at None out.packets middle.state.moment) (told_by h g r w l ws)
+        (told_by h2 g r w2 l2 ws2) out.records 0 1
     turn_logged w2 l2 noted whole printed sound held =
         course_on server old old middle (waiting_at (Some at) [] old.state.moment) (asked_at at turn old.state.moment) (waiting_at None out.packets middle.state.moment)
         (told_by h g r w l ws) (told_by h2 g r w l ws2) (told_by h2 g r w2 l2 ws2) [] out.records 0 1 0 0 tt asks
-        (course_event server old middle (asked_at at turn old.state.moment) (Brought turn) [] out (record { config = server.config; before = old.state; act = ForEvent (event_of_turn turn); out = out; after = middle.state } ∷ []) comes refl
-        (record { chain = (refl, takes.step, refl); paced = (tt, tt); of_events = refl; of_steps = refl; configured = (refl, tt) }) turns takes.queue (append-nil out.records) takes.sayable
+        (course_event server old middle (asked_at at turn old.state.moment) (Brought turn) [] out
+        (record { config = server.config; before = old.state; act = ForEvent (event_of_turn turn); out = out; after = middle.state } ∷ []) comes refl
+        (record { chain = (refl, takes.step, refl); paced = (tt, tt); of_events = refl; of_steps = refl; configured = (refl, tt) }) turns takes.queue
+        (append-nil out.records) takes.sayable
         out.packets middle.state.moment h2 g r w w2 l l2 ws2 (sym (append-nil out.packets)) stands noted whole printed sound held)
 
     -- its packets were given to the link
-    pub turn_goes : (new : Standing) (g2 : Option (List Given)) (w2 w3 l2 : Kept) → Notes w.bytes w2.bytes (event_of_turn turn ∷ []) → (w.faulted ≡ false) × (w2.faulted ≡ false) → Prints l.bytes l2.bytes out.records → (out.records ≢ [] → l.faulted ≡ false) → l2.faulted ≡ l.faulted
-        → Course server middle new (waiting_at None out.packets middle.state.moment) (waiting_at None [] new.state.moment) (told_by h2 g r w2 l2 ws2) (told_by h2 g2 r w3 l2 ws2) [] 0 0
+    pub turn_goes : (new : Standing) (g2 : Option (List Given)) (w2 w3 l2 : Kept) → Notes w.bytes w2.bytes (event_of_turn turn ∷ [])
+        → (w.faulted ≡ false) × (w2.faulted ≡ false) → Prints l.bytes l2.bytes out.records → (out.records ≢ [] → l.faulted ≡ false) → l2.faulted ≡ l.faulted
+        → Course server middle new (waiting_at None out.packets middle.state.moment) (waiting_at None [] new.state.moment) (told_by h2 g r w2 l2 ws2)
+        (told_by h2 g2 r w3 l2 ws2) [] 0 0
         → TurnGoes server old new at (told_by h g r w l ws) (told_by h2 g2 r w3 l2 ws2)
     turn_goes new g2 w2 w3 l2 noted whole printed sound held hands = record {
       records = out.records;
       course =
-          subst (λ (rs : List Record). Course server old new (waiting_at (Some at) [] old.state.moment) (between_turns new.state.moment) (told_by h g r w l ws) (told_by h2 g2 r w3 l2 ws2) rs 0 1) (append-nil out.records)
+          subst (λ (rs : List Record). Course server old new (waiting_at (Some at) [] old.state.moment) (between_turns new.state.moment) (told_by h g r w l ws)
+          (told_by h2 g2 r w3 l2 ws2) rs 0 1) (append-nil out.records)
           (course_on server old middle new (waiting_at (Some at) [] old.state.moment) (waiting_at None out.packets middle.state.moment) (between_turns new.state.moment)
-          (told_by h g r w l ws) (told_by h2 g r w2 l2 ws2) (told_by h2 g2 r w3 l2 ws2) out.records [] 0 1 0 0 tt (turn_logged w2 l2 noted whole printed sound held) hands);
+          (told_by h g r w l ws) (told_by h2 g r w2 l2 ws2) (told_by h2 g2 r w3 l2 ws2) out.records [] 0 1 0 0 tt (turn_logged w2 l2 noted whole printed sound held)
+          hands);
     }
 
     -- not all of them
-    pub turn_unsent : (new : Standing) (g2 : Option (List Given)) (w2 w3 l2 : Kept) (e : ServeError) → Notes w.bytes w2.bytes (event_of_turn turn ∷ []) → (w.faulted ≡ false) × (w2.faulted ≡ false) → Prints l.bytes l2.bytes out.records → (out.records ≢ [] → l.faulted ≡ false) → l2.faulted ≡ l.faulted
+    pub turn_unsent : (new : Standing) (g2 : Option (List Given)) (w2 w3 l2 : Kept) (e : ServeError) → Notes w.bytes w2.bytes (event_of_turn turn ∷ [])
+        → (w.faulted ≡ false) × (w2.faulted ≡ false) → Prints l.bytes l2.bytes out.records → (out.records ≢ [] → l.faulted ≡ false) → l2.faulted ≡ l.faulted
         → Breaks server middle new (waiting_at None out.packets middle.state.moment) (told_by h2 g r w2 l2 ws2) (told_by h2 g2 r w3 l2 ws2) 0 e
         → TurnBreaks server old new at (told_by h g r w l ws) (told_by h2 g2 r w3 l2 ws2) e
     turn_unsent new g2 w2 w3 l2 e noted whole printed sound held breaks =
-        breaks_on server old middle new (waiting_at (Some at) [] old.state.moment) (waiting_at None out.packets middle.state.moment) (told_by h g r w l ws) (told_by h2 g r w2 l2 ws2) (told_by h2 g2 r w3 l2 ws2)
+        breaks_on server old middle new (waiting_at (Some at) [] old.state.moment) (waiting_at None out.packets middle.state.moment) (told_by h g r w l ws)
+        (told_by h2 g r w2 l2 ws2) (told_by h2 g2 r w3 l2 ws2)
         out.records 0 1 0 e tt (turn_logged w2 l2 noted whole printed sound held) breaks
 
 -- ---- a turn
 
 module _ (server : Server) where
   -- the clock was read, and what was due by then happened
-  pub turn_begun : (old middle : Standing) (at : ℕ) (h : Option (List (Option Heard))) (g g2 : Option (List Given)) (r r2 : Option (List ℕ)) (w w2 l : Kept) (ws : Stream) → IsToldMore r (at ∷ []) r2
-      → Course server old middle (waiting_at (Some at) [] old.state.moment) (waiting_at (Some at) [] middle.state.moment) (told_by h g r2 w l ws) (told_by h g2 r2 w2 l ws) [] 0 0
+  pub turn_begun : (old middle : Standing) (at : ℕ) (h : Option (List (Option Heard))) (g g2 : Option (List Given)) (r r2 : Option (List ℕ)) (w w2 l : Kept) (ws : Stream)
+      → IsToldMore r (at ∷ []) r2
+      → Course server old middle (waiting_at (Some at) [] old.state.moment) (waiting_at (Some at) [] middle.state.moment) (told_by h g r2 w l ws)
+      (told_by h g2 r2 w2 l ws) [] 0 0
       → Course server old middle (between_turns old.state.moment) (waiting_at (Some at) [] middle.state.moment) (told_by h g r w l ws) (told_by h g2 r2 w2 l ws) [] 1 0
   turn_begun old middle at h g g2 r r2 w w2 l ws read course =
       course_on server old old middle (between_turns old.state.moment) (waiting_at (Some at) [] old.state.moment) (waiting_at (Some at) [] middle.state.moment)
       (told_by h g r w l ws) (told_by h g r2 w l ws) (told_by h g2 r2 w2 l ws) [] [] 1 0 0 0 tt (course_reads server old old.state.moment at h g r r2 w l ws read) course
 
   -- not all of it
-  pub turn_undue : (old new : Standing) (at : ℕ) (h : Option (List (Option Heard))) (g g2 : Option (List Given)) (r r2 : Option (List ℕ)) (w w2 l : Kept) (ws : Stream) (e : ServeError) → IsToldMore r (at ∷ []) r2
+  pub turn_undue : (old new : Standing) (at : ℕ) (h : Option (List (Option Heard))) (g g2 : Option (List Given)) (r r2 : Option (List ℕ)) (w w2 l : Kept) (ws : Stream)
+      (e : ServeError) → IsToldMore r (at ∷ []) r2
       → Breaks server old new (waiting_at (Some at) [] old.state.moment) (told_by h g r2 w l ws) (told_by h g2 r2 w2 l ws) 0 e
       → Breaks server old new (between_turns old.state.moment) (told_by h g r w l ws) (told_by h g2 r2 w2 l ws) 1 e
   turn_undue old new at h g g2 r r2 w w2 l ws e read breaks =
       breaks_on server old old new (between_turns old.state.moment) (waiting_at (Some at) [] old.state.moment)
       (told_by h g r w l ws) (told_by h g r2 w l ws) (told_by h g2 r2 w2 l ws) [] 1 0 0 e tt (course_reads server old old.state.moment at h g r r2 w l ws read) breaks
 
-  pub turn_whole : (old middle new : Standing) (at : ℕ) (before half after : Told) → Course server old middle (between_turns old.state.moment) (waiting_at (Some at) [] middle.state.moment) before half [] 1 0
+  pub turn_whole : (old middle new : Standing) (at : ℕ) (before half after : Told) → Course server old middle (between_turns old.state.moment)
+      (waiting_at (Some at) [] middle.state.moment) before half [] 1 0
       → TurnGoes server middle new at half after → Goes server old new before after 1
   turn_whole old middle new at before half after first second = record {
     records = second.records;
-    course = course_on server old middle new (between_turns old.state.moment) (waiting_at (Some at) [] middle.state.moment) (between_turns new.state.moment) before half after [] second.records 1 0 0 1 tt first second.course;
+    course = course_on server old middle new (between_turns old.state.moment) (waiting_at (Some at) [] middle.state.moment) (between_turns new.state.moment) before half
+        after [] second.records 1 0 0 1 tt first second.course;
   }
 
-  pub turn_part : (old middle new : Standing) (at : ℕ) (before half after : Told) (e : ServeError) → Course server old middle (between_turns old.state.moment) (waiting_at (Some at) [] middle.state.moment) before half [] 1 0
+  pub turn_part : (old middle new : Standing) (at : ℕ) (before half after : Told) (e : ServeError)
+      → Course server old middle (between_turns old.state.moment) (waiting_at (Some at) [] middle.state.moment) before half [] 1 0
       → TurnBreaks server middle new at half after e → Breaks server old new (between_turns old.state.moment) before after 1 e
   turn_part old middle new at before half after e first second =
       breaks_on server old middle new (between_turns old.state.moment) (waiting_at (Some at) [] middle.state.moment) before half after [] 1 0 0 e tt first second
@@ -280,10 +329,12 @@ module _ (server : Server) where
   pub goes_nothing : (state : Standing) (t : Told) → Goes server state state t t 0
   goes_nothing state t = record { records = []; course = course_nothing server state (between_turns state.state.moment) t tt }
 
-  pub goes_further : (old middle new : Standing) (before half after : Told) (count : ℕ) → Goes server old middle before half count → Goes server middle new half after 1 → Goes server old new before after (count + 1)
+  pub goes_further : (old middle new : Standing) (before half after : Told) (count : ℕ) → Goes server old middle before half count → Goes server middle new half after 1
+      → Goes server old new before after (count + 1)
   goes_further old middle new before half after count first second = record {
     records = first.records ++ second.records;
-    course = course_on server old middle new (between_turns old.state.moment) (between_turns middle.state.moment) (between_turns new.state.moment) before half after first.records second.records count count 1 1 tt first.course second.course;
+    course = course_on server old middle new (between_turns old.state.moment) (between_turns middle.state.moment) (between_turns new.state.moment) before half after
+        first.records second.records count count 1 1 tt first.course second.course;
   }
 
   pub breaks_further : (old middle new : Standing) (before half after : Told) (count most : ℕ) (e : ServeError) → Goes server old middle before half count
@@ -291,7 +342,8 @@ module _ (server : Server) where
   breaks_further old middle new before half after count most e first second lt = record {
     count = count + 1;
     within = omega (arith, lt);
-    breaks = breaks_on server old middle new (between_turns old.state.moment) (between_turns middle.state.moment) before half after first.records count count 1 e tt first.course second;
+    breaks = breaks_on server old middle new (between_turns old.state.moment) (between_turns middle.state.moment) before half after first.records count count 1 e tt
+        first.course second;
   }
 
 -- ---- all of it
@@ -305,15 +357,18 @@ abbrev pub HistoriesAreBounded : Type 0
 HistoriesAreBounded = (server : Server) (first : ℕ) (history : List Link) (last : ProxyState) → IsChain server (first_state first) history last → IsBounded server history
 
 module _ (lawful : HistoriesHaveAccess) (bounded : HistoriesAreBounded) (server : Server) (old new : Standing) (before after : Told) where
-  serves : (from to : Point) (records : List Record) (reads questions : ℕ) → (h : Course server old new from to before after records reads questions) → Serves server old new before after h.done
+  serves : (from to : Point) (records : List Record) (reads questions : ℕ) → (h : Course server old new from to before after records reads questions)
+      → Serves server old new before after h.done
   serves from to records reads questions h = record {
     history = h.history;
     is_run = h.is_run;
     turns = h.turns;
     queue = h.queue;
     sayable = h.sayable;
-    access = λ first past chain. lawful server first (h.history ++ past) new.state (chain_on server (first_state first) old.state new.state past h.history chain h.is_run.chain);
-    bounded = λ first past chain. bounded server first (h.history ++ past) new.state (chain_on server (first_state first) old.state new.state past h.history chain h.is_run.chain);
+    access = λ first past chain. lawful server first (h.history ++ past) new.state (chain_on server (first_state first) old.state new.state past h.history chain
+        h.is_run.chain);
+    bounded = λ first past chain. bounded server first (h.history ++ past) new.state (chain_on server (first_state first) old.state new.state past h.history chain
+        h.is_run.chain);
     told = h.told;
     whole = h.whole;
   }

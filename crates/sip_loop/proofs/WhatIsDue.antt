@@ -1,5 +1,6 @@
 -- What is due happens.
-use Rattle.std.proofs.Common.{◌≡◌, ◌≢◌, ◌⊎◌, false, inl, inr, ℕ, ◌+◌, ◌≤◌, ◌<◌, List, [], ◌∷◌, ◌++◌, max, Option, None, Some, Result, Ok, Err, refl, sym, ◌∙◌, ap, ap₂, subst, arith, append-nil, append_assoc}
+use Rattle.std.proofs.Common.{◌≡◌, ◌≢◌, ◌⊎◌, false, inl, inr, ℕ, ◌+◌, ◌≤◌, ◌<◌, List, [], ◌∷◌, ◌++◌, max, Option, None, Some, Result, Ok, Err, refl, sym, ◌∙◌, ap, ap₂}
+use Rattle.std.proofs.Common.{subst, arith, append-nil, append_assoc}
 use Rattle.std.specs.Prelude.{IfSome, IsSome}
 use Rattle.std.specs.List.{AllByRecursion}
 use Rattle.sip_loop.specs.Printing.{Prints}
@@ -30,7 +31,8 @@ use Rattle.sip_record.specs.Record.{Notes}
 use Rattle.sip_loop.specs.ServeErrors.{refusal_of_step}
 use Rattle.sip_run.specs.engine.engine_time.Next.{IsNext}
 use Rattle.sip_loop.specs.Serving.{AreAt, FallsDue, HasFailed, IsWhy, Kept, MayFallDue, Point, Told, packets_of, untold_in}
-use Rattle.sip_loop.specs.Courses.{Breaks, Course, FiresOne, Happens, HappensAll, HappensSome, HappensTo, IsNoFurther, IsWhyDue, LeavesFewer, Others, TakesDue, told_with, waiting_at}
+use Rattle.sip_loop.specs.Courses.{Breaks, Course, FiresOne, Happens, HappensAll, HappensSome, HappensTo, IsNoFurther, IsWhyDue, LeavesFewer, Others, TakesDue, told_with}
+use Rattle.sip_loop.specs.Courses.{waiting_at}
 use Rattle.sip_loop.specs.declared.served.ServeError.{ServeError}
 use Rattle.sip_loop.specs.declared.served.ServeError.TheVariants as refusals
 use Rattle.sip_loop.proofs.Courses.{course_event, course_fires, course_nothing, course_takes, stopped_at, taken_at}
@@ -97,7 +99,8 @@ not_yet o due other most m is e later same = let one : due ≡ other = some_is (
 -- ---- one step
 
 -- it is one up to each moment by which it stands
-by_deadline : (server : Server) (old new : ProxyState) (at by : ℕ) (out : StepOut) → out.at ≤ moment_of old by → IsDeadline server old at out new → IsDeadline server old by out new
+by_deadline : (server : Server) (old new : ProxyState) (at by : ℕ) (out : StepOut) → out.at ≤ moment_of old by → IsDeadline server old at out new
+    → IsDeadline server old by out new
 by_deadline server old new at by out le d = record {
   request = d.request;
   change = d.change;
@@ -109,7 +112,8 @@ by_deadline server old new at by out le d = record {
   does = d.does;
 }
 
-by_resend : (server : Server) (old new : ProxyState) (at by : ℕ) (out : StepOut) → out.at ≤ moment_of old by → IsResend server old at out new → IsResend server old by out new
+by_resend : (server : Server) (old new : ProxyState) (at by : ℕ) (out : StepOut) → out.at ≤ moment_of old by → IsResend server old at out new
+    → IsResend server old by out new
 by_resend server old new at by out le d = record {
   request = d.request;
   packets = d.packets;
@@ -127,18 +131,22 @@ DueEnds server = (first : ℕ) (history : List Link) (old new : ProxyState) (at 
     → IsDeadline server old at out new ⊎ IsResend server old at out new → steps_left at new < steps_left at old
 
 abbrev pub MomentRises : Server → Type 0
-MomentRises server = (first : ℕ) (link : Link) (history : List Link) (last : ProxyState) → IsChain server (first_state first) (link ∷ history) last → link.before.moment ≤ last.moment
+MomentRises server = (first : ℕ) (link : Link) (history : List Link) (last : ProxyState) → IsChain server (first_state first) (link ∷ history) last
+    → link.before.moment ≤ last.moment
 
 abbrev pub StepsStand : Server → Type 0
 StepsStand server = (old new : ProxyState) (act : Act) (out : StepOut) → IsStep server old act out new → new.moment ≡ out.at
 
 module _ (server : Server) (ends : DueEnds server) (rises : MomentRises server) (stands : StepsStand server) where
   -- fewer such steps are left by each moment by which it stands
-  fewer_by : (old new : ProxyState) (at first : ℕ) (history : List Link) (out : StepOut) → IsChain server (first_state first) history old → IsDeadline server old at out new ⊎ IsResend server old at out new → LeavesFewer at old new
+  fewer_by : (old new : ProxyState) (at first : ℕ) (history : List Link) (out : StepOut) → IsChain server (first_state first) history old
+      → IsDeadline server old at out new ⊎ IsResend server old at out new → LeavesFewer at old new
   fewer_by old new at first history out chain (inl d) = λ by le.
-      (let fewer : steps_left by new < steps_left by old = ends first history old new by out chain (inl (by_deadline server old new at by out (let due : out.at ≤ moment_of old at = d.is_due in omega (arith, due, le)) d)) in omega (arith, fewer))
+      (let fewer : steps_left by new < steps_left by old = ends first history old new by out chain
+      (inl (by_deadline server old new at by out (let due : out.at ≤ moment_of old at = d.is_due in omega (arith, due, le)) d)) in omega (arith, fewer))
   fewer_by old new at first history out chain (inr d) = λ by le.
-      (let fewer : steps_left by new < steps_left by old = ends first history old new by out chain (inr (by_resend server old new at by out (let due : out.at ≤ moment_of old at = d.is_due in omega (arith, due, le)) d)) in omega (arith, fewer))
+      (let fewer : steps_left by new < steps_left by old = ends first history old new by out chain
+      (inr (by_resend server old new at by out (let due : out.at ≤ moment_of old at = d.is_due in omega (arith, due, le)) d)) in omega (arith, fewer))
 
   by_then : (old new : ProxyState) (at : ℕ) (out : StepOut) → IsDeadline server old at out new ⊎ IsResend server old at out new → out.at ≤ moment_of old at
   by_then old new at out (inl d) = d.is_due
@@ -148,19 +156,22 @@ module _ (server : Server) (ends : DueEnds server) (rises : MomentRises server) 
   none_recorded old new at out (inl d) = d.does.records
   none_recorded old new at out (inr d) = d.does.records
 
-  pub fires_one : (old new : Standing) (at first : ℕ) (history : List Link) (out : StepOut) → IsChain server (first_state first) history old.state → IsFirstOf server old.queue old.state at out new.state → IsQueueAfter old new
+  pub fires_one : (old new : Standing) (at first : ℕ) (history : List Link) (out : StepOut) → IsChain server (first_state first) history old.state
+      → IsFirstOf server old.queue old.state at out new.state → IsQueueAfter old new
       → FiresOne server old at out new
   fires_one old new at first history out chain happens queue = record {
     happens = happens;
     queue = queue;
-    rises = rises first (record { config = server.config; before = old.state; act = Passing at; out = out; after = new.state }) history new.state (refl, inr happens.happens, chain);
+    rises = rises first (record { config = server.config; before = old.state; act = Passing at; out = out; after = new.state }) history new.state
+        (refl, inr happens.happens, chain);
     stands = stands old.state new.state (Passing at) out (inr happens.happens);
     in_time = by_then old.state new.state at out happens.happens;
     no_records = none_recorded old.state new.state at out happens.happens;
     fewer = fewer_by old.state new.state at first history out chain happens.happens;
   }
 
-  pub fires_some : (old new : Standing) (at first : ℕ) (history : List Link) (fired : Option StepOut) → IsChain server (first_state first) history old.state → IfSome fired (λ out. Fires server old at out new)
+  pub fires_some : (old new : Standing) (at first : ℕ) (history : List Link) (fired : Option StepOut) → IsChain server (first_state first) history old.state
+      → IfSome fired (λ out. Fires server old at out new)
       → IfSome fired (λ out. FiresOne server old at out new)
   fires_some old new at first history None chain h = tt
   fires_some old new at first history (Some out) chain h = fires_one old new at first history out chain h.happens h.queue
@@ -173,7 +184,14 @@ own_at at = record { at = at; packets = []; records = [] }
 
 module _ (server : Server) where
   pub happens_nothing : (state : Standing) (at : ℕ) → Happens server state state at []
-  happens_nothing state at = record { history = []; is_run = record { chain = refl; paced = tt; of_events = refl; of_steps = refl; configured = tt }; turns = tt; queue = refl; no_records = refl; stand = tt }
+  happens_nothing state at = record {
+    history = [];
+    is_run = record { chain = refl; paced = tt; of_events = refl; of_steps = refl; configured = tt };
+    turns = tt;
+    queue = refl;
+    no_records = refl;
+    stand = tt;
+  }
 
   at_more : (at : ℕ) (outs : List StepOut) (out : StepOut) → AreAt at outs → out.at ≡ at → AreAt at (outs ++ out ∷ [])
   at_more at [] out all is = (is, tt)
@@ -183,7 +201,8 @@ module _ (server : Server) where
   is_some_more [] out e = cc
   is_some_more (x ∷ outs) out e = cc
 
-  pub happens_more : (old middle new : Standing) (at : ℕ) (outs : List StepOut) (out : StepOut) → Happens server old middle at outs → FiresOne server middle at out new → out.at ≡ at → Happens server old new at (outs ++ out ∷ [])
+  pub happens_more : (old middle new : Standing) (at : ℕ) (outs : List StepOut) (out : StepOut) → Happens server old middle at outs → FiresOne server middle at out new
+      → out.at ≡ at → Happens server old new at (outs ++ out ∷ [])
   happens_more old middle new at outs out h fires is = record {
     history = record { config = server.config; before = middle.state; act = Passing at; out = out; after = new.state } ∷ h.history;
     is_run = record {
@@ -200,7 +219,8 @@ module _ (server : Server) where
   }
 
   -- the first
-  pub all_first : (old new : Standing) (at : ℕ) (out : StepOut) (before after : List Packet) → FiresOne server old at out new → out.at ≡ at → after ≡ before ++ out.packets → HappensAll server old new at before after
+  pub all_first : (old new : Standing) (at : ℕ) (out : StepOut) (before after : List Packet) → FiresOne server old at out new → out.at ≡ at
+      → after ≡ before ++ out.packets → HappensAll server old new at before after
   all_first old new at out before after fires is more = record {
     outs = out ∷ [];
     some = is_some_more [] out;
@@ -209,7 +229,8 @@ module _ (server : Server) where
     added = more ∙ ap (λ (l : List Packet). before ++ l) (sym (append-nil out.packets));
   }
 
-  pub all_more : (old middle new : Standing) (at : ℕ) (out : StepOut) (before half after : List Packet) → HappensAll server old middle at before half → FiresOne server middle at out new → out.at ≡ at
+  pub all_more : (old middle new : Standing) (at : ℕ) (out : StepOut) (before half after : List Packet) → HappensAll server old middle at before half
+      → FiresOne server middle at out new → out.at ≡ at
       → after ≡ half ++ out.packets → HappensAll server old new at before after
   all_more old middle new at out before half after h fires is more = record {
     outs = h.outs ++ out ∷ [];
@@ -221,7 +242,8 @@ module _ (server : Server) where
         ∙ ap (λ (l : List Packet). before ++ l) (sym (packets_both h.outs (out ∷ []) ∙ ap (λ (l : List Packet). packets_of h.outs ++ l) (append-nil out.packets)));
   }
 
-  pub to_more : (old middle new : Standing) (at : ℕ) (out : StepOut) → HappensTo server old middle at → FiresOne server middle at out new → out.at ≡ at → HappensTo server old new at
+  pub to_more : (old middle new : Standing) (at : ℕ) (out : StepOut) → HappensTo server old middle at → FiresOne server middle at out new → out.at ≡ at
+      → HappensTo server old new at
   to_more old middle new at out h fires is = record { outs = h.outs ++ out ∷ []; happens = happens_more old middle new at h.outs out h.happens fires is }
 
   -- ---- and the moment was taken
@@ -242,7 +264,8 @@ module _ (server : Server) where
           no_earlier = omega (arith, is);
           no_later = omega arith;
           none_passed = all_later (deadlines state.requests) at (subst (λ (m : ℕ). AllByRecursion (λ (due : ℕ). m < due) (deadlines state.requests)) counts none.none);
-          none_again_passed = all_later (resends state.requests) at (subst (λ (m : ℕ). AllByRecursion (λ (due : ℕ). m < due) (resends state.requests)) counts none.none_again);
+          none_again_passed = all_later (resends state.requests) at (subst (λ (m : ℕ). AllByRecursion (λ (due : ℕ). m < due) (resends state.requests)) counts
+              none.none_again);
           does = record {
             at_moment = refl;
             sends = refl;
@@ -253,7 +276,8 @@ module _ (server : Server) where
         };
       }
 
-  pub takes_due : (old new : Standing) (at : ℕ) (before after : List Packet) → HappensAll server old new at before after → refusal_at at ≡ None → NothingDueBy (moment_of new.state at) new.state
+  pub takes_due : (old new : Standing) (at : ℕ) (before after : List Packet) → HappensAll server old new at before after → refusal_at at ≡ None
+      → NothingDueBy (moment_of new.state at) new.state
       → new.state.moment ≡ at → TakesDue server old new at before after
   takes_due old new at before after h not_refused none stands = record {
     outs = h.outs;
@@ -285,22 +309,31 @@ module _ (server : Server) where
   may_fall reading due m le = record { idle = record { clear = refl; whole = refl; all_sent = refl }; reading = reading; is_open = refl; in_time = le }
 
   -- it was taken and told, and what it hands out waits
-  pub due_told : (old new : Standing) (reading due : ℕ) (waiting : List Packet) (others : Others) (g : Option (List Given)) (w w2 : Kept) → due ≤ max reading old.state.moment → TakesDue server old new due [] waiting
-      → Notes w.bytes w2.bytes (Time due ∷ []) → (w.faulted ≡ false) × (w2.faulted ≡ false) → Course server old new (waiting_at (Some reading) [] old.state.moment) (waiting_at (Some reading) waiting new.state.moment) (told_with others g w) (told_with others g w2) [] 0 0
+  pub due_told : (old new : Standing) (reading due : ℕ) (waiting : List Packet) (others : Others) (g : Option (List Given)) (w w2 : Kept)
+      → due ≤ max reading old.state.moment → TakesDue server old new due [] waiting
+      → Notes w.bytes w2.bytes (Time due ∷ []) → (w.faulted ≡ false) × (w2.faulted ≡ false)
+      → Course server old new (waiting_at (Some reading) [] old.state.moment) (waiting_at (Some reading) waiting new.state.moment) (told_with others g w)
+      (told_with others g w2) [] 0 0
   due_told old new reading due waiting others g w w2 le t noted whole =
-      subst (λ (rs : List Record). Course server old new (waiting_at (Some reading) [] old.state.moment) (waiting_at (Some reading) waiting new.state.moment) (told_with others g w) (told_with others g w2) rs 0 0) t.none_recorded
-      (course_event server old new (waiting_at (Some reading) [] old.state.moment) (FallsDue due) t.outs t.own t.history (may_fall reading due old.state.moment le) (t.some, t.stand) t.is_run t.turns t.queue (t.no_records ∙ sym t.none_recorded) t.sayable
+      subst (λ (rs : List Record). Course server old new (waiting_at (Some reading) [] old.state.moment) (waiting_at (Some reading) waiting new.state.moment)
+      (told_with others g w) (told_with others g w2) rs 0 0) t.none_recorded
+      (course_event server old new (waiting_at (Some reading) [] old.state.moment) (FallsDue due) t.outs t.own t.history (may_fall reading due old.state.moment le)
+      (t.some, t.stand) t.is_run t.turns t.queue (t.no_records ∙ sym t.none_recorded) t.sayable
       waiting new.state.moment others.heard g others.readings w w2 others.log others.log others.words t.added t.stands noted whole
-      (subst (λ (rs : List Record). Prints others.log.bytes others.log.bytes rs) (sym t.none_recorded) (prints_nothing others.log.bytes)) (λ some. absurd (some t.none_recorded)) refl)
+      (subst (λ (rs : List Record). Prints others.log.bytes others.log.bytes rs) (sym t.none_recorded) (prints_nothing others.log.bytes))
+      (λ some. absurd (some t.none_recorded)) refl)
 
   -- it was taken, and the journal failed
-  pub due_untold : (old new : Standing) (reading due : ℕ) (waiting : List Packet) (others : Others) (g : Option (List Given)) (w w2 : Kept) → due ≤ max reading old.state.moment
-      → TakesDue server old new due [] waiting → HasFailed w2 → Breaks server old new (waiting_at (Some reading) [] old.state.moment) (told_with others g w) (told_with others g w2) 0 refusals.Journal
+  pub due_untold : (old new : Standing) (reading due : ℕ) (waiting : List Packet) (others : Others) (g : Option (List Given)) (w w2 : Kept)
+      → due ≤ max reading old.state.moment
+      → TakesDue server old new due [] waiting → HasFailed w2 → Breaks server old new (waiting_at (Some reading) [] old.state.moment) (told_with others g w)
+      (told_with others g w2) 0 refusals.Journal
   due_untold old new reading due waiting others g w w2 le h failed = record {
     to = taken_at (waiting_at (Some reading) [] old.state.moment) (FallsDue due) h.outs h.own;
     records = h.own.records;
     asks = 0;
-    course = course_takes server old new (waiting_at (Some reading) [] old.state.moment) (FallsDue due) h.outs h.own h.history (may_fall reading due old.state.moment le) (h.some, h.stand) h.is_run h.turns h.queue (h.no_records ∙ sym h.none_recorded) h.sayable
+    course = course_takes server old new (waiting_at (Some reading) [] old.state.moment) (FallsDue due) h.outs h.own h.history (may_fall reading due old.state.moment le)
+        (h.some, h.stand) h.is_run h.turns h.queue (h.no_records ∙ sym h.none_recorded) h.sayable
         (told_with others g w) (told_with others g w2) (told_failed others.heard g others.readings w w2 others.log others.words failed.0) failed refl;
     why = record { cause = FallsDue due; records = h.own.records; untold = refl };
   }
@@ -313,14 +346,16 @@ module _ (server : Server) where
   why_not due p state refusals.Step comes first h = record { cause = FallsDue due; comes = comes; first = first; refused = h }
 
   -- it wasn't taken
-  pub due_broken : (old new : Standing) (reading due : ℕ) (t : Told) (e : ServeError) → due ≤ max reading old.state.moment → IsNext old.state.requests due → HappensSome server old new due e → Breaks server old new (waiting_at (Some reading) [] old.state.moment) t t 0 e
+  pub due_broken : (old new : Standing) (reading due : ℕ) (t : Told) (e : ServeError) → due ≤ max reading old.state.moment → IsNext old.state.requests due
+      → HappensSome server old new due e → Breaks server old new (waiting_at (Some reading) [] old.state.moment) t t 0 e
   due_broken old new reading due t e le first (inl some) =
       let comes : MayFallDue due (waiting_at (Some reading) [] old.state.moment) = may_fall reading due old.state.moment le in
       record {
         to = stopped_at (waiting_at (Some reading) [] old.state.moment) (FallsDue due) some.1.outs;
         records = [];
         asks = 0;
-        course = course_fires server old new (waiting_at (Some reading) [] old.state.moment) due some.1.outs some.1.happens.history t comes some.1.happens.stand some.1.happens.is_run some.1.happens.turns some.1.happens.queue some.1.happens.no_records;
+        course = course_fires server old new (waiting_at (Some reading) [] old.state.moment) due some.1.outs some.1.happens.history t comes some.1.happens.stand
+            some.1.happens.is_run some.1.happens.turns some.1.happens.queue some.1.happens.no_records;
         why = subst (λ (x : ServeError). IsWhy x (stopped_at (waiting_at (Some reading) [] old.state.moment) (FallsDue due) some.1.outs) new.state) (sym some.0) refl;
       }
   due_broken old new reading due t e le first (inr none) =
@@ -349,10 +384,12 @@ pub fewer_further : (old new : ProxyState) (at : ℕ) → old.moment ≡ at → 
 fewer_further old new at is fewer = λ by. (let h : steps_left by new + 1 ≤ steps_left by old = fewer by (omega (arith, is)) in omega (arith, h))
 
 pub further_on : (a b c : ProxyState) → IsNoFurther a b → IsNoFurther b c → IsNoFurther a c
-further_on a b c first second = λ at. (let x : steps_left at b ≤ steps_left at a = first at in let y : steps_left at c ≤ steps_left at b = second at in omega (arith, x, y))
+further_on a b c first second = λ at. (let x : steps_left at b ≤ steps_left at a = first at in let y : steps_left at c ≤ steps_left at b = second at in
+    omega (arith, x, y))
 
 pub further_same : (a : ProxyState) → IsNoFurther a a
 further_same a = λ at. omega arith
 
 pub fewer_on : (old middle new : ProxyState) (at : ℕ) → LeavesFewer at old middle → IsNoFurther middle new → LeavesFewer at old new
-fewer_on old middle new at fewer further = λ by le. (let x : steps_left by middle + 1 ≤ steps_left by old = fewer by le in let y : steps_left by new ≤ steps_left by middle = further by in omega (arith, x, y))
+fewer_on old middle new at fewer further = λ by le. (let x : steps_left by middle + 1 ≤ steps_left by old = fewer by le in
+    let y : steps_left by new ≤ steps_left by middle = further by in omega (arith, x, y))

@@ -21,8 +21,10 @@ use Rattle.sip_run.specs.engine.StepError.{refusal_at}
 use Rattle.sip_run.specs.Refusals.{refusal_of_event}
 use Rattle.sip_run.specs.Runs.{IsInTurn}
 use Rattle.sip_run.specs.Due.{NothingDueBy}
-use Rattle.sip_loop.specs.Serving.{AreAt, AreDrawn, AreFaulted, AreInTurn, AreTold, AreWhole, Asked, Clear, Doing, IsPath, IsWhy, Kept, Point, Stage, Stopped, Told, Turn, Unlogged, Untold}
-use Rattle.sip_loop.specs.Serving.{ahead, between_turns, event_of_turn, event_taken, event_told, gathered, heard_of_turn, moment_read, packets_of, reading_of, records_logged, records_of, steps_taken, told_more, turn_asked, untold_in}
+use Rattle.sip_loop.specs.Serving.{AreAt, AreDrawn, AreFaulted, AreInTurn, AreTold, AreWhole, Asked, Clear, Doing, IsPath, IsWhy, Kept, Point, Stage, Stopped, Told, Turn}
+use Rattle.sip_loop.specs.Serving.{Unlogged, Untold}
+use Rattle.sip_loop.specs.Serving.{ahead, between_turns, event_of_turn, event_taken, event_told, gathered, heard_of_turn, moment_read, packets_of, reading_of}
+use Rattle.sip_loop.specs.Serving.{records_logged, records_of, steps_taken, told_more, turn_asked, untold_in}
 use Rattle.sip_loop.specs.declared.served.ServeError.{ServeError}
 use Rattle.sip_loop.specs.declared.served.ServeError.TheVariants.{NoMemory, Journal, Audit, Link as LinkFailed, Step}
 

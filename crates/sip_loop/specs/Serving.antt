@@ -1,6 +1,6 @@
 -- What serving is: turn by turn a clock is read, what is due happens, a datagram is taken or none was heard; each event that was taken is
 -- told to a journal, what it records is printed, and then what it hands out is given to a link.
-use Rattle.std.specs.Prelude.{ℕ, ◌≡◌, ◌≢◌, ◌≤◌, ◌⊎◌, ◌+◌, ◌*◌, ◌^◌, max, ⊤, Bool, true, false, List, [], ◌∷◌, ◌++◌, length, Option, Some, None, IsSome}
+use Rattle.std.specs.Prelude.{ℕ, ◌≡◌, ◌≢◌, ◌≤◌, ◌+◌, ◌*◌, ◌^◌, max, ⊤, Bool, true, false, List, [], ◌∷◌, ◌++◌, length, Option, Some, None, IsSome}
 use Rattle.std.specs.List.{flat_map, AllByRecursion}
 use Rattle.rand_core.specs.Stream.{Stream, next_u64}
 use Rattle.sip_loop_link.specs.declared.datagram.Given.{Given}
@@ -434,7 +434,8 @@ abbrev pub AreInTurn : Server → List Entry → List Link → Type 0
 AreInTurn server queue history = AllQueued (λ (standing : List Entry) (link : Link). IsTurnOf server standing link.before link.act link.out link.after) queue history
 
 -- A server did these, newest first, in their order: its steps are a run of the model over the events that were taken, each in its turn, from the
--- state in which it was, with the timers that stood there; a script can say each of these events; each step of that run is lawful by its history, whatever history led to that state, as `Access` says, and the
+-- state in which it was, with the timers that stood there; a script can say each of these events; each step of that run is lawful by its history, whatever history led to
+-- that state, as `Access` says, and the
 -- whole history is bounded, as `IsBounded` says; and the devices told what was done by them.
 pub record Serves (server : Server) (old new : Standing) (before after : Told) (done : List Doing) : Type 0 where
   pub history : List Link

@@ -8,7 +8,6 @@ ghost use Rattle.sip_run.specs.engine.StepError.{refusal_at};
 ghost use Rattle.sip_run.specs.engine.engine_time.Next.{IsNext};
 ghost use Rattle.sip_run.specs.Due.{NothingDueBy, standing_of};
 ghost use Rattle.sip_loop.specs.Courses.{Breaks, Course, FiresOne, HappensAll, HappensSome, HappensTo, IsNoFurther, IsWhyDue, LeavesFewer, Others, TakesDue, told_with, waiting_at};
-ghost use Rattle.sip_loop.specs.ServeErrors.{IsOfHanding};
 ghost use Rattle.sip_loop.specs.Serving.{kept};
 ghost use Rattle.sip_loop.specs.declared.served.ServeError.TheVariants as Refusal;
 

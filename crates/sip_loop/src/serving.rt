@@ -1,11 +1,11 @@
 //! The public call that serves turn by turn: one reading of the clock, what is due by it (`due`), and one question to the link.
 //! It never waits: who serves phones does that between two turns (`sipd_service`).
-ghost use Rattle.std.specs.Prelude.{◌≡◌, ◌≢◌, ◌⊎◌, ◌≤◌, ℕ, ◌∷◌, [], true, false, List, Option, None, Some, Err, IfOk, IfErr, OnOk, OnErr};
+ghost use Rattle.std.specs.Prelude.{◌≡◌, ◌≢◌, ◌⊎◌, ℕ, ◌∷◌, [], true, false, List, Option, None, Some, Err, IfOk, IfErr, OnOk, OnErr};
 ghost use Rattle.sip_loop_link.specs.Told.{counted};
 ghost use Rattle.sip_loop.specs.Counts.{counted_times, IsAskedWithin};
 ghost use Rattle.model_bounds.specs.steps_model.Step.{moment_of};
 ghost use Rattle.sip_run.specs.Due.{NothingDueBy, standing_of};
-ghost use Rattle.sip_loop.specs.Courses.{Breaks, BreaksOff, Goes, LinkFails, StepFails, TakesTurn, TurnBreaks, TurnGoes, waiting_at};
+ghost use Rattle.sip_loop.specs.Courses.{Breaks, Goes, LinkFails, StepFails, TakesTurn, TurnBreaks, TurnGoes};
 ghost use Rattle.sip_loop.specs.Printing.{Prints};
 ghost use Rattle.sip_record.specs.Record.{Notes};
 ghost use Rattle.sip_loop.specs.Serving.{IsServed, IsUnserved, behind_word, between_turns, event_of_turn, kept, told_by, turn_at, word_from};

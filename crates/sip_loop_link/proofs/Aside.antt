@@ -1,7 +1,8 @@
 -- What a link over memory heard and set aside.
-use Rattle.std.proofs.Common.{◌≡◌, ℕ, zero, suc, ◌+◌, ◌<◌, ◌≤◌, Bool, true, false, List, [], ◌∷◌, ◌++◌, Option, None, Some, length, map, take, drop, slice_set, slice_index_or, unwrap_or, refl, sym, ◌∙◌, ap, subst, arith}
+use Rattle.std.proofs.Common.{◌≡◌, ℕ, zero, suc, ◌+◌, ◌<◌, ◌≤◌, Bool, true, false, List, [], ◌∷◌, ◌++◌, Option, None, Some, length, map, take, drop, slice_set}
+use Rattle.std.proofs.Common.{slice_index_or, unwrap_or, refl, sym, ◌∙◌, ap, subst, arith}
 use Rattle.std.proofs.lemmas.List.{append_assoc, append-nil}
-use Rattle.sip_loop_link.specs.Told.{and_then, left_of, SetsAside}
+use Rattle.sip_loop_link.specs.Told.{left_of, SetsAside}
 use Rattle.sip_loop_link.specs.MemoryLink.{IsFresh, aside_by, aside_one, datagram_of, heard_by, heard_one, last_bytes, nothings, silence_of}
 use Rattle.sip_loop_link.specs.declared.datagram.Instead.{Instead}
 use Rattle.sip_loop_link.specs.declared.datagram.Instead.TheVariants.{AskedAgain, HeardNothing}
@@ -121,7 +122,8 @@ fresh_still (posted ∷ list) (suc (suc n)) more fresh = fresh_still list (suc n
 -- the same link once what it heard last is set aside
 pub set_aside : (list : List Posted) (taken place : ℕ) (d : Posted) (from : Addr) (instead : Instead) → taken ≤ length list → place + 1 ≡ taken → IsFresh list taken
     → SetsAside (record { from = from; bytes = last_bytes [] (take taken list) }) instead (Some (heard_by (take taken list) ++ []))
-    (Some (heard_by (take taken (flagged list place d)) ++ nothings (silence_of instead))) (Some (aside_by (take taken list))) (Some (aside_by (take taken (flagged list place d))))
+    (Some (heard_by (take taken (flagged list place d)) ++ nothings (silence_of instead))) (Some (aside_by (take taken list)))
+    (Some (aside_by (take taken (flagged list place d))))
 set_aside list taken place d from instead h e fresh =
     let same : taken ≡ suc place = omega (arith, e) in
     let below : place < length list = omega (arith, h, e) in
@@ -137,5 +139,6 @@ set_aside list taken place d from instead h e fresh =
 
 -- and the rest of it stays
 pub rest_stays : (list : List Posted) (taken place : ℕ) (d : Posted) → place + 1 ≡ taken
-    → (map datagram_of (drop taken (flagged list place d)) ≡ map datagram_of (drop taken list)) × (last_bytes [] (take taken (flagged list place d)) ≡ last_bytes [] (take taken list))
+    → (map datagram_of (drop taken (flagged list place d)) ≡ map datagram_of (drop taken list))
+    × (last_bytes [] (take taken (flagged list place d)) ≡ last_bytes [] (take taken list))
 rest_stays list taken place d e = let same : taken ≡ suc place = omega (arith, e) in rw same (waiting_flag list place d, held_flag [] list place d)

@@ -1,10 +1,11 @@
 -- What a link over memory heard, turn by turn.
-use Rattle.std.proofs.Common.{◌≡◌, ℕ, zero, suc, ◌+◌, ◌<◌, ◌≤◌, Bool, List, [], ◌∷◌, ◌++◌, Option, None, Some, true, false, length, map, take, drop, slice_set, slice_index_or, refl, sym, ◌∙◌, ap, arith}
+use Rattle.std.proofs.Common.{◌≡◌, ℕ, zero, suc, ◌+◌, ◌<◌, ◌≤◌, Bool, List, [], ◌∷◌, ◌++◌, Option, None, Some, true, false, length, map, take, drop, slice_set}
+use Rattle.std.proofs.Common.{slice_index_or, refl, sym, ◌∙◌, ap, arith}
 use Rattle.std.proofs.Math.Bridge.{le_prop}
 use Rattle.std.proofs.lemmas.List.{append_assoc, append-nil}
 use Rattle.sip_loop_link.specs.Told.{IsWritable}
 use Rattle.sip_loop_link.specs.Examples.{here}
-use Rattle.sip_loop_link.specs.MemoryLink.{IsFresh, MemoryState, aside_by, aside_one, heard_by, heard_one, nothings, datagram_of, last_bytes, hearing, first_from}
+use Rattle.sip_loop_link.specs.MemoryLink.{MemoryState, aside_by, aside_one, heard_by, heard_one, nothings, datagram_of, last_bytes, hearing, first_from}
 use Rattle.sip_loop_link.specs.declared.datagram.Heard.{Heard}
 use Rattle.sip_loop_link.specs.declared.posted.Posted.{Posted}
 use Rattle.sip_uri.specs.declared.addr.Addr.{Addr}
@@ -23,7 +24,8 @@ silenced silent aside p q writable e =
     let one : Posted = record { silent = silent; is_aside = aside; datagram = p.datagram; writable = writable } in
     let other : Posted = record p { silent = silent; is_aside = aside } in
     let same : one ≡ other =
-    ap (λ (w : IsWritable p.datagram.from p.datagram.bytes). let posted : Posted = record { silent = silent; is_aside = aside; datagram = p.datagram; writable = w } in posted)
+    ap (λ (w : IsWritable p.datagram.from p.datagram.bytes). let posted : Posted = record { silent = silent; is_aside = aside; datagram = p.datagram; writable = w } in
+    posted)
     (writable_is_prop p.datagram.from p.datagram.bytes writable p.writable)
     in
     same ∙ ap (λ (posted : Posted). record posted { silent = silent; is_aside = aside }) e
@@ -35,7 +37,8 @@ put_aside p q writable e =
     let one : Posted = record { silent = p.silent; is_aside = true; datagram = p.datagram; writable = writable } in
     let other : Posted = record p { is_aside = true } in
     let same : one ≡ other =
-    ap (λ (w : IsWritable p.datagram.from p.datagram.bytes). let posted : Posted = record { silent = p.silent; is_aside = true; datagram = p.datagram; writable = w } in posted)
+    ap (λ (w : IsWritable p.datagram.from p.datagram.bytes). let posted : Posted = record { silent = p.silent; is_aside = true; datagram = p.datagram; writable = w } in
+    posted)
     (writable_is_prop p.datagram.from p.datagram.bytes writable p.writable)
     in
     same ∙ ap (λ (posted : Posted). record posted { is_aside = true }) e
@@ -151,6 +154,18 @@ hears_some list n silent d link l h a =
     rw e (
     first_heard (map datagram_of (drop n list)) rest (slice_index_or list n d).datagram link (waiting_some list n silent d l)
     ∙ ap (λ told. record link { waiting = rest; heard = told; fresh = true; held = (slice_index_or list n d).datagram.bytes }) told
-    ∙ ap (λ aside. record link { waiting = rest; heard = heard_by (take (suc n) (noted list n silent d)) ++ []; fresh = true; aside = aside; held = (slice_index_or list n d).datagram.bytes }) aside
-    ∙ ap (λ held. record link { waiting = rest; heard = heard_by (take (suc n) (noted list n silent d)) ++ []; fresh = true; aside = aside_by (take (suc n) (noted list n silent d)); held = held }) held
+    ∙ ap (λ aside. record link {
+      waiting = rest;
+      heard = heard_by (take (suc n) (noted list n silent d)) ++ [];
+      fresh = true;
+      aside = aside;
+      held = (slice_index_or list n d).datagram.bytes;
+    }) aside
+    ∙ ap (λ held. record link {
+      waiting = rest;
+      heard = heard_by (take (suc n) (noted list n silent d)) ++ [];
+      fresh = true;
+      aside = aside_by (take (suc n) (noted list n silent d));
+      held = held;
+    }) held
     )

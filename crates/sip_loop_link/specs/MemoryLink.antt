@@ -14,7 +14,8 @@ use Rattle.sip_loop_link.specs.declared.posted.Posted.{Posted}
 use Rattle.sip_uri.specs.declared.addr.Addr.{Addr}
 
 -- what a link over memory is seen as: the datagrams that it is yet to hear; what each receive that didn't fail heard, but
--- for what was set aside; whether it heard a datagram last; what was set aside; what it was given; the bytes of the datagram that it heard last; how many receives there were, and how many of them failed; the
+-- for what was set aside; whether it heard a datagram last; what was set aside; what it was given; the bytes of the datagram that it heard last; how many receives there
+-- were, and how many of them failed; the
 -- numbers, from 1, of the receives and of the sends that fail; and how many milliseconds it was let wait, time by time, while there
 -- was memory to tell it
 pub record MemoryState : Type 0 where

@@ -20,7 +20,8 @@ pub agree_from : (a b : Bool) → a ≡ b → beq a b ≡ true
 agree_from a b e = ap (λ (x : Bool). beq x b) e ∙ agree_itself b
 
 -- tests that are the same at each rule agree
-pub all_agree : (one other : Rule → Bool) → ((rule : Rule) → one rule ≡ other rule) → (rules : List Rule) → list_all (λ (rule : Rule). beq (one rule) (other rule)) rules ≡ true
+pub all_agree : (one other : Rule → Bool) → ((rule : Rule) → one rule ≡ other rule) → (rules : List Rule)
+    → list_all (λ (rule : Rule). beq (one rule) (other rule)) rules ≡ true
 all_agree one other same [] = refl
 all_agree one other same (r ∷ rs) = and_from _ _ (agree_from (one r) (other r) (same r)) (all_agree one other same rs)
 

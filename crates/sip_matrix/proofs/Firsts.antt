@@ -48,7 +48,8 @@ module _ {X : Type 0} (alike : X → X → Bool) (over : (x y z : X) → alike x
         among = any_last (alike x) firsts y ∙ ap₂ (λ (a b : Bool). a || b) h.among is;
       }
 
-  steps : (x : X) (firsts : List X) (there : Bool) (xs : List X) → HasOne alike x firsts there → HasOne alike x (with_kinds alike firsts xs) (there || list_any (alike x) xs)
+  steps : (x : X) (firsts : List X) (there : Bool) (xs : List X) → HasOne alike x firsts there
+      → HasOne alike x (with_kinds alike firsts xs) (there || list_any (alike x) xs)
   steps x firsts true [] h = h
   steps x firsts false [] h = h
   steps x firsts true (y ∷ ys) h = steps x (with_kind alike firsts y) true ys (step x firsts y true h)

@@ -27,7 +27,8 @@ use Rattle.sip_matrix.proofs.Minutes.{piece_holds}
 use Rattle.sip_matrix.proofs.Meeting.{all_met, known_as, own_alike}
 
 -- tests that are the same at the rules that are kept find the same one, where all rules are
-found_same : (one other keep : Rule → Bool) → ((rule : Rule) → keep rule ≡ true → one rule ≡ other rule) → (rules : List Rule) → list_all keep rules ≡ true → find one rules ≡ find other rules
+pub found_same : (one other keep : Rule → Bool) → ((rule : Rule) → keep rule ≡ true → one rule ≡ other rule) → (rules : List Rule) → list_all keep rules ≡ true
+    → find one rules ≡ find other rules
 found_same one other keep same [] all = refl
 found_same one other keep same (r ∷ rs) all =
     let both = and_parts (keep r) (list_all keep rs) all in
@@ -39,7 +40,8 @@ by_piece : (rules : List Rule) (users : List User) (domains : List (List ℕ)) (
 by_piece rules users domains proven operation aor minute =
     found_same (applies users domains proven operation aor minute) (applies users domains proven operation aor (piece_of rules minute))
     (λ (rule : Rule). beq (holds minute rule.window) (holds (piece_of rules minute) rule.window))
-    (λ rule e. ap (λ (b : Bool). b && (matches_operation operation rule.operation && (matches_target users domains proven aor rule.target && matches_who users proven rule.who)))
+    (λ rule e. ap (λ (b : Bool). b && (matches_operation operation rule.operation && (matches_target users domains proven aor rule.target
+    && matches_who users proven rule.who)))
     (agree_same (holds minute rule.window) (holds (piece_of rules minute) rule.window) e))
     rules (piece_holds rules minute)
 
@@ -57,7 +59,8 @@ by_column rules users domains proven operation aor piece =
     rules (all_met users domains proven aor rules)
 
 -- by another column that is asked about alike
-by_class : (rules : List Rule) (users : List User) (domains : List (List ℕ)) (proven : Option (List ℕ)) (operation : Operation) (one other : Column) (own : Bool) (piece : ℕ)
+by_class : (rules : List Rule) (users : List User) (domains : List (List ℕ)) (proven : Option (List ℕ)) (operation : Operation) (one other : Column) (own : Bool)
+    (piece : ℕ)
     → are_asked_alike rules users domains one other ≡ true
     → rule_in rules users proven operation one own piece ≡ rule_in rules users proven operation other own piece
 by_class rules users domains proven operation one other own piece alike =
@@ -66,7 +69,8 @@ by_class rules users domains proven operation one other own piece alike =
     (λ rule e. ap (λ (b : Bool). holds piece rule.window && (matches_operation operation rule.operation && (b && matches_who users proven rule.who)))
     (own_alike own one other rule.target (agree_same (meets false one rule.target) (meets false other rule.target) e)))
     rules
-    (and_parts (beq (is_known users domains one) (is_known users domains other)) (list_all (λ (rule : Rule). beq (meets false one rule.target) (meets false other rule.target)) rules) alike).1
+    (and_parts (beq (is_known users domains one) (is_known users domains other)) (list_all
+    (λ (rule : Rule). beq (meets false one rule.target) (meets false other rule.target)) rules) alike).1
 
 -- by the asker's row
 by_row : (rules : List Rule) (users : List User) (proven row : Option (List ℕ)) (operation : Operation) (column : Column) (own : Bool) (piece : ℕ)
@@ -82,7 +86,8 @@ by_row rules users (Some name) (Some row) operation column own piece alike =
     (agree_same (matches_who users (Some name) rule.who) (matches_who users (Some row) rule.who) e))
     rules alike
 
-pub rule_of_cell : (rules : List Rule) (users : List User) (domains : List (List ℕ)) (proven row : Option (List ℕ)) (operation : Operation) (aor : Aor) (column : Column) (minute : ℕ)
+pub rule_of_cell : (rules : List Rule) (users : List User) (domains : List (List ℕ)) (proven row : Option (List ℕ)) (operation : Operation) (aor : Aor) (column : Column)
+    (minute : ℕ)
     → is_in_row rules users proven row ≡ true → are_asked_alike rules users domains (column_of rules users domains aor) column ≡ true
     → deciding_rule rules users domains proven operation aor minute ≡ rule_in rules users row operation column (is_own users domains proven aor) (piece_of rules minute)
 rule_of_cell rules users domains proven row operation aor column minute in_row alike =
@@ -93,14 +98,16 @@ rule_of_cell rules users domains proven row operation aor column minute in_row a
     ∙ by_row rules users proven row operation column own (piece_of rules minute) in_row
 
 -- what a rule decides for an asker is what it decides for each one of his row
-decided_alike : (rules : List Rule) (users : List User) (proven row : Option (List ℕ)) → is_in_row rules users proven row ≡ true → (found : Option Rule) → decision_with proven found ≡ decision_with row found
+decided_alike : (rules : List Rule) (users : List User) (proven row : Option (List ℕ)) → is_in_row rules users proven row ≡ true → (found : Option Rule)
+    → decision_with proven found ≡ decision_with row found
 decided_alike rules users None None e found = refl
 decided_alike rules users None (Some row) e found = absurd cc
 decided_alike rules users (Some name) None e found = absurd cc
 decided_alike rules users (Some name) (Some row) e None = refl
 decided_alike rules users (Some name) (Some row) e (Some rule) = refl
 
-pub decision_of_cell : (rules : List Rule) (users : List User) (domains : List (List ℕ)) (proven row : Option (List ℕ)) (operation : Operation) (aor : Aor) (column : Column) (minute : ℕ)
+pub decision_of_cell : (rules : List Rule) (users : List User) (domains : List (List ℕ)) (proven row : Option (List ℕ)) (operation : Operation) (aor : Aor)
+    (column : Column) (minute : ℕ)
     → is_in_row rules users proven row ≡ true → are_asked_alike rules users domains (column_of rules users domains aor) column ≡ true
     → decision_of rules users domains proven operation aor minute ≡ decision_in rules users row operation column (is_own users domains proven aor) (piece_of rules minute)
 decision_of_cell rules users domains proven row operation aor column minute in_row alike =
@@ -114,10 +121,12 @@ known_of_cell rules users domains aor column alike =
     let known = is_known users domains in
     let one = column_of rules users domains aor in
     known_as rules users domains aor
-    ∙ agree_same (known one) (known column) (and_parts (beq (known one) (known column)) (list_all (λ (rule : Rule). beq (meets false one rule.target) (meets false column rule.target)) rules) alike).0
+    ∙ agree_same (known one) (known column) (and_parts (beq (known one) (known column))
+    (list_all (λ (rule : Rule). beq (meets false one rule.target) (meets false column rule.target)) rules) alike).0
 
 -- a user's own address is a configured user's
-pub own_is_known : (users : List User) (domains : List (List ℕ)) (name : List ℕ) (aor : Aor) → is_users_name users name ≡ true → is_own users domains (Some name) aor ≡ true → is_users_address users domains aor ≡ true
+pub own_is_known : (users : List User) (domains : List (List ℕ)) (name : List ℕ) (aor : Aor) → is_users_name users name ≡ true
+    → is_own users domains (Some name) aor ≡ true → is_users_address users domains aor ≡ true
 own_is_known users domains name aor is_user own =
     let both = and_parts (is_own_domain domains aor.host) (bytes_eq aor.user name) own in
     and_from _ _ both.0 (ap (λ (text : List ℕ). is_users_name users text) (same_text aor.user name (sym both.1)) ∙ is_user)

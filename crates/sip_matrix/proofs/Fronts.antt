@@ -22,7 +22,8 @@ front_itself [] = refl
 front_itself (b ∷ bs) = and_from _ _ (same_number b) (front_itself bs)
 
 -- what begins with a text begins with each front of it
-pub front_of_front : (text front shorter : List ℕ) → starts_with nat_eq text front ≡ true → starts_with nat_eq front shorter ≡ true → starts_with nat_eq text shorter ≡ true
+pub front_of_front : (text front shorter : List ℕ) → starts_with nat_eq text front ≡ true → starts_with nat_eq front shorter ≡ true
+    → starts_with nat_eq text shorter ≡ true
 front_of_front text front [] h g = refl
 front_of_front text [] (s ∷ ss) h g = absurd cc
 front_of_front [] (f ∷ fs) (s ∷ ss) h g = absurd cc
@@ -32,7 +33,8 @@ front_of_front (t ∷ ts) (f ∷ fs) (s ∷ ss) h g =
     and_from _ _ (nat_eq_equiv.congr s f t two.0 ∙ one.0) (front_of_front ts fs ss one.1 two.1)
 
 -- of two fronts of one text, where the second doesn't begin with the first, the first begins with the second
-pub fronts_in_order : (text one other : List ℕ) → starts_with nat_eq text one ≡ true → starts_with nat_eq text other ≡ true → starts_with nat_eq other one ≡ false → starts_with nat_eq one other ≡ true
+pub fronts_in_order : (text one other : List ℕ) → starts_with nat_eq text one ≡ true → starts_with nat_eq text other ≡ true → starts_with nat_eq other one ≡ false
+    → starts_with nat_eq one other ≡ true
 fronts_in_order text one [] h g e = refl
 fronts_in_order text [] (o ∷ os) h g e = absurd cc
 fronts_in_order [] (n ∷ ns) (o ∷ os) h g e = absurd cc
@@ -57,7 +59,8 @@ and_false a b = and_right a false refl ∙ sym (and_right b false refl)
 
 -- a longer front fits where a shorter one does
 longer_by : (text longer shorter prefix : List ℕ) → starts_with nat_eq text longer ≡ true → starts_with nat_eq longer shorter ≡ true
-    → (same a b d : Bool) → starts_with nat_eq text prefix ≡ a → starts_with nat_eq longer prefix ≡ b → starts_with nat_eq shorter prefix ≡ d → (a && same) ≡ (d && same) → (a && same) ≡ (b && same)
+    → (same a b d : Bool) → starts_with nat_eq text prefix ≡ a → starts_with nat_eq longer prefix ≡ b → starts_with nat_eq shorter prefix ≡ d → (a && same) ≡ (d && same)
+    → (a && same) ≡ (b && same)
 longer_by text longer shorter prefix h g false a b d p q r e = and_false a b
 longer_by text longer shorter prefix h g true true true d p q r e = refl
 longer_by text longer shorter prefix h g true false false d p q r e = refl
@@ -65,7 +68,8 @@ longer_by text longer shorter prefix h g true true false true p q r e = absurd (
 longer_by text longer shorter prefix h g true true false false p q r e = e
 longer_by text longer shorter prefix h g true false true d p q r e = absurd (true≢false (sym (front_of_front text longer prefix h q) ∙ p))
 
-longer_fits : (aor : Aor) (longer shorter : List ℕ) → starts_with nat_eq aor.user longer ≡ true → starts_with nat_eq longer shorter ≡ true → (target : TargetPattern) → front_fits aor shorter target ≡ true → front_fits aor longer target ≡ true
+longer_fits : (aor : Aor) (longer shorter : List ℕ) → starts_with nat_eq aor.user longer ≡ true → starts_with nat_eq longer shorter ≡ true → (target : TargetPattern)
+    → front_fits aor shorter target ≡ true → front_fits aor longer target ≡ true
 longer_fits aor longer shorter h g (Exact user domain) e = refl
 longer_fits aor longer shorter h g (Prefix prefix domain) e =
     agree_from _ _ (longer_by aor.user longer shorter prefix h g (is_same_text aor.host domain) _ _ _ refl refl refl
@@ -81,7 +85,8 @@ all_fit aor longer shorter h g (r ∷ rs) e =
     and_from _ _ (longer_fits aor longer shorter h g r.target both.0) (all_fit aor longer shorter h g rs both.1)
 
 -- a prefix that isn't longer fits the front that there is
-shorter_by : (text front prefix : List ℕ) → starts_with nat_eq text front ≡ true → (same a b : Bool) → starts_with nat_eq text prefix ≡ a → starts_with nat_eq front prefix ≡ b
+shorter_by : (text front prefix : List ℕ) → starts_with nat_eq text front ≡ true → (same a b : Bool) → starts_with nat_eq text prefix ≡ a
+    → starts_with nat_eq front prefix ≡ b
     → ((a && same) && starts_with nat_eq prefix front) ≡ false → (a && same) ≡ (b && same)
 shorter_by text front prefix h false a b p q e = and_false a b
 shorter_by text front prefix h true true true p q e = refl

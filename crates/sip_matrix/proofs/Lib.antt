@@ -5,4 +5,6 @@ pub mod Minutes
 pub mod Meeting
 pub mod Listed
 pub mod Found
+pub mod Stars
+pub mod Everywhere
 pub mod Owned

@@ -33,14 +33,16 @@ any_wider one other wider (x ∷ xs) e = elim (or_cases (one x) (list_any one xs
   | inr h ↦ or_right _ _ (any_wider one other wider xs h)
 ]
 
-any_of_map : {X Y : Type 0} (test : Y → Bool) (make : X → Y) (one : X → Bool) → ((x : X) → one x ≡ true → test (make x) ≡ true) → (xs : List X) → list_any one xs ≡ true → list_any test (map make xs) ≡ true
+any_of_map : {X Y : Type 0} (test : Y → Bool) (make : X → Y) (one : X → Bool) → ((x : X) → one x ≡ true → test (make x) ≡ true) → (xs : List X) → list_any one xs ≡ true
+    → list_any test (map make xs) ≡ true
 any_of_map test make one makes [] e = e
 any_of_map test make one makes (x ∷ xs) e = elim (or_cases (one x) (list_any one xs) e) [
   | inl h ↦ or_left _ _ (makes x h)
   | inr h ↦ or_right _ _ (any_of_map test make one makes xs h)
 ]
 
-pub any_in_all : {X Y : Type 0} (test : Y → Bool) (make : X → List Y) (one : X → Bool) → ((x : X) → one x ≡ true → list_any test (make x) ≡ true) → (xs : List X) → list_any one xs ≡ true → list_any test (flat_map make xs) ≡ true
+pub any_in_all : {X Y : Type 0} (test : Y → Bool) (make : X → List Y) (one : X → Bool) → ((x : X) → one x ≡ true → list_any test (make x) ≡ true) → (xs : List X)
+    → list_any one xs ≡ true → list_any test (flat_map make xs) ≡ true
 any_in_all test make one makes [] e = e
 any_in_all test make one makes (x ∷ xs) e = elim (or_cases (one x) (list_any one xs) e) [
   | inl h ↦ list_any-append test (make x) (flat_map make xs) ∙ or_left _ _ (makes x h)
@@ -60,24 +62,28 @@ text_itself text = nat_list_eq_equiv.refl text
 
 module _ (rules : List Rule) (users : List User) (domains : List (List ℕ)) (aor : Aor) where
   -- what is listed for the own domains, for the rules' targets, and for all other hosts
-  in_domains : (column : Column) → list_any (is_same_column column) (flat_map (columns_of_domain users) domains) ≡ true → list_any (is_same_column column) (all_columns rules users domains) ≡ true
+  in_domains : (column : Column) → list_any (is_same_column column) (flat_map (columns_of_domain users) domains) ≡ true
+      → list_any (is_same_column column) (all_columns rules users domains) ≡ true
   in_domains column e =
       in_front (is_same_column column) (flat_map (columns_of_domain users) domains ++ flat_map (λ (rule : Rule). columns_of_target rule.target) rules) (Elsewhere ∷ [])
       (in_front (is_same_column column) (flat_map (columns_of_domain users) domains) (flat_map (λ (rule : Rule). columns_of_target rule.target) rules) e)
 
-  in_rules : (column : Column) → list_any (is_same_column column) (flat_map (λ (rule : Rule). columns_of_target rule.target) rules) ≡ true → list_any (is_same_column column) (all_columns rules users domains) ≡ true
+  in_rules : (column : Column) → list_any (is_same_column column) (flat_map (λ (rule : Rule). columns_of_target rule.target) rules) ≡ true
+      → list_any (is_same_column column) (all_columns rules users domains) ≡ true
   in_rules column e =
       in_front (is_same_column column) (flat_map (columns_of_domain users) domains ++ flat_map (λ (rule : Rule). columns_of_target rule.target) rules) (Elsewhere ∷ [])
       (behind (is_same_column column) (flat_map (columns_of_domain users) domains) (flat_map (λ (rule : Rule). columns_of_target rule.target) rules) e)
 
   elsewhere_listed : list_any (is_same_column Elsewhere) (all_columns rules users domains) ≡ true
-  elsewhere_listed = behind (is_same_column Elsewhere) (flat_map (columns_of_domain users) domains ++ flat_map (λ (rule : Rule). columns_of_target rule.target) rules) (Elsewhere ∷ []) refl
+  elsewhere_listed = behind (is_same_column Elsewhere) (flat_map (columns_of_domain users) domains ++ flat_map (λ (rule : Rule). columns_of_target rule.target) rules)
+      (Elsewhere ∷ []) refl
 
   host_same : (domain : List ℕ) → is_same_text domain aor.host ≡ true → is_same_text aor.host domain ≡ true
   host_same domain e = nat_list_eq_equiv.symm (without_case aor.host) (without_case domain) ∙ e
 
   -- a named address
-  user_in : (domain : List ℕ) → is_users_name users aor.user ≡ true → is_same_text domain aor.host ≡ true → list_any (is_same_column (Named aor)) (columns_of_domain users domain) ≡ true
+  user_in : (domain : List ℕ) → is_users_name users aor.user ≡ true → is_same_text domain aor.host ≡ true
+      → list_any (is_same_column (Named aor)) (columns_of_domain users domain) ≡ true
   user_in domain user host =
       in_front (is_same_column (Named aor)) (map (λ (u : User). named u.name domain) users) (begins [] domain ∷ [])
       (any_of_map (is_same_column (Named aor)) (λ (u : User). named u.name domain) (is_named aor.user)
@@ -93,8 +99,10 @@ module _ (rules : List Rule) (users : List User) (domains : List (List ℕ)) (ao
   named_listed e = elim (or_cases (is_users_address users domains aor) (list_any (λ (rule : Rule). names_address aor rule.target) rules) e) [
     | inl h ↦
         let both = and_parts (is_own_domain domains aor.host) (is_users_name users aor.user) h in
-        in_domains (Named aor) (any_in_all (is_same_column (Named aor)) (columns_of_domain users) (λ (domain : List ℕ). is_same_text domain aor.host) (λ domain host. user_in domain both.1 host) domains both.0)
-    | inr h ↦ in_rules (Named aor) (any_in_all (is_same_column (Named aor)) (λ (rule : Rule). columns_of_target rule.target) (λ (rule : Rule). names_address aor rule.target) (λ rule f. address_in rule.target f) rules h)
+        in_domains (Named aor) (any_in_all (is_same_column (Named aor)) (columns_of_domain users) (λ (domain : List ℕ). is_same_text domain aor.host)
+        (λ domain host. user_in domain both.1 host) domains both.0)
+    | inr h ↦ in_rules (Named aor) (any_in_all (is_same_column (Named aor)) (λ (rule : Rule). columns_of_target rule.target)
+        (λ (rule : Rule). names_address aor rule.target) (λ rule f. address_in rule.target f) rules h)
   ]
 
   -- what begins with a front at the address's host
@@ -116,7 +124,8 @@ module _ (rules : List Rule) (users : List User) (domains : List (List ℕ)) (ao
     where
       by : (longer : Bool) → ((starts_with nat_eq aor.user prefix && is_same_text aor.host domain) && starts_with nat_eq prefix front) ≡ longer
           → (front ≡ []) ⊎ (list_any (is_same_column (beginning front)) others ≡ true)
-          → (cond longer prefix front ≡ []) ⊎ (list_any (is_same_column (beginning (cond longer prefix front))) (columns_of_target (Prefix prefix domain) ++ others) ≡ true)
+          → (cond longer prefix front ≡ []) ⊎ (list_any (is_same_column (beginning (cond longer prefix front))) (columns_of_target (Prefix prefix domain) ++ others)
+          ≡ true)
       by true e h =
           let both = and_parts (starts_with nat_eq aor.user prefix && is_same_text aor.host domain) (starts_with nat_eq prefix front) e in
           let meets = and_parts (starts_with nat_eq aor.user prefix) (is_same_text aor.host domain) both.0 in
@@ -124,7 +133,8 @@ module _ (rules : List Rule) (users : List User) (domains : List (List ℕ)) (ao
       by false e (inl none) = inl none
       by false e (inr there) = inr (behind (is_same_column (beginning front)) (columns_of_target (Prefix prefix domain)) others there)
 
-  fronts_in : (some : List Rule) → (longest_front some aor ≡ []) ⊎ (list_any (is_same_column (beginning (longest_front some aor))) (flat_map (λ (rule : Rule). columns_of_target rule.target) some) ≡ true)
+  fronts_in : (some : List Rule) → (longest_front some aor ≡ []) ⊎ (list_any (is_same_column (beginning (longest_front some aor)))
+      (flat_map (λ (rule : Rule). columns_of_target rule.target) some) ≡ true)
   fronts_in [] = inl refl
   fronts_in (r ∷ rs) = front_in (longest_front rs aor) r.target (flat_map (λ (rule : Rule). columns_of_target rule.target) rs) (fronts_in rs)
 
@@ -141,8 +151,10 @@ module _ (rules : List Rule) (users : List User) (domains : List (List ℕ)) (ao
 
   none_listed : counts rules domains aor.host ≡ true → list_any (is_same_column (beginning [])) (all_columns rules users domains) ≡ true
   none_listed e = elim (or_cases (is_own_domain domains aor.host) (list_any (λ (rule : Rule). names_host aor.host rule.target) rules) e) [
-    | inl h ↦ in_domains (beginning []) (any_in_all (is_same_column (beginning [])) (columns_of_domain users) (λ (domain : List ℕ). is_same_text domain aor.host) none_of_domain domains h)
-    | inr h ↦ in_rules (beginning []) (any_in_all (is_same_column (beginning [])) (λ (rule : Rule). columns_of_target rule.target) (λ (rule : Rule). names_host aor.host rule.target) (λ rule f. none_of_target rule.target f) rules h)
+    | inl h ↦ in_domains (beginning []) (any_in_all (is_same_column (beginning [])) (columns_of_domain users) (λ (domain : List ℕ). is_same_text domain aor.host)
+        none_of_domain domains h)
+    | inr h ↦ in_rules (beginning []) (any_in_all (is_same_column (beginning [])) (λ (rule : Rule). columns_of_target rule.target)
+        (λ (rule : Rule). names_host aor.host rule.target) (λ rule f. none_of_target rule.target f) rules h)
   ]
 
   begin_listed : counts rules domains aor.host ≡ true → list_any (is_same_column (beginning (longest_front rules aor))) (all_columns rules users domains) ≡ true
@@ -155,7 +167,8 @@ module _ (rules : List Rule) (users : List User) (domains : List (List ℕ)) (ao
   column_listed = by (counts rules domains aor.host) refl (has_name rules users domains aor) refl
     where
       by : (here : Bool) → counts rules domains aor.host ≡ here → (has : Bool) → has_name rules users domains aor ≡ has
-          → list_any (is_same_column (cond here (cond has (Named aor) (Begins (record { user = longest_front rules aor; host = aor.host }))) Elsewhere)) (all_columns rules users domains) ≡ true
+          → list_any (is_same_column (cond here (cond has (Named aor) (Begins (record { user = longest_front rules aor; host = aor.host }))) Elsewhere))
+          (all_columns rules users domains) ≡ true
       by true here true has = named_listed has
       by true here false has = begin_listed here
       by false here has is = elsewhere_listed
@@ -165,7 +178,8 @@ module _ (rules : List Rule) (users : List User) (domains : List (List ℕ)) (ao
   one_column =
       let column = column_of rules users domains aor in
       exactly_one (are_asked_alike rules users domains) (asked_over rules users domains) column (all_columns rules users domains)
-      (any_wider (is_same_column column) (are_asked_alike rules users domains column) (alike_if_same rules users domains column) (all_columns rules users domains) column_listed)
+      (any_wider (is_same_column column) (are_asked_alike rules users domains column) (alike_if_same rules users domains column) (all_columns rules users domains)
+      column_listed)
 
 -- ---- rows
 

@@ -74,17 +74,21 @@ module _ (users : List User) (domains : List (List ℕ)) (proven : Option (List 
     where
       by : (here : Bool) → counts rules domains aor.host ≡ here → (has : Bool) → has_name rules users domains aor ≡ has
           → list_all (met_as (cond here (cond has (Named aor) (Begins (record { user = longest_front rules aor; host = aor.host }))) Elsewhere)) rules ≡ true
-      by true here true has = all_agree (λ (rule : Rule). matches_target users domains proven aor rule.target) (λ (rule : Rule). meets (is_own users domains proven aor) (Named aor) rule.target) (λ r. met_named users domains proven aor r.target) rules
+      by true here true has = all_agree (λ (rule : Rule). matches_target users domains proven aor rule.target)
+          (λ (rule : Rule). meets (is_own users domains proven aor) (Named aor) rule.target) (λ r. met_named users domains proven aor r.target) rules
       by true here false has =
-          all_begin (longest_front rules aor) rules (or_parts (is_users_address users domains aor) (list_any (λ (rule : Rule). names_address aor rule.target) rules) has).1 (longest_fits rules aor).fits
+          all_begin (longest_front rules aor) rules (or_parts (is_users_address users domains aor) (list_any (λ (rule : Rule). names_address aor rule.target) rules)
+          has).1 (longest_fits rules aor).fits
       by false here has is = all_elsewhere rules (or_parts (is_own_domain domains aor.host) (list_any (λ (rule : Rule). names_host aor.host rule.target) rules) here).1
 
 -- the addresses of a column are known as those of it are that is asked about
-pub known_as : (rules : List Rule) (users : List User) (domains : List (List ℕ)) (aor : Aor) → is_users_address users domains aor ≡ is_known users domains (column_of rules users domains aor)
+pub known_as : (rules : List Rule) (users : List User) (domains : List (List ℕ)) (aor : Aor)
+    → is_users_address users domains aor ≡ is_known users domains (column_of rules users domains aor)
 known_as rules users domains aor = by (counts rules domains aor.host) refl (has_name rules users domains aor) refl
   where
     by : (here : Bool) → counts rules domains aor.host ≡ here → (has : Bool) → has_name rules users domains aor ≡ has
-        → is_users_address users domains aor ≡ is_known users domains (cond here (cond has (Named aor) (Begins (record { user = longest_front rules aor; host = aor.host }))) Elsewhere)
+        → is_users_address users domains aor ≡ is_known users domains (cond here (cond has (Named aor)
+        (Begins (record { user = longest_front rules aor; host = aor.host }))) Elsewhere)
     by true here true has = refl
     by true here false has = (or_parts (is_users_address users domains aor) (list_any (λ (rule : Rule). names_address aor rule.target) rules) has).0
     by false here has is = and_left _ _ (or_parts (is_own_domain domains aor.host) (list_any (λ (rule : Rule). names_host aor.host rule.target) rules) here).0
@@ -92,7 +96,8 @@ known_as rules users domains aor = by (counts rules domains aor.host) refl (has_
 -- ---- columns that are asked about alike
 
 -- where columns meet the targets alike of addresses that aren't the asker's own, they do of those that are
-pub own_alike : (own : Bool) (one other : Column) (target : TargetPattern) → meets false one target ≡ meets false other target → meets own one target ≡ meets own other target
+pub own_alike : (own : Bool) (one other : Column) (target : TargetPattern) → meets false one target ≡ meets false other target
+    → meets own one target ≡ meets own other target
 own_alike own one other (Exact user domain) e = e
 own_alike own one other (Prefix prefix domain) e = e
 own_alike own one other SelfTarget e = refl
@@ -101,7 +106,8 @@ own_alike own one other Any e = refl
 pub asked_over : (rules : List Rule) (users : List User) (domains : List (List ℕ)) (x y z : Column) → are_asked_alike rules users domains x y ≡ true
     → are_asked_alike rules users domains x z ≡ are_asked_alike rules users domains y z
 asked_over rules users domains x y z e =
-    let both = and_parts (beq (is_known users domains x) (is_known users domains y)) (list_all (λ (rule : Rule). beq (meets false x rule.target) (meets false y rule.target)) rules) e in
+    let both = and_parts (beq (is_known users domains x) (is_known users domains y)) (list_all
+    (λ (rule : Rule). beq (meets false x rule.target) (meets false y rule.target)) rules) e in
     ap₂ (λ (a b : Bool). beq a (is_known users domains z) && b)
     (agree_same (is_known users domains x) (is_known users domains y) both.0)
     (agree_over (λ (column : Column) (rule : Rule). meets false column rule.target) x y z rules both.1)
@@ -126,8 +132,10 @@ own_domain_same one other same (d ∷ ds) =
     (nat_list_eq_equiv.symm (without_case d) (without_case one.host) ∙ same.host d ∙ nat_list_eq_equiv.symm (without_case other.host) (without_case d))
     (own_domain_same one other same ds)
 
-pub known_same : (users : List User) (domains : List (List ℕ)) (one other : Aor) → Same one other → is_users_address users domains one ≡ is_users_address users domains other
-known_same users domains one other same = ap₂ (λ (a b : Bool). a && b) (own_domain_same one other same domains) (ap (λ (name : List ℕ). is_users_name users name) same.user)
+pub known_same : (users : List User) (domains : List (List ℕ)) (one other : Aor) → Same one other
+    → is_users_address users domains one ≡ is_users_address users domains other
+known_same users domains one other same = ap₂ (λ (a b : Bool). a && b) (own_domain_same one other same domains)
+    (ap (λ (name : List ℕ). is_users_name users name) same.user)
 
 named_same : (one other : Aor) → Same one other → (target : TargetPattern) → meets false (Named one) target ≡ meets false (Named other) target
 named_same one other same (Exact user domain) = ap₂ (λ (a b : Bool). a && b) (ap (λ (name : List ℕ). bytes_eq name user) same.user) (same.host domain)
@@ -142,15 +150,18 @@ begin_same one other same SelfTarget = refl
 begin_same one other same Any = refl
 
 -- a column is asked about as each one is that has the same addresses by its form
-pub alike_if_same : (rules : List Rule) (users : List User) (domains : List (List ℕ)) (one other : Column) → is_same_column one other ≡ true → are_asked_alike rules users domains one other ≡ true
+pub alike_if_same : (rules : List Rule) (users : List User) (domains : List (List ℕ)) (one other : Column) → is_same_column one other ≡ true
+    → are_asked_alike rules users domains one other ≡ true
 alike_if_same rules users domains (Named one) (Named other) e =
     let same = same_parts one other e in
     and_from _ _ (agree_from _ _ (known_same users domains one other same))
-    (all_agree (λ (rule : Rule). meets false (Named one) rule.target) (λ (rule : Rule). meets false (Named other) rule.target) (λ r. named_same one other same r.target) rules)
+    (all_agree (λ (rule : Rule). meets false (Named one) rule.target) (λ (rule : Rule). meets false (Named other) rule.target) (λ r. named_same one other same r.target)
+    rules)
 alike_if_same rules users domains (Begins one) (Begins other) e =
     let same = same_parts one other e in
     and_from _ _ refl
-    (all_agree (λ (rule : Rule). meets false (Begins one) rule.target) (λ (rule : Rule). meets false (Begins other) rule.target) (λ r. begin_same one other same r.target) rules)
+    (all_agree (λ (rule : Rule). meets false (Begins one) rule.target) (λ (rule : Rule). meets false (Begins other) rule.target) (λ r. begin_same one other same r.target)
+    rules)
 alike_if_same rules users domains Elsewhere Elsewhere e =
     and_from _ _ refl
     (all_agree (λ (rule : Rule). meets false Elsewhere rule.target) (λ (rule : Rule). meets false Elsewhere rule.target) (λ r. refl) rules)

@@ -1,8 +1,10 @@
 -- Minutes, the pieces of the day that they are in, and the windows that hold there.
-use Rattle.std.proofs.Common.{◌≡◌, ℕ, zero, suc, ◌+◌, ◌<◌, ◌≤◌, Bool, true, false, ◌&&◌, ◌||◌, cond, nat_eq, nat_lt, nat_le, if◌then◌else◌, List, [], ◌∷◌, ◌++◌, Option, Some, None, count_by, refl, sym, ap, ap₂, ◌∙◌, true≢false, add-one, arith}
+use Rattle.std.proofs.Common.{◌≡◌, ℕ, zero, suc, ◌+◌, ◌<◌, ◌≤◌, Bool, true, false, ◌&&◌, ◌||◌, cond, nat_eq, nat_lt, nat_le, if◌then◌else◌, List, [], ◌∷◌, ◌++◌, Option}
+use Rattle.std.proofs.Common.{Some, None, count_by, refl, sym, ap, ap₂, ◌∙◌, true≢false, add-one, arith}
 use Rattle.std.specs.Bool.{beq}
 use Rattle.std.specs.List.{list_all, list_any}
-use Rattle.std.proofs.lemmas.Bool.{and_parts, and_from, or_parts, ltb-true, ltb-false, leb-true, leb-false, eqb-true, eqb-false, lt-ltb, le-ltb, le-leb, lt-leb, false_from_ne_true}
+use Rattle.std.proofs.lemmas.Bool.{and_parts, and_from, or_parts, ltb-true, ltb-false, leb-true, leb-false, eqb-true, eqb-false, lt-ltb, le-ltb, le-leb, lt-leb}
+use Rattle.std.proofs.lemmas.Bool.{false_from_ne_true}
 use Rattle.std.proofs.lemmas.List.Sums.{sum_by_push}
 use Rattle.sip_policy.specs.declared.window.Window.{Window}
 use Rattle.sip_policy.specs.declared.rule.Rule.{Rule}
@@ -40,7 +42,8 @@ all_hold_on : (rules : List Rule) (minute piece : ℕ) → list_any (λ (rule : 
 all_hold_on [] minute piece none e = refl
 all_hold_on (r ∷ rs) minute piece none e =
     let apart = or_parts (is_bound_of (suc minute) r.window) (list_any (λ (rule : Rule). is_bound_of (suc minute) rule.window) rs) none in
-    let both = and_parts (beq (holds minute r.window) (holds piece r.window)) (list_all (λ (rule : Rule). beq (holds minute rule.window) (holds piece rule.window)) rs) e in
+    let both = and_parts (beq (holds minute r.window) (holds piece r.window)) (list_all (λ (rule : Rule). beq (holds minute rule.window) (holds piece rule.window)) rs) e
+    in
     and_from _ _ (ap (λ (b : Bool). beq b (holds piece r.window)) (holds_on r.window minute apart.0) ∙ both.0) (all_hold_on rs minute piece apart.1 both.1)
 
 -- the rules' windows hold at a minute as at the beginning of its piece
@@ -49,11 +52,13 @@ unfolding piece_of
 piece_holds rules zero = all_agree (λ (rule : Rule). holds 0 rule.window) (λ (rule : Rule). holds 0 rule.window) (λ r. refl) rules
 piece_holds rules (suc minute) = by (begins_piece rules (suc minute)) refl (piece_holds rules minute)
   where
-    by : (b : Bool) → begins_piece rules (suc minute) ≡ b → list_all (λ (rule : Rule). beq (holds minute rule.window) (holds (piece_of rules minute) rule.window)) rules ≡ true
+    by : (b : Bool) → begins_piece rules (suc minute) ≡ b → list_all (λ (rule : Rule). beq (holds minute rule.window) (holds (piece_of rules minute) rule.window)) rules
+        ≡ true
         → list_all (λ (rule : Rule). beq (holds (suc minute) rule.window) (holds (cond b (suc minute) (piece_of rules minute)) rule.window)) rules ≡ true
     by true e before = all_agree (λ (rule : Rule). holds (suc minute) rule.window) (λ (rule : Rule). holds (suc minute) rule.window) (λ r. refl) rules
     by false e before =
-        all_hold_on rules minute (piece_of rules minute) (or_parts (nat_eq (suc minute) 0) (list_any (λ (rule : Rule). is_bound_of (suc minute) rule.window) rules) e).1 before
+        all_hold_on rules minute (piece_of rules minute) (or_parts (nat_eq (suc minute) 0) (list_any (λ (rule : Rule). is_bound_of (suc minute) rule.window) rules) e).1
+        before
 
 -- ---- pieces
 
@@ -63,7 +68,8 @@ unfolding piece_of
 piece_begins rules zero = refl
 piece_begins rules (suc minute) = by (begins_piece rules (suc minute)) refl (piece_begins rules minute)
   where
-    by : (b : Bool) → begins_piece rules (suc minute) ≡ b → begins_piece rules (piece_of rules minute) ≡ true → begins_piece rules (cond b (suc minute) (piece_of rules minute)) ≡ true
+    by : (b : Bool) → begins_piece rules (suc minute) ≡ b → begins_piece rules (piece_of rules minute) ≡ true
+        → begins_piece rules (cond b (suc minute) (piece_of rules minute)) ≡ true
     by true e before = e
     by false e before = before
 

@@ -1,8 +1,7 @@
 -- A user of a row asks for an address of his own in a class exactly where one is listed there.
-use Rattle.std.proofs.Common.{◌≡◌, ◌⊎◌, inl, inr, ℕ, Bool, true, false, ◌&&◌, if◌then◌else◌, List, [], ◌∷◌, Option, Some, refl, sym, ap, ap₂, ◌∙◌}
-use Rattle.std.specs.Bool.{beq}
+use Rattle.std.proofs.Common.{◌≡◌, inl, inr, ℕ, Bool, true, false, ◌&&◌, if◌then◌else◌, List, [], ◌∷◌, refl, sym, ap, ap₂, ◌∙◌}
 use Rattle.std.specs.Cmp.Lexicographic.{same_text}
-use Rattle.std.specs.List.{list_all, list_any}
+use Rattle.std.specs.List.{list_any}
 use Rattle.std.specs.Str.{bytes_eq}
 use Rattle.std.proofs.lemmas.Bool.{and_parts, and_from, or_cases, or_left}
 use Rattle.std.proofs.lemmas.Cmp.{nat_list_eq_equiv}
@@ -14,7 +13,7 @@ use Rattle.sip_policy.specs.User.{is_named, is_own_domain, is_users_name, is_use
 use Rattle.sip_matrix.specs.declared.column.Column.{Column}
 use Rattle.sip_matrix.specs.declared.column.Column.TheVariants.{Named, Begins, Elsewhere}
 use Rattle.sip_matrix.specs.Address.{names_host, counts, names_address, has_name, longest_front, column_of}
-use Rattle.sip_matrix.specs.Asker.{ask_alike, is_own}
+use Rattle.sip_matrix.specs.Asker.{ask_alike}
 use Rattle.sip_matrix.specs.Column.{meets, is_known, are_asked_alike, is_same_address, is_same_column}
 use Rattle.sip_matrix.specs.Own.{is_address_of, has_address_of, has_address_of_row, has_own, AsksForOwn}
 use Rattle.sip_matrix.specs.Table.{all_columns, columns_of}
@@ -68,8 +67,10 @@ module _ (rules : List Rule) (users : List User) (domains : List (List ℕ)) whe
   named_column : (aor : Aor) → is_users_address users domains aor ≡ true → column_of rules users domains aor ≡ Named aor
   named_column aor e =
       let own = and_parts (is_own_domain domains aor.host) (is_users_name users aor.user) e in
-      let here : counts rules domains aor.host ≡ true = or_left (is_own_domain domains aor.host) (list_any (λ (rule : Rule). names_host aor.host rule.target) rules) own.0 in
-      let has : has_name rules users domains aor ≡ true = or_left (is_users_address users domains aor) (list_any (λ (rule : Rule). names_address aor rule.target) rules) e in
+      let here : counts rules domains aor.host ≡ true = or_left (is_own_domain domains aor.host) (list_any (λ (rule : Rule). names_host aor.host rule.target) rules) own.0
+      in
+      let has : has_name rules users domains aor ≡ true = or_left (is_users_address users domains aor) (list_any (λ (rule : Rule). names_address aor rule.target) rules) e
+      in
       ap₂ (λ (x y : Bool). if x then (if y then Named aor else Begins (record { user = longest_front rules aor; host = aor.host })) else Elsewhere) here has
 
   -- it is listed once
@@ -81,8 +82,10 @@ module _ (rules : List Rule) (users : List User) (domains : List (List ℕ)) whe
 
   module _ (class : Column) (row : List ℕ) where
     -- the address that is listed is the user's, and of the class
-    listed_there : (name : List ℕ) (aor : Aor) → bytes_eq aor.user name ≡ true → is_users_address users domains aor ≡ true → are_asked_alike rules users domains (Named aor) class ≡ true
-        → (column : Column) → is_same_column (Named aor) column ≡ true → (is_address_of users domains name column && are_asked_alike rules users domains class column) ≡ true
+    listed_there : (name : List ℕ) (aor : Aor) → bytes_eq aor.user name ≡ true → is_users_address users domains aor ≡ true
+        → are_asked_alike rules users domains (Named aor) class ≡ true
+        → (column : Column) → is_same_column (Named aor) column ≡ true → (is_address_of users domains name column && are_asked_alike rules users domains class column)
+        ≡ true
     listed_there name aor user known alike (Named other) e =
         let same = same_parts aor other e in
         and_from _ _
@@ -101,8 +104,10 @@ module _ (rules : List Rule) (users : List User) (domains : List (List ℕ)) whe
         (listed_there h.name h.aor (and_parts (is_own_domain domains h.aor.host) (bytes_eq h.aor.user h.name) h.own).1 known alike)
         (columns_of rules users domains) (address_listed h.aor known) in
         and_from _ _ (sym (known_of_cell rules users domains h.aor class h.in_class) ∙ known)
-        (any_wider (is_named h.name) (λ (user : User). ask_alike rules users row user.name && has_address_of rules users domains (columns_of rules users domains) class user.name)
-        (λ user e. ap (λ (text : List ℕ). ask_alike rules users row text && has_address_of rules users domains (columns_of rules users domains) class text) (same_text user.name h.name (sym e))
+        (any_wider (is_named h.name) (λ (user : User). ask_alike rules users row user.name
+        && has_address_of rules users domains (columns_of rules users domains) class user.name)
+        (λ user e. ap (λ (text : List ℕ). ask_alike rules users row text && has_address_of rules users domains (columns_of rules users domains) class text)
+        (same_text user.name h.name (sym e))
         ∙ and_from _ _ h.in_row there)
         users h.is_user)
 
@@ -127,7 +132,8 @@ module _ (rules : List Rule) (users : List User) (domains : List (List ℕ)) whe
         (AsksForOwn rules users domains class row)
         (λ user h.
         let both = and_parts (ask_alike rules users row user.name) (has_address_of rules users domains (columns_of rules users domains) class user.name) h in
-        some_of (λ (column : Column). is_address_of users domains user.name column && are_asked_alike rules users domains class column) (AsksForOwn rules users domains class row)
+        some_of (λ (column : Column). is_address_of users domains user.name column && are_asked_alike rules users domains class column)
+        (AsksForOwn rules users domains class row)
         (λ column g.
         let parts = and_parts (is_address_of users domains user.name column) (are_asked_alike rules users domains class column) g in
         own_of user.name both.0 column parts.0 parts.1)

@@ -6,4 +6,6 @@ pub mod Day
 pub mod Cell
 pub mod Table
 pub mod Own
+pub mod Example
+pub mod Expected
 pub mod Examples

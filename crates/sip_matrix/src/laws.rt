@@ -1,4 +1,4 @@
-ghost use Rattle.std.specs.Prelude.{◌≡◌, ℕ, ◌<◌, true, nat_eq, List, Option, Some, None, count_by};
+ghost use Rattle.std.specs.Prelude.{◌≡◌, ℕ, ◌<◌, true, false, nat_eq, List, ◌∷◌, Option, Some, None, count_by};
 ghost use Rattle.sip_uri.specs.declared.aor.Aor.{Aor};
 ghost use Rattle.sip_policy.specs.declared.operation.Operation.{Operation};
 ghost use Rattle.sip_policy.specs.declared.user.User.{User};
@@ -6,6 +6,7 @@ ghost use Rattle.sip_policy.specs.declared.rule.Rule.{Rule};
 ghost use Rattle.sip_policy.specs.User.{is_users_name, is_users_address};
 ghost use Rattle.sip_policy.specs.Decision.{deciding_rule, decision_of};
 ghost use Rattle.sip_matrix.specs.declared.column.Column.{Column};
+ghost use Rattle.sip_matrix.specs.declared.expectation.Expectation.{Expectation};
 ghost use Rattle.sip_matrix.specs.Asker.{ask_alike, is_in_row, is_own, rows_of};
 ghost use Rattle.sip_matrix.specs.Column.{are_asked_alike, is_known};
 ghost use Rattle.sip_matrix.specs.Address.{column_of};
@@ -13,6 +14,8 @@ ghost use Rattle.sip_matrix.specs.Day.{piece_of, pieces_of};
 ghost use Rattle.sip_matrix.specs.Cell.{decision_in, rule_in};
 ghost use Rattle.sip_matrix.specs.Own.{has_own, AsksForOwn};
 ghost use Rattle.sip_matrix.specs.Table.{classes_of, columns_of};
+ghost use Rattle.sip_matrix.specs.Example.{are_plain};
+ghost use Rattle.sip_matrix.specs.Expected.{is_fault, is_free, pattern_of};
 
 /// Whoever asks for whatever, whoever is called and whenever: the rule that decides, and the decision, are those
 /// of the cell of any row that the asker is of, of any column that is asked about as the address's own, and of the
@@ -64,4 +67,12 @@ pub fn own_values_are_asked()
         → AsksForOwn rules users domains class row → has_own rules users domains (columns_of rules users domains) class row ≡ true }
     ensures only { (rules : List Rule) (users : List User) (domains : List (List ℕ)) (class : Column) (row : List ℕ)
         → has_own rules users domains (columns_of rules users domains) class row ≡ true → AsksForOwn rules users domains class row }
+{}
+
+/// What is decided as expected at an example of each class of questions is decided so everywhere: for each user and nobody, each operation,
+/// each address of record and each minute of the day.
+pub fn examples_stand_for_all()
+    ensures { (rules : List Rule) (users : List User) (domains : List (List ℕ)) (e : Expectation)
+        → are_plain (pattern_of e ∷ rules) users domains ≡ true → is_free rules users domains e ≡ true
+        → (proven : Option (List ℕ)) (operation : Operation) (aor : Aor) (minute : ℕ) → is_fault rules users domains e proven operation aor minute ≡ false }
 {}

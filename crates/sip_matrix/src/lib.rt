@@ -10,13 +10,18 @@
 mod cell;
 mod column;
 pub mod examples;
+mod expectation;
 pub mod laws;
 mod listing;
 mod pieces;
+mod plain;
 mod rows;
+mod standing;
 mod table;
 
 pub use cell::rule_in;
 pub use column::Column;
+pub use expectation::{Askers, Expectation, Fault, Place, Times};
 pub use rows::ask_alike;
+pub use standing::{Standing, standing_of};
 pub use table::{Table, table_of};

@@ -37,7 +37,10 @@ decimal_again n lt = some_digits n (decimal n) (decimal_is_IsNumeral n lt).0.0 (
 
 tight_digits : (ds : List ℕ) → list_all is_ascii_digit ds ≡ true → IsTight ds
 tight_digits [] are = tt
-tight_digits (d ∷ ds) are = (no_blank is_ascii_digit refl refl d (and_both (is_ascii_digit d) (list_all is_ascii_digit ds) are).0, full_end is_ascii_digit refl refl d ds are)
+tight_digits (d ∷ ds) are = (
+  no_blank is_ascii_digit refl refl d (and_both (is_ascii_digit d) (list_all is_ascii_digit ds) are).0,
+  full_end is_ascii_digit refl refl d ds are,
+)
 
 digit_is_text : (b : ℕ) → is_ascii_digit b ≡ true → is_text b ≡ true
 digit_is_text b e = grind (arith, nat_tests)
@@ -48,7 +51,11 @@ length_field n = record { name = ContentLength; value = decimal n }
 length_entry : (n : ℕ) → n < 2 ^ 64 → IsEntry (length_field n)
 length_entry n lt =
     let are : list_all is_ascii_digit (decimal n) ≡ true = digits_decimal own n lt in
-    record { name = record { again = refl; token = refl }; is_text = all_weaker is_ascii_digit is_text digit_is_text (decimal n) are; tight = tight_digits (decimal n) are }
+    record {
+      name = record { again = refl; token = refl };
+      is_text = all_weaker is_ascii_digit is_text digit_is_text (decimal n) are;
+      tight = tight_digits (decimal n) are;
+    }
 
 -- ---- lines
 
@@ -84,11 +91,14 @@ lengths_again : (n : ℕ) (fields : List Field) → AllByRecursion IsKept fields
 lengths_again n [] are = refl
 lengths_again n (f ∷ fields) are = rw are.0.no_length (lengths_again n fields are.1)
 
-text_lines : (fields : List Field) (n : ℕ) → as_lines (lines_of (fields ++ length_field n ∷ [])) ≡ flat_map field_text fields ++ (codes "Content-Length: " ++ decimal n ++ codes "\r\n")
+text_lines : (fields : List Field) (n : ℕ) → as_lines (lines_of (fields ++ length_field n ∷ [])) ≡ flat_map field_text fields
+    ++ (codes "Content-Length: " ++ decimal n ++ codes "\r\n")
 text_lines [] n = append-nil (codes "Content-Length: " ++ decimal n ++ codes "\r\n")
-text_lines (f ∷ fields) n = ap (λ (w : List ℕ). field_text f ++ w) (text_lines fields n) ∙ sym (append_assoc (field_text f) (flat_map field_text fields) (codes "Content-Length: " ++ decimal n ++ codes "\r\n"))
+text_lines (f ∷ fields) n = ap (λ (w : List ℕ). field_text f ++ w) (text_lines fields n)
+    ∙ sym (append_assoc (field_text f) (flat_map field_text fields) (codes "Content-Length: " ++ decimal n ++ codes "\r\n"))
 
-regroup : (s fs d body : List ℕ) → s ++ codes "\r\n" ++ fs ++ codes "Content-Length: " ++ d ++ codes "\r\n\r\n" ++ body ≡ s ++ 13 ∷ 10 ∷ ((fs ++ (codes "Content-Length: " ++ d ++ codes "\r\n")) ++ 13 ∷ 10 ∷ body)
+regroup : (s fs d body : List ℕ) → s ++ codes "\r\n" ++ fs ++ codes "Content-Length: " ++ d ++ codes "\r\n\r\n" ++ body ≡ s
+    ++ 13 ∷ 10 ∷ ((fs ++ (codes "Content-Length: " ++ d ++ codes "\r\n")) ++ 13 ∷ 10 ∷ body)
 regroup s fs d body = simp append_assoc
 
 text_is : (m : Message) → text_of m ≡ start_text m.start ++ 13 ∷ 10 ∷ (as_lines (lines_of (m.fields ++ length_field (length m.body) ∷ [])) ++ 13 ∷ 10 ∷ m.body)
@@ -99,12 +109,17 @@ text_is m =
 -- ---- the whole
 
 body_below : (m : Message) → length (text_of m) ≤ 49152 → length m.body ≤ 49152
-body_below m le = omega (arith, length-append (start_text m.start ++ codes "\r\n" ++ flat_map field_text m.fields ++ codes "Content-Length: " ++ decimal (length m.body) ++ codes "\r\n\r\n") m.body)
+body_below m le = omega (
+  arith,
+  length-append (start_text m.start ++ codes "\r\n" ++ flat_map field_text m.fields ++ codes "Content-Length: " ++ decimal (length m.body)
+      ++ codes "\r\n\r\n") m.body,
+)
 
 pub again : (bytes : List ℕ) (m : Message) → Says bytes m → IsWithinLimits bytes m → Says (text_of m) m × IsWithinLimits (text_of m) m
 again bytes m s w =
     let start : IsGoodStart m.start = good_start s.first m.start (start_found s.first m.start s.is_start) in
-    let fields : AllByRecursion IsKept m.fields = kept_are s.entries m.fields (entries_are (unfolded s.lines) s.entries (zip_entries (unfolded s.lines) s.entries s.are_entries)) s.are_kept in
+    let fields : AllByRecursion IsKept m.fields = kept_are s.entries m.fields (entries_are (unfolded s.lines) s.entries
+    (zip_entries (unfolded s.lines) s.entries s.are_entries)) s.are_kept in
     let n : ℕ = length m.body in
     let lt : n < 2 ^ 64 = omega (arith, body_below m w.written) in
     let entries : AllByRecursion IsEntry (m.fields ++ length_field n ∷ []) = entries_push m.fields (length_field n) fields (length_entry n lt) in
@@ -116,7 +131,8 @@ again bytes m s w =
         entries = m.fields ++ length_field n ∷ [];
         is_cut = record { blanks = 0; whole = text_is m; is_line = start.line; are_lines = are_lines (m.fields ++ length_field n ∷ []) entries };
         is_start = start_is (start_text m.start) m.start start.again;
-        are_entries = entries_zip (unfolded (lines_of (m.fields ++ length_field n ∷ []))) (m.fields ++ length_field n ∷ []) (ap entries_of (no_folds (m.fields ++ length_field n ∷ []) entries) ∙ entries_again (m.fields ++ length_field n ∷ []) entries);
+        are_entries = entries_zip (unfolded (lines_of (m.fields ++ length_field n ∷ []))) (m.fields ++ length_field n ∷ [])
+            (ap entries_of (no_folds (m.fields ++ length_field n ∷ []) entries) ∙ entries_again (m.fields ++ length_field n ∷ []) entries);
         are_kept = kept_again n m.fields fields;
         is_body = subst (λ ls. IsBody ls m.body m.body) (sym values) (decimal_again n lt, sym (take_all n m.body (omega arith)));
       },

@@ -1,5 +1,6 @@
 -- A token at the front of a line with folds stands in the line's first part, since a fold is joined by a space.
-use Rattle.std.proofs.Common.{◌≡◌, ℕ, ◌≤◌, Bool, true, false, List, [], ◌∷◌, ◌++◌, length, take, drop, get_or, Option, Some, None, refl, sym, ap, subst, ◌∙◌, append_assoc, arith}
+use Rattle.std.proofs.Common.{◌≡◌, ℕ, ◌≤◌, Bool, true, false, List, [], ◌∷◌, ◌++◌, length, take, drop, get_or, Option, Some, None, refl, sym, ap, subst, ◌∙◌}
+use Rattle.std.proofs.Common.{append_assoc, arith}
 use Rattle.std.specs.Prelude.{◌&&◌, IfSome, ◌-◌, reverse, take_while}
 use Rattle.std.specs.List.{list_all}
 use Rattle.std.proofs.lemmas.List.{take_at, take-append-drop, length-take}
@@ -50,7 +51,8 @@ begins_joined first old fold new n begun = record { token = λ name rest e t. fr
     from_front name rest e t =
         let r : Front (end_trimmed old) name = no_blank (end_trimmed old) name (front_trimmed fold) rest (sym n ∙ e) (all_of name t) in
         let kept : ℕ = length old - length (take_while is_blank (reverse old)) in
-        let front : old ≡ name ++ (r.more ++ drop kept old) = whole_of kept old ∙ ap (λ (w : List ℕ). w ++ drop kept old) r.whole ∙ append_assoc name r.more (drop kept old) in
+        let front : old ≡ name ++ (r.more ++ drop kept old) = whole_of kept old ∙ ap (λ (w : List ℕ). w ++ drop kept old) r.whole
+        ∙ append_assoc name r.more (drop kept old) in
         begun.token name (r.more ++ drop kept old) front t
 
 pub in_first : (first bytes name : List ℕ) → Begins first bytes → take (length name) bytes ≡ name → is_token_text name ≡ true → take (length name) first ≡ name
@@ -68,7 +70,8 @@ name_front mark line front value e =
     split_is mark line front value e ∙ ap (λ (w : List ℕ). w ++ mark ∷ value) (whole_of kept front) ∙ append_assoc (end_trimmed front) (drop kept front) (mark ∷ value) in
     ap (λ (w : List ℕ). take (length (end_trimmed front)) w) whole ∙ take_at (end_trimmed front) (drop kept front ++ mark ∷ value) (length (end_trimmed front)) refl
 
-pub some_name : (line front : List ℕ) (r : Option (Bor (List ℕ) × Bor (List ℕ))) → take (length (end_trimmed front)) line ≡ end_trimmed front → IfSome r (λ x. (is_token_text x.0.now ≡ true) × (x.0.now ≡ end_trimmed front))
+pub some_name : (line front : List ℕ) (r : Option (Bor (List ℕ) × Bor (List ℕ))) → take (length (end_trimmed front)) line ≡ end_trimmed front
+    → IfSome r (λ x. (is_token_text x.0.now ≡ true) × (x.0.now ≡ end_trimmed front))
     → IfSome r (λ x. (is_token_text x.0.now ≡ true) × (take (length x.0.now) line ≡ x.0.now))
 some_name line front None whole h = tt
 some_name line front (Some x) whole h = (h.0, subst (λ (w : List ℕ). take (length w) line ≡ w) (sym h.1) whole)

@@ -47,7 +47,8 @@ entries_behind : (lines more : List (List ℕ)) → entries_of (lines ++ more) �
 entries_behind [] more = none_first (entries_of more)
 entries_behind (line ∷ lines) more = ap (first_field (field_of line)) (entries_behind lines more) ∙ first_both (field_of line) (entries_of lines) (entries_of more)
 
-pub entries_more : (lines : List (List ℕ)) (entries : List Field) (line : List ℕ) (field : Field) → entries_of lines ≡ Some entries → field_of line ≡ Some field → entries_of (lines ++ line ∷ []) ≡ Some (entries ++ field ∷ [])
+pub entries_more : (lines : List (List ℕ)) (entries : List Field) (line : List ℕ) (field : Field) → entries_of lines ≡ Some entries → field_of line ≡ Some field
+    → entries_of (lines ++ line ∷ []) ≡ Some (entries ++ field ∷ [])
 entries_more lines entries line field said is =
     let last : entries_of (line ∷ []) ≡ Some (field ∷ []) = rw is refl in
     entries_behind lines (line ∷ []) ∙ rw (said, last) refl
@@ -61,7 +62,8 @@ lengths_either false value front back = refl
 lengths_behind : (entries more : List Field) → lengths (entries ++ more) ≡ lengths entries ++ lengths more
 lengths_behind [] more = refl
 lengths_behind (field ∷ entries) more =
-    ap (λ (w : List (List ℕ)). cond (is_length field.name) (field.value ∷ w) w) (lengths_behind entries more) ∙ lengths_either (is_length field.name) field.value (lengths entries) (lengths more)
+    ap (λ (w : List (List ℕ)). cond (is_length field.name) (field.value ∷ w) w) (lengths_behind entries more)
+    ∙ lengths_either (is_length field.name) field.value (lengths entries) (lengths more)
 
 none_some : (o : Option ℕ) → option_map (λ n. Some n) o ≡ Some None → ⊥
 none_some None e = absurd cc
@@ -88,26 +90,32 @@ no_number value (other ∷ more) none = refl
 other_field : (n : Option ℕ) (field : Field) → is_length field.name ≡ false → length_behind n field ≡ Some n
 other_field n field is = rw is refl
 
-pub one_more : (entries : List Field) (field : Field) (n m : Option ℕ) → one_length (lengths entries) ≡ Some n → length_behind n field ≡ Some m → one_length (lengths (entries ++ field ∷ [])) ≡ Some m
+pub one_more : (entries : List Field) (field : Field) (n m : Option ℕ) → one_length (lengths entries) ≡ Some n → length_behind n field ≡ Some m
+    → one_length (lengths (entries ++ field ∷ [])) ≡ Some m
 one_more entries field n m one e = by_test (is_length field.name) refl n one e
   where
-    by_test : (t : Bool) → is_length field.name ≡ t → (k : Option ℕ) → one_length (lengths entries) ≡ Some k → length_behind k field ≡ Some m → one_length (lengths (entries ++ field ∷ [])) ≡ Some m
+    by_test : (t : Bool) → is_length field.name ≡ t → (k : Option ℕ) → one_length (lengths entries) ≡ Some k → length_behind k field ≡ Some m
+        → one_length (lengths (entries ++ field ∷ [])) ≡ Some m
     by_test false is k so_far said =
         let last : lengths (field ∷ []) ≡ [] = rw is refl in
-        ap one_length (lengths_behind entries (field ∷ []) ∙ ap (λ (w : List (List ℕ)). lengths entries ++ w) last ∙ append-nil (lengths entries)) ∙ so_far ∙ sym (other_field k field is) ∙ said
+        ap one_length (lengths_behind entries (field ∷ []) ∙ ap (λ (w : List (List ℕ)). lengths entries ++ w) last ∙ append-nil (lengths entries)) ∙ so_far
+        ∙ sym (other_field k field is) ∙ said
     by_test true is None so_far said =
         let last : lengths (field ∷ []) ≡ field.value ∷ [] = rw is refl in
         let here : length_behind None field ≡ one_length (field.value ∷ []) = rw is refl in
-        ap one_length (lengths_behind entries (field ∷ []) ∙ ap (λ (w : List (List ℕ)). w ++ lengths (field ∷ [])) (none_written (lengths entries) so_far) ∙ last) ∙ sym here ∙ said
+        ap one_length (lengths_behind entries (field ∷ []) ∙ ap (λ (w : List (List ℕ)). w ++ lengths (field ∷ [])) (none_written (lengths entries) so_far) ∙ last)
+        ∙ sym here ∙ said
     by_test true is (Some k) so_far said =
         let here : length_behind (Some k) field ≡ None = rw is refl in
         let no : None ≡ Some m = sym here ∙ said in
         absurd cc
 
-one_bad : (entries more : List Field) (field : Field) (n : Option ℕ) → one_length (lengths entries) ≡ Some n → length_behind n field ≡ None → one_length (lengths (entries ++ field ∷ more)) ≡ None
+one_bad : (entries more : List Field) (field : Field) (n : Option ℕ) → one_length (lengths entries) ≡ Some n → length_behind n field ≡ None
+    → one_length (lengths (entries ++ field ∷ more)) ≡ None
 one_bad entries more field n one e = by_test (is_length field.name) refl n one e
   where
-    by_test : (t : Bool) → is_length field.name ≡ t → (k : Option ℕ) → one_length (lengths entries) ≡ Some k → length_behind k field ≡ None → one_length (lengths (entries ++ field ∷ more)) ≡ None
+    by_test : (t : Bool) → is_length field.name ≡ t → (k : Option ℕ) → one_length (lengths entries) ≡ Some k → length_behind k field ≡ None
+        → one_length (lengths (entries ++ field ∷ more)) ≡ None
     by_test false is k so_far said =
         let no : Some k ≡ None = sym (other_field k field is) ∙ said in
         absurd cc
@@ -118,7 +126,8 @@ one_bad entries more field n one e = by_test (is_length field.name) refl n one e
         ∙ no_number field.value (lengths more) (none_of (decimal_of field.value) (sym here ∙ said))
     by_test true is (Some k) so_far said =
         let last : lengths (field ∷ more) ≡ field.value ∷ lengths more = rw is refl in
-        ap one_length (lengths_behind entries (field ∷ more) ∙ ap (λ (w : List (List ℕ)). lengths entries ++ w) last) ∙ two_written (lengths entries) (lengths more) field.value k so_far
+        ap one_length (lengths_behind entries (field ∷ more) ∙ ap (λ (w : List (List ℕ)). lengths entries ++ w) last)
+        ∙ two_written (lengths entries) (lengths more) field.value k so_far
 
 -- ---- the fields that are kept
 
@@ -130,8 +139,10 @@ last_pieces : (o : Option (List Field)) → both o (Some []) ≡ o
 last_pieces None = refl
 last_pieces (Some items) = ap (λ (w : List Field). Some w) (append-nil items)
 
-pub kept_more : (entries old new : List Field) (field : Field) → kept entries ≡ Some old → option_map (λ items. old ++ items) (pieces field) ≡ Some new → kept (entries ++ field ∷ []) ≡ Some new
-kept_more entries old new field so_far here = kept_behind entries (field ∷ []) ∙ ap (both (kept entries)) (last_pieces (pieces field)) ∙ ap (λ (o : Option (List Field)). both o (pieces field)) so_far ∙ here
+pub kept_more : (entries old new : List Field) (field : Field) → kept entries ≡ Some old → option_map (λ items. old ++ items) (pieces field) ≡ Some new
+    → kept (entries ++ field ∷ []) ≡ Some new
+kept_more entries old new field so_far here = kept_behind entries (field ∷ []) ∙ ap (both (kept entries)) (last_pieces (pieces field))
+    ∙ ap (λ (o : Option (List Field)). both o (pieces field)) so_far ∙ here
 
 kept_bad : (entries more : List Field) (field : Field) → pieces field ≡ None → kept (entries ++ field ∷ more) ≡ None
 kept_bad entries more field none =
@@ -152,12 +163,14 @@ folds_more (e ∷ entries) (f ∷ flags) field flag even =
 
 -- what fields say, and what follows them
 abbrev pub content_on : Option (List Field) → List ℕ → Result (Option ℕ × List Field × List ℕ) ReadError
-content_on o rest = ok_or o BadField >>= (λ entries. ok_or (one_length (lengths entries)) BadField >>= (λ length. ok_or (kept entries) BadField >>= (λ fields. Ok (length, fields, rest))))
+content_on o rest = ok_or o BadField >>= (λ entries. ok_or (one_length (lengths entries)) BadField >>=
+    (λ length. ok_or (kept entries) BadField >>= (λ fields. Ok (length, fields, rest))))
 
 abbrev said_of : List ℕ → Option ℕ → List Field → Result (Option ℕ × List Field × List ℕ) ReadError
 said_of rest length fields = Ok (length, fields, rest)
 
-nothing_kept : (o : Option (Option ℕ)) (rest : List ℕ) (p : Option (List Field)) → p ≡ None → ok_or o BadField >>= (λ length. ok_or p BadField >>= said_of rest length) ≡ Err BadField
+nothing_kept : (o : Option (Option ℕ)) (rest : List ℕ) (p : Option (List Field)) → p ≡ None
+    → ok_or o BadField >>= (λ length. ok_or p BadField >>= said_of rest length) ≡ Err BadField
 nothing_kept None rest p none = refl
 nothing_kept (Some n) rest p none = rw none refl
 
@@ -165,23 +178,29 @@ no_items : (length : Option ℕ) (o : Option (List Field)) → option_map {T = L
 no_items length None e = refl
 no_items length (Some items) e = absurd cc
 
-bad_field : (entries more : List Field) (field : Field) (n : Option ℕ) (rest : List ℕ) → one_length (lengths entries) ≡ Some n → field_taken n field ≡ None → content_on (Some (entries ++ field ∷ more)) rest ≡ Err BadField
+bad_field : (entries more : List Field) (field : Field) (n : Option ℕ) (rest : List ℕ) → one_length (lengths entries) ≡ Some n → field_taken n field ≡ None
+    → content_on (Some (entries ++ field ∷ more)) rest ≡ Err BadField
 bad_field entries more field n rest one none = by_length (length_behind n field) refl none
   where
-    by_length : (o : Option (Option ℕ)) → length_behind n field ≡ o → option_and_then {U = Option ℕ × List Field} (λ length. option_map (λ items. (length, items)) (pieces field)) o ≡ None → content_on (Some (entries ++ field ∷ more)) rest ≡ Err BadField
+    by_length : (o : Option (Option ℕ)) → length_behind n field ≡ o → option_and_then {U = Option ℕ × List Field}
+        (λ length. option_map (λ items. (length, items)) (pieces field)) o ≡ None → content_on (Some (entries ++ field ∷ more)) rest ≡ Err BadField
     by_length None is e = rw (one_bad entries more field n one is) refl
-    by_length (Some m) is e = nothing_kept (one_length (lengths (entries ++ field ∷ more))) rest (kept (entries ++ field ∷ more)) (kept_bad entries more field (no_items m (pieces field) e))
+    by_length (Some m) is e = nothing_kept (one_length (lengths (entries ++ field ∷ more))) rest (kept (entries ++ field ∷ more))
+        (kept_bad entries more field (no_items m (pieces field) e))
 
-pub bad_line : (lines more : List (List ℕ)) (entries : List Field) (line : List ℕ) (n : Option ℕ) (rest : List ℕ) → entries_of lines ≡ Some entries → one_length (lengths entries) ≡ Some n → line_taken n line ≡ None
+pub bad_line : (lines more : List (List ℕ)) (entries : List Field) (line : List ℕ) (n : Option ℕ) (rest : List ℕ) → entries_of lines ≡ Some entries
+    → one_length (lengths entries) ≡ Some n → line_taken n line ≡ None
     → content_on (entries_of (lines ++ line ∷ more)) rest ≡ Err BadField
 bad_line lines more entries line n rest said one none = by_field (field_of line) refl none
   where
     on_rest : (p : Option (List Field)) → entries_of (line ∷ more) ≡ p → entries_of (lines ++ line ∷ more) ≡ both (Some entries) p
     on_rest p is = entries_behind lines (line ∷ more) ∙ rw (said, is) refl
 
-    by_more : (field : Field) (o : Option (List Field)) → field_of line ≡ Some field → field_taken n field ≡ None → entries_of more ≡ o → content_on (entries_of (lines ++ line ∷ more)) rest ≡ Err BadField
+    by_more : (field : Field) (o : Option (List Field)) → field_of line ≡ Some field → field_taken n field ≡ None → entries_of more ≡ o
+        → content_on (entries_of (lines ++ line ∷ more)) rest ≡ Err BadField
     by_more field None is e so = ap (λ (o : Option (List Field)). content_on o rest) (on_rest None (rw (is, so) refl))
-    by_more field (Some others) is e so = ap (λ (o : Option (List Field)). content_on o rest) (on_rest (Some (field ∷ others)) (rw (is, so) refl)) ∙ bad_field entries others field n rest one e
+    by_more field (Some others) is e so = ap (λ (o : Option (List Field)). content_on o rest) (on_rest (Some (field ∷ others)) (rw (is, so) refl))
+        ∙ bad_field entries others field n rest one e
 
     by_field : (o : Option Field) → field_of line ≡ o → option_and_then (field_taken n) o ≡ None → content_on (entries_of (lines ++ line ∷ more)) rest ≡ Err BadField
     by_field None is e = ap (λ (o : Option (List Field)). content_on o rest) (on_rest None (rw is refl))

@@ -68,7 +68,8 @@ pub record IsAfterBlanks (bytes rest : List ℕ) : Type 0 where
   pub blanks : ℕ
   pub whole : bytes ≡ as_lines (replicate blanks []) ++ rest
 
-blanks_either : (b c : ℕ) (rest : List ℕ) (t : Bool) → is_crlf b c ≡ t → IsAfterBlanks rest (after_blanks rest) → IsAfterBlanks (b ∷ c ∷ rest) (after_blanks (b ∷ c ∷ rest))
+blanks_either : (b c : ℕ) (rest : List ℕ) (t : Bool) → is_crlf b c ≡ t → IsAfterBlanks rest (after_blanks rest)
+    → IsAfterBlanks (b ∷ c ∷ rest) (after_blanks (b ∷ c ∷ rest))
 blanks_either b c rest true is later =
     let p = crlf_is b c is in
     rw (p.0, p.1) (record { blanks = suc later.blanks; whole = ap (λ (w : List ℕ). 13 ∷ 10 ∷ w) later.whole })
@@ -96,7 +97,8 @@ lines_again [] rest are = refl
 lines_again ([] ∷ lines) rest are = absurd (are.0.1 refl)
 lines_again ((b ∷ line) ∷ lines) rest are =
     let grouped : as_lines ((b ∷ line) ∷ lines) ++ 13 ∷ 10 ∷ rest ≡ (b ∷ line) ++ 13 ∷ 10 ∷ (as_lines lines ++ 13 ∷ 10 ∷ rest) =
-    ap (λ (w : List ℕ). b ∷ w) (append_assoc (line ++ 13 ∷ 10 ∷ []) (as_lines lines) (13 ∷ 10 ∷ rest) ∙ append_assoc line (13 ∷ 10 ∷ []) (as_lines lines ++ 13 ∷ 10 ∷ rest)) in
+    ap (λ (w : List ℕ). b ∷ w) (append_assoc (line ++ 13 ∷ 10 ∷ []) (as_lines lines) (13 ∷ 10 ∷ rest)
+    ∙ append_assoc line (13 ∷ 10 ∷ []) (as_lines lines ++ 13 ∷ 10 ∷ rest)) in
     ap (lines_at false) grouped ∙ by_first_line ((b ∷ line) ++ 13 ∷ 10 ∷ (as_lines lines ++ 13 ∷ 10 ∷ rest))
     ∙ ap by_line (line_again (b ∷ line) (as_lines lines ++ 13 ∷ 10 ∷ rest) are.0.0)
     ∙ ap (line_first (b ∷ line)) (lines_again lines rest are.1)
@@ -105,7 +107,8 @@ pub record AreLinesOf (bytes : List ℕ) (lines : List (List ℕ)) (rest : List 
   pub whole : bytes ≡ as_lines lines ++ 13 ∷ 10 ∷ rest
   pub are_lines : AllByRecursion IsLine lines
 
-more_lines : (bytes line after : List ℕ) (lines : List (List ℕ)) (rest : List ℕ) → IsLineOf bytes line after → line ≢ [] → AreLinesOf after lines rest → AreLinesOf bytes (line ∷ lines) rest
+more_lines : (bytes line after : List ℕ) (lines : List (List ℕ)) (rest : List ℕ) → IsLineOf bytes line after → line ≢ [] → AreLinesOf after lines rest
+    → AreLinesOf bytes (line ∷ lines) rest
 more_lines bytes line after lines rest is some are = record {
   whole =
       is.whole ∙ ap (λ (w : List ℕ). line ++ 13 ∷ 10 ∷ w) are.whole
@@ -116,7 +119,8 @@ more_lines bytes line after lines rest is some are = record {
 some_line : (b : ℕ) (line : List ℕ) → b ∷ line ≢ []
 some_line b line e = cc
 
-first_found : (bytes line after : List ℕ) (lines : List (List ℕ)) (rest : List ℕ) (o : Option (List (List ℕ) × List ℕ)) → IsLineOf bytes line after → line ≢ [] → line_first line o ≡ Some (lines, rest)
+first_found : (bytes line after : List ℕ) (lines : List (List ℕ)) (rest : List ℕ) (o : Option (List (List ℕ) × List ℕ)) → IsLineOf bytes line after → line ≢ []
+    → line_first line o ≡ Some (lines, rest)
     → ((ls : List (List ℕ)) (r : List ℕ) → o ≡ Some (ls, r) → AreLinesOf after ls r) → AreLinesOf bytes lines rest
 first_found bytes line after lines rest None is some e are = absurd cc
 first_found bytes line after lines rest (Some x) is some e are =
@@ -124,16 +128,19 @@ first_found bytes line after lines rest (Some x) is some e are =
     rw (← p.0, ← p.1) (more_lines bytes line after x.0 x.1 is some (are x.0 x.1 refl))
 
 by_first : (bytes : List ℕ) (lines : List (List ℕ)) (rest : List ℕ) (o : Option (List ℕ × List ℕ)) → line_at bytes ≡ o → by_line o ≡ Some (lines, rest)
-    → ((after : List ℕ) (ls : List (List ℕ)) (r : List ℕ) → length after < length bytes → lines_at false after ≡ Some (ls, r) → AreLinesOf after ls r) → AreLinesOf bytes lines rest
+    → ((after : List ℕ) (ls : List (List ℕ)) (r : List ℕ) → length after < length bytes → lines_at false after ≡ Some (ls, r) → AreLinesOf after ls r)
+    → AreLinesOf bytes lines rest
 by_first bytes lines rest None is e are = absurd cc
 by_first bytes lines rest (Some ([], after)) is e are =
     let p = pair_is ([], after) (lines, rest) e in
     let one = line_of bytes [] after is in
     rw (← p.0, ← p.1) (record { whole = one.whole; are_lines = tt })
 by_first bytes lines rest (Some (b ∷ line, after)) is e are =
-    first_found bytes (b ∷ line) after lines rest (lines_at false after) (line_of bytes (b ∷ line) after is) (some_line b line) e (λ ls r h. are after ls r (shorter bytes (b ∷ line) after (sym is)) h)
+    first_found bytes (b ∷ line) after lines rest (lines_at false after) (line_of bytes (b ∷ line) after is) (some_line b line) e
+    (λ ls r h. are after ls r (shorter bytes (b ∷ line) after (sym is)) h)
 
-lines_below : (n : ℕ) (bytes : List ℕ) (lines : List (List ℕ)) (rest : List ℕ) → length bytes < n → lines_at false bytes ≡ Some (lines, rest) → AreLinesOf bytes lines rest
+lines_below : (n : ℕ) (bytes : List ℕ) (lines : List (List ℕ)) (rest : List ℕ) → length bytes < n → lines_at false bytes ≡ Some (lines, rest)
+    → AreLinesOf bytes lines rest
 lines_below zero bytes lines rest lt e = absurd (omega arith)
 lines_below (suc n) bytes lines rest lt e =
     by_first bytes lines rest (line_at bytes) refl (sym (by_first_line bytes) ∙ e) (λ after ls r less h. lines_below n after ls r (omega arith) h)
@@ -143,7 +150,8 @@ lines_of bytes lines rest e = lines_below (suc (length bytes)) bytes lines rest 
 
 -- ---- both
 
-pub cut_is : (bytes first head : List ℕ) (lines : List (List ℕ)) (rest : List ℕ) → line_at (after_blanks bytes) ≡ Some (first, head) → first ≢ [] → lines_at false head ≡ Some (lines, rest) → IsCut bytes first lines rest
+pub cut_is : (bytes first head : List ℕ) (lines : List (List ℕ)) (rest : List ℕ) → line_at (after_blanks bytes) ≡ Some (first, head) → first ≢ []
+    → lines_at false head ≡ Some (lines, rest) → IsCut bytes first lines rest
 cut_is bytes first head lines rest e some f =
     let b : IsAfterBlanks bytes (after_blanks bytes) = blanks_of bytes in
     let l : IsLineOf (after_blanks bytes) first head = line_of (after_blanks bytes) first head e in
@@ -155,6 +163,8 @@ cut_is bytes first head lines rest e some f =
       are_lines = ls.are_lines;
     }
 
-pub cut_first : (bytes first : List ℕ) (lines : List (List ℕ)) (rest : List ℕ) → IsCut bytes first lines rest → line_at (after_blanks bytes) ≡ Some (first, as_lines lines ++ 13 ∷ 10 ∷ rest)
+pub cut_first : (bytes first : List ℕ) (lines : List (List ℕ)) (rest : List ℕ) → IsCut bytes first lines rest
+    → line_at (after_blanks bytes) ≡ Some (first, as_lines lines ++ 13 ∷ 10 ∷ rest)
 cut_first bytes first lines rest c =
-    ap (λ (w : List ℕ). line_at (after_blanks w)) c.whole ∙ ap line_at (blanks_again c.blanks first (as_lines lines ++ 13 ∷ 10 ∷ rest) c.is_line) ∙ line_again first (as_lines lines ++ 13 ∷ 10 ∷ rest) c.is_line.0
+    ap (λ (w : List ℕ). line_at (after_blanks w)) c.whole ∙ ap line_at (blanks_again c.blanks first (as_lines lines ++ 13 ∷ 10 ∷ rest) c.is_line)
+    ∙ line_again first (as_lines lines ++ 13 ∷ 10 ∷ rest) c.is_line.0

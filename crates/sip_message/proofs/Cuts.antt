@@ -1,5 +1,6 @@
 -- Cutting bytes at a mark.
-use Rattle.std.proofs.Common.{◌≡◌, ℕ, zero, suc, ◌+◌, ◌<◌, ◌≤◌, Bool, true, false, List, [], ◌∷◌, ◌++◌, length, take, drop, get_or, Option, Some, None, refl, sym, ap, ◌∙◌, append_assoc, arith}
+use Rattle.std.proofs.Common.{◌≡◌, ℕ, zero, suc, ◌+◌, ◌<◌, ◌≤◌, Bool, true, false, List, [], ◌∷◌, ◌++◌, length, take, drop, get_or, Option, Some, None, refl, sym, ap}
+use Rattle.std.proofs.Common.{◌∙◌, append_assoc, arith}
 use Rattle.std.specs.Prelude.{◌==◌, ◌&&◌}
 use Rattle.std.proofs.lemmas.Bool.{eqb-true}
 use Rattle.std.proofs.lemmas.List.{append-nil, drop_more, length-drop}
@@ -19,7 +20,8 @@ in_front-nil (Some x) = refl
 two_more : (bytes : List ℕ) (i : ℕ) → i + 1 < length bytes → drop i bytes ≡ get_or bytes i 0 ∷ (get_or bytes (i + 1) 0 ∷ drop (i + 2) bytes)
 two_more bytes i lt =
     let two : i + 1 + 1 ≡ i + 2 = omega arith in
-    drop_more bytes i 0 (omega arith) ∙ ap (λ (w : List ℕ). get_or bytes i 0 ∷ w) (drop_more bytes (i + 1) 0 lt ∙ ap (λ (k : ℕ). get_or bytes (i + 1) 0 ∷ drop k bytes) two)
+    drop_more bytes i 0 (omega arith) ∙ ap (λ (w : List ℕ). get_or bytes i 0 ∷ w) (drop_more bytes (i + 1) 0 lt
+    ∙ ap (λ (k : ℕ). get_or bytes (i + 1) 0 ∷ drop k bytes) two)
 
 pub crlf_is : (b c : ℕ) → is_crlf b c ≡ true → (b ≡ 13) × (c ≡ 10)
 crlf_is b c e = both (b == 13) (c == 10) refl refl e
@@ -55,15 +57,18 @@ goes_on bytes i j next lt none = ap (λ (n : ℕ). is_crlf (get_or bytes i 0) (g
     by_test false e = e
 
 -- the line goes on up to a place below which no CRLF stands
-line_on : (k : ℕ) (bytes : List ℕ) → k + 1 ≤ length bytes → ((i j : ℕ) → j ≡ i + 1 → i < k → is_crlf (get_or bytes i 0) (get_or bytes j 0) ≡ false) → line_at bytes ≡ in_front (take k bytes) (line_at (drop k bytes))
+line_on : (k : ℕ) (bytes : List ℕ) → k + 1 ≤ length bytes → ((i j : ℕ) → j ≡ i + 1 → i < k → is_crlf (get_or bytes i 0) (get_or bytes j 0) ≡ false)
+    → line_at bytes ≡ in_front (take k bytes) (line_at (drop k bytes))
 line_on zero bytes le none = sym (in_front-nil (line_at bytes))
 line_on (suc k) [] le none = absurd (omega arith)
 line_on (suc k) (b ∷ []) le none = absurd (omega arith)
 line_on (suc k) (b ∷ c ∷ bytes) le none =
     let here : line_at (b ∷ c ∷ bytes) ≡ in_front (b ∷ []) (line_at (c ∷ bytes)) = rw (none 0 1 (omega arith) (omega arith)) refl in
-    here ∙ ap (in_front (b ∷ [])) (line_on k (c ∷ bytes) (omega arith) (λ i j next lt. none (suc i) (suc j) (omega (arith, next)) (omega arith))) ∙ in_front-twice (b ∷ []) (take k (c ∷ bytes)) (line_at (drop k (c ∷ bytes)))
+    here ∙ ap (in_front (b ∷ [])) (line_on k (c ∷ bytes) (omega arith) (λ i j next lt. none (suc i) (suc j) (omega (arith, next)) (omega arith)))
+    ∙ in_front-twice (b ∷ []) (take k (c ∷ bytes)) (line_at (drop k (c ∷ bytes)))
 
-pub line_found : (bytes rest : List ℕ) (k : ℕ) → NoneBefore (OccursAt bytes crlf) 0 (length bytes + 1) k × OccursAt bytes crlf k → rest ≡ drop 2 (drop k bytes) → Some (take k bytes, rest) ≡ line_at bytes
+pub line_found : (bytes rest : List ℕ) (k : ℕ) → NoneBefore (OccursAt bytes crlf) 0 (length bytes + 1) k × OccursAt bytes crlf k → rest ≡ drop 2 (drop k bytes)
+    → Some (take k bytes, rest) ≡ line_at bytes
 line_found bytes rest k p back =
     let fits : k + 1 < length bytes = omega (arith, p.1.fits) in
     let first : k + 0 ≡ k = omega arith in
@@ -73,7 +78,8 @@ line_found bytes rest k p back =
     let here : line_at (drop k bytes) ≡ Some ([], drop (k + 2) bytes) = ap line_at two ∙ rw (cr, lf) refl in
     let behind : rest ≡ drop (k + 2) bytes = back ∙ ap (drop 2) two in
     sym (
-    line_on k bytes (omega (arith, fits)) (λ i j next lt. goes_on bytes i j next (omega (arith, fits)) (p.0.before i (omega arith) lt)) ∙ ap (in_front (take k bytes)) here ∙ ap (λ (w : List ℕ). Some (w, drop (k + 2) bytes)) (append-nil (take k bytes))
+    line_on k bytes (omega (arith, fits)) (λ i j next lt. goes_on bytes i j next (omega (arith, fits)) (p.0.before i (omega arith) lt))
+    ∙ ap (in_front (take k bytes)) here ∙ ap (λ (w : List ℕ). Some (w, drop (k + 2) bytes)) (append-nil (take k bytes))
     ∙ ap (λ (w : List ℕ). Some (take k bytes, w)) (sym behind)
     )
 
@@ -87,4 +93,5 @@ no_line [] none = refl
 no_line (b ∷ bytes) none =
     let k : ℕ = length bytes in
     let last : line_at (drop k (b ∷ bytes)) ≡ None = one_byte (drop k (b ∷ bytes)) (omega (arith, length-drop k (b ∷ bytes))) in
-    sym (line_on k (b ∷ bytes) (omega arith) (λ i j next lt. goes_on (b ∷ bytes) i j next (omega arith) (none i (omega arith) (omega arith))) ∙ ap (in_front (take k (b ∷ bytes))) last)
+    sym (line_on k (b ∷ bytes) (omega arith) (λ i j next lt. goes_on (b ∷ bytes) i j next (omega arith) (none i (omega arith) (omega arith)))
+    ∙ ap (in_front (take k (b ∷ bytes))) last)

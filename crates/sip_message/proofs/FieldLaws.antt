@@ -54,12 +54,14 @@ token_full (b ∷ bs) e = full_end is_token_byte refl refl b bs e
 pub field_found : (line : List ℕ) (f : Field) → IsField line f → field_of line ≡ Some f
 field_found line f is =
     let token = others is_token_byte 58 refl is.written (token_bytes is.written is.is_token) in
-    let split : split_at_byte 58 line ≡ Some (is.written ++ is.blanks, is.value) = ap (split_at_byte 58) is.whole ∙ split_again 58 (is.written ++ is.blanks) is.value (all_join (is_other 58) is.written is.blanks token (blanks_other is.blanks is.are_blank)) refl in
+    let split : split_at_byte 58 line ≡ Some (is.written ++ is.blanks, is.value) = ap (split_at_byte 58) is.whole
+    ∙ split_again 58 (is.written ++ is.blanks) is.value (all_join (is_other 58) is.written is.blanks token (blanks_other is.blanks is.are_blank)) refl in
     let end : end_trimmed (is.written ++ is.blanks) ≡ is.written = end_without is.written is.blanks (token_full is.written is.is_token) is.are_blank in
     let from : field_from (is.written ++ is.blanks) is.value ≡ Some f = rw (end, is.is_token, is.is_text, ← is.is_name, ← is.is_value) refl in
     ap (option_and_then (λ x. field_from x.0 x.1)) split ∙ from
 
-both_zip : (line : List ℕ) (lines : List (List ℕ)) (o : Option Field) (p : Option (List Field)) (fields : List Field) → field_of line ≡ o → option_and_then (λ field. option_map (λ fields. field ∷ fields) p) o ≡ Some fields
+both_zip : (line : List ℕ) (lines : List (List ℕ)) (o : Option Field) (p : Option (List Field)) (fields : List Field) → field_of line ≡ o
+    → option_and_then (λ field. option_map (λ fields. field ∷ fields) p) o ≡ Some fields
     → ((fs : List Field) → p ≡ Some fs → AllZip IsField lines fs) → AllZip IsField (line ∷ lines) fields
 both_zip line lines None p fields is e more = absurd cc
 both_zip line lines (Some f) None fields is e more = absurd cc
@@ -87,7 +89,8 @@ named_cut line name value is = ap (split_at_byte 58) is.whole ∙ split_again 58
 named_end : (name : List ℕ) → is_token_text name ≡ true → end_trimmed name ≡ name
 named_end name token = ap end_trimmed (sym (append-nil name)) ∙ end_without name [] (token_full name token) tt
 
-pub named_field : (line name value : List ℕ) → IsNamed line name value → list_all is_text value ≡ true → field_of line ≡ Some (record { name = name_of name; value = trimmed value })
+pub named_field : (line name value : List ℕ) → IsNamed line name value → list_all is_text value ≡ true
+    → field_of line ≡ Some (record { name = name_of name; value = trimmed value })
 named_field line name value is text =
     let from : field_from name value ≡ Some (record { name = name_of name; value = trimmed value }) = rw (named_end name is.is_token, is.is_token, text) refl in
     ap (option_and_then (λ x. field_from x.0 x.1)) (named_cut line name value is) ∙ from

@@ -63,7 +63,8 @@ not_is : (t : Bool) → not t ≡ true → t ≡ false
 not_is true e = absurd cc
 not_is false e = refl
 
-pub split_again : (mark : ℕ) (front back : List ℕ) → list_all (is_other mark) front ≡ true → (mark == mark) ≡ true → split_at_byte mark (front ++ mark ∷ back) ≡ Some (front, back)
+pub split_again : (mark : ℕ) (front back : List ℕ) → list_all (is_other mark) front ≡ true → (mark == mark) ≡ true
+    → split_at_byte mark (front ++ mark ∷ back) ≡ Some (front, back)
 split_again mark [] back e same = rw same refl
 split_again mark (b ∷ front) back e same =
     let both = and_both (is_other mark b) (list_all (is_other mark) front) e in
@@ -73,13 +74,15 @@ split_again mark (b ∷ front) back e same =
 pub record IsSplitAt (mark : ℕ) (bytes front back : List ℕ) : Type 0 where
   pub whole : bytes ≡ front ++ mark ∷ back
 
-split_longer : (mark b : ℕ) (bytes front back : List ℕ) (o : Option (List ℕ × List ℕ)) → in_front (b ∷ []) o ≡ Some (front, back) → ((f : List ℕ) (g : List ℕ) → o ≡ Some (f, g) → bytes ≡ f ++ mark ∷ g) → b ∷ bytes ≡ front ++ mark ∷ back
+split_longer : (mark b : ℕ) (bytes front back : List ℕ) (o : Option (List ℕ × List ℕ)) → in_front (b ∷ []) o ≡ Some (front, back)
+    → ((f : List ℕ) (g : List ℕ) → o ≡ Some (f, g) → bytes ≡ f ++ mark ∷ g) → b ∷ bytes ≡ front ++ mark ∷ back
 split_longer mark b bytes front back None e is = absurd cc
 split_longer mark b bytes front back (Some x) e is =
     let p = pair_is (b ∷ x.0, x.1) (front, back) e in
     rw (← p.0, ← p.1) (ap (λ (w : List ℕ). b ∷ w) (is x.0 x.1 refl))
 
-split_either : (mark b : ℕ) (bytes front back : List ℕ) (t : Bool) → (b == mark) ≡ t → split_at_byte mark (b ∷ bytes) ≡ Some (front, back) → ((f : List ℕ) (g : List ℕ) → split_at_byte mark bytes ≡ Some (f, g) → bytes ≡ f ++ mark ∷ g) → b ∷ bytes ≡ front ++ mark ∷ back
+split_either : (mark b : ℕ) (bytes front back : List ℕ) (t : Bool) → (b == mark) ≡ t → split_at_byte mark (b ∷ bytes) ≡ Some (front, back)
+    → ((f : List ℕ) (g : List ℕ) → split_at_byte mark bytes ≡ Some (f, g) → bytes ≡ f ++ mark ∷ g) → b ∷ bytes ≡ front ++ mark ∷ back
 split_either mark b bytes front back true is e on =
     let got : Some ([], bytes) ≡ Some (front, back) = sym (rw is refl) ∙ e in
     let p = pair_is ([], bytes) (front, back) got in
@@ -129,8 +132,76 @@ pub record IsGoodName (name : FieldName) : Type 0 where
   pub token : is_token_text (spelling name) ≡ true
 
 known_good : AllByRecursion (λ k. IsGoodName k.name) known_names
-known_good =
-    (record { again = refl; token = refl }, (record { again = refl; token = refl }, (record { again = refl; token = refl }, (record { again = refl; token = refl }, (record { again = refl; token = refl }, (record { again = refl; token = refl }, (record { again = refl; token = refl }, (record { again = refl; token = refl }, (record { again = refl; token = refl }, (record { again = refl; token = refl }, (record { again = refl; token = refl }, (record { again = refl; token = refl }, (record { again = refl; token = refl }, (record { again = refl; token = refl }, (record { again = refl; token = refl }, (record { again = refl; token = refl }, (record { again = refl; token = refl }, (record { again = refl; token = refl }, (record { again = refl; token = refl }, (record { again = refl; token = refl }, (record { again = refl; token = refl }, (record { again = refl; token = refl }, (record { again = refl; token = refl }, (record { again = refl; token = refl }, (record { again = refl; token = refl }, tt)))))))))))))))))))))))))
+known_good = (
+  record { again = refl; token = refl },
+  (
+    record { again = refl; token = refl },
+    (
+      record { again = refl; token = refl },
+      (
+        record { again = refl; token = refl },
+        (
+          record { again = refl; token = refl },
+          (
+            record { again = refl; token = refl },
+            (
+              record { again = refl; token = refl },
+              (
+                record { again = refl; token = refl },
+                (
+                  record { again = refl; token = refl },
+                  (
+                    record { again = refl; token = refl },
+                    (
+                      record { again = refl; token = refl },
+                      (
+                        record { again = refl; token = refl },
+                        (
+                          record { again = refl; token = refl },
+                          (
+                            record { again = refl; token = refl },
+                            (
+                              record { again = refl; token = refl },
+                              (
+                                record { again = refl; token = refl },
+                                (
+                                  record { again = refl; token = refl },
+                                  (
+                                    record { again = refl; token = refl },
+                                    (
+                                      record { again = refl; token = refl },
+                                      (
+                                        record { again = refl; token = refl },
+                                        (
+                                          record { again = refl; token = refl },
+                                          (
+                                            record { again = refl; token = refl },
+                                            (
+                                              record { again = refl; token = refl },
+                                              (record { again = refl; token = refl }, (record { again = refl; token = refl }, tt)),
+                                            ),
+                                          ),
+                                        ),
+                                      ),
+                                    ),
+                                  ),
+                                ),
+                              ),
+                            ),
+                          ),
+                        ),
+                      ),
+                    ),
+                  ),
+                ),
+              ),
+            ),
+          ),
+        ),
+      ),
+    ),
+  ),
+)
 
 known_or_other : (ks : List Known) (w : List ℕ) → AllByRecursion (λ k. IsGoodName k.name) ks → IsGoodName (named_in ks w) ⊎ (named_in ks w ≡ Other w)
 known_or_other [] w good = inr refl
@@ -159,7 +230,8 @@ pub entry_again : (f : Field) → IsEntry f → field_of (field_line f) ≡ Some
 entry_again f is =
     let token = token_bytes (spelling f.name) is.name.token in
     let grouped : field_line f ≡ spelling f.name ++ 58 ∷ (32 ∷ f.value) = append_assoc (spelling f.name) (codes ": ") f.value in
-    let split : split_at_byte 58 (field_line f) ≡ Some (spelling f.name, 32 ∷ f.value) = ap (split_at_byte 58) grouped ∙ split_again 58 (spelling f.name) (32 ∷ f.value) (others is_token_byte 58 refl (spelling f.name) token) refl in
+    let split : split_at_byte 58 (field_line f) ≡ Some (spelling f.name, 32 ∷ f.value) = ap (split_at_byte 58) grouped
+    ∙ split_again 58 (spelling f.name) (32 ∷ f.value) (others is_token_byte 58 refl (spelling f.name) token) refl in
     let end : end_trimmed (spelling f.name) ≡ spelling f.name = token_end (spelling f.name) is.name.token in
     let from : field_from (spelling f.name) (32 ∷ f.value) ≡ Some f = rw (end, is.name.token, is.is_text, is.name.again, tight_behind f.value is.tight) refl in
     ap (option_and_then (λ x. field_from x.0 x.1)) split ∙ from
@@ -169,8 +241,12 @@ entry_line f is =
     let grouped : field_line f ≡ spelling f.name ++ 58 ∷ (32 ∷ f.value) = append_assoc (spelling f.name) (codes ": ") f.value in
     let token = token_bytes (spelling f.name) is.name.token in
     let whole : list_all is_unbroken (spelling f.name ++ 58 ∷ (32 ∷ f.value)) ≡ true =
-    all_join is_unbroken (spelling f.name) (58 ∷ (32 ∷ f.value)) (unbroken is_token_byte refl refl (spelling f.name) token) (unbroken is_text refl refl f.value is.is_text) in
-    subst (λ w. IsLine w × (is_fold w ≡ false)) (sym grouped) ((one_line (spelling f.name ++ 58 ∷ (32 ∷ f.value)) whole, some (spelling f.name)), first_full (spelling f.name) is.name.token)
+    all_join is_unbroken (spelling f.name) (58 ∷ (32 ∷ f.value)) (unbroken is_token_byte refl refl (spelling f.name) token)
+    (unbroken is_text refl refl f.value is.is_text) in
+    subst (λ w. IsLine w × (is_fold w ≡ false)) (sym grouped) (
+      (one_line (spelling f.name ++ 58 ∷ (32 ∷ f.value)) whole, some (spelling f.name)),
+      first_full (spelling f.name) is.name.token,
+    )
   where
     some : (w : List ℕ) → w ++ 58 ∷ (32 ∷ f.value) ≢ []
     some [] e = cc
@@ -218,14 +294,16 @@ pub record IsKept (f : Field) : Type 0 where
   pub whole : pieces f ≡ Some (f ∷ [])
   pub no_length : is_length f.name ≡ false
 
-one_piece : (f : Field) (item : List ℕ) → is_length f.name ≡ false → is_list f.name ≡ true → IsGoodName f.name → IsItemOf is_text item → IsKept (record f { value = item })
+one_piece : (f : Field) (item : List ℕ) → is_length f.name ≡ false → is_list f.name ≡ true → IsGoodName f.name → IsItemOf is_text item
+    → IsKept (record f { value = item })
 one_piece f item not_length listed good is = record {
   entry = record { name = good; is_text = is.pass; tight = is.tight };
   whole = rw (not_length, listed, is.one) refl;
   no_length = not_length;
 }
 
-each_piece : (f : Field) (items : List (List ℕ)) → is_length f.name ≡ false → is_list f.name ≡ true → IsGoodName f.name → AllByRecursion (IsItemOf is_text) items → AllByRecursion IsKept (map (λ item. record f { value = item }) items)
+each_piece : (f : Field) (items : List (List ℕ)) → is_length f.name ≡ false → is_list f.name ≡ true → IsGoodName f.name → AllByRecursion (IsItemOf is_text) items
+    → AllByRecursion IsKept (map (λ item. record f { value = item }) items)
 each_piece f [] not_length listed good are = tt
 each_piece f (item ∷ items) not_length listed good are = (one_piece f item not_length listed good are.0, each_piece f items not_length listed good are.1)
 
@@ -265,4 +343,5 @@ pub kept_are : (entries fields : List Field) → AllByRecursion IsEntry entries 
 kept_are [] fields are e =
     let same : [] ≡ fields = cc in
     subst (AllByRecursion IsKept) same tt
-kept_are (f ∷ entries) fields are e = both_kept (pieces f) (kept entries) fields e (λ fs h. pieces_by f fs (is_length f.name) (is_list f.name) refl refl are.0 h) (λ fs h. kept_are entries fs are.1 h)
+kept_are (f ∷ entries) fields are e = both_kept (pieces f) (kept entries) fields e (λ fs h. pieces_by f fs (is_length f.name) (is_list f.name) refl refl are.0 h)
+    (λ fs h. kept_are entries fs are.1 h)

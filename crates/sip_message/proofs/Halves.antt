@@ -1,5 +1,5 @@
 -- Slices cut at a byte, and trimmed, by their lengths.
-use Rattle.std.proofs.Common.{◌≡◌, ℕ, zero, suc, ◌+◌, ◌-◌, ◌≤◌, Bool, true, false, List, [], ◌∷◌, ◌++◌, length, take, drop, Some, refl, sym, ap, ◌∙◌, arith, length-append}
+use Rattle.std.proofs.Common.{◌≡◌, ℕ, zero, suc, ◌+◌, ◌-◌, ◌≤◌, true, false, List, [], ◌∷◌, ◌++◌, length, take, drop, Some, refl, sym, ap, ◌∙◌, arith, length-append}
 use Rattle.std.specs.Prelude.{reverse, ◌==◌}
 use Rattle.std.specs.List.{take_while, prefix_len, list_all}
 use Rattle.std.proofs.Math.Seq.{drop-append_seam}
@@ -12,11 +12,14 @@ use Rattle.sip_message.proofs.FieldsAgain.{split_is}
 pub fits : (mark : ℕ) (bytes front back : List ℕ) → Some (front, back) ≡ split_at_byte mark bytes → length front + 1 ≤ length bytes
 fits mark bytes front back e = omega (arith, ap length (split_is mark bytes front back (sym e)), length-append front (mark ∷ back))
 
-pub halves_are : (mark : ℕ) (bytes front back a b : List ℕ) → Some (front, back) ≡ split_at_byte mark bytes → a ≡ take (length front) bytes → b ≡ drop (length front + 1) bytes → Some (a, b) ≡ split_at_byte mark bytes
+pub halves_are : (mark : ℕ) (bytes front back a b : List ℕ) → Some (front, back) ≡ split_at_byte mark bytes → a ≡ take (length front) bytes
+    → b ≡ drop (length front + 1) bytes → Some (a, b) ≡ split_at_byte mark bytes
 halves_are mark bytes front back a b e first second =
     let whole : bytes ≡ front ++ mark ∷ back = split_is mark bytes front back (sym e) in
-    let before : a ≡ front = first ∙ ap (take (length front)) whole ∙ take-append-le (length front) front (mark ∷ back) (omega arith) ∙ take_all (length front) front (omega arith) in
-    let behind : b ≡ back = second ∙ sym (drop-drop 1 (length front) bytes) ∙ ap (λ (w : List ℕ). drop 1 (drop (length front) w)) whole ∙ ap (drop 1) (drop-append_seam front (mark ∷ back)) in
+    let before : a ≡ front = first ∙ ap (take (length front)) whole ∙ take-append-le (length front) front (mark ∷ back) (omega arith)
+    ∙ take_all (length front) front (omega arith) in
+    let behind : b ≡ back = second ∙ sym (drop-drop 1 (length front) bytes) ∙ ap (λ (w : List ℕ). drop 1 (drop (length front) w)) whole
+    ∙ ap (drop 1) (drop-append_seam front (mark ∷ back)) in
     ap (λ (w : List ℕ). Some (w, b)) before ∙ ap (λ (w : List ℕ). Some (front, w)) behind ∙ e
 
 none_of : (n : ℕ) → take {A = ℕ} n [] ≡ []
@@ -35,14 +38,16 @@ cut_cut (suc b) (suc k) (x ∷ xs) =
     let less : suc k - suc b ≡ k - b = omega arith in
     ap (λ (n : ℕ). take n (drop b xs)) less ∙ cut_cut b k xs
 
-pub trimmed_is : (bytes front end middle result : List ℕ) → front ≡ front_trimmed bytes → end ≡ end_trimmed bytes → middle ≡ drop (length bytes - length front) bytes → result ≡ take (length end - (length bytes - length front)) middle → result ≡ trimmed bytes
+pub trimmed_is : (bytes front end middle result : List ℕ) → front ≡ front_trimmed bytes → end ≡ end_trimmed bytes → middle ≡ drop (length bytes - length front) bytes
+    → result ≡ take (length end - (length bytes - length front)) middle → result ≡ trimmed bytes
 trimmed_is bytes front end middle result f e m r =
     let b : ℕ = length (take_while is_blank bytes) in
     let k : ℕ = length bytes - length (take_while is_blank (reverse bytes)) in
     let few : b ≤ length bytes = blanks_fit bytes in
     let start : length bytes - length front ≡ b = omega (arith, ap length f, length-drop b bytes, few) in
     let stop : length end ≡ k = omega (arith, ap length e, length-take k bytes) in
-    r ∙ ap (λ (n : ℕ). take (n - (length bytes - length front)) middle) stop ∙ ap (λ (n : ℕ). take (k - n) middle) start ∙ ap (take (k - b)) (m ∙ ap (λ (n : ℕ). drop n bytes) start) ∙ cut_cut b k bytes
+    r ∙ ap (λ (n : ℕ). take (n - (length bytes - length front)) middle) stop ∙ ap (λ (n : ℕ). take (k - n) middle) start
+    ∙ ap (take (k - b)) (m ∙ ap (λ (n : ℕ). drop n bytes) start) ∙ cut_cut b k bytes
   where
     blanks_fit : (xs : List ℕ) → length (take_while is_blank xs) ≤ length xs
     blanks_fit xs = omega (arith, length-take (prefix_len is_blank xs) xs)

@@ -38,14 +38,16 @@ field_with name value = record { name = name; value = value }
 pub field_same : (n m : FieldName) (v w : List ℕ) → n ≡ m → v ≡ w → Some (field_with n v) ≡ Some (field_with m w)
 field_same n m v w names values = ap (λ (x : FieldName). Some (field_with x v)) names ∙ ap (λ (x : List ℕ). Some (field_with m x)) values
 
-length_filled : (old new : Filling) (field : Field) → is_length field.name ≡ true → new.fields ≡ old.fields → next_length old.length field.value ≡ Some new.length → IsFieldFilled old field new
+length_filled : (old new : Filling) (field : Field) → is_length field.name ≡ true → new.fields ≡ old.fields → next_length old.length field.value ≡ Some new.length
+    → IsFieldFilled old field new
 length_filled old new field is same next =
     let none : pieces field ≡ Some [] = rw is refl in record {
       kept = ap (λ (o : Option (List Field)). option_map (λ items. old.fields ++ items) o) none ∙ ap (λ (w : List Field). Some w) (append-nil old.fields ∙ sym same);
       next = rw is next;
     }
 
-pub one_filled : (old new : Filling) (field : Field) → is_length field.name ≡ false → (is_list field.name ≡ true → cut field.value ≡ Some (field.value ∷ [])) → new.length ≡ old.length → new.fields ≡ old.fields ++ field ∷ [] → IsFieldFilled old field new
+pub one_filled : (old new : Filling) (field : Field) → is_length field.name ≡ false → (is_list field.name ≡ true → cut field.value ≡ Some (field.value ∷ []))
+    → new.length ≡ old.length → new.fields ≡ old.fields ++ field ∷ [] → IsFieldFilled old field new
 one_filled old new field not_length item same more = by_list (is_list field.name) refl
   where
     made : pieces field ≡ Some (field ∷ []) → IsFieldFilled old field new
@@ -60,14 +62,16 @@ one_filled old new field not_length item same more = by_list (is_list field.name
         let one : cut field.value ≡ Some (field.value ∷ []) = item is in
         made (rw (not_length, is, one) refl)
 
-pub items_filled : (old new : Filling) (field : Field) (spans : List Span) → is_length field.name ≡ false → is_list field.name ≡ true → cut field.value ≡ Some (map (part field.value) spans) → new.length ≡ old.length
+pub items_filled : (old new : Filling) (field : Field) (spans : List Span) → is_length field.name ≡ false → is_list field.name ≡ true
+    → cut field.value ≡ Some (map (part field.value) spans) → new.length ≡ old.length
     → new.fields ≡ old.fields ++ map (item_of field.name field.value) spans → IsFieldFilled old field new
 items_filled old new field spans not_length listed is_cut same more = record {
   kept = kept_list old.fields new.fields field spans not_length listed is_cut more;
   next = rw not_length (ap (λ (n : Option ℕ). Some n) (sym same));
 }
 
-pub items_refused : (n : Option ℕ) (field : Field) (e : LineFault) → is_length field.name ≡ false → is_list field.name ≡ true → IsFault e (cut field.value) → IsFault e (field_taken n field)
+pub items_refused : (n : Option ℕ) (field : Field) (e : LineFault) → is_length field.name ≡ false → is_list field.name ≡ true → IsFault e (cut field.value)
+    → IsFault e (field_taken n field)
 items_refused n field e not_length listed (inl none) = inl none
 items_refused n field e not_length listed (inr none) = inr (rw (not_length, listed, none) refl)
 
@@ -82,7 +86,8 @@ pub length_either : {A : Type 0} (r : Result A LineFault) (old new : Filling) (f
 length_either (Ok x) old new field is same next = length_filled old new field is same next
 length_either (Err e) old new field is same none = inr (length_refused old.length field is none)
 
-pub taken_same : (r : Result Unit LineFault) (old new : Filling) (n m : FieldName) (v w : List ℕ) → n ≡ m → v ≡ w → MatchResult r (λ _. IsFieldFilled old (field_with n v) new) (λ e. IsFault e (field_taken old.length (field_with n v)))
+pub taken_same : (r : Result Unit LineFault) (old new : Filling) (n m : FieldName) (v w : List ℕ) → n ≡ m → v ≡ w
+    → MatchResult r (λ _. IsFieldFilled old (field_with n v) new) (λ e. IsFault e (field_taken old.length (field_with n v)))
     → MatchResult r (λ _. IsFieldFilled old (field_with m w) new) (λ e. IsFault e (field_taken old.length (field_with m w)))
 taken_same r old new n m v w names values is =
     subst (λ (x : List ℕ). MatchResult r (λ _. IsFieldFilled old (field_with m x) new) (λ e. IsFault e (field_taken old.length (field_with m x)))) values
@@ -90,11 +95,13 @@ taken_same r old new n m v w names values is =
 
 -- ---- one line
 
-pub line_taken : (old new : Filling) (line after : Bor (List ℕ)) (field : Field) → is_fold after.now ≡ false → field_of line.now ≡ Some field → IsFieldFilled old field new → IsLineFilled old line.now after.now new after.now
+pub line_taken : (old new : Filling) (line after : Bor (List ℕ)) (field : Field) → is_fold after.now ≡ false → field_of line.now ≡ Some field
+    → IsFieldFilled old field new → IsLineFilled old line.now after.now new after.now
 line_taken old new line after field is says one =
     record { whole = line.now; field = field; bytes = (without_folds line after is).bytes; says = says; taken = one; shorter = omega arith }
 
-pub folded_taken : (old new : Filling) (line after rest : Bor (List ℕ)) (whole : Line) (field : Field) → IsWhole line after whole rest → field_of (line_bytes whole) ≡ Some field → IsFieldFilled old field new
+pub folded_taken : (old new : Filling) (line after rest : Bor (List ℕ)) (whole : Line) (field : Field) → IsWhole line after whole rest
+    → field_of (line_bytes whole) ≡ Some field → IsFieldFilled old field new
     → IsLineFilled old line.now after.now new rest.now
 folded_taken old new line after rest whole field is says one =
     record { whole = line_bytes whole; field = field; bytes = is.bytes; says = says; taken = one; shorter = cut_length after rest is.cut }
@@ -119,7 +126,8 @@ none_filled head filling none no_length = record {
   kept = ap (λ (w : List Field). Some w) (sym none);
 }
 
-pub line_filled : (head rest line after next : List ℕ) (old new : Filling) → IsFilledSoFar head old rest → Some (line, after) ≡ line_at rest → is_empty line ≡ false → IsLineFilled old line after new next → IsFilledSoFar head new next
+pub line_filled : (head rest line after next : List ℕ) (old new : Filling) → IsFilledSoFar head old rest → Some (line, after) ≡ line_at rest → is_empty line ≡ false
+    → IsLineFilled old line after new next → IsFilledSoFar head new next
 line_filled head rest line after next old new s is full t = record {
   lines = s.lines ++ t.whole ∷ [];
   entries = s.entries ++ t.field ∷ [];
@@ -136,18 +144,23 @@ named_full line (b ∷ name) value is = ap is_empty is.whole
 
 -- ---- the end of a head
 
-pub all_filled : (head rest line : List ℕ) (after : Bor (List ℕ)) (filling : Filling) → IsFilledSoFar head filling rest → Some (line, after.now) ≡ line_at rest → is_empty line ≡ true → head_said head ≡ Ok (filled_seen (filling, after))
+pub all_filled : (head rest line : List ℕ) (after : Bor (List ℕ)) (filling : Filling) → IsFilledSoFar head filling rest → Some (line, after.now) ≡ line_at rest
+    → is_empty line ≡ true → head_said head ≡ Ok (filled_seen (filling, after))
 unfolding head_said
 all_filled head rest line after filling s is none =
     let lines : head_at head ≡ Some (s.lines, after.now) =
-    s.heads ∙ ap (λ o. before s.lines (option_map (λ x. (unfolded x.0, x.1)) o)) (lines_end rest line after.now is none) ∙ ap (λ (w : List (List ℕ)). Some (w, after.now)) (append-nil s.lines) in
+    s.heads ∙ ap (λ o. before s.lines (option_map (λ x. (unfolded x.0, x.1)) o)) (lines_end rest line after.now is none)
+    ∙ ap (λ (w : List (List ℕ)). Some (w, after.now)) (append-nil s.lines) in
     rw (lines, s.said, s.one, s.kept) refl
 
 pub never_filled : (head rest : List ℕ) (filling : Filling) → IsFilledSoFar head filling rest → None ≡ line_at rest → head_said head ≡ Err NotSip
 never_filled head rest filling s none = without_end head (s.heads ∙ ap (λ o. before s.lines (option_map (λ x. (unfolded x.0, x.1)) o)) (no_lines rest none))
 
-pub not_filled : (head rest line after : List ℕ) (filling : Filling) (fault : LineFault) (e : ReadError) → IsFilledSoFar head filling rest → Some (line, after) ≡ line_at rest → is_empty line ≡ false
-    → (fault ≡ Fault.NoMemory) ⊎ IsLineRefused filling.length line after → (fault ≡ Fault.NoMemory → e ≡ NoMemory) → (fault ≡ Fault.BadField → MatchOption (head_at after) (e ≡ NotSip) (λ x. e ≡ BadField)) → (e ≡ NoMemory) ⊎ (head_said head ≡ Err e)
+pub not_filled : (head rest line after : List ℕ) (filling : Filling) (fault : LineFault) (e : ReadError) → IsFilledSoFar head filling rest
+    → Some (line, after) ≡ line_at rest → is_empty line ≡ false
+    → (fault ≡ Fault.NoMemory) ⊎ IsLineRefused filling.length line after → (fault ≡ Fault.NoMemory → e ≡ NoMemory)
+    → (fault ≡ Fault.BadField → MatchOption (head_at after) (e ≡ NotSip) (λ x. e ≡ BadField)) → (e ≡ NoMemory) ⊎ (head_said head ≡ Err e)
 not_filled head rest line after filling fault e s is full (inl none) memory bad = inl (memory none)
 not_filled head rest line after filling Fault.NoMemory e s is full (inr r) memory bad = inl (memory refl)
-not_filled head rest line after filling Fault.BadField e s is full (inr r) memory bad = inr (refused_line head rest line after s.lines s.entries filling.length e s.heads s.said s.one is full r (bad refl))
+not_filled head rest line after filling Fault.BadField e s is full (inr r) memory bad =
+    inr (refused_line head rest line after s.lines s.entries filling.length e s.heads s.said s.one is full r (bad refl))

@@ -1,6 +1,5 @@
 pub mod Rows
 pub mod Begun
-pub mod LineEnds
 pub mod Cuts
 pub mod Wholes
 pub mod Behind

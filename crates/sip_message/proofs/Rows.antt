@@ -33,7 +33,8 @@ within : (bytes : List ℕ) → lines_at true bytes ≡ from_line (line_at bytes
 within [] = refl
 within (b ∷ []) = refl
 within (b ∷ c ∷ rest) =
-    let later : bytes_first (b ∷ []) (lines_at true (c ∷ rest)) ≡ from_line (in_front (b ∷ []) (line_at (c ∷ rest))) = ap (bytes_first (b ∷ [])) (within (c ∷ rest)) ∙ sym (from_longer b (line_at (c ∷ rest))) in
+    let later : bytes_first (b ∷ []) (lines_at true (c ∷ rest)) ≡ from_line (in_front (b ∷ []) (line_at (c ∷ rest))) = ap (bytes_first (b ∷ [])) (within (c ∷ rest))
+    ∙ sym (from_longer b (line_at (c ∷ rest))) in
     ap (λ (w : Option (List (List ℕ) × List ℕ)). cond (is_crlf b c) (line_first [] (lines_at false rest)) w) later
     ∙ sym (choose from_line (is_crlf b c) (Some ([], rest)) (in_front (b ∷ []) (line_at (c ∷ rest))))
 
@@ -54,7 +55,8 @@ pub by_first_line : (bytes : List ℕ) → lines_at false bytes ≡ by_line (lin
 by_first_line [] = refl
 by_first_line (b ∷ []) = refl
 by_first_line (b ∷ c ∷ rest) =
-    let later : bytes_first (b ∷ []) (lines_at true (c ∷ rest)) ≡ by_line (in_front (b ∷ []) (line_at (c ∷ rest))) = ap (bytes_first (b ∷ [])) (within (c ∷ rest)) ∙ sym (by_longer b (line_at (c ∷ rest))) in
+    let later : bytes_first (b ∷ []) (lines_at true (c ∷ rest)) ≡ by_line (in_front (b ∷ []) (line_at (c ∷ rest))) = ap (bytes_first (b ∷ [])) (within (c ∷ rest))
+    ∙ sym (by_longer b (line_at (c ∷ rest))) in
     ap (λ (w : Option (List (List ℕ) × List ℕ)). cond (is_crlf b c) (Some ([], rest)) w) later
     ∙ sym (choose by_line (is_crlf b c) (Some ([], rest)) (in_front (b ∷ []) (line_at (c ∷ rest))))
 
@@ -81,7 +83,8 @@ below_either n false o p h k = k
 line_below : (bytes : List ℕ) → IsBelow (length bytes) (line_at bytes)
 line_below [] = tt
 line_below (b ∷ []) = tt
-line_below (b ∷ c ∷ rest) = below_either (length (b ∷ c ∷ rest)) (is_crlf b c) (Some ([], rest)) (in_front (b ∷ []) (line_at (c ∷ rest))) (omega arith) (below_longer (length (c ∷ rest)) b (line_at (c ∷ rest)) (line_below (c ∷ rest)))
+line_below (b ∷ c ∷ rest) = below_either (length (b ∷ c ∷ rest)) (is_crlf b c) (Some ([], rest)) (in_front (b ∷ []) (line_at (c ∷ rest))) (omega arith)
+    (below_longer (length (c ∷ rest)) b (line_at (c ∷ rest)) (line_below (c ∷ rest)))
 
 pub shorter : (bytes line after : List ℕ) → Some (line, after) ≡ line_at bytes → length after < length bytes
 shorter bytes line after e = subst (λ (o : Option (List ℕ × List ℕ)). IsBelow (length bytes) o) (sym e) (line_below bytes)

@@ -1,5 +1,6 @@
 -- What is read is what the bytes say.
-use Rattle.std.proofs.Common.{◌≡◌, ◌≢◌, ℕ, ◌<◌, ◌≤◌, Bool, true, false, cond, List, [], ◌∷◌, ◌++◌, length, take, Option, Some, None, Result, Ok, Err, refl, sym, ap, subst, ◌∙◌, arith, inl, inr}
+use Rattle.std.proofs.Common.{◌≡◌, ◌≢◌, ℕ, ◌<◌, ◌≤◌, Bool, true, false, cond, List, [], ◌∷◌, ◌++◌, length, take, Option, Some, None, Result, Ok, Err, refl, sym, ap}
+use Rattle.std.proofs.Common.{subst, ◌∙◌, arith, inl, inr}
 use Rattle.std.specs.Prelude.{option_map, nat_lt, IfOk, IfErr, ◌↔◌, ◌⊎◌}
 use Rattle.std.specs.Result.{result_err}
 use Rattle.std.specs.Option.{ok_or}
@@ -66,7 +67,12 @@ take_len body rest e = omega (arith, length-take (length body) rest, ap length e
 
 length_of_body : (ls : List (List ℕ)) (rest body : List ℕ) → IsBody ls rest body → IsLengthOf ls rest body
 length_of_body [] rest body is = record { number = None; is_one = refl; long = refl; part = sym is }
-length_of_body (d ∷ []) rest body is = record { number = Some (length body); is_one = ap (option_map (λ n. Some n)) is.0; long = le-ltb (length rest) (length body) (take_len body rest is.1); part = sym is.1 }
+length_of_body (d ∷ []) rest body is = record {
+  number = Some (length body);
+  is_one = ap (option_map (λ n. Some n)) is.0;
+  long = le-ltb (length rest) (length body) (take_len body rest is.1);
+  part = sym is.1;
+}
 length_of_body (d ∷ f ∷ ds) rest body is = absurd is
 
 -- ---- the whole
@@ -76,10 +82,12 @@ first_some start first e none =
     let never : None ≡ Some start = ap start_of (sym none) ∙ e in
     cc
 
-head_lines : (bytes : List ℕ) (x : List (List ℕ) × List ℕ) → head_at bytes ≡ Some x → (lines : List (List ℕ)) × (lines_at false bytes ≡ Some (lines, x.1)) × (unfolded lines ≡ x.0)
+head_lines : (bytes : List ℕ) (x : List (List ℕ) × List ℕ) → head_at bytes ≡ Some x → (lines : List (List ℕ)) × (lines_at false bytes ≡ Some (lines, x.1))
+    × (unfolded lines ≡ x.0)
 head_lines bytes x e = by_lines (lines_at false bytes) refl e
   where
-    by_lines : (o : Option (List (List ℕ) × List ℕ)) → lines_at false bytes ≡ o → option_map (λ x. (unfolded x.0, x.1)) o ≡ Some x → (lines : List (List ℕ)) × (lines_at false bytes ≡ Some (lines, x.1)) × (unfolded lines ≡ x.0)
+    by_lines : (o : Option (List (List ℕ) × List ℕ)) → lines_at false bytes ≡ o → option_map (λ x. (unfolded x.0, x.1)) o ≡ Some x
+        → (lines : List (List ℕ)) × (lines_at false bytes ≡ Some (lines, x.1)) × (unfolded lines ≡ x.0)
     by_lines None is e' = absurd cc
     by_lines (Some y) is e' =
         let p = pair_is (unfolded y.0, y.1) x e' in
@@ -97,11 +105,14 @@ record IsFrom (start : Start) (lines : List (List ℕ)) (rest : List ℕ) (m : M
 message_is : (start : Start) (lines : List (List ℕ)) (rest : List ℕ) (m : Message) → message_from start lines rest ≡ Ok m → IsFrom start lines rest m
 unfolding message_from
 message_is start lines rest m e =
-    let a = bind_ok (ok_or (entries_of lines) BadField) (λ entries. ok_or (one_length (lengths entries)) BadField >>= λ n. ok_or (kept entries) BadField >>= λ fields. limited (is_short n rest) (with_body start fields n rest)) m e in
-    let b = bind_ok (ok_or (one_length (lengths a.0)) BadField) (λ n. ok_or (kept a.0) BadField >>= λ fields. limited (is_short n rest) (with_body start fields n rest)) m a.2 in
+    let a = bind_ok (ok_or (entries_of lines) BadField) (λ entries. ok_or (one_length (lengths entries)) BadField >>= λ n. ok_or (kept entries) BadField >>=
+    λ fields. limited (is_short n rest) (with_body start fields n rest)) m e in
+    let b = bind_ok (ok_or (one_length (lengths a.0)) BadField) (λ n. ok_or (kept a.0) BadField >>= λ fields. limited (is_short n rest) (with_body start fields n rest)) m
+    a.2 in
     let c = bind_ok (ok_or (kept a.0) BadField) (λ fields. limited (is_short b.0 rest) (with_body start fields b.0 rest)) m b.2 in
     let whole : Message = with_body start c.0 b.0 rest in
-    let g = passes (nat_lt 256 (length c.0)) TooManyFields (cond (nat_lt 49152 (length (text_of whole))) (Err TooLong) (cond (is_short b.0 rest) (Err (ShortBody whole)) (Ok whole))) m c.2 in
+    let g = passes (nat_lt 256 (length c.0)) TooManyFields (cond (nat_lt 49152 (length (text_of whole))) (Err TooLong)
+    (cond (is_short b.0 rest) (Err (ShortBody whole)) (Ok whole))) m c.2 in
     let h = passes (nat_lt 49152 (length (text_of whole))) TooLong (cond (is_short b.0 rest) (Err (ShortBody whole)) (Ok whole)) m g.1 in
     let i = passes (is_short b.0 rest) (ShortBody whole) (Ok whole) m h.1 in
     let same : whole ≡ m = ok_is whole m i.1 in
@@ -120,7 +131,8 @@ pub says_of : (bytes : List ℕ) (m : Message) → reading_of bytes ≡ Ok m →
 unfolding reading_of datagram_of
 says_of bytes m e =
     let w = passes (nat_lt 65507 (length bytes)) TooLong (datagram_of bytes) m e in
-    let a = bind_ok (ok_or (line_at (after_blanks bytes)) NotSip) (λ first. ok_or (start_of first.0) NotSip >>= λ start. ok_or (head_at first.1) NotSip >>= λ head. message_from start head.0 head.1) m w.1 in
+    let a = bind_ok (ok_or (line_at (after_blanks bytes)) NotSip) (λ first. ok_or (start_of first.0) NotSip >>= λ start. ok_or (head_at first.1) NotSip >>=
+    λ head. message_from start head.0 head.1) m w.1 in
     let b = bind_ok (ok_or (start_of a.0.0) NotSip) (λ start. ok_or (head_at a.0.1) NotSip >>= λ head. message_from start head.0 head.1) m a.2 in
     let c = bind_ok (ok_or (head_at a.0.1) NotSip) (λ head. message_from b.0 head.0 head.1) m b.2 in
     let f : IsFrom b.0 c.0.0 c.0.1 m = message_is b.0 c.0.0 c.0.1 m c.2 in
@@ -145,7 +157,8 @@ pub reading_is : (bytes : List ℕ) (m : Message) → Says bytes m → IsWithinL
 unfolding reading_of datagram_of message_from
 reading_is bytes m s w =
     let first = cut_first bytes s.first s.lines s.rest s.is_cut in
-    let head : head_at (as_lines s.lines ++ 13 ∷ 10 ∷ s.rest) ≡ Some (unfolded s.lines, s.rest) = ap (option_map (λ x. (unfolded x.0, x.1))) (lines_again s.lines s.rest s.is_cut.are_lines) in
+    let head : head_at (as_lines s.lines ++ 13 ∷ 10 ∷ s.rest) ≡ Some (unfolded s.lines, s.rest) =
+    ap (option_map (λ x. (unfolded x.0, x.1))) (lines_again s.lines s.rest s.is_cut.are_lines) in
     let n : IsLengthOf (lengths s.entries) s.rest m.body = length_of_body (lengths s.entries) s.rest m.body s.is_body in
     let few : nat_lt 256 (length m.fields) ≡ false = le-ltb 256 (length m.fields) w.fields in
     let small : nat_lt 49152 (length (text_of m)) ≡ false = le-ltb 49152 (length (text_of m)) w.written in
@@ -167,10 +180,13 @@ same_message m n s f b = ap (λ x. made x m.fields m.body) s ∙ ap (λ x. made 
 
 pub one_said : (bytes : List ℕ) (m n : Message) → Says bytes m → Says bytes n → m ≡ n
 one_said bytes m n s t =
-    let p = pair_is (s.first, as_lines s.lines ++ 13 ∷ 10 ∷ s.rest) (t.first, as_lines t.lines ++ 13 ∷ 10 ∷ t.rest) (sym (cut_first bytes s.first s.lines s.rest s.is_cut) ∙ cut_first bytes t.first t.lines t.rest t.is_cut) in
-    let q = pair_is (s.lines, s.rest) (t.lines, t.rest) (sym (lines_again s.lines s.rest s.is_cut.are_lines) ∙ ap (lines_at false) p.1 ∙ lines_again t.lines t.rest t.is_cut.are_lines) in
+    let p = pair_is (s.first, as_lines s.lines ++ 13 ∷ 10 ∷ s.rest) (t.first, as_lines t.lines ++ 13 ∷ 10 ∷ t.rest)
+    (sym (cut_first bytes s.first s.lines s.rest s.is_cut) ∙ cut_first bytes t.first t.lines t.rest t.is_cut) in
+    let q = pair_is (s.lines, s.rest) (t.lines, t.rest) (sym (lines_again s.lines s.rest s.is_cut.are_lines) ∙ ap (lines_at false) p.1
+    ∙ lines_again t.lines t.rest t.is_cut.are_lines) in
     let start : m.start ≡ n.start = some_is m.start n.start (sym (start_found s.first m.start s.is_start) ∙ ap start_of p.0 ∙ start_found t.first n.start t.is_start) in
-    let entries : s.entries ≡ t.entries = some_is s.entries t.entries (sym (zip_entries (unfolded s.lines) s.entries s.are_entries) ∙ ap (λ ls. entries_of (unfolded ls)) q.0 ∙ zip_entries (unfolded t.lines) t.entries t.are_entries) in
+    let entries : s.entries ≡ t.entries = some_is s.entries t.entries (sym (zip_entries (unfolded s.lines) s.entries s.are_entries)
+    ∙ ap (λ ls. entries_of (unfolded ls)) q.0 ∙ zip_entries (unfolded t.lines) t.entries t.are_entries) in
     let fields : m.fields ≡ n.fields = some_is m.fields n.fields (sym s.are_kept ∙ ap kept entries ∙ t.are_kept) in
     let a : IsLengthOf (lengths s.entries) s.rest m.body = length_of_body (lengths s.entries) s.rest m.body s.is_body in
     let b : IsLengthOf (lengths t.entries) t.rest n.body = length_of_body (lengths t.entries) t.rest n.body t.is_body in

@@ -11,12 +11,14 @@ last_full : (b : ℕ) (bs : List ℕ) → is_blank (get_or (b ∷ bs) (length bs
 last_full b [] e = e
 last_full b (c ∷ bs) e = last_full c bs e
 
-pub spaced : (bytes value : List ℕ) → 2 ≤ length bytes → get_or bytes 0 0 ≡ 32 → 32 < get_or bytes 1 0 → 32 < get_or bytes (length bytes - 1) 0 → value ≡ drop 1 bytes → value ≡ trimmed bytes
+pub spaced : (bytes value : List ℕ) → 2 ≤ length bytes → get_or bytes 0 0 ≡ 32 → 32 < get_or bytes 1 0 → 32 < get_or bytes (length bytes - 1) 0 → value ≡ drop 1 bytes
+    → value ≡ trimmed bytes
 spaced [] value fits first second last is = absurd (omega arith)
 spaced (b ∷ []) value fits first second last is = absurd (omega arith)
 spaced (b ∷ c ∷ bs) value fits first second last is =
     let at : length (b ∷ c ∷ bs) - 1 ≡ suc (length bs) = omega arith in
-    let full : is_blank (get_or (c ∷ bs) (length bs) 0) ≡ false = subst (λ (n : ℕ). is_blank (get_or (b ∷ c ∷ bs) n 0) ≡ false) at (over_blank (get_or (b ∷ c ∷ bs) (length (b ∷ c ∷ bs) - 1) 0) last) in
+    let full : is_blank (get_or (c ∷ bs) (length bs) 0) ≡ false = subst (λ (n : ℕ). is_blank (get_or (b ∷ c ∷ bs) n 0) ≡ false) at
+    (over_blank (get_or (b ∷ c ∷ bs) (length (b ∷ c ∷ bs) - 1) 0) last) in
     is ∙ sym (ap (λ (x : ℕ). trimmed (x ∷ c ∷ bs)) first ∙ tight_behind (c ∷ bs) (over_blank c second, last_full c bs full))
 
 pub one_space : (bytes value : List ℕ) → 2 ≤ length bytes → get_or bytes 0 0 ≡ 32 → value ≡ drop 1 bytes → bytes ≡ 32 ∷ value

@@ -1,5 +1,6 @@
 -- A start line is written so that it is read again.
-use Rattle.std.proofs.Common.{◌≡◌, ◌≢◌, ℕ, ◌^◌, ◌<◌, ◌≤◌, Bool, true, false, cond, List, [], ◌∷◌, ◌++◌, length, get_or, take, drop, Option, Some, None, refl, sym, ap, subst, ◌∙◌, append_assoc, arith, rules}
+use Rattle.std.proofs.Common.{◌≡◌, ◌≢◌, ℕ, ◌^◌, ◌<◌, ◌≤◌, Bool, true, false, cond, List, [], ◌∷◌, ◌++◌, length, get_or, take, drop, Option, Some, None, refl, sym, ap}
+use Rattle.std.proofs.Common.{subst, ◌∙◌, append_assoc, arith, rules}
 use Rattle.std.specs.Prelude.{option_map, ◌==◌, ◌&&◌, codes, decimal, nat_le, nat_lt}
 use Rattle.std.specs.Option.{option_and_then}
 use Rattle.std.specs.List.{list_all}
@@ -30,7 +31,8 @@ pub record IsNumberOf (digits : List ℕ) (n : ℕ) : Type 0 where
   pub value : digits_value 10 digits ≡ n
   pub below : n < 2 ^ 64
 
-number_by : (digits : List ℕ) (n : ℕ) (s t : Bool) → list_all is_ascii_digit digits ≡ s → nat_lt (digits_value 10 digits) (2 ^ 64) ≡ t → cond (s && t) (Some (digits_value 10 digits)) None ≡ Some n → IsNumberOf digits n
+number_by : (digits : List ℕ) (n : ℕ) (s t : Bool) → list_all is_ascii_digit digits ≡ s → nat_lt (digits_value 10 digits) (2 ^ 64) ≡ t
+    → cond (s && t) (Some (digits_value 10 digits)) None ≡ Some n → IsNumberOf digits n
 number_by digits n true true are lt e =
     let same : digits_value 10 digits ≡ n = some_is (digits_value 10 digits) n e in
     record { are_digits = are; value = same; below = subst (λ (k : ℕ). k < 2 ^ 64) same (ltb-true (digits_value 10 digits) (2 ^ 64) lt) }
@@ -54,7 +56,8 @@ three_digits (d ∷ e ∷ f ∷ g ∷ ds) are len first = absurd (omega arith)
 
 pub written_so : (digits : List ℕ) (code : ℕ) → IsNumberOf digits code → length digits ≡ 3 → 100 ≤ code → decimal code ≡ digits
 written_so digits code is len low =
-    ap decimal (sym is.value) ∙ decimal-digits_value own digits is.are_digits (omega arith) (λ first. absurd (omega (arith, three_digits digits is.are_digits len first, is.value))) (omega (arith, is.value, is.below))
+    ap decimal (sym is.value) ∙ decimal-digits_value own digits is.are_digits (omega arith)
+    (λ first. absurd (omega (arith, three_digits digits is.are_digits len first, is.value))) (omega (arith, is.value, is.below))
 
 -- ---- requests
 
@@ -64,7 +67,8 @@ pub record IsUpperVersion (version : List ℕ) : Type 0 where
   pub whole : version ≡ codes "SIP/" ++ numbers
   pub is_pair : is_pair (split_at_byte 46 numbers) ≡ true
 
-version_by : (word version : List ℕ) (s t : Bool) → is_same_text (take 4 word) (codes "SIP/") ≡ s → is_pair (split_at_byte 46 (drop 4 word)) ≡ t → cond s (cond t (Some (codes "SIP/" ++ drop 4 word)) None) None ≡ Some version → IsUpperVersion version
+version_by : (word version : List ℕ) (s t : Bool) → is_same_text (take 4 word) (codes "SIP/") ≡ s → is_pair (split_at_byte 46 (drop 4 word)) ≡ t
+    → cond s (cond t (Some (codes "SIP/" ++ drop 4 word)) None) None ≡ Some version → IsUpperVersion version
 version_by word version true true same pair e = record { numbers = drop 4 word; whole = sym (some_is (codes "SIP/" ++ drop 4 word) version e); is_pair = pair }
 version_by word version true false same pair e = absurd cc
 version_by word version false t same pair e = absurd cc
@@ -119,10 +123,12 @@ request_good m u v is =
     let from : start_from m u v ≡ Some (Request m u v) = rw (is.no_version, is.method, is.uri, version_again v is.version) refl in
     let made : start_of (m ++ 32 ∷ (u ++ 32 ∷ v)) ≡ Some (Request m u v) = rw (first, second) from in
     let whole : list_all is_unbroken (m ++ 32 ∷ (u ++ 32 ∷ v)) ≡ true =
-    all_join is_unbroken m (32 ∷ (u ++ 32 ∷ v)) (unbroken is_token_byte refl refl m token) (all_join is_unbroken u (32 ∷ v) (unbroken is_visible refl refl u visible) (version_unbroken v is.version)) in
+    all_join is_unbroken m (32 ∷ (u ++ 32 ∷ v)) (unbroken is_token_byte refl refl m token)
+    (all_join is_unbroken u (32 ∷ v) (unbroken is_visible refl refl u visible) (version_unbroken v is.version)) in
     record { again = ap start_of grouped ∙ made; line = subst IsLine (sym grouped) (one_line (m ++ 32 ∷ (u ++ 32 ∷ v)) whole, some_before m (u ++ 32 ∷ v)) }
 
-request_by : (m u w : List ℕ) (s : Start) (a b : Bool) (o : Option (List ℕ)) → is_same_text m (codes "SIP/2.0") ≡ false → is_token_text m ≡ a → is_uri u ≡ b → version_of w ≡ o
+request_by : (m u w : List ℕ) (s : Start) (a b : Bool) (o : Option (List ℕ)) → is_same_text m (codes "SIP/2.0") ≡ false → is_token_text m ≡ a → is_uri u ≡ b
+    → version_of w ≡ o
     → cond a (cond b (option_map (λ v. Request m u v) o) None) None ≡ Some s → IsGoodStart s
 request_by m u w s true true (Some v) differs token uri version e =
     let same : Request m u v ≡ s = some_is (Request m u v) s e in
@@ -133,19 +139,30 @@ request_by m u w s false b o differs token uri version e = absurd cc
 
 -- ---- responses
 
-status_good : (digits : List ℕ) (code : ℕ) (reason : List ℕ) → decimal_of digits ≡ Some code → (length digits == 3) ≡ true → is_code code ≡ true → list_all is_unbroken reason ≡ true → IsGoodStart (Status code reason)
+status_good : (digits : List ℕ) (code : ℕ) (reason : List ℕ) → decimal_of digits ≡ Some code → (length digits == 3) ≡ true → is_code code ≡ true
+    → list_all is_unbroken reason ≡ true → IsGoodStart (Status code reason)
 status_good digits code reason e three is_good unbroken_reason =
     let n : IsNumberOf digits code = number_of digits code e in
     let low : 100 ≤ code = leb-true 100 code (and_both (nat_le 100 code) (nat_lt code 700) is_good).0 in
     let same : decimal code ≡ digits = written_so digits code n (eqb-true (length digits) 3 three) low in
-    let grouped : start_text (Status code reason) ≡ codes "SIP/2.0 " ++ (digits ++ 32 ∷ reason) = rw same (ap (λ (w : List ℕ). codes "SIP/2.0 " ++ w) (append_assoc digits (codes " ") reason)) in
-    let second : split_at_byte 32 (digits ++ 32 ∷ reason) ≡ Some (digits, reason) = split_again 32 digits reason (others is_ascii_digit 32 refl digits n.are_digits) refl in
+    let grouped : start_text (Status code reason) ≡ codes "SIP/2.0 " ++ (digits ++ 32 ∷ reason) =
+    rw same (ap (λ (w : List ℕ). codes "SIP/2.0 " ++ w) (append_assoc digits (codes " ") reason)) in
+    let second : split_at_byte 32 (digits ++ 32 ∷ reason) ≡ Some (digits, reason) = split_again 32 digits reason (others is_ascii_digit 32 refl digits n.are_digits) refl
+    in
     let from : status_of digits reason ≡ Some (Status code reason) = rw (three, unbroken_reason, e, is_good) refl in
     let made : start_of (codes "SIP/2.0 " ++ (digits ++ 32 ∷ reason)) ≡ Some (Status code reason) = rw second from in
-    let whole : list_all is_unbroken (digits ++ 32 ∷ reason) ≡ true = all_join is_unbroken digits (32 ∷ reason) (unbroken is_ascii_digit refl refl digits n.are_digits) unbroken_reason in
-    record { again = ap start_of grouped ∙ made; line = subst IsLine (sym grouped) (one_line (codes "SIP/2.0 " ++ (digits ++ 32 ∷ reason)) whole, some_before (codes "SIP/2.0") (digits ++ 32 ∷ reason)) }
+    let whole : list_all is_unbroken (digits ++ 32 ∷ reason) ≡ true = all_join is_unbroken digits (32 ∷ reason) (unbroken is_ascii_digit refl refl digits n.are_digits)
+    unbroken_reason in
+    record {
+      again = ap start_of grouped ∙ made;
+      line = subst IsLine (sym grouped) (
+        one_line (codes "SIP/2.0 " ++ (digits ++ 32 ∷ reason)) whole,
+        some_before (codes "SIP/2.0") (digits ++ 32 ∷ reason),
+      );
+    }
 
-status_code : (digits reason : List ℕ) (s : Start) (code : ℕ) (t : Bool) → decimal_of digits ≡ Some code → (length digits == 3) ≡ true → list_all is_unbroken reason ≡ true → is_code code ≡ t → cond t (Some (Status code reason)) None ≡ Some s → IsGoodStart s
+status_code : (digits reason : List ℕ) (s : Start) (code : ℕ) (t : Bool) → decimal_of digits ≡ Some code → (length digits == 3) ≡ true
+    → list_all is_unbroken reason ≡ true → is_code code ≡ t → cond t (Some (Status code reason)) None ≡ Some s → IsGoodStart s
 status_code digits reason s code true d three unb c e =
     let same : Status code reason ≡ s = some_is (Status code reason) s e in
     subst IsGoodStart same (status_good digits code reason d three c unb)
@@ -168,7 +185,8 @@ second_by : (x : List ℕ) (s : Start) (o : Option (List ℕ × List ℕ)) → o
 second_by x s None e = absurd cc
 second_by x s (Some y) e = from_by x y.0 y.1 s (is_same_text x (codes "SIP/2.0")) refl e
 
-first_by : (s : Start) (o : Option (List ℕ × List ℕ)) → option_and_then (λ x. option_and_then (λ y. start_from x.0 y.0 y.1) (split_at_byte 32 x.1)) o ≡ Some s → IsGoodStart s
+first_by : (s : Start) (o : Option (List ℕ × List ℕ)) → option_and_then (λ x. option_and_then (λ y. start_from x.0 y.0 y.1) (split_at_byte 32 x.1)) o ≡ Some s
+    → IsGoodStart s
 first_by s None e = absurd cc
 first_by s (Some x) e = second_by x.0 s (split_at_byte 32 x.1) e
 

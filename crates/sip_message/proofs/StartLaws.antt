@@ -13,14 +13,16 @@ use Rattle.sip_message_form.specs.declared.message.Start.{Start}
 use Rattle.sip_message_form.specs.declared.message.Start.TheVariants.{Request, Status}
 use Rattle.sip_text.specs.Splits.{split_at_byte}
 use Rattle.sip_text_runs.specs.TextRun.{is_visible}
-use Rattle.sip_message.specs.Start.{is_uri, is_number, is_pair, version_of, is_unbroken, is_code, status_of, request_of, start_from, start_of, IsVersion, IsRequestLine, IsStatusLine, IsStart}
+use Rattle.sip_message.specs.Start.{is_uri, is_number, is_pair, version_of, is_unbroken, is_code, status_of, request_of, start_from, start_of, IsVersion, IsRequestLine}
+use Rattle.sip_message.specs.Start.{IsStatusLine, IsStart}
 use Rattle.sip_message.proofs.CutLaws.{some_is}
 use Rattle.sip_message.proofs.FieldsAgain.{and_both, and_is, is_other, others, split_again, split_is, token_bytes}
 use Rattle.sip_message.proofs.StartAgain.{IsNumberOf, number_of, uri_bytes}
 
 -- ---- what is read is a start line
 
-version_pair : (written version : List ℕ) (x : List ℕ × List ℕ) (t : Bool) → is_same_text (take 4 written) (codes "SIP/") ≡ true → split_at_byte 46 (drop 4 written) ≡ Some x → (is_number x.0 && is_number x.1) ≡ t
+version_pair : (written version : List ℕ) (x : List ℕ × List ℕ) (t : Bool) → is_same_text (take 4 written) (codes "SIP/") ≡ true
+    → split_at_byte 46 (drop 4 written) ≡ Some x → (is_number x.0 && is_number x.1) ≡ t
     → cond t (Some (codes "SIP/" ++ drop 4 written)) None ≡ Some version → IsVersion written version
 version_pair written version x true same split pair e =
     let both = and_both (is_number x.0) (is_number x.1) pair in
@@ -38,7 +40,8 @@ version_pair written version x true same split pair e =
     }
 version_pair written version x false same split pair e = absurd cc
 
-version_by : (written version : List ℕ) (s : Bool) (o : Option (List ℕ × List ℕ)) → is_same_text (take 4 written) (codes "SIP/") ≡ s → split_at_byte 46 (drop 4 written) ≡ o
+version_by : (written version : List ℕ) (s : Bool) (o : Option (List ℕ × List ℕ)) → is_same_text (take 4 written) (codes "SIP/") ≡ s
+    → split_at_byte 46 (drop 4 written) ≡ o
     → cond s (cond (is_pair o) (Some (codes "SIP/" ++ drop 4 written)) None) None ≡ Some version → IsVersion written version
 version_by written version true (Some x) same split e = version_pair written version x (is_number x.0 && is_number x.1) same split refl e
 version_by written version true None same split e = absurd cc
@@ -56,7 +59,8 @@ request_by line m u w s true true None whole token uri version e = absurd cc
 request_by line m u w s true false o whole token uri version e = absurd cc
 request_by line m u w s false b o whole token uri version e = absurd cc
 
-status_code : (line v digits reason : List ℕ) (s : Start) (code : ℕ) (t : Bool) → line ≡ v ++ 32 ∷ (digits ++ 32 ∷ reason) → is_same_text v (codes "SIP/2.0") ≡ true → (length digits == 3) ≡ true
+status_code : (line v digits reason : List ℕ) (s : Start) (code : ℕ) (t : Bool) → line ≡ v ++ 32 ∷ (digits ++ 32 ∷ reason) → is_same_text v (codes "SIP/2.0") ≡ true
+    → (length digits == 3) ≡ true
     → list_all is_unbroken reason ≡ true → decimal_of digits ≡ Some code → is_code code ≡ t → cond t (Some (Status code reason)) None ≡ Some s → IsStart line s
 status_code line v digits reason s code true whole is_v three unbroken number is e =
     let same : Status code reason ≡ s = some_is (Status code reason) s e in
@@ -74,7 +78,8 @@ status_code line v digits reason s code true whole is_v three unbroken number is
     })
 status_code line v digits reason s code false whole is_v three unbroken number is e = absurd cc
 
-status_by : (line v digits reason : List ℕ) (s : Start) (a b : Bool) (o : Option ℕ) → line ≡ v ++ 32 ∷ (digits ++ 32 ∷ reason) → is_same_text v (codes "SIP/2.0") ≡ true → (length digits == 3) ≡ a
+status_by : (line v digits reason : List ℕ) (s : Start) (a b : Bool) (o : Option ℕ) → line ≡ v ++ 32 ∷ (digits ++ 32 ∷ reason) → is_same_text v (codes "SIP/2.0") ≡ true
+    → (length digits == 3) ≡ a
     → list_all is_unbroken reason ≡ b → decimal_of digits ≡ o
     → cond a (cond b (option_and_then (λ code. cond (is_code code) (Some (Status code reason)) None) o) None) None ≡ Some s → IsStart line s
 status_by line v digits reason s true true (Some code) whole is_v three unb d e = status_code line v digits reason s code (is_code code) whole is_v three unb d refl e
@@ -82,16 +87,19 @@ status_by line v digits reason s true true None whole is_v three unb d e = absur
 status_by line v digits reason s true false o whole is_v three unb d e = absurd cc
 status_by line v digits reason s false b o whole is_v three unb d e = absurd cc
 
-from_by : (line x y z : List ℕ) (s : Start) (t : Bool) → line ≡ x ++ 32 ∷ (y ++ 32 ∷ z) → is_same_text x (codes "SIP/2.0") ≡ t → cond t (status_of y z) (request_of x y z) ≡ Some s → IsStart line s
+from_by : (line x y z : List ℕ) (s : Start) (t : Bool) → line ≡ x ++ 32 ∷ (y ++ 32 ∷ z) → is_same_text x (codes "SIP/2.0") ≡ t
+    → cond t (status_of y z) (request_of x y z) ≡ Some s → IsStart line s
 from_by line x y z s true whole is e = status_by line x y z s (length y == 3) (list_all is_unbroken z) (decimal_of y) whole is refl refl refl e
 from_by line x y z s false whole is e = request_by line x y z s (is_token_text x) (is_uri y) (version_of z) whole refl refl refl e
 
-second_by : (line x rest : List ℕ) (s : Start) (o : Option (List ℕ × List ℕ)) → line ≡ x ++ 32 ∷ rest → split_at_byte 32 rest ≡ o → option_and_then (λ y. start_from x y.0 y.1) o ≡ Some s → IsStart line s
+second_by : (line x rest : List ℕ) (s : Start) (o : Option (List ℕ × List ℕ)) → line ≡ x ++ 32 ∷ rest → split_at_byte 32 rest ≡ o
+    → option_and_then (λ y. start_from x y.0 y.1) o ≡ Some s → IsStart line s
 second_by line x rest s None whole split e = absurd cc
 second_by line x rest s (Some y) whole split e =
     from_by line x y.0 y.1 s (is_same_text x (codes "SIP/2.0")) (whole ∙ ap (λ (w : List ℕ). x ++ 32 ∷ w) (split_is 32 rest y.0 y.1 split)) refl e
 
-first_by : (line : List ℕ) (s : Start) (o : Option (List ℕ × List ℕ)) → split_at_byte 32 line ≡ o → option_and_then (λ x. option_and_then (λ y. start_from x.0 y.0 y.1) (split_at_byte 32 x.1)) o ≡ Some s → IsStart line s
+first_by : (line : List ℕ) (s : Start) (o : Option (List ℕ × List ℕ)) → split_at_byte 32 line ≡ o
+    → option_and_then (λ x. option_and_then (λ y. start_from x.0 y.0 y.1) (split_at_byte 32 x.1)) o ≡ Some s → IsStart line s
 first_by line s None split e = absurd cc
 first_by line s (Some x) split e = second_by line x.0 x.1 s (split_at_byte 32 x.1) (split_is 32 line x.0 x.1 split) refl e
 
@@ -116,7 +124,8 @@ version_found written version is =
     let n : 4 ≡ length is.name = four is.name is.is_sip in
     let front : take 4 written ≡ is.name = ap (take 4) is.whole ∙ ap (λ (k : ℕ). take k (is.name ++ numbers)) n ∙ take-append_seam is.name numbers in
     let back : drop 4 written ≡ numbers = ap (drop 4) is.whole ∙ ap (λ (k : ℕ). drop k (is.name ++ numbers)) n ∙ drop-append_seam is.name numbers in
-    let split : split_at_byte 46 numbers ≡ Some (is.major, is.minor) = split_again 46 is.major is.minor (others is_ascii_digit 46 refl is.major (digits_of is.major is.is_major)) refl in
+    let split : split_at_byte 46 numbers ≡ Some (is.major, is.minor) = split_again 46 is.major is.minor
+    (others is_ascii_digit 46 refl is.major (digits_of is.major is.is_major)) refl in
     rw (front, back, is.is_sip, split, is.is_major, is.is_minor, is.is_kept) refl
 
 small_slash : (b : ℕ) → to_ascii_lowercase b ≡ 47 → is_token_byte b ≡ false
@@ -153,9 +162,12 @@ no_version method token = by_test (is_same_text method (codes "SIP/2.0")) refl
 
 request_found : (line m u v : List ℕ) → IsRequestLine line m u v → start_of line ≡ Some (Request m u v)
 request_found line m u v is =
-    let first : split_at_byte 32 (m ++ 32 ∷ (u ++ 32 ∷ is.written)) ≡ Some (m, u ++ 32 ∷ is.written) = split_again 32 m (u ++ 32 ∷ is.written) (others is_token_byte 32 refl m (token_bytes m is.is_method)) refl in
-    let second : split_at_byte 32 (u ++ 32 ∷ is.written) ≡ Some (u, is.written) = split_again 32 u is.written (others is_visible 32 refl u (uri_bytes u is.is_uri)) refl in
-    let from : start_from m u is.written ≡ Some (Request m u v) = rw (no_version m is.is_method, is.is_method, is.is_uri, version_found is.written v is.is_version) refl in
+    let first : split_at_byte 32 (m ++ 32 ∷ (u ++ 32 ∷ is.written)) ≡ Some (m, u ++ 32 ∷ is.written) =
+    split_again 32 m (u ++ 32 ∷ is.written) (others is_token_byte 32 refl m (token_bytes m is.is_method)) refl in
+    let second : split_at_byte 32 (u ++ 32 ∷ is.written) ≡ Some (u, is.written) = split_again 32 u is.written (others is_visible 32 refl u (uri_bytes u is.is_uri)) refl
+    in
+    let from : start_from m u is.written ≡ Some (Request m u v) = rw (no_version m is.is_method, is.is_method, is.is_uri, version_found is.written v is.is_version) refl
+    in
     let made : start_of (m ++ 32 ∷ (u ++ 32 ∷ is.written)) ≡ Some (Request m u v) = rw (first, second) from in
     ap start_of is.whole ∙ made
 
@@ -179,8 +191,10 @@ version_other v e = small_other v (ap (list_all (is_other 32)) (same_bytes v (co
 status_found : (line : List ℕ) (code : ℕ) (reason : List ℕ) → IsStatusLine line code reason → start_of line ≡ Some (Status code reason)
 status_found line code reason is =
     let n : IsNumberOf is.digits code = number_of is.digits code is.is_number in
-    let first : split_at_byte 32 (is.version ++ 32 ∷ (is.digits ++ 32 ∷ reason)) ≡ Some (is.version, is.digits ++ 32 ∷ reason) = split_again 32 is.version (is.digits ++ 32 ∷ reason) (version_other is.version is.is_version) refl in
-    let second : split_at_byte 32 (is.digits ++ 32 ∷ reason) ≡ Some (is.digits, reason) = split_again 32 is.digits reason (others is_ascii_digit 32 refl is.digits n.are_digits) refl in
+    let first : split_at_byte 32 (is.version ++ 32 ∷ (is.digits ++ 32 ∷ reason)) ≡ Some (is.version, is.digits ++ 32 ∷ reason) =
+    split_again 32 is.version (is.digits ++ 32 ∷ reason) (version_other is.version is.is_version) refl in
+    let second : split_at_byte 32 (is.digits ++ 32 ∷ reason) ≡ Some (is.digits, reason) =
+    split_again 32 is.digits reason (others is_ascii_digit 32 refl is.digits n.are_digits) refl in
     let three : (length is.digits == 3) ≡ true = eq-eqb (length is.digits) 3 is.are_three in
     let in_range : is_code code ≡ true = and_is (nat_le 100 code) (nat_lt code 700) (le-leb 100 code is.low) (lt-ltb code 700 is.high) in
     let from : start_from is.version is.digits reason ≡ Some (Status code reason) = rw (is.is_version, three, is.is_reason, is.is_number, in_range) refl in

@@ -31,14 +31,20 @@ no_end b c e = rw (not_cr b e) refl
 pub text_line : (line rest : List ℕ) → list_all is_text line ≡ true → line_at (line ++ 13 ∷ 10 ∷ rest) ≡ Some (line, rest)
 text_line [] rest all = refl
 text_line (b ∷ []) rest all = rw (no_end b 13 (left_of (is_text b) true all)) refl
-text_line (b ∷ c ∷ line) rest all = rw (no_end b c (left_of (is_text b) (list_all is_text (c ∷ line)) all), text_line (c ∷ line) rest (right_of (is_text b) (list_all is_text (c ∷ line)) all)) refl
+text_line (b ∷ c ∷ line) rest all = rw (
+  no_end b c (left_of (is_text b) (list_all is_text (c ∷ line)) all),
+  text_line (c ∷ line) rest (right_of (is_text b) (list_all is_text (c ∷ line)) all),
+) refl
 
 -- a front that a CRLF follows
-pub text_whole : (bytes line after : List ℕ) (end : ℕ) → line ≡ take end bytes → after ≡ drop (end + 2) bytes → end + 1 < length bytes → get_or bytes end 0 ≡ 13 → get_or bytes (end + 1) 0 ≡ 10 → bytes ≡ line ++ 13 ∷ 10 ∷ after
+pub text_whole : (bytes line after : List ℕ) (end : ℕ) → line ≡ take end bytes → after ≡ drop (end + 2) bytes → end + 1 < length bytes → get_or bytes end 0 ≡ 13
+    → get_or bytes (end + 1) 0 ≡ 10 → bytes ≡ line ++ 13 ∷ 10 ∷ after
 text_whole bytes line after end first second fits cr lf =
     let two : end + 1 + 1 ≡ end + 2 = omega arith in
-    let behind : drop end bytes ≡ 13 ∷ 10 ∷ after = drop_more bytes end 0 (omega arith) ∙ ap (λ (w : List ℕ). get_or bytes end 0 ∷ w) (drop_more bytes (end + 1) 0 fits ∙ ap (λ (k : ℕ). get_or bytes (end + 1) 0 ∷ drop k bytes) two)
-    ∙ ap (λ (b : ℕ). b ∷ get_or bytes (end + 1) 0 ∷ drop (end + 2) bytes) cr ∙ ap (λ (b : ℕ). 13 ∷ b ∷ drop (end + 2) bytes) lf ∙ ap (λ (w : List ℕ). 13 ∷ 10 ∷ w) (sym second) in
+    let behind : drop end bytes ≡ 13 ∷ 10 ∷ after = drop_more bytes end 0 (omega arith)
+    ∙ ap (λ (w : List ℕ). get_or bytes end 0 ∷ w) (drop_more bytes (end + 1) 0 fits ∙ ap (λ (k : ℕ). get_or bytes (end + 1) 0 ∷ drop k bytes) two)
+    ∙ ap (λ (b : ℕ). b ∷ get_or bytes (end + 1) 0 ∷ drop (end + 2) bytes) cr ∙ ap (λ (b : ℕ). 13 ∷ b ∷ drop (end + 2) bytes) lf
+    ∙ ap (λ (w : List ℕ). 13 ∷ 10 ∷ w) (sym second) in
     sym (take-append-drop end bytes) ∙ ap (λ (w : List ℕ). take end bytes ++ w) behind ∙ ap (λ (w : List ℕ). w ++ 13 ∷ 10 ∷ after) (sym first)
 
 -- a text that a CRLF follows is a line
@@ -52,4 +58,5 @@ text_behind [] back e = e
 text_behind (b ∷ front) back e = text_behind front back (right_of (is_text b) (list_all is_text (front ++ back)) e)
 
 pub value_text : (line name value : List ℕ) → IsNamed line name value → list_all is_text line ≡ true → list_all is_text value ≡ true
-value_text line name value is all = right_of (is_text 58) (list_all is_text value) (text_behind name (58 ∷ value) (subst (λ (w : List ℕ). list_all is_text w ≡ true) is.whole all))
+value_text line name value is all = right_of (is_text 58) (list_all is_text value) (text_behind name (58 ∷ value)
+    (subst (λ (w : List ℕ). list_all is_text w ≡ true) is.whole all))

@@ -3,7 +3,7 @@ use Rattle.std.proofs.Common.{◌≡◌, ℕ, ◌+◌, ◌<◌, true, false, Lis
 use Rattle.std.specs.Prelude.{◌==◌, codes}
 use Rattle.std.specs.List.{list_all}
 use Rattle.std.proofs.lemmas.List.{length-take, take-append-drop, drop_more, drop-drop}
-use Rattle.sip_text.specs.Words.{is_token_byte, is_token_text}
+use Rattle.sip_text.specs.Words.{is_token_byte}
 use Rattle.sip_message_form.specs.declared.message.Start.TheVariants.{Request}
 use Rattle.sip_text_runs.specs.TextRun.{is_visible}
 use Rattle.sip_message.specs.Start.{is_uri, start_of, IsRequestLine}
@@ -26,11 +26,13 @@ behind_is line behind at fits space is =
 
 pub request_line : (line method behind uri rest version : List ℕ) (at end : ℕ)
     → 0 < at → at < length line → list_all is_token_byte (take at line) ≡ true → get_or line at 0 ≡ 32 → method ≡ take at line → behind ≡ drop 1 (drop at line)
-    → list_all is_visible (take end behind) ≡ true → uri ≡ take end behind → (length uri == 0) ≡ false → rest ≡ drop end behind → rest ≡ codes " SIP/2.0" → version ≡ drop 1 rest
+    → list_all is_visible (take end behind) ≡ true → uri ≡ take end behind → (length uri == 0) ≡ false → rest ≡ drop end behind → rest ≡ codes " SIP/2.0"
+    → version ≡ drop 1 rest
     → start_of line ≡ Some (Request method uri version)
 request_line line method behind uri rest version at end some fits token space is_m is_b visible is_u some_uri is_r ends is_v =
     let version_is : version ≡ codes "SIP/2.0" = is_v ∙ ap (drop 1) ends in
-    let parts : behind ≡ uri ++ codes " SIP/2.0" = sym (take-append-drop end behind) ∙ ap (λ (w : List ℕ). w ++ drop end behind) (sym is_u) ∙ ap (λ (w : List ℕ). uri ++ w) (sym is_r ∙ ends) in
+    let parts : behind ≡ uri ++ codes " SIP/2.0" = sym (take-append-drop end behind) ∙ ap (λ (w : List ℕ). w ++ drop end behind) (sym is_u)
+    ∙ ap (λ (w : List ℕ). uri ++ w) (sym is_r ∙ ends) in
     let whole : line ≡ method ++ 32 ∷ (uri ++ codes " SIP/2.0") = sym (take-append-drop at line) ∙ ap (λ (w : List ℕ). w ++ drop at line) (sym is_m)
     ∙ ap (λ (w : List ℕ). method ++ w) (behind_is line behind at fits space is_b ∙ ap (λ (w : List ℕ). 32 ∷ w) parts) in
     let said : IsRequestLine line method uri version = record {
@@ -38,6 +40,15 @@ request_line line method behind uri rest version at end some fits token space is
       whole = whole;
       is_method = token_all method (some_bytes method line at is_m some fits) (ap (list_all is_token_byte) is_m ∙ token);
       is_uri = uri_is uri some_uri (ap (list_all is_visible) is_u ∙ visible);
-      is_version = record { name = codes "SIP/"; major = codes "2"; minor = codes "0"; whole = refl; is_sip = refl; is_major = refl; is_minor = refl; is_kept = version_is };
+      is_version = record {
+        name = codes "SIP/";
+        major = codes "2";
+        minor = codes "0";
+        whole = refl;
+        is_sip = refl;
+        is_major = refl;
+        is_minor = refl;
+        is_kept = version_is;
+      };
     } in
     start_found line (Request method uri version) said

@@ -129,7 +129,8 @@ anew rest is = by_front (line_at rest) refl
   where
     by_empty : (line after : List ℕ) (t : Bool) → is_empty line ≡ t → Some (line, after) ≡ line_at rest → StartsAnew (lines_at false rest)
     by_empty line after true none e = subst StartsAnew (sym (lines_end rest line after e none)) tt
-    by_empty line after false full e = subst StartsAnew (sym (lines_behind rest line after e full)) (anew_first line (lines_at false after) (same_front rest line after e full ∙ is))
+    by_empty line after false full e = subst StartsAnew (sym (lines_behind rest line after e full))
+        (anew_first line (lines_at false after) (same_front rest line after e full ∙ is))
 
     by_front : (o : Option (List ℕ × List ℕ)) → line_at rest ≡ o → StartsAnew (lines_at false rest)
     by_front None e = subst StartsAnew (sym (no_lines rest (sym e))) tt
@@ -150,14 +151,17 @@ joined_stands : (source : Bor (List ℕ)) (piece : Piece) → is_joined piece �
 joined_stands source (Whole.Part slice) is = absurd cc
 joined_stands source (Whole.Joined bytes) is = tt
 
-pub fold_more : (first : Line) (after rest fold next : Bor (List ℕ)) (old new : Line) → GoesOn first after old rest → is_fold rest.now ≡ true → Some (fold.now, next.now) ≡ line_at rest.now → IsCutFrom rest next
+pub fold_more : (first : Line) (after rest fold next : Bor (List ℕ)) (old new : Line) → GoesOn first after old rest → is_fold rest.now ≡ true
+    → Some (fold.now, next.now) ≡ line_at rest.now → IsCutFrom rest next
     → line_bytes new ≡ joined (line_bytes old) fold.now → has_fold new ≡ true → GoesOn first after new next
 fold_more first after rest fold next old new so_far is some next_cut bytes flag =
     let full : is_empty fold.now ≡ false = fold_full rest.now fold.now next.now some is in
     let here : lines_at false rest.now ≡ line_first fold.now (lines_at false next.now) = lines_behind rest.now fold.now next.now some full in
     let folded : is_fold fold.now ≡ true = same_front rest.now fold.now next.now some full ∙ is in record {
-      bytes = so_far.bytes ∙ ap (heads_on (line_bytes old)) here ∙ heads_fold (line_bytes old) fold.now (lines_at false next.now) folded ∙ ap (λ (w : List ℕ). heads_on w (lines_at false next.now)) (sym bytes);
-      folds = so_far.folds ∙ ap (flags_on (has_fold old)) here ∙ flags_fold (has_fold old) fold.now (lines_at false next.now) folded ∙ ap (λ (w : Bool). flags_on w (lines_at false next.now)) (sym flag);
+      bytes = so_far.bytes ∙ ap (heads_on (line_bytes old)) here ∙ heads_fold (line_bytes old) fold.now (lines_at false next.now) folded
+          ∙ ap (λ (w : List ℕ). heads_on w (lines_at false next.now)) (sym bytes);
+      folds = so_far.folds ∙ ap (flags_on (has_fold old)) here ∙ flags_fold (has_fold old) fold.now (lines_at false next.now) folded
+          ∙ ap (λ (w : Bool). flags_on w (lines_at false next.now)) (sym flag);
       slice = λ source of. joined_stands source (line_piece new) flag;
       cut = cut_again after rest next so_far.cut next_cut;
     }
@@ -189,15 +193,18 @@ ends_first : (line : List ℕ) (o : Option (List (List ℕ) × List ℕ)) → en
 ends_first line None = refl
 ends_first line (Some x) = refl
 
-pub ends_behind : (rest line after : List ℕ) (end : Bool) → Some (line, after) ≡ line_at rest → is_empty line ≡ false → ends (lines_at false rest) ≡ end → ends (lines_at false after) ≡ end
+pub ends_behind : (rest line after : List ℕ) (end : Bool) → Some (line, after) ≡ line_at rest → is_empty line ≡ false → ends (lines_at false rest) ≡ end
+    → ends (lines_at false after) ≡ end
 ends_behind rest line after end is full so_far = sym (ends_first line (lines_at false after)) ∙ sym (ap ends (lines_behind rest line after is full)) ∙ so_far
 
 by_end : (end : Bool) (o : Option (List (List ℕ) × List ℕ)) → ends o ≡ end → MatchOption (unfold_all o) (end ≡ false) (λ x. end ≡ true)
 by_end end None is = sym is
 by_end end (Some x) is = sym is
 
-pub has_end : (bytes rest line after : List ℕ) → Some (line, after) ≡ line_at rest → is_empty line ≡ true → ends (lines_at false rest) ≡ ends (lines_at false bytes) → MatchOption (head_at bytes) (true ≡ false) (λ x. true ≡ true)
+pub has_end : (bytes rest line after : List ℕ) → Some (line, after) ≡ line_at rest → is_empty line ≡ true → ends (lines_at false rest) ≡ ends (lines_at false bytes)
+    → MatchOption (head_at bytes) (true ≡ false) (λ x. true ≡ true)
 has_end bytes rest line after is none so_far = by_end true (lines_at false bytes) (sym so_far ∙ ap ends (lines_end rest line after is none))
 
-pub has_none : (bytes rest : List ℕ) → None ≡ line_at rest → ends (lines_at false rest) ≡ ends (lines_at false bytes) → MatchOption (head_at bytes) (false ≡ false) (λ x. false ≡ true)
+pub has_none : (bytes rest : List ℕ) → None ≡ line_at rest → ends (lines_at false rest) ≡ ends (lines_at false bytes)
+    → MatchOption (head_at bytes) (false ≡ false) (λ x. false ≡ true)
 has_none bytes rest none so_far = by_end false (lines_at false bytes) (sym so_far ∙ ap ends (no_lines rest none))

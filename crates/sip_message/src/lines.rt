@@ -1,7 +1,6 @@
 //! The lines of a head: cut at their CRLF, empty ones at the front passed over (RFC 3261 7.5), and joined with their folds (7.3.1).
 //! What a line says is read in `entries`.
-ghost use Rattle.std.specs.Prelude.{◌≡◌, ◌+◌, ◌<◌, slice_index, ◌∷◌, ◌++◌, [], length, IfOk, IfSome, ℕ, MatchOption, option_map, true, false, Some};
-ghost use Rattle.memchr.specs.Find.{OccursAt, FindsNeedle};
+ghost use Rattle.std.specs.Prelude.{◌≡◌, ◌+◌, ◌<◌, ◌∷◌, ◌++◌, [], length, IfOk, IfSome, MatchOption, option_map, true, false, Some};
 ghost use Rattle.sip_message_fields.specs.Slice.{IsCutFrom};
 ghost use Rattle.std.specs.List.{list_all};
 ghost use Rattle.sip_text_runs.specs.TextRun.{is_text};
@@ -10,10 +9,9 @@ ghost use Rattle.sip_message.specs.Named.{IsNamed};
 ghost use Rattle.sip_message.specs.Lines.{after_blanks, line_at, is_fold, head_at};
 
 use crate::line::Line;
-use memchr::memchr;
 use sip_message_fields::{slice_before, slice_from};
 use sip_text::is_space_or_tab;
-use sip_text_runs::{name_end, text_length};
+use sip_text_runs::{find_crlf, name_end, text_length};
 use std::alloc::{AllocError, Global};
 
 /// A slice with its place: of a variable that is a reference, an invariant sees what it points to, and not where
@@ -67,39 +65,6 @@ pub(crate) fn without_blank_lines(bytes: &[u8]) -> &[u8]
         rest = Slice { bytes: after };
     }
     rest.bytes
-}
-
-/// Where the CRLF stands that ends with the LF at a place.
-#[tactic(auto, using(crate::proofs::LineEnds::stands, crate::proofs::LineEnds::no_cr))]
-fn crlf_ending(bytes: &[u8], end: usize) -> Option<usize>
-    requires inside { end < length bytes.now }
-    requires lf { slice_index bytes.now end ≡ 10 }
-    ensures { MatchOption result ((k : ℕ) → k + 1 ≡ end → ¬ OccursAt bytes.now (13 ∷ 10 ∷ []) k)
-        (λ at. (at + 1 ≡ end) × OccursAt bytes.now (13 ∷ 10 ∷ []) at) }
-{
-    if end == 0 {
-        return None;
-    }
-    if bytes[end - 1] == b'\r' {
-        return Some(end - 1);
-    }
-    None
-}
-
-/// Where the first CRLF stands: each LF is looked at, of which few stand without a CR before them.
-#[tactic(auto, using(crate::proofs::LineEnds::none_yet, crate::proofs::LineEnds::lf_at))]
-fn find_crlf(bytes: &[u8]) -> Option<usize>
-    ensures { FindsNeedle bytes.now (13 ∷ 10 ∷ []) 0 result }
-{
-    let mut from = 0;
-    while let Some(next) = memchr(b'\n', slice_from(bytes, from)) {
-        let end = from + next;
-        if let Some(at) = crlf_ending(bytes, end) {
-            return Some(at);
-        }
-        from = end + 1;
-    }
-    None
 }
 
 /// The first line, and what follows its CRLF.

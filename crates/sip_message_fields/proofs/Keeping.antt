@@ -1,5 +1,6 @@
 -- What stands in a store stays as it is where more is put behind it.
-use Rattle.std.proofs.Common.{◌≡◌, ℕ, suc, ◌+◌, ◌-◌, ◌<◌, List, [], ◌∷◌, ◌++◌, length, map, take, drop, get_or, Option, refl, sym, ap, subst, ◌∙◌, arith, length-append, append-nil, append_assoc, flat_map}
+use Rattle.std.proofs.Common.{◌≡◌, ℕ, suc, ◌+◌, ◌-◌, ◌<◌, List, [], ◌∷◌, ◌++◌, length, map, take, drop, get_or, Option, refl, sym, ap, subst, ◌∙◌, arith, length-append}
+use Rattle.std.proofs.Common.{append-nil, append_assoc, flat_map}
 use Rattle.std.specs.Prelude.{All, codes}
 use Rattle.std.proofs.Math.Seq.{drop-append_seam}
 use Rattle.std.proofs.lemmas.List.{drop-append-le, take-append-le, take_all, length-drop, map-append, take_more, flat_map_more}
@@ -47,7 +48,8 @@ pub nothing_put : (old more : List ℕ) (span : Span) → more ≡ [] → span.s
 nothing_put old more span none begins ends = put_is old more old span (sym (ap (λ (w : List ℕ). old ++ w) none ∙ append-nil old)) begins ends
 
 -- with what marks their end behind them
-pub marked_is : (old more mark middle new : List ℕ) (span : Span) → middle ≡ old ++ more → new ≡ middle ++ mark → span.start ≡ length old → span.end ≡ length middle → IsPut old more new span
+pub marked_is : (old more mark middle new : List ℕ) (span : Span) → middle ≡ old ++ more → new ≡ middle ++ mark → span.start ≡ length old → span.end ≡ length middle
+    → IsPut old more new span
 marked_is old more mark middle new span grown marked begins ends =
     let is : IsPut old more middle span = put_is old more middle span grown begins ends in
     let keeps : Keeps middle new = subst (λ (w : List ℕ). Keeps middle w) (sym marked) (keeps_more middle mark) in record {
@@ -62,7 +64,8 @@ made known written value = record { name = name_seen known written; value = valu
 abbrev whole : FieldName → List ℕ → Field
 whole name value = record { name = name; value = value }
 
-pub field_put : (old written middle new : List ℕ) (field : Field) (kept : KeptField) → name_seen kept.known written ≡ field.name → IsPut old written middle kept.spelling → IsPut middle field.value new kept.value → IsFieldPut old field new kept
+pub field_put : (old written middle new : List ℕ) (field : Field) (kept : KeptField) → name_seen kept.known written ≡ field.name → IsPut old written middle kept.spelling
+    → IsPut middle field.value new kept.value → IsFieldPut old field new kept
 field_put old written middle new field kept name spelling value = record {
   same = ap (λ w. made kept.known w (part new kept.value)) (value.keeps.bytes kept.spelling spelling.within ∙ spelling.bytes)
       ∙ ap (λ w. made kept.known written w) value.bytes ∙ ap (λ n. whole n field.value) name;
@@ -96,27 +99,31 @@ none_kept old more list none = subst (λ (w : List KeptField). AreFieldsPut old 
 pub none_put : (store : List ℕ) (list : List KeptField) → list ≡ [] → AreFieldsPut store [] store list
 none_put store list none = subst (λ (w : List ℕ). AreFieldsPut store [] w list) (append-nil store) (none_kept store [] list none)
 
-pub field_next : (start old new : List ℕ) (fields : List Field) (i : ℕ) (field : Field) (list more : List KeptField) (kept : KeptField) → i < length fields → field ≡ get_or fields i field → more ≡ list ++ kept ∷ []
+pub field_next : (start old new : List ℕ) (fields : List Field) (i : ℕ) (field : Field) (list more : List KeptField) (kept : KeptField) → i < length fields
+    → field ≡ get_or fields i field → more ≡ list ++ kept ∷ []
     → AreFieldsPut start (take i fields) old list → IsFieldPut old field new kept → AreFieldsPut start (take (i + 1) fields) new more
 field_next start old new fields i field list more kept lt is n so_far here =
     let items : take (i + 1) fields ≡ take i fields ++ field ∷ [] = take_more fields i field lt ∙ ap (λ (w : Field). take i fields ++ w ∷ []) (sym is) in record {
       same = ap (λ (w : List KeptField). map (field_kept new) w) n ∙ map-append (field_kept new) list (kept ∷ [])
           ∙ ap (λ (w : List Field). w ++ field_kept new kept ∷ []) (list_stays old new list here.keeps so_far.within ∙ so_far.same)
           ∙ ap (λ (w : Field). take i fields ++ w ∷ []) here.same ∙ sym items;
-      within = subst (λ (w : List KeptField). All (IsStored new) w) (sym n) (All-push (IsStored new) list kept (λ k d below. stored_stays old new _ here.keeps (so_far.within k d below)) here.within);
+      within = subst (λ (w : List KeptField). All (IsStored new) w) (sym n) (All-push (IsStored new) list kept
+          (λ k d below. stored_stays old new _ here.keeps (so_far.within k d below)) here.within);
       keeps = keeps_again start old new so_far.keeps here.keeps;
     }
 
 -- ---- lines
 
-parts : (before name value behind : List ℕ) → before ++ name ++ codes ": " ++ value ++ (codes "\r\n" ++ behind) ≡ before ++ (name ++ codes ": " ++ value ++ codes "\r\n") ++ behind
+parts : (before name value behind : List ℕ) → before ++ name ++ codes ": " ++ value ++ (codes "\r\n" ++ behind) ≡ before ++ (name ++ codes ": " ++ value ++ codes "\r\n")
+    ++ behind
 parts before name value behind =
     sym (append_assoc (before ++ name ++ codes ": " ++ value) (codes "\r\n") behind)
     ∙ ap (λ (w : List ℕ). w ++ value ++ codes "\r\n" ++ behind) (append_assoc before name (codes ": "))
     ∙ ap (λ (w : List ℕ). w ++ codes "\r\n" ++ behind) (append_assoc before (name ++ codes ": ") value)
     ∙ ap (λ (w : List ℕ). w ++ behind) (append_assoc before (name ++ codes ": " ++ value) (codes "\r\n"))
 
-line_put : (before behind : List ℕ) (field : Field) (kept : KeptField) → name_seen kept.known (spelling field.name) ≡ field.name → kept.spelling.start ≡ length before → kept.spelling.end ≡ kept.spelling.start + length (spelling field.name)
+line_put : (before behind : List ℕ) (field : Field) (kept : KeptField) → name_seen kept.known (spelling field.name) ≡ field.name → kept.spelling.start ≡ length before
+    → kept.spelling.end ≡ kept.spelling.start + length (spelling field.name)
     → kept.value.start ≡ kept.spelling.end + 2 → kept.value.end ≡ kept.value.start + length field.value → IsFieldPut before field (before ++ line_of field ++ behind) kept
 line_put before behind field kept name begins spelled separated valued =
     let one : List ℕ = before ++ spelling field.name in
@@ -128,17 +135,20 @@ line_put before behind field kept name begins spelled separated valued =
     subst (λ (w : List ℕ). IsFieldPut before field w kept) (parts before (spelling field.name) field.value behind)
     (field_put before (spelling field.name) two (three ++ (codes "\r\n" ++ behind)) field kept name
     (marked_is before (spelling field.name) (codes ": ") one two kept.spelling refl refl begins (omega (arith, begins, spelled, to_one)))
-    (marked_is two field.value (codes "\r\n" ++ behind) three (three ++ (codes "\r\n" ++ behind)) kept.value refl refl (omega (arith, begins, spelled, separated, to_one, to_two)) (omega (arith, begins, spelled, separated, valued, to_one, to_two, to_three))))
+    (marked_is two field.value (codes "\r\n" ++ behind) three (three ++ (codes "\r\n" ++ behind)) kept.value refl refl
+    (omega (arith, begins, spelled, separated, to_one, to_two)) (omega (arith, begins, spelled, separated, valued, to_one, to_two, to_three))))
 
 line_length : (name value : List ℕ) → length (name ++ codes ": " ++ value ++ codes "\r\n") ≡ length name + 2 + length value + 2
 line_length name value =
     omega (arith, length-append (name ++ codes ": " ++ value) (codes "\r\n"), length-append (name ++ codes ": ") value, length-append name (codes ": "))
 
-pub line_is : (start : ℕ) (field : Field) (kept : KeptField) (end : ℕ) → name_seen kept.known (spelling field.name) ≡ field.name → kept.spelling.start ≡ start → kept.spelling.end ≡ start + length (spelling field.name)
+pub line_is : (start : ℕ) (field : Field) (kept : KeptField) (end : ℕ) → name_seen kept.known (spelling field.name) ≡ field.name → kept.spelling.start ≡ start
+    → kept.spelling.end ≡ start + length (spelling field.name)
     → kept.value.start ≡ kept.spelling.end + 2 → kept.value.end ≡ kept.value.start + length field.value → end ≡ kept.value.end + 2 → IsLineAt start field kept end
 line_is start field kept end name begins spelled separated valued ends = record {
   ends = omega (arith, begins, spelled, separated, valued, ends, line_length (spelling field.name) field.value);
-  put = λ before behind reached. line_put before behind field kept name (begins ∙ sym reached) (spelled ∙ ap (λ (n : ℕ). n + length (spelling field.name)) (sym begins)) separated valued;
+  put = λ before behind reached. line_put before behind field kept name (begins ∙ sym reached) (spelled ∙ ap (λ (n : ℕ). n + length (spelling field.name)) (sym begins))
+      separated valued;
 }
 
 pub no_lines : (start : ℕ) (list : List KeptField) → list ≡ [] → AreLinesAt start [] list start
@@ -147,7 +157,8 @@ no_lines start list none = record {
   put = λ before behind reached. subst (λ (w : List ℕ). AreFieldsPut before [] (w ++ behind) list) (sym (append-nil before)) (none_kept before behind list none);
 }
 
-pub line_next : (start middle end : ℕ) (fields : List Field) (i : ℕ) (field : Field) (list more : List KeptField) (kept : KeptField) → i < length fields → field ≡ get_or fields i field → more ≡ list ++ kept ∷ []
+pub line_next : (start middle end : ℕ) (fields : List Field) (i : ℕ) (field : Field) (list more : List KeptField) (kept : KeptField) → i < length fields
+    → field ≡ get_or fields i field → more ≡ list ++ kept ∷ []
     → AreLinesAt start (take i fields) list middle → IsLineAt middle field kept end → AreLinesAt start (take (i + 1) fields) more end
 line_next start middle end fields i field list more kept lt is n so_far here =
     let items : take (i + 1) fields ≡ take i fields ++ field ∷ [] = take_more fields i field lt ∙ ap (λ (w : Field). take i fields ++ w ∷ []) (sym is) in
@@ -158,5 +169,6 @@ line_next start middle end fields i field list more kept lt is n so_far here =
           let old : List ℕ = before ++ flat_map line_of (take i fields) in
           field_next before old (before ++ flat_map line_of (take (i + 1) fields) ++ behind) fields i field list more kept lt is n
           (subst (λ (w : List ℕ). AreFieldsPut before (take i fields) w list) (append-nil old) (so_far.put before [] reached))
-          (subst (λ (w : List ℕ). IsFieldPut old field (w ++ behind) kept) (grown before) (here.put old behind (omega (arith, reached, so_far.ends, length-append before (flat_map line_of (take i fields))))));
+          (subst (λ (w : List ℕ). IsFieldPut old field (w ++ behind) kept) (grown before)
+          (here.put old behind (omega (arith, reached, so_far.ends, length-append before (flat_map line_of (take i fields))))));
     }

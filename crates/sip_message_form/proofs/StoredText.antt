@@ -17,14 +17,20 @@ use Rattle.sip_message_form.specs.Kept.{message_kept, IsBodyKept, IsMessageStore
 use Rattle.sip_message_form.specs.Text.{start_text, text_of}
 use Rattle.sip_message_form.proofs.Keeping.{same_parts, start_stays, whole}
 
-pub request_put : (old one two new method uri version : List ℕ) (a b c : Span) → IsPut old method one a → IsPut one uri two b → IsPut two version new c → IsStartKept (Request method uri version) new (record { code = None; first = a; uri = b; version = c })
+pub request_put : (old one two new method uri version : List ℕ) (a b c : Span) → IsPut old method one a → IsPut one uri two b → IsPut two version new c
+    → IsStartKept (Request method uri version) new (record { code = None; first = a; uri = b; version = c })
 request_put old one two new method uri version a b c first second third = record {
-  same = same_parts None (part new a) (part new b) (part new c) method uri version (third.keeps.bytes a (second.keeps.within a first.within) ∙ second.keeps.bytes a first.within ∙ first.bytes) (third.keeps.bytes b second.within ∙ second.bytes) third.bytes;
+  same = same_parts None (part new a) (part new b) (part new c) method uri version (third.keeps.bytes a (second.keeps.within a first.within)
+      ∙ second.keeps.bytes a first.within ∙ first.bytes) (third.keeps.bytes b second.within ∙ second.bytes) third.bytes;
   within = record { first = third.keeps.within a (second.keeps.within a first.within); uri = third.keeps.within b second.within; version = third.within };
 }
 
-pub status_put : (old new reason : List ℕ) (code : ℕ) (a : Span) → IsPut old reason new a → IsStartKept (Status code reason) new (record { code = Some code; first = a; uri = a; version = a })
-status_put old new reason code a is = record { same = ap (λ (w : List ℕ). Status code w) is.bytes; within = record { first = is.within; uri = is.within; version = is.within } }
+pub status_put : (old new reason : List ℕ) (code : ℕ) (a : Span) → IsPut old reason new a
+    → IsStartKept (Status code reason) new (record { code = Some code; first = a; uri = a; version = a })
+status_put old new reason code a is = record {
+  same = ap (λ (w : List ℕ). Status code w) is.bytes;
+  within = record { first = is.within; uri = is.within; version = is.within };
+}
 
 -- ---- the whole
 
@@ -47,13 +53,15 @@ pub record IsWritten (m : Message) (empty one two new : List ℕ) : Type 0 where
 line_ends : (m : Message) (empty one two new : List ℕ) → IsWritten m empty one two new → length one ≡ length (start_text m.start ++ codes "\r\n")
 line_ends m empty one two new written = ap length (written.first ∙ ap (λ (w : List ℕ). w ++ start_text m.start ++ codes "\r\n") written.none)
 
-fields_put : (m : Message) (empty one two new : List ℕ) (list : List KeptField) (start end : ℕ) → IsWritten m empty one two new → start ≡ length (start_text m.start ++ codes "\r\n") → AreLinesAt start m.fields list end → AreFieldsPut one m.fields new list
+fields_put : (m : Message) (empty one two new : List ℕ) (list : List KeptField) (start end : ℕ) → IsWritten m empty one two new
+    → start ≡ length (start_text m.start ++ codes "\r\n") → AreLinesAt start m.fields list end → AreFieldsPut one m.fields new list
 fields_put m empty one two new list start end written begins lines =
     subst (λ (w : List ℕ). AreFieldsPut one m.fields w list) (ap (λ (w : List ℕ). w ++ rest m.body) (sym written.fields) ∙ sym (rest_is two m.body) ∙ sym written.rest)
     (lines.put one (rest m.body) (line_ends m empty one two new written ∙ sym begins))
 
 pub kept_is : (m : Message) (empty one two new : List ℕ) (kept : KeptStart) (list : List KeptField) (start end : ℕ) (body : Span) → IsWritten m empty one two new
-    → IsStartKept m.start one kept → start ≡ length (start_text m.start ++ codes "\r\n") → AreLinesAt start m.fields list end → IsBodyKept m.body new body → message_kept new kept list body ≡ m
+    → IsStartKept m.start one kept → start ≡ length (start_text m.start ++ codes "\r\n") → AreLinesAt start m.fields list end → IsBodyKept m.body new body
+    → message_kept new kept list body ≡ m
 kept_is m empty one two new kept list start end body written s begins lines b =
     let f : AreFieldsPut one m.fields new list = fields_put m empty one two new list start end written begins lines in
     ap (λ (w : Start). whole w (map (field_kept new) list) (part new body)) (start_stays one new kept f.keeps s.within ∙ s.same)
@@ -67,10 +75,15 @@ text_is m empty one two new written =
     (written.fields ∙ ap (λ (w : List ℕ). w ++ flat_map line_of m.fields) (written.first ∙ ap (λ (w : List ℕ). w ++ start_text m.start ++ codes "\r\n") written.none))
 
 pub kept_within : (m : Message) (empty one two new : List ℕ) (kept : KeptStart) (list : List KeptField) (start end : ℕ) (body : Span) → IsWritten m empty one two new
-    → IsStartKept m.start one kept → start ≡ length (start_text m.start ++ codes "\r\n") → AreLinesAt start m.fields list end → IsBodyKept m.body new body → IsMessageStored new kept list body
+    → IsStartKept m.start one kept → start ≡ length (start_text m.start ++ codes "\r\n") → AreLinesAt start m.fields list end → IsBodyKept m.body new body
+    → IsMessageStored new kept list body
 kept_within m empty one two new kept list start end body written s begins lines b =
     let f : AreFieldsPut one m.fields new list = fields_put m empty one two new list start end written begins lines in record {
-      start_within = record { first = f.keeps.within kept.first s.within.first; uri = f.keeps.within kept.uri s.within.uri; version = f.keeps.within kept.version s.within.version };
+      start_within = record {
+        first = f.keeps.within kept.first s.within.first;
+        uri = f.keeps.within kept.uri s.within.uri;
+        version = f.keeps.within kept.version s.within.version;
+      };
       fields_within = f.within;
       body_within = b.within;
       text = text_is m empty one two new written ∙ ap text_of (sym (kept_is m empty one two new kept list start end body written s begins lines b));

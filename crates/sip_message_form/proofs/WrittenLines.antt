@@ -21,7 +21,8 @@ nothing : (xs : List ℕ) → (length xs == 0) ≡ true → xs ≡ []
 nothing [] e = refl
 nothing (b ∷ bs) e = absurd (omega (arith, eqb-true (length (b ∷ bs)) 0 e))
 
-pub empty_body : (out body : List ℕ) → (length body == 0) ≡ true → out ++ codes "Content-Length: 0\r\n\r\n" ≡ out ++ codes "Content-Length: " ++ decimal (length body) ++ codes "\r\n\r\n" ++ body
+pub empty_body : (out body : List ℕ) → (length body == 0) ≡ true → out ++ codes "Content-Length: 0\r\n\r\n" ≡ out ++ codes "Content-Length: " ++ decimal (length body)
+    ++ codes "\r\n\r\n" ++ body
 empty_body out body none =
     ap (λ (w : List ℕ). out ++ (codes "Content-Length: " ++ w ++ codes "\r\n\r\n")) (sym (decimal_digit 0 (omega arith)))
     ∙ no_body out (codes "Content-Length: ") (decimal 0) (codes "\r\n\r\n")

@@ -1,7 +1,7 @@
 //! The written form of a message that owns its bytes (RFC 3261 7), and its length. Views are written in `view_writing`.
 ghost use Rattle.std.specs.Prelude.{◌≡◌, ◌++◌, length, min, ◌-◌, ◌^◌, IfOk, OnOk};
 ghost use Rattle.std.specs.List.{flat_map};
-ghost use Rattle.sip_message_form.specs.Text.{start_text, field_line, field_text, text_of};
+ghost use Rattle.sip_message_form.specs.Text.{start_text, field_text, text_of};
 
 use crate::lengths::{line_length, request_length, status_length, whole_length};
 use crate::message::{Message, Start};

@@ -1,5 +1,6 @@
 -- All that a step of a history sends for the first time is what its datagram gets, and what is sent for a request that was open before.
-use Rattle.std.proofs.Common.{◌≡◌, inl, inr, ℕ, ◌+◌, ◌==◌, Bool, true, false, cond, arith, List, [], ◌∷◌, ◌++◌, find, Contains, Option, Some, None, refl, sym, subst, append-nil}
+use Rattle.std.proofs.Common.{◌≡◌, inl, inr, ℕ, ◌+◌, ◌==◌, Bool, true, false, cond, arith, List, [], ◌∷◌, ◌++◌, find, Contains, Option, Some, None, refl, sym, subst}
+use Rattle.std.proofs.Common.{append-nil}
 use Rattle.std.specs.List.{AllByRecursion}
 use Rattle.std.proofs.lemmas.Bool.Decides.{nat_tests}
 use Rattle.std.specs.Option.{option_map_or}
@@ -22,7 +23,8 @@ use Rattle.model_steps.specs.state.State.{is_invite, is_answering}
 use Rattle.model_steps.specs.state.Arrival.{Arrival}
 use Rattle.model_steps.specs.context_model.Branches.{all_final, responded, cancelled, target_responded, cancel_responded}
 use Rattle.model_steps.specs.context_model.Opening.{branch_to, branches_from, dialog_branch, forking}
-use Rattle.model_steps.specs.verdict_model.Verdict.{Bound, Refused, Verdict, Drop, Respond, Copy, AckOn, Cancel, Answer, InDialog, Challenge, Deny, Send, Register, message_verdict, message_in, verdict_in}
+use Rattle.model_steps.specs.verdict_model.Verdict.{Bound, Refused, Verdict, Drop, Respond, Copy, AckOn, Cancel, Answer, InDialog, Challenge, Deny, Send, Register}
+use Rattle.model_steps.specs.verdict_model.Verdict.{message_verdict, message_in, verdict_in}
 use Rattle.model_steps.specs.Effect.{counted, effect_of, nothing, change_packets, opening_packets}
 use Rattle.model_steps.specs.Step.{Act, Given, Passing, IsStep, originals, moment_of, arrival_of, is_failed, failed_branch, failed_request, fault_effect}
 use Rattle.sip_model.specs.Run.{Link}
@@ -30,7 +32,7 @@ use Rattle.sip_model.specs.Access.{IsSaidAt, WasCancelled, WasGivenUp, IsMadeLat
 use Rattle.sip_model.proofs.Lists.{all_contains, all_there, head_there}
 use Rattle.sip_model.proofs.Places.{all_weaker, found_in, contains_from_in}
 use Rattle.sip_model.proofs.Apart.{TargetsDiffer}
-use Rattle.sip_model.proofs.Verdicts.{IsThereOne, AreNotEmpty, verdict_fits}
+use Rattle.sip_model.proofs.Verdicts.{verdict_fits}
 use Rattle.sip_model.proofs.Verdicts as Keys
 use Rattle.sip_model.proofs.Fitting.{Fits, IsResponding, IsNaming, message_fits}
 use Rattle.sip_model.proofs.AtOnce.{IsFresh, targets_fresh, opening_is}
@@ -39,7 +41,8 @@ use Rattle.sip_model.proofs.MadeFinals.{IsMadeFinal}
 use Rattle.sip_model.proofs.Sendings.{IsKnown, target_sends}
 use Rattle.sip_model.proofs.Expiring.{cancel_sends, overdue_sends, fault_sends, cancelled_sends}
 
--- What is known of an open request after a history: its branches differ; it waits for one while it owes an answer; a branch is to be cancelled only as an INVITE's, and while it goes on only if
+-- What is known of an open request after a history: its branches differ; it waits for one while it owes an answer; a branch is to be cancelled only as an INVITE's, and
+-- while it goes on only if
 -- its request was given up; and an answer that is kept without a message was made here.
 pub record IsSteady (server : Server) (history : List Link) (r : OpenRequest) : Type 0 where
   pub differ : TargetsDiffer r.branches
@@ -58,7 +61,8 @@ pub record SendsAll (server : Server) (history : List Link) (state : ProxyState)
   pub are_all : packets ≡ own ++ others
   pub are_owed : IsForOpen server history state act at others
 
-module _ (server : Server) (history : List Link) (state : ProxyState) (act : Act) (at : ℕ) (best : BestIsMade) (steady : AllByRecursion (IsSteady server history) state.requests) where
+module _ (server : Server) (history : List Link) (state : ProxyState) (act : Act) (at : ℕ) (best : BestIsMade)
+    (steady : AllByRecursion (IsSteady server history) state.requests) where
   -- what is known of an open request
   known_of : (r : OpenRequest) → Contains state.requests r → IsKnown server history state act at r
   known_of r there =
@@ -73,7 +77,8 @@ module _ (server : Server) (history : List Link) (state : ProxyState) (act : Act
             (λ b in_it. record {
               in_it = in_it;
               of_invite = all_contains (λ (x : Branch). x.wants_cancel ≡ true → is_invite r ≡ true) r.branches b h.of_invite in_it;
-              given_up = all_contains (λ (x : Branch). x.wants_cancel ≡ true → is_going x.phase ≡ true → WasGivenUp server history r.number) r.branches b h.given_up in_it;
+              given_up = all_contains (λ (x : Branch). x.wants_cancel ≡ true → is_going x.phase ≡ true → WasGivenUp server history r.number) r.branches b h.given_up
+                  in_it;
             }) (all_there r.branches);
         made = h.made;
         best_is_made = best;
@@ -87,7 +92,8 @@ module _ (server : Server) (history : List Link) (state : ProxyState) (act : Act
   forked_alone : (a : Arrival) (m : Message) (b : Branch) (bs : List Branch) → AllByRecursion (IsFresh a.now) (b ∷ bs)
       → SendsAll server history state act at (sent_to_branches server a m (b ∷ bs)) (opening_packets server a.now (forking a m (b ∷ bs)))
   forked_alone a m b bs fresh =
-      subst (SendsAll server history state act at (sent_to_branches server a m (b ∷ bs))) (sym (opening_is server a m b bs fresh)) (own_alone (sent_to_branches server a m (b ∷ bs)))
+      subst (SendsAll server history state act at (sent_to_branches server a m (b ∷ bs))) (sym (opening_is server a m b bs fresh))
+      (own_alone (sent_to_branches server a m (b ∷ bs)))
 
   -- what a deadline, a failed send or any other event of an open request sends
   others_alone : (packets : List Packet) → IsForOpen server history state act at packets → SendsAll server history state act at [] packets
@@ -97,13 +103,15 @@ module _ (server : Server) (history : List Link) (state : ProxyState) (act : Act
 
   module _ (when : ℕ) (ticket : Ticket) (is_act : act ≡ Given (Fault when ticket)) where
     -- of a branch
-    branch_failed : (s : ProxyState) (r : OpenRequest) → Contains state.requests r → ticket.datagram ≡ r.number → (o : Option Branch) → find (is_failed ticket.branch) r.branches ≡ o
+    branch_failed : (s : ProxyState) (r : OpenRequest) → Contains state.requests r → ticket.datagram ≡ r.number → (o : Option Branch)
+        → find (is_failed ticket.branch) r.branches ≡ o
         → IsForOpen server history state act at (failed_branch server at s r o).originals
     branch_failed s r there number None found = ForNone
     branch_failed s r there number (Some b) found = fault_sends server history state act at r (known_of r there) when ticket b is_act number found
 
     -- of any request
-    request_failed : (s : ProxyState) (o : Option OpenRequest) → find (λ (r : OpenRequest). r.number == ticket.datagram) state.requests ≡ o → IsForOpen server history state act at (failed_request server at ticket s o).originals
+    request_failed : (s : ProxyState) (o : Option OpenRequest) → find (λ (r : OpenRequest). r.number == ticket.datagram) state.requests ≡ o
+        → IsForOpen server history state act at (failed_request server at ticket s o).originals
     request_failed s None found = ForNone
     request_failed s (Some r) found =
         let place = found_in (λ (x : OpenRequest). x.number == ticket.datagram) state.requests r found in
@@ -114,7 +122,8 @@ module _ (server : Server) (history : List Link) (state : ProxyState) (act : Act
 
 -- ---- a datagram
 
-module _ (server : Server) (past : List Link) (link : Link) (a : Arrival) (bytes : List ℕ) (m : Message) (short : Bool) (said : IsSaidAt link.before link.act a bytes m short)
+module _ (server : Server) (past : List Link) (link : Link) (a : Arrival) (bytes : List ℕ) (m : Message) (short : Bool)
+    (said : IsSaidAt link.before link.act a bytes m short)
     (best : BestIsMade) (steady : AllByRecursion (IsSteady server (link ∷ past)) link.before.requests) where
   -- what is known of an open request
   known : (r : OpenRequest) → Contains link.before.requests r → IsKnown server (link ∷ past) link.before link.act a.now r
@@ -128,7 +137,8 @@ module _ (server : Server) (past : List Link) (link : Link) (a : Arrival) (bytes
     whole = subst (λ (t : Bool). IsSaidAt link.before link.act a bytes m t) fits.is_whole said
 
     by_cancel : (t : Bool) → b.is_cancel ≡ t
-        → IsForOpen server (link ∷ past) link.before link.act a.now (change_packets (cond t (cancel_responded server a.now r b status m) (target_responded server a.now r b status m)))
+        → IsForOpen server (link ∷ past) link.before link.act a.now (change_packets (cond t (cancel_responded server a.now r b status m)
+        (target_responded server a.now r b status m)))
     by_cancel true is_cancel = cancel_sends server (link ∷ past) link.before link.act a.now r (known r fits.there) b status m is_cancel
     by_cancel false target =
         target_sends server (link ∷ past) link.before link.act a.now r (known r fits.there) b status m
@@ -176,10 +186,16 @@ module _ (server : Server) (past : List Link) (link : Link) (a : Arrival) (bytes
   effect_sends (AckOn address id) keys fits = own_alone server (link ∷ past) link.before link.act a.now best steady _
   effect_sends (Cancel None) keys fits = own_alone server (link ∷ past) link.before link.act a.now best steady _
   effect_sends (Cancel (Some r)) keys fits =
-      record { others = change_packets (cancelled server a.now r); are_all = refl; are_owed = cancelled_sends server (link ∷ past) link.before link.act a.now r (known r fits.there) (cancel_now r fits) }
+      record {
+        others = change_packets (cancelled server a.now r);
+        are_all = refl;
+        are_owed =
+            cancelled_sends server (link ∷ past) link.before link.act a.now r (known r fits.there) (cancel_now r fits);
+      }
   effect_sends (Answer status extras) keys fits = own_alone server (link ∷ past) link.before link.act a.now best steady _
   effect_sends (InDialog address id) keys fits =
-      forked_alone server (link ∷ past) link.before link.act a.now best steady a m (dialog_branch server a.now m address) [] (record { is_target = refl; is_wanted = refl; is_due = refl }, tt)
+      forked_alone server (link ∷ past) link.before link.act a.now best steady a m (dialog_branch server a.now m address) []
+      (record { is_target = refl; is_wanted = refl; is_due = refl }, tt)
   effect_sends (Challenge q) keys fits = own_alone server (link ∷ past) link.before link.act a.now best steady _
   effect_sends (Deny q id) keys fits = own_alone server (link ∷ past) link.before link.act a.now best steady _
   effect_sends (Send q id Targets.NotFound) keys fits = own_alone server (link ∷ past) link.before link.act a.now best steady _
@@ -188,32 +204,40 @@ module _ (server : Server) (past : List Link) (link : Link) (a : Arrival) (bytes
   effect_sends (Send q id (Targets.Bindings (t ∷ ts))) keys fits =
       forked_alone server (link ∷ past) link.before link.act a.now best steady a m (branch_to a.now 1 t) (branches_from a.now (1 + 1) ts) (targets_fresh a.now 1 (t ∷ ts))
   effect_sends (Send q id (Targets.Hop uri address)) keys fits =
-      forked_alone server (link ∷ past) link.before link.act a.now best steady a m (branch_to a.now 1 (record { uri = uri; address = Some address })) [] (targets_fresh a.now 1 (record { uri = uri; address = Some address } ∷ []))
+      forked_alone server (link ∷ past) link.before link.act a.now best steady a m (branch_to a.now 1 (record { uri = uri; address = Some address })) []
+      (targets_fresh a.now 1 (record { uri = uri; address = Some address } ∷ []))
   effect_sends (Register q id (Bound rows)) keys fits = own_alone server (link ∷ past) link.before link.act a.now best steady _
   effect_sends (Register q id (Refused status extras)) keys fits = own_alone server (link ∷ past) link.before link.act a.now best steady _
 
 -- ---- a step
 
 -- the same as a record of the law
-all_sent : (server : Server) (history : List Link) (state : ProxyState) (act : Act) (at : ℕ) (packets : List Packet) → SendsAll server history state act at (sent_for server state act) packets → IsAllSent server history state act at packets
+all_sent : (server : Server) (history : List Link) (state : ProxyState) (act : Act) (at : ℕ) (packets : List Packet)
+    → SendsAll server history state act at (sent_for server state act) packets → IsAllSent server history state act at packets
 all_sent server history state act at packets h = record { others = h.others; are_all = h.are_all; are_owed = h.are_owed }
 
 -- a datagram
-datagram_sends : (server : Server) (config : Config) (past : List Link) (old : ProxyState) (at word : ℕ) (from : Addr) (bytes : List ℕ) (out : StepOut) (new : ProxyState) → BestIsMade
+datagram_sends : (server : Server) (config : Config) (past : List Link) (old : ProxyState) (at word : ℕ) (from : Addr) (bytes : List ℕ) (out : StepOut) (new : ProxyState)
+    → BestIsMade
     → let link : Link = record { config = config; before = old; act = Given (Datagram at word from bytes); out = out; after = new } in
     AllByRecursion (IsSteady server (link ∷ past)) old.requests → (o : Option (Message × Bool)) → message_in (reading_of bytes) ≡ o
-    → SendsAll server (link ∷ past) old link.act (moment_of old at) (option_map_or (λ x. sent_at_once server (arrival_of old at word from) x.0 x.1) (verdict_in server old (arrival_of old at word from) o) [])
-    (option_map_or (λ x. effect_of server (arrival_of old at word from) x.0 x.1 (counted (arrival_of old at word from) old)) (verdict_in server old (arrival_of old at word from) o)
+    → SendsAll server (link ∷ past) old link.act (moment_of old at) (option_map_or (λ x. sent_at_once server (arrival_of old at word from) x.0 x.1)
+    (verdict_in server old (arrival_of old at word from) o) [])
+    (option_map_or (λ x. effect_of server (arrival_of old at word from) x.0 x.1 (counted (arrival_of old at word from) old))
+    (verdict_in server old (arrival_of old at word from) o)
     (nothing (counted (arrival_of old at word from) old))).originals
 datagram_sends server config past old at word from bytes out new best steady None says =
     own_alone server _ old (Given (Datagram at word from bytes)) (moment_of old at) best steady []
 datagram_sends server config past old at word from bytes out new best steady (Some x) says =
-    effect_sends server past (record { config = config; before = old; act = Given (Datagram at word from bytes); out = out; after = new }) (arrival_of old at word from) bytes x.0 x.1
-    (record { at = at; word = word; from = from; is_act = refl; is_arrival = refl; says = says }) best steady (message_verdict server old (arrival_of old at word from) x.0 x.1)
+    effect_sends server past (record { config = config; before = old; act = Given (Datagram at word from bytes); out = out; after = new }) (arrival_of old at word from)
+    bytes x.0 x.1
+    (record { at = at; word = word; from = from; is_act = refl; is_arrival = refl; says = says }) best steady
+    (message_verdict server old (arrival_of old at word from) x.0 x.1)
     (verdict_fits server old (arrival_of old at word from) x.0 x.1) (message_fits server old (arrival_of old at word from) bytes x.0 x.1 says)
 
 -- any step
-pub step_sends : (server : Server) (config : Config) (past : List Link) (old : ProxyState) (act : Act) (out : StepOut) (new : ProxyState) → BestIsMade → IsStep server old act out new
+pub step_sends : (server : Server) (config : Config) (past : List Link) (old : ProxyState) (act : Act) (out : StepOut) (new : ProxyState) → BestIsMade
+    → IsStep server old act out new
     → AllByRecursion (IsSteady server (record { config = config; before = old; act = act; out = out; after = new } ∷ past)) old.requests
     → IsAllSent server (record { config = config; before = old; act = act; out = out; after = new } ∷ past) old act out.at (originals out.packets)
 step_sends server config past old (Given (Datagram at word from bytes)) out new best step steady =
@@ -232,8 +256,10 @@ step_sends server config past old (Given (Fault at ticket)) out new best step st
       others = (fault_effect server now ticket (record old { moment = now })).originals;
       are_all = step.does.sends;
       are_owed =
-          subst (λ (moment : ℕ). IsForOpen server history old (Given (Fault at ticket)) moment (fault_effect server now ticket (record old { moment = now })).originals) (sym step.does.at_moment)
-          (request_failed server history old (Given (Fault at ticket)) now best steady at ticket refl (record old { moment = now }) (find (λ (r : OpenRequest). r.number == ticket.datagram) old.requests) refl);
+          subst (λ (moment : ℕ). IsForOpen server history old (Given (Fault at ticket)) moment (fault_effect server now ticket (record old { moment = now })).originals)
+          (sym step.does.at_moment)
+          (request_failed server history old (Given (Fault at ticket)) now best steady at ticket refl (record old { moment = now })
+          (find (λ (r : OpenRequest). r.number == ticket.datagram) old.requests) refl);
     }
 step_sends server config past old (Passing at) out new best (inl quiet) steady = record { others = []; are_all = quiet.does.sends; are_owed = ForNone }
 step_sends server config past old (Passing at) out new best (inr (inl due)) steady =
@@ -241,6 +267,7 @@ step_sends server config past old (Passing at) out new best (inr (inl due)) stea
     record {
       others = change_packets due.change;
       are_all = due.does.sends;
-      are_owed = overdue_sends server history old (Passing at) out.at due.request (known_of server history old (Passing at) out.at best steady due.request due.is_open) due.change due.passes;
+      are_owed = overdue_sends server history old (Passing at) out.at due.request (known_of server history old (Passing at) out.at best steady due.request due.is_open)
+          due.change due.passes;
     }
 step_sends server config past old (Passing at) out new best (inr (inr goes)) steady = record { others = []; are_all = goes.does.sends; are_owed = ForNone }

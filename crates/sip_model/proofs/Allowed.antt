@@ -11,7 +11,9 @@ use Rattle.model_steps.specs.state.declared.server.Server.{Server}
 use Rattle.model_steps.specs.state.declared.proxy_state.ProxyState.{ProxyState}
 use Rattle.model_steps.specs.state.Arrival.{Arrival}
 use Rattle.model_steps.specs.verdict_model.declared.question.Question.{Question}
-use Rattle.model_steps.specs.verdict_model.Verdict.{Registered, Verdict, Drop, Respond, Copy, AckOn, Cancel, Answer, InDialog, Challenge, Deny, Send, Register, is_register, question_of, answer_of, registration_by, request_targets, decided, message_verdict, message_in, verdict_in}
+use Rattle.model_steps.specs.verdict_model.Verdict.{Registered, Verdict, Drop, Respond, Copy, AckOn, Cancel, Answer, InDialog, Challenge, Deny, Send, Register}
+use Rattle.model_steps.specs.verdict_model.Verdict.{is_register, question_of, answer_of, registration_by, request_targets, decided, message_verdict, message_in}
+use Rattle.model_steps.specs.verdict_model.Verdict.{verdict_in}
 use Rattle.sip_model.specs.Bindings.{Arrived, allowed_by, allowed_in}
 use Rattle.sip_model.specs.Access.{IsAllowedRegister, rule_of}
 use Rattle.sip_model.proofs.Judging.{is_by_policy, judged, judged_verdict, verdict_is}
@@ -45,10 +47,12 @@ decided_allowed : (server : Server) (state : ProxyState) (now : ℕ) (m : Messag
 decided_allowed server state now m method core q Decision.Challenge r h = cc
 decided_allowed server state now m method core q (Decision.Deny id) r h = cc
 decided_allowed server state now m method core q (Decision.Allow id) r h =
-    let k = either_allowed server.config now m q id (is_register method) (registration_by server state.bindings now m core) (request_targets server state.bindings now m q (Decision.Allow id)) r h in
+    let k = either_allowed server.config now m q id (is_register method) (registration_by server state.bindings now m core)
+    (request_targets server state.bindings now m q (Decision.Allow id)) r h in
     (id, refl, k.0, k.1)
 decided_allowed server state now m method core q (Decision.Via id hop) r h =
-    let k = either_allowed server.config now m q id (is_register method) (registration_by server state.bindings now m core) (request_targets server state.bindings now m q (Decision.Via id hop)) r h in
+    let k = either_allowed server.config now m q id (is_register method) (registration_by server state.bindings now m core)
+    (request_targets server state.bindings now m q (Decision.Via id hop)) r h in
     (id, refl, k.0, k.1)
 
 -- what is let through of what bytes say
@@ -58,27 +62,33 @@ said_allowed server state a bytes None r said h = cc
 said_allowed server state a bytes (Some x) r said h =
     let k = judged server state a bytes x.0 x.1 said (allowed_by_policy server.config a.now x.0 (message_verdict server state a x.0 x.1) r h) in
     let q : Question = question_of server state.nonces a.now x.0 k.0 k.1 in
-    let ruled = decided_allowed server state a.now x.0 k.0 k.1 q (answer_of server q) r (ap (allowed_by server.config a.now x.0) (sym (judged_verdict server state a bytes x.0 x.1 k.0 k.1 k.2 k.3)) ∙ h) in
+    let ruled = decided_allowed server state a.now x.0 k.0 k.1 q (answer_of server q) r
+    (ap (allowed_by server.config a.now x.0) (sym (judged_verdict server state a bytes x.0 x.1 k.0 k.1 k.2 k.3)) ∙ h) in
     record { m = x.0; method = k.0; core = k.1; id = ruled.0; is_new = k.3; registers = ruled.2; is_let_through = ruled.1; is_it = ruled.3 }
 
 -- Whatever is let through is let through by the rules
-pub rules_allow : (server : Server) (state : ProxyState) (a : Arrival) (bytes : List ℕ) (r : Arrived) → allowed_in server state a bytes ≡ Some r → IsAllowedRegister server state a bytes r
+pub rules_allow : (server : Server) (state : ProxyState) (a : Arrival) (bytes : List ℕ) (r : Arrived) → allowed_in server state a bytes ≡ Some r
+    → IsAllowedRegister server state a bytes r
 rules_allow server state a bytes r h = said_allowed server state a bytes (message_in (reading_of bytes)) r refl h
 
 -- ---- what the rules let through is let through
 
 -- a decision with a rule lets a REGISTER through
 rule_allows : (server : Server) (state : ProxyState) (now : ℕ) (m : Message) (method : List ℕ) (core : CoreFields) (q : Question) (decision : Decision) (id : ℕ)
-    → is_register method ≡ true → rule_of decision ≡ Some id → allowed_by server.config now m (decided server state now m method core q decision) ≡ Some (record { config = server.config; at = now; request = m })
+    → is_register method ≡ true → rule_of decision ≡ Some id → allowed_by server.config now m (decided server state now m method core q decision)
+    ≡ Some (record { config = server.config; at = now; request = m })
 rule_allows server state now m method core q Decision.Challenge id registers h = cc
 rule_allows server state now m method core q (Decision.Deny rule) id registers h = cc
 rule_allows server state now m method core q (Decision.Allow rule) id registers h =
-    ap (λ b. allowed_by server.config now m (cond b (Register q rule (registration_by server state.bindings now m core)) (Send q rule (request_targets server state.bindings now m q (Decision.Allow rule))))) registers
+    ap (λ b. allowed_by server.config now m (cond b (Register q rule (registration_by server state.bindings now m core))
+    (Send q rule (request_targets server state.bindings now m q (Decision.Allow rule))))) registers
 rule_allows server state now m method core q (Decision.Via rule hop) id registers h =
-    ap (λ b. allowed_by server.config now m (cond b (Register q rule (registration_by server state.bindings now m core)) (Send q rule (request_targets server state.bindings now m q (Decision.Via rule hop))))) registers
+    ap (λ b. allowed_by server.config now m (cond b (Register q rule (registration_by server state.bindings now m core))
+    (Send q rule (request_targets server state.bindings now m q (Decision.Via rule hop))))) registers
 
 -- Whatever the rules let through is let through
-pub allowed_by_rules : (server : Server) (state : ProxyState) (a : Arrival) (bytes : List ℕ) (r : Arrived) → IsAllowedRegister server state a bytes r → allowed_in server state a bytes ≡ Some r
+pub allowed_by_rules : (server : Server) (state : ProxyState) (a : Arrival) (bytes : List ℕ) (r : Arrived) → IsAllowedRegister server state a bytes r
+    → allowed_in server state a bytes ≡ Some r
 allowed_by_rules server state a bytes r h =
     let q : Question = question_of server state.nonces a.now h.m h.method h.core in
     ap (λ said. option_and_then (λ x. allowed_by server.config a.now x.0 x.1) (verdict_in server state a said)) h.is_new.says
@@ -87,5 +97,6 @@ allowed_by_rules server state a bytes r h =
     ∙ ap Some (sym h.is_it)
 
 -- A REGISTER counts as let through exactly where the rules let it through
-pub allowed_is : (server : Server) (state : ProxyState) (a : Arrival) (bytes : List ℕ) (r : Arrived) → (allowed_in server state a bytes ≡ Some r) ↔ IsAllowedRegister server state a bytes r
+pub allowed_is : (server : Server) (state : ProxyState) (a : Arrival) (bytes : List ℕ) (r : Arrived)
+    → (allowed_in server state a bytes ≡ Some r) ↔ IsAllowedRegister server state a bytes r
 allowed_is server state a bytes r = (rules_allow server state a bytes r, allowed_by_rules server state a bytes r)

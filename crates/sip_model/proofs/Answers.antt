@@ -1,5 +1,6 @@
 -- The final answers that a change of an open request sends to its caller.
-use Rattle.std.proofs.Common.{◌≡◌, inl, inr, ℕ, ◌+◌, Bool, true, false, not, ◌&&◌, cond, List, [], ◌∷◌, ◌++◌, Option, Some, None, refl, sym, ap, subst, ◌∙◌, arith, count_by, option_map}
+use Rattle.std.proofs.Common.{◌≡◌, inl, inr, ℕ, ◌+◌, Bool, true, false, not, ◌&&◌, cond, List, [], ◌∷◌, ◌++◌, Option, Some, None, refl, sym, ap, subst, ◌∙◌, arith}
+use Rattle.std.proofs.Common.{count_by, option_map}
 use Rattle.std.specs.List.{AllByRecursion}
 use Rattle.std.proofs.lemmas.Bool.Decides.{nat_tests}
 use Rattle.std.proofs.lemmas.List.Sums.{sum_by-append}
@@ -72,7 +73,8 @@ further_alone r (Some u) e (inr success) = (λ final. (success.0, parts.0, parts
   parts = grind (arith, e, success.1)
 
 -- whether the last answer was a 2xx stays
-success_kept : (now : ℕ) (r between : OpenRequest) (o : Option Upward) → is_answering r.side ≡ false → IsRelayed r o → between.answer ≡ r.answer → has_success (after_upward now o between).answer ≡ has_success r.answer
+success_kept : (now : ℕ) (r between : OpenRequest) (o : Option Upward) → is_answering r.side ≡ false → IsRelayed r o → between.answer ≡ r.answer
+    → has_success (after_upward now o between).answer ≡ has_success r.answer
 success_kept now r between None e h same = ap has_success same
 success_kept now r between (Some u) e (inl provisional) same = absurd (cc (e, provisional.1))
 success_kept now r between (Some u) e (inr success) same =
@@ -80,9 +82,11 @@ success_kept now r between (Some u) e (inr success) same =
     success.0 ∙ sym parts.2
 
 -- after a final answer nothing but 2xx of an INVITE go up
-pub adds_successes : (server : Server) (now : ℕ) (r : OpenRequest) (change : Change) → IsEvent server now r change → is_answering r.side ≡ false → AddsSuccessesAlone r change
+pub adds_successes : (server : Server) (now : ℕ) (r : OpenRequest) (change : Change) → IsEvent server now r change → is_answering r.side ≡ false
+    → AddsSuccessesAlone r change
 adds_successes server now r change event e = subst (AddsSuccessesAlone r) (sym event.is_change) (record {
-  are_further = subst (AllByRecursion (λ (u : Upward). is_final_answer u ≡ true → (is_success u.status ≡ true) × (is_invite r ≡ true) × (has_success r.answer ≡ true))) (sym alone.0)
+  are_further = subst (AllByRecursion (λ (u : Upward). is_final_answer u ≡ true → (is_success u.status ≡ true) × (is_invite r ≡ true) × (has_success r.answer ≡ true)))
+      (sym alone.0)
       (further_alone r event.relayed e event.relayed_is);
   stays_answered = ap (λ (x : OpenRequest). is_answering x.side) alone.1 ∙ told;
   keeps_success = ap (λ (x : OpenRequest). has_success x.answer) alone.1 ∙ success_kept now r event.between event.relayed e event.relayed_is event.answer_is;
@@ -135,8 +139,10 @@ IsLast r u = is_final_answer u ≡ true → has_success r.answer ≡ is_success 
 -- where none is final there is nothing to keep
 none_final : (r : OpenRequest) (us : List Upward) → count_by is_final_answer us ≡ 0 → AllByRecursion (IsLast r) us
 none_final r [] e = tt
-none_final r (u ∷ us) e =
-    (λ final. absurd (omega (arith, e, count_cons is_final_answer u us, one_at (is_final_answer u) final)), none_final r us (omega (arith, e, count_cons is_final_answer u us)))
+none_final r (u ∷ us) e = (
+  λ final. absurd (omega (arith, e, count_cons is_final_answer u us, one_at (is_final_answer u) final)),
+  none_final r us (omega (arith, e, count_cons is_final_answer u us)),
+)
 
 -- the one that goes up is kept
 one_final : (r : OpenRequest) (o : Option Upward) (u : Upward) → o ≡ Some u → has_success r.answer ≡ is_success u.status → AllByRecursion (IsLast r) (upward_list o)
@@ -144,10 +150,12 @@ one_final r o u is answer = subst (λ v. AllByRecursion (IsLast r) (upward_list 
 
 -- one final answer counts as one
 one_counted : (o : Option Upward) (u : Upward) → o ≡ Some u → is_final_answer u ≡ true → count_by is_final_answer (upward_list o) ≡ 1
-one_counted o u is final = subst (λ v. count_by is_final_answer (upward_list v) ≡ 1) (sym is) (omega (arith, count_cons is_final_answer u [], one_at (is_final_answer u) final))
+one_counted o u is final = subst (λ v. count_by is_final_answer (upward_list v) ≡ 1) (sym is)
+    (omega (arith, count_cons is_final_answer u [], one_at (is_final_answer u) final))
 
 -- with the best answer behind what went up at once, while that was none that is final
-best_once : (now : ℕ) (relayed best : Option Upward) (told after : OpenRequest) (change : Change) → change.upward ≡ upward_list relayed ++ upward_list best → change.request ≡ with_cancels now after
+best_once : (now : ℕ) (relayed best : Option Upward) (told after : OpenRequest) (change : Change) → change.upward ≡ upward_list relayed ++ upward_list best
+    → change.request ≡ with_cancels now after
     → count_by is_final_answer (upward_list relayed) ≡ 0 → Tells best told after → AnswersOnce change
 best_once now relayed best told after change up is none (NoneFinal nothing waits) = record {
   is_one = omega (arith, total);
@@ -156,7 +164,13 @@ best_once now relayed best told after change up is none (NoneFinal nothing waits
   is_last = none_final change.request change.upward (omega (arith, total));
 } where
   total : count_by is_final_answer change.upward ≡ 0
-  total = omega (arith, ap (count_by is_final_answer) up, sum_by-append (λ (u : Upward). cond (is_final_answer u) 1 0) (upward_list relayed) (upward_list best), none, nothing)
+  total = omega (
+    arith,
+    ap (count_by is_final_answer) up,
+    sum_by-append (λ (u : Upward). cond (is_final_answer u) 1 0) (upward_list relayed) (upward_list best),
+    none,
+    nothing,
+  )
 best_once now relayed best told after change up is none (OneFinal u there final closes answer) = record {
   is_one = omega (arith, total);
   is_answered = λ some. ap (λ (x : OpenRequest). is_answering x.side) is ∙ closes;
@@ -166,22 +180,31 @@ best_once now relayed best told after change up is none (OneFinal u there final 
       (one_final change.request best u there (ap (λ (x : OpenRequest). has_success x.answer) is ∙ answer)));
 } where
   total : count_by is_final_answer change.upward ≡ 1
-  total = omega (arith, ap (count_by is_final_answer) up, sum_by-append (λ (u : Upward). cond (is_final_answer u) 1 0) (upward_list relayed) (upward_list best), none, one_counted best u there final)
+  total = omega (
+    arith,
+    ap (count_by is_final_answer) up,
+    sum_by-append (λ (u : Upward). cond (is_final_answer u) 1 0) (upward_list relayed) (upward_list best),
+    none,
+    one_counted best u there final,
+  )
 
 -- what went up at once was final
-at_once : (now : ℕ) (relayed : Option Upward) (told : OpenRequest) (change : Change) (u : Upward) → change.upward ≡ upward_list relayed → change.request ≡ with_cancels now told → relayed ≡ Some u
+at_once : (now : ℕ) (relayed : Option Upward) (told : OpenRequest) (change : Change) (u : Upward) → change.upward ≡ upward_list relayed
+    → change.request ≡ with_cancels now told → relayed ≡ Some u
     → is_final_answer u ≡ true → is_answering told.side ≡ false → has_success told.answer ≡ is_success u.status → AnswersOnce change
 at_once now relayed told change u up is there final closes answer = record {
   is_one = omega (arith, total);
   is_answered = λ some. ap (λ (x : OpenRequest). is_answering x.side) is ∙ closes;
   still_owes = λ zero_up. absurd (omega (arith, total));
-  is_last = subst (AllByRecursion (IsLast change.request)) (sym up) (one_final change.request relayed u there (ap (λ (x : OpenRequest). has_success x.answer) is ∙ answer));
+  is_last = subst (AllByRecursion (IsLast change.request)) (sym up) (one_final change.request relayed u there
+      (ap (λ (x : OpenRequest). has_success x.answer) is ∙ answer));
 } where
   total : count_by is_final_answer change.upward ≡ 1
   total = omega (arith, ap (count_by is_final_answer) up, one_counted relayed u there final)
 
 -- settling sends one final answer at most
-settled_once : (server : Server) (now : ℕ) (acks : List Packet) (relayed : Option Upward) (r : OpenRequest) → Tells relayed r (after_upward now relayed r) → AnswersOnce (settled server now acks relayed r)
+settled_once : (server : Server) (now : ℕ) (acks : List Packet) (relayed : Option Upward) (r : OpenRequest) → Tells relayed r (after_upward now relayed r)
+    → AnswersOnce (settled server now acks relayed r)
 settled_once server now acks relayed r (NoneFinal nothing waits) =
     let told : OpenRequest = after_upward now relayed r in
     let best : Option Upward = best_upward server told in

@@ -1,5 +1,6 @@
 -- No two branches of a request go to one target: their numbers tell them apart.
-use Rattle.std.proofs.Common.{◌≡◌, inl, inr, ℕ, ◌+◌, ◌≤◌, ◌<◌, Bool, true, false, not, ◌&&◌, ◌==◌, cond, List, [], ◌∷◌, ◌++◌, map, flat_map, refl, sym, ap, ap₂, ◌∙◌, arith, count_by}
+use Rattle.std.proofs.Common.{◌≡◌, inl, inr, ℕ, ◌+◌, ◌≤◌, ◌<◌, Bool, true, false, not, ◌&&◌, ◌==◌, cond, List, [], ◌∷◌, ◌++◌, map, flat_map, refl, sym, ap, ap₂, ◌∙◌}
+use Rattle.std.proofs.Common.{arith, count_by}
 use Rattle.std.proofs.lemmas.Bool.Decides.{nat_tests}
 use Rattle.sip_targets.specs.declared.target.Target.{Target}
 use Rattle.model_steps.specs.state.declared.branch.Branch.{Branch}
@@ -26,7 +27,8 @@ count_edited number edit keeps (b ∷ bs) =
     omega (arith, count_cons (goes_to number) (edit b) (map edit bs), count_cons (goes_to number) b bs, here, count_edited number edit keeps bs)
 
 -- it keeps them apart
-pub differ_edited : (edit : Branch → Branch) → ((number : ℕ) (x : Branch) → goes_to number (edit x) ≡ goes_to number x) → (bs : List Branch) → TargetsDiffer bs → TargetsDiffer (map edit bs)
+pub differ_edited : (edit : Branch → Branch) → ((number : ℕ) (x : Branch) → goes_to number (edit x) ≡ goes_to number x) → (bs : List Branch) → TargetsDiffer bs
+    → TargetsDiffer (map edit bs)
 differ_edited edit keeps bs h = λ number. omega (arith, count_edited number edit (keeps number) bs, h number)
 
 -- a CANCEL goes to no target
@@ -74,7 +76,12 @@ from_above number now first [] low = refl
 from_above number now first (t ∷ ts) low =
     let b : Branch = branch_to now first t in
     let other : goes_to number b ≡ false = ap (λ (u : Bool). u && true) (differs first number low) in
-    omega (arith, count_cons (goes_to number) b (branches_from now (first + 1) ts), none_at (goes_to number b) other, from_above number now (first + 1) ts (omega arith)) where
+    omega (
+      arith,
+      count_cons (goes_to number) b (branches_from now (first + 1) ts),
+      none_at (goes_to number b) other,
+      from_above number now (first + 1) ts (omega arith),
+    ) where
       differs : (a b : ℕ) → b < a → (a == b) ≡ false
       differs a b lt = grind (arith, nat_tests)
 
@@ -85,10 +92,16 @@ from_differ now first (t ∷ ts) = λ number. by_test (from_differ now (first + 
   b : Branch
   b = branch_to now first t
 
-  by_test : TargetsDiffer (branches_from now (first + 1) ts) → (number : ℕ) (u : Bool) → (first == number) ≡ u → count_by (goes_to number) (b ∷ branches_from now (first + 1) ts) ≤ 1
+  by_test : TargetsDiffer (branches_from now (first + 1) ts) → (number : ℕ) (u : Bool) → (first == number) ≡ u
+      → count_by (goes_to number) (b ∷ branches_from now (first + 1) ts) ≤ 1
   by_test rest number true is =
       let same : first ≡ number = grind (arith, nat_tests) in
-      omega (arith, count_cons (goes_to number) b (branches_from now (first + 1) ts), at_most_one (goes_to number b), from_above number now (first + 1) ts (omega (arith, same)))
+      omega (
+        arith,
+        count_cons (goes_to number) b (branches_from now (first + 1) ts),
+        at_most_one (goes_to number b),
+        from_above number now (first + 1) ts (omega (arith, same)),
+      )
   by_test rest number false is =
       omega (arith, count_cons (goes_to number) b (branches_from now (first + 1) ts), none_at (goes_to number b) (ap (λ (u : Bool). u && true) is), rest number)
 

@@ -1,5 +1,6 @@
 -- What a datagram is answered at once, or sent on as, is what the verdict on it says.
-use Rattle.std.proofs.Common.{◌≡◌, ℕ, ◌+◌, Bool, true, false, not, ◌&&◌, ◌||◌, cond, List, [], ◌∷◌, ◌++◌, map, filter, flat_map, Option, Some, None, is_some, option_map, refl, ap, ◌∙◌}
+use Rattle.std.proofs.Common.{◌≡◌, ℕ, ◌+◌, Bool, true, false, not, ◌&&◌, ◌||◌, cond, List, [], ◌∷◌, ◌++◌, map, filter, flat_map, Option, Some, None, is_some, option_map}
+use Rattle.std.proofs.Common.{refl, ap, ◌∙◌}
 use Rattle.std.specs.List.{AllByRecursion, list_any, list_all}
 use Rattle.sip_message_form.specs.declared.message.Message.{Message}
 use Rattle.sip_best.specs.declared.final_answer.Final.{Final}
@@ -14,7 +15,8 @@ use Rattle.model_steps.specs.state.declared.open_request.OpenRequest.{OpenReques
 use Rattle.model_steps.specs.state.declared.open_request.Upward.{Upward}
 use Rattle.model_steps.specs.state.State.{is_invite, is_final, is_answering}
 use Rattle.model_steps.specs.context_model.Sending.{made_answer, branch_packets}
-use Rattle.model_steps.specs.context_model.Branches.{all_final, upward_of, upward_list, after_upward, answered, is_cancellable, cancel_branch, new_cancels, with_cancels, settled}
+use Rattle.model_steps.specs.context_model.Branches.{all_final, upward_of, upward_list, after_upward, answered, is_cancellable, cancel_branch, new_cancels, with_cancels}
+use Rattle.model_steps.specs.context_model.Branches.{settled}
 use Rattle.model_steps.specs.context_model.Opening.{arriving, forking, branches_from, unsent, tried}
 use Rattle.model_steps.specs.state.Arrival.{Arrival}
 use Rattle.model_steps.specs.Effect.{change_packets, upward_packets, opening_packets}
@@ -41,7 +43,8 @@ targets_final bs = list_all (λ (b : Branch). is_final b.phase) (filter (λ (b :
 some_unheard : (now : ℕ) (bs : List Branch) → AllByRecursion (IsFresh now) bs → list_any has_address bs ≡ true → targets_final bs ≡ false
 some_unheard now [] all has = absurd (cc)
 some_unheard now (b ∷ bs) all has = by_address (is_some b.address) refl (λ some. some_unheard now bs all.1 some) has where
-  by_address : (t : Bool) → is_some b.address ≡ t → (list_any has_address bs ≡ true → targets_final bs ≡ false) → (t || list_any has_address bs) ≡ true → targets_final (b ∷ bs) ≡ false
+  by_address : (t : Bool) → is_some b.address ≡ t → (list_any has_address bs ≡ true → targets_final bs ≡ false) → (t || list_any has_address bs) ≡ true
+      → targets_final (b ∷ bs) ≡ false
   by_address true is rest some = rw (all.0.is_target, all.0.is_due, is) refl
   by_address false is rest some = rw (all.0.is_target, all.0.is_due, is) (rest some)
 
@@ -49,7 +52,8 @@ some_unheard now (b ∷ bs) all has = by_address (is_some b.address) refl (λ so
 none_unheard : (now : ℕ) (bs : List Branch) → AllByRecursion (IsFresh now) bs → list_any has_address bs ≡ false → targets_final bs ≡ true
 none_unheard now [] all has = refl
 none_unheard now (b ∷ bs) all has = by_address (is_some b.address) refl (λ none. none_unheard now bs all.1 none) has where
-  by_address : (t : Bool) → is_some b.address ≡ t → (list_any has_address bs ≡ false → targets_final bs ≡ true) → (t || list_any has_address bs) ≡ false → targets_final (b ∷ bs) ≡ true
+  by_address : (t : Bool) → is_some b.address ≡ t → (list_any has_address bs ≡ false → targets_final bs ≡ true) → (t || list_any has_address bs) ≡ false
+      → targets_final (b ∷ bs) ≡ true
   by_address true is rest none = absurd (cc)
   by_address false is rest none = rw (all.0.is_target, all.0.is_due, is) (rest none)
 
@@ -68,7 +72,8 @@ unsent_failed : (bs : List Branch) → AllByRecursion (λ (f : Final). f ≡ fai
 unsent_failed [] = tt
 unsent_failed (b ∷ bs) = by_address (is_some b.address) (unsent_failed bs) where
   by_address : (t : Bool) → AllByRecursion (λ (f : Final). f ≡ failed) (unsent bs)
-      → AllByRecursion (λ (f : Final). f ≡ failed) (map (λ (x : Branch). failed) (cond (not t) (b ∷ filter (λ (x : Branch). not (is_some x.address)) bs) (filter (λ (x : Branch). not (is_some x.address)) bs)))
+      → AllByRecursion (λ (f : Final). f ≡ failed) (map (λ (x : Branch). failed) (cond (not t) (b ∷ filter (λ (x : Branch). not (is_some x.address)) bs)
+      (filter (λ (x : Branch). not (is_some x.address)) bs)))
   by_address true rest = rest
   by_address false rest = (refl, rest)
 
@@ -80,7 +85,9 @@ none_outranks (f ∷ fs) all = rw all.0 (none_outranks fs all.1)
 -- the best of them goes to the caller as a 500
 best_failed : (fs : List Final) → AllByRecursion (λ (f : Final). f ≡ failed) fs → best_of (failed ∷ fs) ≡ Some (record { status = 500; message = None })
 best_failed fs all = by_test (list_any (λ g. outranks g failed) fs) (none_outranks fs all) where
-  by_test : (t : Bool) → t ≡ false → option_map {T = Final × List Final} (λ x. going_up x.1 x.0) (cond (not (outranks failed failed || t)) (Some (failed, fs)) (option_map {T = Final × List Final} (λ x. (x.0, failed ∷ x.1)) (picked (is_unbeaten (failed ∷ fs)) fs)))
+  by_test : (t : Bool) → t ≡ false → option_map {T = Final × List Final} (λ x. going_up x.1 x.0)
+      (cond (not (outranks failed failed || t)) (Some (failed, fs)) (option_map {T = Final × List Final} (λ x. (x.0, failed ∷ x.1))
+      (picked (is_unbeaten (failed ∷ fs)) fs)))
       ≡ Some (record { status = 500; message = None })
   by_test true e = absurd (cc)
   by_test false e = refl
@@ -89,7 +96,8 @@ best_failed fs all = by_test (list_any (λ g. outranks g failed) fs) (none_outra
 best_unsent : (b : Branch) (bs : List Branch) → list_any has_address (b ∷ bs) ≡ false → best_of (unsent (b ∷ bs)) ≡ Some (record { status = 500; message = None })
 best_unsent b bs none = by_address (is_some b.address) none where
   by_address : (t : Bool) → (t || list_any has_address bs) ≡ false
-      → best_of (map (λ (x : Branch). failed) (cond (not t) (b ∷ filter (λ (x : Branch). not (is_some x.address)) bs) (filter (λ (x : Branch). not (is_some x.address)) bs))) ≡ Some (record { status = 500; message = None })
+      → best_of (map (λ (x : Branch). failed) (cond (not t) (b ∷ filter (λ (x : Branch). not (is_some x.address)) bs)
+      (filter (λ (x : Branch). not (is_some x.address)) bs))) ≡ Some (record { status = 500; message = None })
   by_address true e = absurd (cc)
   by_address false e = best_failed (unsent bs) (unsent_failed bs)
 
@@ -109,7 +117,8 @@ module _ (server : Server) (a : Arrival) (m : Message) (b : Branch) (bs : List B
   -- no CANCEL is sent
   no_cancels : (after : OpenRequest) → after.branches ≡ b ∷ bs → flat_map (branch_packets server false after) (new_cancels a.now after) ≡ []
   no_cancels after same =
-      ap (λ (xs : List Branch). flat_map (branch_packets server false after) (map (cancel_branch a.now) xs)) (ap (filter is_cancellable) same ∙ none_wanted a.now (b ∷ bs) fresh)
+      ap (λ (xs : List Branch). flat_map (branch_packets server false after) (map (cancel_branch a.now) xs))
+      (ap (filter is_cancellable) same ∙ none_wanted a.now (b ∷ bs) fresh)
 
   -- nothing, where one has an address
   follows_nothing : (told : OpenRequest) → told.branches ≡ b ∷ bs → list_any has_address (b ∷ bs) ≡ true → change_packets (settled server a.now [] None told) ≡ []
@@ -142,7 +151,11 @@ module _ (server : Server) (a : Arrival) (m : Message) (b : Branch) (bs : List B
   opening_is = by_tests (list_any has_address (b ∷ bs)) refl (is_invite (arriving a m)) where
     by_tests : (h : Bool) → list_any has_address (b ∷ bs) ≡ h → (i : Bool)
         → upward_packets sent (cond (i && h) (record { status = 100; message = made_answer server a.number m a.from 100 []; target = None } ∷ []) [])
-        ++ change_packets (settled server a.now [] None (tried a.now (cond (i && h) (record { status = 100; message = made_answer server a.number m a.from 100 []; target = None } ∷ []) []) sent)) ++ requests
+        ++ change_packets (settled server a.now [] None (tried a.now (cond (i && h) (record {
+          status = 100;
+          message = made_answer server a.number m a.from 100 [];
+          target = None;
+        } ∷ []) []) sent)) ++ requests
         ≡ cond (not h) (answer_alone server a m 500 []) (cond i (answer_alone server a m 100 []) []) ++ requests
     by_tests true has true =
         let trying_first : Upward = record { status = 100; message = made_answer server a.number m a.from 100 []; target = None } in

@@ -40,9 +40,11 @@ verdict_numbered server a m (Answer status extras) = tt
 verdict_numbered server a m (InDialog address id) = tt
 
 -- what is judged in a step came under the next number
-judged_number : (server : Server) (state : ProxyState) (at word : ℕ) (from : Addr) (bytes : List ℕ) (j : Judged) → judged_at server state (Given (Datagram at word from bytes)) ≡ Some j → j.arrival.number ≡ state.next
+judged_number : (server : Server) (state : ProxyState) (at word : ℕ) (from : Addr) (bytes : List ℕ) (j : Judged)
+    → judged_at server state (Given (Datagram at word from bytes)) ≡ Some j → j.arrival.number ≡ state.next
 judged_number server state at word from bytes j is = by_option (verdict_of server state (arrival_of state at word from) bytes) is where
-  by_option : (o : Option (Message × Verdict)) → option_map (λ x. record { arrival = arrival_of state at word from; message = x.0; verdict = x.1 }) o ≡ Some j → j.arrival.number ≡ state.next
+  by_option : (o : Option (Message × Verdict)) → option_map (λ x. record { arrival = arrival_of state at word from; message = x.0; verdict = x.1 }) o ≡ Some j
+      → j.arrival.number ≡ state.next
   by_option None e = absurd (cc)
   by_option (Some x) e =
       let same : record { arrival = arrival_of state at word from; message = x.0; verdict = x.1 } ≡ j = cc in
@@ -54,8 +56,12 @@ record Numbered (server : Server) (state : ProxyState) (act : Act) (next : ℕ) 
   later : state.next ≤ next
 
 numbered_at : (server : Server) (state : ProxyState) (act : Act) → Numbered server state act (next_after state act)
-numbered_at server state (Given (Datagram at word from bytes)) = record { records = by_judged (judged_at server state (Given (Datagram at word from bytes))) refl; later = omega arith } where
-  both : (records : List Record) → AllByRecursion (IsNumbered state.next) records → AllByRecursion (λ (r : Record). (r.number ≡ state.next) × (r.number < state.next + 1)) records
+numbered_at server state (Given (Datagram at word from bytes)) = record {
+  records = by_judged (judged_at server state (Given (Datagram at word from bytes))) refl;
+  later = omega arith;
+} where
+  both : (records : List Record) → AllByRecursion (IsNumbered state.next) records → AllByRecursion (λ (r : Record). (r.number ≡ state.next) × (r.number < state.next + 1))
+      records
   both records all = all_weaker (IsNumbered state.next) (λ (r : Record). (r.number ≡ state.next) × (r.number < state.next + 1)) records (λ r e. (e, omega (arith, e))) all
 
   by_judged : (o : Option Judged) → judged_at server state (Given (Datagram at word from bytes)) ≡ o
@@ -74,27 +80,33 @@ step_numbered : (server : Server) (link : Link) → IsStep server link.before li
     → AllByRecursion (λ (r : Record). (r.number ≡ link.before.next) × (r.number < link.after.next)) link.out.records × (link.before.next ≤ link.after.next)
 step_numbered server link step =
     let parts : HasParts server link.before link.act link.out link.after = step_parts server link.before link.act link.out link.after step in
-    let h : Numbered server link.before link.act link.after.next = subst (Numbered server link.before link.act) (sym parts.is_next) (numbered_at server link.before link.act) in (
+    let h : Numbered server link.before link.act link.after.next = subst (Numbered server link.before link.act) (sym parts.is_next)
+    (numbered_at server link.before link.act) in (
       subst (λ (records : List Record). AllByRecursion (λ (r : Record). (r.number ≡ link.before.next) × (r.number < link.after.next)) records)
           (sym (step_records server link.before link.act link.out link.after step)) h.records,
       h.later,
     )
 
 -- each record of a history is of a number that was taken
-pub chain_recorded : (server : Server) (first : ℕ) (history : List Link) (last : ProxyState) → IsChain server (first_state first) history last → AllByRecursion (λ (r : Record). r.number < last.next) (recorded_by history)
+pub chain_recorded : (server : Server) (first : ℕ) (history : List Link) (last : ProxyState) → IsChain server (first_state first) history last
+    → AllByRecursion (λ (r : Record). r.number < last.next) (recorded_by history)
 chain_recorded server first [] last chain = tt
 chain_recorded server first (link ∷ history) last chain =
     let h = step_numbered (under server link.config) link chain.1 in
     let next : last.next ≡ link.after.next = ap (λ (s : ProxyState). s.next) chain.0 in
     all_append (λ (r : Record). r.number < last.next) link.out.records (recorded_by history)
-    (all_weaker (λ (r : Record). (r.number ≡ link.before.next) × (r.number < link.after.next)) (λ (r : Record). r.number < last.next) link.out.records (λ r below. let it = below.1 in omega (arith, it, next)) h.0)
-    (all_weaker (λ (r : Record). r.number < link.before.next) (λ (r : Record). r.number < last.next) (recorded_by history) (λ r below. let later = h.1 in omega (arith, below, later, next)) (chain_recorded server first history link.before chain.2))
+    (all_weaker (λ (r : Record). (r.number ≡ link.before.next) × (r.number < link.after.next)) (λ (r : Record). r.number < last.next) link.out.records
+    (λ r below. let it = below.1 in omega (arith, it, next)) h.0)
+    (all_weaker (λ (r : Record). r.number < link.before.next) (λ (r : Record). r.number < last.next) (recorded_by history) (λ r below. let later = h.1 in
+    omega (arith, below, later, next)) (chain_recorded server first history link.before chain.2))
 
 -- so those of the next step are above all
-pub rising_of_step : (server : Server) (first : ℕ) (link : Link) (history : List Link) → IsStep (under server link.config) link.before link.act link.out link.after → IsChain server (first_state first) history link.before
+pub rising_of_step : (server : Server) (first : ℕ) (link : Link) (history : List Link) → IsStep (under server link.config) link.before link.act link.out link.after
+    → IsChain server (first_state first) history link.before
     → AllByRecursion (IsAbove (recorded_by history)) link.out.records
 rising_of_step server first link history step chain =
     let before = chain_recorded server first history link.before chain in
     all_weaker (λ (r : Record). (r.number ≡ link.before.next) × (r.number < link.after.next)) (IsAbove (recorded_by history)) link.out.records
-    (λ r is. all_weaker (λ (other : Record). other.number < link.before.next) (λ (other : Record). other.number < r.number) (recorded_by history) (λ other below. let same = is.0 in omega (arith, below, same)) before)
+    (λ r is. all_weaker (λ (other : Record). other.number < link.before.next) (λ (other : Record). other.number < r.number) (recorded_by history)
+    (λ other below. let same = is.0 in omega (arith, below, same)) before)
     (step_numbered (under server link.config) link step).0

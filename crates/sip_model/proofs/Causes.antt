@@ -7,7 +7,8 @@ use Rattle.model_steps.specs.state.declared.open_request.OpenRequest.{OpenReques
 use Rattle.model_steps.specs.state.declared.proxy_state.ProxyState.{ProxyState}
 use Rattle.model_steps.specs.context_model.Branches.{Change}
 use Rattle.model_steps.specs.Step.{Act, IsStep, retransmissions}
-use Rattle.sip_model.specs.Parts.{IsChangeAt, ByResponse, ByDeadline, ByFault, ByCancel, IsPart, Stays, Passes, Copies, TurnsAway, Opens, Changes, Resends, Acknowledges, AreParts, One, Two, HasParts}
+use Rattle.sip_model.specs.Parts.{IsChangeAt, ByResponse, ByDeadline, ByFault, ByCancel, IsPart, Stays, Passes, Copies, TurnsAway, Opens, Changes, Resends, Acknowledges}
+use Rattle.sip_model.specs.Parts.{AreParts, One, Two, HasParts}
 use Rattle.sip_model.specs.Access.{GoesAgain, Nothing, ByCopy, ByFinal, ByTime}
 use Rattle.sip_model.proofs.StepParts.{step_parts}
 
@@ -24,7 +25,8 @@ module _ (server : Server) (state : ProxyState) (act : Act) (now : ℕ) where
   change_again r _ _ (ByCancel a bytes m short key said is_cancel key_is named) = Nothing
 
   -- in a part
-  part_again : (after : List OpenRequest) (firsts again : List Packet) → IsPart server state act now state.requests after firsts again → GoesAgain server state act now again
+  part_again : (after : List OpenRequest) (firsts again : List Packet) → IsPart server state act now state.requests after firsts again
+      → GoesAgain server state act now again
   part_again after firsts again (Stays e f g) = none_again again g
   part_again after firsts again (Passes a m address within ack e f g) = none_again again g
   part_again after firsts again (Copies a bytes m short key r said no_ack key_is is_open e f g) =
@@ -36,12 +38,15 @@ module _ (server : Server) (state : ProxyState) (act : Act) (now : ℕ) where
   part_again after firsts again (Acknowledges r there e f g) = none_again again g
 
   -- in one or two
-  parts_again : (after : List OpenRequest) (firsts again : List Packet) → AreParts server state act now state.requests after firsts again → GoesAgain server state act now again
+  parts_again : (after : List OpenRequest) (firsts again : List Packet) → AreParts server state act now state.requests after firsts again
+      → GoesAgain server state act now again
   parts_again after firsts again (One part) = part_again after firsts again part
   parts_again after firsts again (Two middle earlier r change first there still is e f g) = none_again again g
 
 -- in a step
-pub step_causes : (server : Server) (old : ProxyState) (act : Act) (out : StepOut) (new : ProxyState) → IsStep server old act out new → GoesAgain server old act out.at (retransmissions out.packets)
+pub step_causes : (server : Server) (old : ProxyState) (act : Act) (out : StepOut) (new : ProxyState) → IsStep server old act out new
+    → GoesAgain server old act out.at (retransmissions out.packets)
 step_causes server old act out new step =
     let h : HasParts server old act out new = step_parts server old act out new step in
-    subst (λ (moment : ℕ). GoesAgain server old act moment (retransmissions out.packets)) (sym h.is_at) (parts_again server old act new.moment new.requests _ (retransmissions out.packets) h.parts)
+    subst (λ (moment : ℕ). GoesAgain server old act moment (retransmissions out.packets)) (sym h.is_at)
+    (parts_again server old act new.moment new.requests _ (retransmissions out.packets) h.parts)

@@ -11,16 +11,14 @@ use Rattle.sip_model.specs.Run.{Link, under, IsChain}
 pub under_own : (server : Server) → under server server.config ≡ server
 under_own server = refl
 
--- of two changes the later one counts
-pub under_twice : (server : Server) (one other : Config) → under (under server one) other ≡ under server other
-under_twice server one other = refl
-
 -- a history of a server is one of the server under another configuration: what was reached stays reached
-pub chain_under : (server : Server) (config : Config) (first : ProxyState) (history : List Link) (last : ProxyState) → IsChain server first history last → IsChain (under server config) first history last
+pub chain_under : (server : Server) (config : Config) (first : ProxyState) (history : List Link) (last : ProxyState) → IsChain server first history last
+    → IsChain (under server config) first history last
 chain_under server config first [] last h = h
 chain_under server config first (link ∷ history) last h = (h.0, h.1, chain_under server config first history link.before h.2)
 
 -- and the other way round
-pub chain_back : (server : Server) (config : Config) (first : ProxyState) (history : List Link) (last : ProxyState) → IsChain (under server config) first history last → IsChain server first history last
+pub chain_back : (server : Server) (config : Config) (first : ProxyState) (history : List Link) (last : ProxyState) → IsChain (under server config) first history last
+    → IsChain server first history last
 chain_back server config first [] last h = h
 chain_back server config first (link ∷ history) last h = (h.0, h.1, chain_back server config first history link.before h.2)

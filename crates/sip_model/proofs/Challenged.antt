@@ -1,5 +1,6 @@
 -- The nonce of a right credential was issued by a challenge of the history before it.
-use Rattle.std.proofs.Common.{◌≡◌, ◌∙◌, ℕ, zero, suc, ◌+◌, ◌≤◌, ◌<◌, Bool, true, false, cond, List, [], ◌∷◌, ◌++◌, length, Contains, Option, Some, None, refl, sym, ap, subst, arith, drop}
+use Rattle.std.proofs.Common.{◌≡◌, ◌∙◌, ℕ, zero, suc, ◌+◌, ◌≤◌, ◌<◌, Bool, true, false, cond, List, [], ◌∷◌, ◌++◌, length, Contains, Option, Some, None, refl, sym, ap}
+use Rattle.std.proofs.Common.{subst, arith, drop}
 use Rattle.std.specs.Prelude.{◌-◌, option_map}
 use Rattle.std.specs.Option.{option_map_or}
 use Rattle.std.specs.List.{AllByRecursion, list_any}
@@ -66,7 +67,8 @@ all_dropped P (suc n) (x ∷ xs) h = all_dropped P n xs h.1
 
 module _ (server : Server) (history : List Link) where
   -- a use issues nothing
-  counted_issued : (word count now : ℕ) (rows : List Nonce) → AllByRecursion (IsRowIssued server history) rows → AllByRecursion (IsRowIssued server history) (counted word count rows now)
+  counted_issued : (word count now : ℕ) (rows : List Nonce) → AllByRecursion (IsRowIssued server history) rows
+      → AllByRecursion (IsRowIssued server history) (counted word count rows now)
   counted_issued word count now [] h = tt
   counted_issued word count now (row ∷ rows) h = by_test (is_this word now row) (counted_issued word count now rows h.1) where
     by_test : (t : Bool) → AllByRecursion (IsRowIssued server history) (counted word count rows now)
@@ -75,7 +77,8 @@ module _ (server : Server) (history : List Link) where
     by_test false rest = (h.0, rest)
 
   -- nor does a proof
-  used_issued : (now : ℕ) (p : Proof) (rows : List Nonce) → AllByRecursion (IsRowIssued server history) rows → AllByRecursion (IsRowIssued server history) (used rows now p)
+  used_issued : (now : ℕ) (p : Proof) (rows : List Nonce) → AllByRecursion (IsRowIssued server history) rows
+      → AllByRecursion (IsRowIssued server history) (used rows now p)
   used_issued now Stale rows h = h
   used_issued now Wrong rows h = h
   used_issued now (Right name c) rows h = by_parts (count_of c) (word_of c.nonce) where
@@ -91,7 +94,8 @@ module _ (server : Server) (history : List Link) where
   asked_issued now (Some q) rows h = used_issued now q.proof rows h
 
   -- a challenge issues its nonce
-  new_issued : (rows : List Nonce) (word now : ℕ) → IsIssued server history word now → AllByRecursion (IsRowIssued server history) rows → AllByRecursion (IsRowIssued server history) (issued rows word now)
+  new_issued : (rows : List Nonce) (word now : ℕ) → IsIssued server history word now → AllByRecursion (IsRowIssued server history) rows
+      → AllByRecursion (IsRowIssued server history) (issued rows word now)
   new_issued rows word now new h = by_test (list_any (is_this word now) rows) where
     row : Nonce
     row = record { word = word; since = now; count = 0 }
@@ -101,7 +105,8 @@ module _ (server : Server) (history : List Link) where
     by_test false = all_dropped (IsRowIssued server history) (length (rows ++ row ∷ []) - 4096) (rows ++ row ∷ []) (all_push (IsRowIssued server history) rows row h new)
 
   -- and no other verdict does
-  verdict_issued : (a : Arrival) (v : Verdict) (rows : List Nonce) → ((q : Question) → v ≡ Challenge q → IsIssued server history a.word a.now) → AllByRecursion (IsRowIssued server history) rows
+  verdict_issued : (a : Arrival) (v : Verdict) (rows : List Nonce) → ((q : Question) → v ≡ Challenge q → IsIssued server history a.word a.now)
+      → AllByRecursion (IsRowIssued server history) rows
       → AllByRecursion (IsRowIssued server history) (with_issued a v rows)
   verdict_issued a (Challenge q) rows new h = new_issued rows a.word a.now (new q refl) h
   verdict_issued a (Deny q id) rows new h = h
@@ -120,13 +125,24 @@ rows_issued : (server : Server) (history : List Link) → AllByRecursion (IsRowI
 rows_issued server [] = tt
 rows_issued server (link ∷ history) =
     by_judged (judged_at (under server link.config) link.before link.act) refl
-    (all_weaker (IsRowIssued server history) (IsRowIssued server (link ∷ history)) (issued_before server link history) (nonces_after server history) (rows_issued server history)) where
-      by_judged : (o : Option Judged) → judged_at (under server link.config) link.before link.act ≡ o → AllByRecursion (IsRowIssued server (link ∷ history)) (nonces_after server history)
+    (all_weaker (IsRowIssued server history) (IsRowIssued server (link ∷ history)) (issued_before server link history) (nonces_after server history)
+    (rows_issued server history)) where
+      by_judged : (o : Option Judged) → judged_at (under server link.config) link.before link.act ≡ o
+          → AllByRecursion (IsRowIssued server (link ∷ history)) (nonces_after server history)
           → AllByRecursion (IsRowIssued server (link ∷ history)) (option_map_or (nonces_by (nonces_after server history)) o (nonces_after server history))
       by_judged None is h = h
       by_judged (Some j) is h =
           verdict_issued server (link ∷ history) j.arrival j.verdict _
-          (λ q challenge. record { link = link; there = head_there link history; challenge = j; is_judged = is; question = q; is_challenge = challenge; word_is = refl; since_is = refl })
+          (λ q challenge. record {
+            link = link;
+            there = head_there link history;
+            challenge = j;
+            is_judged = is;
+            question = q;
+            is_challenge = challenge;
+            word_is = refl;
+            since_is = refl;
+          })
           (asked_issued server (link ∷ history) j.arrival.now (asked_in j.verdict) (nonces_after server history) h)
 
 -- ---- moments
@@ -136,7 +152,8 @@ abbrev IsJudgedBy : ℕ → Option Judged → Type 0
 IsJudgedBy moment o = (j : Judged) → o ≡ Some j → j.arrival.now ≤ moment
 
 -- the moment of a datagram that is judged is that of its step
-judged_now : (server : Server) (state : ProxyState) (act : Act) (out : StepOut) (j : Judged) → judged_at server state act ≡ Some j → (j.arrival.now ≡ stands_at state act out) × (state.moment ≤ j.arrival.now)
+judged_now : (server : Server) (state : ProxyState) (act : Act) (out : StepOut) (j : Judged) → judged_at server state act ≡ Some j
+    → (j.arrival.now ≡ stands_at state act out) × (state.moment ≤ j.arrival.now)
 judged_now server state (Given (Datagram at word from bytes)) out j e = by_said (verdict_of server state (arrival_of state at word from) bytes) e where
   by_said : (o : Option (Message × Verdict)) → option_map (λ x. record { arrival = arrival_of state at word from; message = x.0; verdict = x.1 }) o ≡ Some j
       → (j.arrival.now ≡ moment_of state at) × (state.moment ≤ j.arrival.now)
@@ -156,10 +173,12 @@ judged_before server first [] last chain = tt
 judged_before server first (link ∷ history) last chain = (
   λ j e.
       let now = (judged_now (under server link.config) link.before link.act link.out j e).0 in
-      let at : link.after.moment ≡ stands_at link.before link.act link.out = (step_taken (under server link.config) link.before link.act link.out link.after chain.1).is_at in
+      let at : link.after.moment ≡ stands_at link.before link.act link.out = (step_taken (under server link.config) link.before link.act link.out link.after
+      chain.1).is_at in
       let last_is : last.moment ≡ link.after.moment = ap (λ (s : ProxyState). s.moment) chain.0 in
       omega (arith, now, at, last_is),
-  all_weaker (λ (earlier : Link). IsJudgedBy link.before.moment (judged_at (under server earlier.config) earlier.before earlier.act)) (λ (earlier : Link). IsJudgedBy last.moment (judged_at (under server earlier.config) earlier.before earlier.act))
+  all_weaker (λ (earlier : Link). IsJudgedBy link.before.moment (judged_at (under server earlier.config) earlier.before earlier.act))
+      (λ (earlier : Link). IsJudgedBy last.moment (judged_at (under server earlier.config) earlier.before earlier.act))
       (λ earlier h j e. let before = h j e in let rises = moment_of_chain_rises server first link history last chain in omega (arith, before, rises)) history
       (judged_before server first history link.before chain.2),
 )
@@ -170,10 +189,12 @@ is_recent now since h = omega (arith, h)
 
 -- The nonce of a right credential was issued by a challenge of the history before it
 pub challenged_before : (server : Server) (first : ℕ) (link : Link) (history : List Link) (last : ProxyState) → IsChain server (first_state first) (link ∷ history) last
-    → (j : Judged) (q : Question) (name : List ℕ) (c : Credential) → judged_at (under server link.config) link.before link.act ≡ Some j → asked_in j.verdict ≡ Some q → q.proof ≡ Right name c
+    → (j : Judged) (q : Question) (name : List ℕ) (c : Credential) → judged_at (under server link.config) link.before link.act ≡ Some j → asked_in j.verdict ≡ Some q
+    → q.proof ≡ Right name c
     → WasChallenged server history j.arrival.now c.nonce
 challenged_before server first link history last chain j q name c is asked right =
-    let known : IsAskedBy (under server link.config) link.before.nonces (Some j) = subst (IsAskedBy (under server link.config) link.before.nonces) is (act_asked (under server link.config) link.before link.act) in
+    let known : IsAskedBy (under server link.config) link.before.nonces (Some j) = subst (IsAskedBy (under server link.config) link.before.nonces) is
+    (act_asked (under server link.config) link.before link.act) in
     let proof : q.proof ≡ proof_of server.config.realm link.config.users link.before.nonces j.arrival.now j.message =
     subst (IsAsked (under server link.config) link.before.nonces j.arrival.now j.message) asked known in
     let answer : IsRightAnswer server.config.realm link.config.users link.before.nonces j.arrival.now j.message name c =
@@ -191,7 +212,8 @@ challenged_before server first link history last chain j q name c is asked right
       is_its_nonce = answer.is_its_text ∙ ap nonce_text (sym row.word_is);
       is_before =
           let earlier : row.challenge.arrival.now ≤ link.before.moment =
-          all_contains (λ (x : Link). IsJudgedBy link.before.moment (judged_at (under server x.config) x.before x.act)) history row.link (judged_before server first history link.before chain.2) row.there row.challenge row.is_judged in
+          all_contains (λ (x : Link). IsJudgedBy link.before.moment (judged_at (under server x.config) x.before x.act)) history row.link
+          (judged_before server first history link.before chain.2) row.there row.challenge row.is_judged in
           let later : link.before.moment ≤ j.arrival.now = (judged_now (under server link.config) link.before link.act link.out j is).1 in
           omega (arith, earlier, later);
       is_recent = subst (λ (since : ℕ). j.arrival.now < since + 300000) (sym row.since_is) (is_recent j.arrival.now answer.row.since answer.is_live);

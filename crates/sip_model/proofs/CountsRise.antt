@@ -18,7 +18,7 @@ use Rattle.sip_digest.specs.Nonces.{worth_of}
 use Rattle.sip_message_fields.specs.Values.{values_of}
 use Rattle.sip_message_fields.specs.declared.field.Field.{Field}
 use Rattle.sip_auth.specs.Proof as Proofs
-use Rattle.sip_auth.specs.Proof.{Proof, Claim, proof_of, proof_in, proof_from, proof_by, proof_with_key, key_of, claim_of, first_for_realm, credentials_field, is_equal_uri}
+use Rattle.sip_auth.specs.Proof.{Claim, proof_of, proof_in, proof_from, proof_by, proof_with_key, key_of, claim_of, first_for_realm, credentials_field, is_equal_uri}
 use Rattle.sip_event.specs.declared.event.Event.TheVariants.{Datagram, Time, Fault}
 use Rattle.model_steps.specs.state.declared.server.Server.{Server}
 use Rattle.model_steps.specs.state.declared.proxy_state.ProxyState.{ProxyState}
@@ -26,7 +26,9 @@ use Rattle.model_steps.specs.state.State.{first_state}
 use Rattle.sip_targets.specs.declared.targets.Targets.{Targets}
 use Rattle.model_steps.specs.state.Arrival.{Arrival}
 use Rattle.model_steps.specs.verdict_model.declared.question.Question.{Question}
-use Rattle.model_steps.specs.verdict_model.Verdict.{Registered, Verdict, Drop, Respond, Copy, AckOn, Cancel, Answer, InDialog, Challenge, Deny, Send, Register, is_register, question_of, answer_of, registration_by, request_targets, decided, message_verdict, message_in, verdict_in}
+use Rattle.model_steps.specs.verdict_model.Verdict.{Registered, Verdict, Drop, Respond, Copy, AckOn, Cancel, Answer, InDialog, Challenge, Deny, Send, Register}
+use Rattle.model_steps.specs.verdict_model.Verdict.{is_register, question_of, answer_of, registration_by, request_targets, decided, message_verdict, message_in}
+use Rattle.model_steps.specs.verdict_model.Verdict.{verdict_in}
 use Rattle.model_steps.specs.Step.{Act, Given, Passing, arrival_of}
 use Rattle.sip_model.specs.Run.{Link, under, IsChain}
 use Rattle.sip_model.specs.Histories.{asked_in, Judged, judged_at, nonces_by, issues_by, issues_of, right_count, right_counts, AreFalling}
@@ -37,7 +39,8 @@ use Rattle.sip_model.proofs.NonceUses.{AreKept, nothing_kept, used_kept, issued_
 -- ---- what a proof rests on
 
 -- a proof of a claim is right by a credential that is
-right_by : (nonces : List Nonce) (now : ℕ) (claim : Claim) (key : List ℕ) (worth : Worth) (name : List ℕ) (c : Credential) → worth_of nonces key claim.credential now ≡ worth
+right_by : (nonces : List Nonce) (now : ℕ) (claim : Claim) (key : List ℕ) (worth : Worth) (name : List ℕ) (c : Credential)
+    → worth_of nonces key claim.credential now ≡ worth
     → Proofs.judged claim worth ≡ Proofs.Right name c → (a1 : List ℕ) × (worth_of nonces a1 c now ≡ Worths.Right)
 right_by nonces now claim key Worths.Right name c is e =
     let plain : Proofs.Right claim.name claim.credential ≡ Proofs.Right name c = e in
@@ -46,21 +49,25 @@ right_by nonces now claim key Worths.Stale name c is e = absurd (cc)
 right_by nonces now claim key Worths.Wrong name c is e = absurd (cc)
 
 -- by the key of its algorithm, if the user has one
-right_by_key : (nonces : List Nonce) (now : ℕ) (claim : Claim) (key : Option (List ℕ)) (name : List ℕ) (c : Credential) → proof_with_key nonces now claim key ≡ Proofs.Right name c
+right_by_key : (nonces : List Nonce) (now : ℕ) (claim : Claim) (key : Option (List ℕ)) (name : List ℕ) (c : Credential)
+    → proof_with_key nonces now claim key ≡ Proofs.Right name c
     → (a1 : List ℕ) × (worth_of nonces a1 c now ≡ Worths.Right)
 right_by_key nonces now claim None name c e = absurd (cc)
 right_by_key nonces now claim (Some key) name c e = right_by nonces now claim key (worth_of nonces key claim.credential now) name c refl e
 
-right_by_user : (nonces : List Nonce) (now : ℕ) (claim : Claim) (user : Option User) (name : List ℕ) (c : Credential) → proof_by nonces now claim user ≡ Proofs.Right name c
+right_by_user : (nonces : List Nonce) (now : ℕ) (claim : Claim) (user : Option User) (name : List ℕ) (c : Credential)
+    → proof_by nonces now claim user ≡ Proofs.Right name c
     → (a1 : List ℕ) × (worth_of nonces a1 c now ≡ Worths.Right)
 right_by_user nonces now claim None name c e = absurd (cc)
 right_by_user nonces now claim (Some user) name c e = right_by_key nonces now claim (key_of user claim.credential.algorithm) name c e
 
-right_from : (users : List User) (nonces : List Nonce) (now : ℕ) (uri : List ℕ) (claim : Option Claim) (name : List ℕ) (c : Credential) → proof_from users nonces now uri claim ≡ Proofs.Right name c
+right_from : (users : List User) (nonces : List Nonce) (now : ℕ) (uri : List ℕ) (claim : Option Claim) (name : List ℕ) (c : Credential)
+    → proof_from users nonces now uri claim ≡ Proofs.Right name c
     → (a1 : List ℕ) × (worth_of nonces a1 c now ≡ Worths.Right)
 right_from users nonces now uri None name c e = absurd (cc)
 right_from users nonces now uri (Some claim) name c e = by_test (is_some (count_of claim.credential) && is_equal_uri claim.credential.uri uri) e where
-  by_test : (t : Bool) → cond t (proof_by nonces now claim (find (is_named claim.name) users)) Proofs.Wrong ≡ Proofs.Right name c → (a1 : List ℕ) × (worth_of nonces a1 c now ≡ Worths.Right)
+  by_test : (t : Bool) → cond t (proof_by nonces now claim (find (is_named claim.name) users)) Proofs.Wrong ≡ Proofs.Right name c
+      → (a1 : List ℕ) × (worth_of nonces a1 c now ≡ Worths.Right)
   by_test true found = right_by_user nonces now claim (find (is_named claim.name) users) name c found
   by_test false found = absurd (cc)
 
@@ -78,18 +85,22 @@ IsAsked server nonces now m None = Unit {0}
 IsAsked server nonces now m (Some q) = q.proof ≡ proof_of server.config.realm server.config.users nonces now m
 
 let_asked : (server : Server) (nonces : List Nonce) (now : ℕ) (m : Message) (q : Question) (id : ℕ) (outcome : Registered) (targets : Targets) (t : Bool)
-    → q.proof ≡ proof_of server.config.realm server.config.users nonces now m → IsAsked server nonces now m (asked_in (cond t (Register q id outcome) (Send q id targets)))
+    → q.proof ≡ proof_of server.config.realm server.config.users nonces now m → IsAsked server nonces now m
+    (asked_in (cond t (Register q id outcome) (Send q id targets)))
 let_asked server nonces now m q id outcome targets true is = is
 let_asked server nonces now m q id outcome targets false is = is
 
 decided_asked : (server : Server) (state : ProxyState) (now : ℕ) (m : Message) (method : List ℕ) (core : CoreFields) (q : Question) (decision : Decision)
-    → q.proof ≡ proof_of server.config.realm server.config.users state.nonces now m → IsAsked server state.nonces now m (asked_in (decided server state now m method core q decision))
+    → q.proof ≡ proof_of server.config.realm server.config.users state.nonces now m →
+    IsAsked server state.nonces now m (asked_in (decided server state now m method core q decision))
 decided_asked server state now m method core q Decision.Challenge is = is
 decided_asked server state now m method core q (Decision.Deny id) is = is
 decided_asked server state now m method core q (Decision.Allow id) is =
-    let_asked server state.nonces now m q id (registration_by server state.bindings now m core) (request_targets server state.bindings now m q (Decision.Allow id)) (is_register method) is
+    let_asked server state.nonces now m q id (registration_by server state.bindings now m core) (request_targets server state.bindings now m q (Decision.Allow id))
+    (is_register method) is
 decided_asked server state now m method core q (Decision.Via id hop) is =
-    let_asked server state.nonces now m q id (registration_by server state.bindings now m core) (request_targets server state.bindings now m q (Decision.Via id hop)) (is_register method) is
+    let_asked server state.nonces now m q id (registration_by server state.bindings now m core) (request_targets server state.bindings now m q (Decision.Via id hop))
+    (is_register method) is
 
 others_asked : (server : Server) (nonces : List Nonce) (now : ℕ) (m : Message) (v : Verdict) → is_by_policy v ≡ false → IsAsked server nonces now m (asked_in v)
 others_asked server nonces now m (Challenge q) h = absurd (cc)
@@ -146,15 +157,20 @@ asked_kept : (server : Server) (word issues : ℕ) (counts : List ℕ) (rows : L
 asked_kept server word issues counts rows a m q is once h =
     used_kept word issues counts rows a.now q.proof (λ name c e. right_in server.config.realm server.config.users rows a.now m.fields m.start name c (sym is ∙ e)) once h
 
-verdict_kept : (server : Server) (word issues : ℕ) (counts : List ℕ) (rows : List Nonce) (a : Arrival) (m : Message) (v : Verdict) → IsAsked server rows a.now m (asked_in v)
+verdict_kept : (server : Server) (word issues : ℕ) (counts : List ℕ) (rows : List Nonce) (a : Arrival) (m : Message) (v : Verdict)
+    → IsAsked server rows a.now m (asked_in v)
     → issues_by word a v + issues ≤ 1 → AreKept word issues counts rows
-    → AreKept word (issues_by word a v + issues) (option_map_or (λ q. right_count word q.proof) (asked_in v) [] ++ counts) (nonces_by rows (record { arrival = a; message = m; verdict = v }))
+    → AreKept word (issues_by word a v + issues) (option_map_or (λ q. right_count word q.proof) (asked_in v) [] ++ counts)
+    (nonces_by rows (record { arrival = a; message = m; verdict = v }))
 verdict_kept server word issues counts rows a m (Challenge q) is once h =
     issued_kept word issues (right_count word q.proof ++ counts) (Proofs.used rows a.now q.proof) a.word a.now once
     (asked_kept server word issues counts rows a m q is (not_more _ issues once) h)
-verdict_kept server word issues counts rows a m (Deny q id) is once h = none_more word issues _ _ (asked_kept server word issues counts rows a m q is (not_more _ issues once) h)
-verdict_kept server word issues counts rows a m (Send q id targets) is once h = none_more word issues _ _ (asked_kept server word issues counts rows a m q is (not_more _ issues once) h)
-verdict_kept server word issues counts rows a m (Register q id outcome) is once h = none_more word issues _ _ (asked_kept server word issues counts rows a m q is (not_more _ issues once) h)
+verdict_kept server word issues counts rows a m (Deny q id) is once h = none_more word issues _ _
+    (asked_kept server word issues counts rows a m q is (not_more _ issues once) h)
+verdict_kept server word issues counts rows a m (Send q id targets) is once h = none_more word issues _ _
+    (asked_kept server word issues counts rows a m q is (not_more _ issues once) h)
+verdict_kept server word issues counts rows a m (Register q id outcome) is once h = none_more word issues _ _
+    (asked_kept server word issues counts rows a m q is (not_more _ issues once) h)
 verdict_kept server word issues counts rows a m Drop is once h = none_more word issues counts rows h
 verdict_kept server word issues counts rows a m (Respond r b status) is once h = none_more word issues counts rows h
 verdict_kept server word issues counts rows a m (Copy r) is once h = none_more word issues counts rows h
@@ -172,17 +188,21 @@ step_kept server word issues counts rows (Some j) is once h = verdict_kept serve
 
 -- ---- a history
 
-kept_of_chain : (server : Server) (first word : ℕ) (history : List Link) (last : ProxyState) → IsChain server (first_state first) history last → issues_of server word history ≤ 1
+kept_of_chain : (server : Server) (first word : ℕ) (history : List Link) (last : ProxyState) → IsChain server (first_state first) history last
+    → issues_of server word history ≤ 1
     → AreKept word (issues_of server word history) (right_counts server word history) last.nonces
 kept_of_chain server first word [] last h once =
     subst (λ (s : ProxyState). AreKept word 0 [] s.nonces) (sym h) (nothing_kept word)
 kept_of_chain server first word (link ∷ history) last h once =
     subst (λ (s : ProxyState). AreKept word (issues_of server word (link ∷ history)) (right_counts server word (link ∷ history)) s.nonces) (sym h.0)
-    (subst (AreKept word (issues_of server word (link ∷ history)) (right_counts server word (link ∷ history))) (sym (step_nonces (under server link.config) link.before link.act link.out link.after h.1))
-    (step_kept (under server link.config) word (issues_of server word history) (right_counts server word history) link.before.nonces (judged_at (under server link.config) link.before link.act) (act_asked (under server link.config) link.before link.act) once
+    (subst (AreKept word (issues_of server word (link ∷ history)) (right_counts server word (link ∷ history)))
+    (sym (step_nonces (under server link.config) link.before link.act link.out link.after h.1))
+    (step_kept (under server link.config) word (issues_of server word history) (right_counts server word history) link.before.nonces
+    (judged_at (under server link.config) link.before link.act) (act_asked (under server link.config) link.before link.act) once
     (kept_of_chain server first word history link.before h.2 (not_more _ (issues_of server word history) once))))
 
 -- The counts fall from the newest to the oldest
-pub counts_of_chain : (server : Server) (first word : ℕ) (history : List Link) (last : ProxyState) → IsChain server (first_state first) history last → issues_of server word history ≤ 1
+pub counts_of_chain : (server : Server) (first word : ℕ) (history : List Link) (last : ProxyState) → IsChain server (first_state first) history last
+    → issues_of server word history ≤ 1
     → AreFalling (right_counts server word history)
 counts_of_chain server first word history last h once = (kept_of_chain server first word history last h once).are_falling

@@ -56,16 +56,19 @@ first_with floor None rest h all = all
 first_with floor (Some due) rest h all = (h, all)
 
 -- of the deadlines of branches
-branches_from_list : (floor : ℕ) (bs : List Branch) → AllByRecursion (IsFrom floor) (filter_map (λ (b : Branch). phase_deadline b.phase) bs) → AllByRecursion (λ (b : Branch). DueFrom floor (phase_deadline b.phase)) bs
+branches_from_list : (floor : ℕ) (bs : List Branch) → AllByRecursion (IsFrom floor) (filter_map (λ (b : Branch). phase_deadline b.phase) bs)
+    → AllByRecursion (λ (b : Branch). DueFrom floor (phase_deadline b.phase)) bs
 branches_from_list floor [] all = tt
 branches_from_list floor (b ∷ bs) all =
     let parts = first_due floor (phase_deadline b.phase) (filter_map (λ (x : Branch). phase_deadline x.phase) bs) all in
     (parts.0, branches_from_list floor bs parts.1)
 
 -- and back
-list_from_branches : (floor : ℕ) (bs : List Branch) → AllByRecursion (λ (b : Branch). DueFrom floor (phase_deadline b.phase)) bs → AllByRecursion (IsFrom floor) (filter_map (λ (b : Branch). phase_deadline b.phase) bs)
+list_from_branches : (floor : ℕ) (bs : List Branch) → AllByRecursion (λ (b : Branch). DueFrom floor (phase_deadline b.phase)) bs
+    → AllByRecursion (IsFrom floor) (filter_map (λ (b : Branch). phase_deadline b.phase) bs)
 list_from_branches floor [] all = tt
-list_from_branches floor (b ∷ bs) all = first_with floor (phase_deadline b.phase) (filter_map (λ (x : Branch). phase_deadline x.phase) bs) all.0 (list_from_branches floor bs all.1)
+list_from_branches floor (b ∷ bs) all = first_with floor (phase_deadline b.phase) (filter_map (λ (x : Branch). phase_deadline x.phase) bs) all.0
+    (list_from_branches floor bs all.1)
 
 -- of the deadlines of a request
 due_from_all : (floor : ℕ) (r : OpenRequest) → AllByRecursion (IsFrom floor) (deadlines_of r) → IsDue floor r
@@ -108,7 +111,8 @@ acknowledged_due floor now r low h = by_test (is_invite r && was_refused r.answe
   by_test false = h
 
 -- a move arms nothing before a moment that it stands at, or one after it
-move_due : (server : Server) (floor now : ℕ) → floor ≤ now + 1 → (requests : List OpenRequest) (next : ℕ) (after : List OpenRequest) (after_next : ℕ) (finals : List FinalAnswer) → IsMove server now requests next after after_next finals
+move_due : (server : Server) (floor now : ℕ) → floor ≤ now + 1 → (requests : List OpenRequest) (next : ℕ) (after : List OpenRequest) (after_next : ℕ)
+    (finals : List FinalAnswer) → IsMove server now requests next after after_next finals
     → AllByRecursion (IsDue floor) requests → AllByRecursion (IsDue floor) after
 move_due server floor now low requests next after after_next finals (Stays e more up) h = subst (AllByRecursion (IsDue floor)) (sym e) h
 move_due server floor now low requests next after after_next finals (TurnsAway a m r opening number more e) h = subst (AllByRecursion (IsDue floor)) (sym e) h
@@ -116,30 +120,37 @@ move_due server floor now low requests next after after_next finals (Opens a m r
     subst (AllByRecursion (IsDue floor)) (sym e) (all_push (IsDue floor) requests r h (opening_due server floor a m r finals opening (omega arith)))
 move_due server floor now low requests next after after_next finals (Changes r change there is more e up) h =
     let event = change_event server now r change is in
-    subst (AllByRecursion (IsDue floor)) (sym e) (all_replaced (IsDue floor) change.request requests h (λ stays. event_due server floor now r change event low (all_in (IsDue floor) requests r h there)))
+    subst (AllByRecursion (IsDue floor)) (sym e) (all_replaced (IsDue floor) change.request requests h
+    (λ stays. event_due server floor now r change event low (all_in (IsDue floor) requests r h there)))
 move_due server floor now low requests next after after_next finals (Resends r packets later there goes more e up) h =
-    subst (AllByRecursion (IsDue floor)) (sym e) (all_replaced (IsDue floor) later requests h (λ stays. resent_due server floor now r packets later goes (all_in (IsDue floor) requests r h there)))
+    subst (AllByRecursion (IsDue floor)) (sym e) (all_replaced (IsDue floor) later requests h
+    (λ stays. resent_due server floor now r packets later goes (all_in (IsDue floor) requests r h there)))
 move_due server floor now low requests next after after_next finals (Acknowledges r there more e up) h =
-    subst (AllByRecursion (IsDue floor)) (sym e) (all_replaced (IsDue floor) (acknowledged now r) requests h (λ stays. acknowledged_due floor now r low (all_in (IsDue floor) requests r h there)))
+    subst (AllByRecursion (IsDue floor)) (sym e) (all_replaced (IsDue floor) (acknowledged now r) requests h
+    (λ stays. acknowledged_due floor now r low (all_in (IsDue floor) requests r h there)))
 
 -- nor does a step
-taken_due : (server : Server) (floor : ℕ) (old : ProxyState) (now : ℕ) (new : ProxyState) (finals : List FinalAnswer) → floor ≤ now + 1 → IsTaken server old now new finals → AllByRecursion (IsFrom floor) (deadlines old.requests) → AllByRecursion (IsFrom floor) (deadlines new.requests)
+taken_due : (server : Server) (floor : ℕ) (old : ProxyState) (now : ℕ) (new : ProxyState) (finals : List FinalAnswer) → floor ≤ now + 1
+    → IsTaken server old now new finals → AllByRecursion (IsFrom floor) (deadlines old.requests) → AllByRecursion (IsFrom floor) (deadlines new.requests)
 taken_due server floor old now new finals low taken all =
     all_due floor new.requests
-    (kept_by_moves server now (λ requests next. AllByRecursion (IsDue floor) requests) (λ requests next after after_next finals. move_due server floor now low requests next after after_next finals)
+    (kept_by_moves server now (λ requests next. AllByRecursion (IsDue floor) requests)
+    (λ requests next after after_next finals. move_due server floor now low requests next after after_next finals)
     old.requests old.next new.requests new.next _ taken.moves (each_due floor old.requests all))
 
 -- ---- histories
 
 -- after a step no deadline stands before the moment
-pub step_passes_none : (server : Server) (old : ProxyState) (act : Act) (out : StepOut) (new : ProxyState) → IsStep server old act out new → NoneBefore new.moment new.requests
+pub step_passes_none : (server : Server) (old : ProxyState) (act : Act) (out : StepOut) (new : ProxyState) → IsStep server old act out new
+    → NoneBefore new.moment new.requests
 step_passes_none server old act out new h =
     let now = stands_at old act out in
     let taken = step_taken server old act out new h in
     subst (λ (moment : ℕ). NoneBefore moment new.requests) (sym taken.is_at) (taken_due server now old now new _ (omega arith) taken taken.none_passed)
 
 -- after each step no deadline stands before the moment
-pub chain_passes_none : (server : Server) (first : ℕ) (history : List Link) (last : ProxyState) → IsChain server (first_state first) history last → NoneBefore last.moment last.requests
+pub chain_passes_none : (server : Server) (first : ℕ) (history : List Link) (last : ProxyState) → IsChain server (first_state first) history last
+    → NoneBefore last.moment last.requests
 chain_passes_none server first [] last h = subst (λ (s : ProxyState). NoneBefore s.moment s.requests) (sym h) tt
 chain_passes_none server first (link ∷ history) last h =
     subst (λ (s : ProxyState). NoneBefore s.moment s.requests) (sym h.0) (step_passes_none (under server link.config) link.before link.act link.out link.after h.1)
@@ -153,7 +164,8 @@ pub all_later : (now : ℕ) (dues : List ℕ) → AllByRecursion (IsFrom (now + 
 all_later now dues all = all_weaker (IsFrom (now + 1)) (λ due. now < due) dues (λ due h. omega arith) all
 
 -- once a datagram was taken no deadline stands by then
-pub delivery_fired : (server : Server) (old : ProxyState) (at word : ℕ) (from : Addr) (bytes : List ℕ) (out : StepOut) (new : ProxyState) → IsStep server old (Given (Datagram at word from bytes)) out new → NoneBy new.moment new.requests
+pub delivery_fired : (server : Server) (old : ProxyState) (at word : ℕ) (from : Addr) (bytes : List ℕ) (out : StepOut) (new : ProxyState)
+    → IsStep server old (Given (Datagram at word from bytes)) out new → NoneBy new.moment new.requests
 delivery_fired server old at word from bytes out new h =
     let now = moment_of old at in
     let taken = step_taken server old (Given (Datagram at word from bytes)) out new h in
@@ -161,7 +173,8 @@ delivery_fired server old at word from bytes out new h =
     (all_later now (deadlines new.requests) (taken_due server (now + 1) old now new _ (omega arith) taken (later_all now (deadlines old.requests) h.none_due)))
 
 -- nor once time passed up to a moment
-pub time_fired : (server : Server) (old : ProxyState) (at : ℕ) (out : StepOut) (new : ProxyState) → IsStep server old (Given (Time at)) out new → NoneBy new.moment new.requests
+pub time_fired : (server : Server) (old : ProxyState) (at : ℕ) (out : StepOut) (new : ProxyState) → IsStep server old (Given (Time at)) out new
+    → NoneBy new.moment new.requests
 time_fired server old at out new h =
     let same : SameState new (record old { moment = out.at }) = h.quiet.does.leaves in
     subst (λ (moment : ℕ). NoneBy moment new.requests) (sym same.moment)

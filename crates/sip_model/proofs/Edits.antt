@@ -25,7 +25,8 @@ and_both false q e f = absurd (cc)
 -- a branch that is the same as one to a target goes to a target of the same number
 pub same_parts : (x b : Branch) → is_same_branch x b ≡ true → b.is_cancel ≡ false → (x.number ≡ b.number) × (x.is_cancel ≡ false)
 same_parts x b same target = by_tests (x.number == b.number) refl x.is_cancel refl b.is_cancel target same where
-  by_tests : (n : Bool) → (x.number == b.number) ≡ n → (c : Bool) → x.is_cancel ≡ c → (d : Bool) → d ≡ false → (n && cond c d (not d)) ≡ true → (x.number ≡ b.number) × (x.is_cancel ≡ false)
+  by_tests : (n : Bool) → (x.number == b.number) ≡ n → (c : Bool) → x.is_cancel ≡ c → (d : Bool) → d ≡ false → (n && cond c d (not d)) ≡ true
+      → (x.number ≡ b.number) × (x.is_cancel ≡ false)
   by_tests false n c is d e both = absurd (cc)
   by_tests true n true is true e both = absurd (true≢false e)
   by_tests true n true is false e both = absurd (cc)
@@ -90,10 +91,12 @@ targets_final bs = list_all (λ (b : Branch). is_final b.phase) (filter (λ (b :
 
 -- where all are after an edit that makes none final, all were before
 pub were_final : (edit : Branch → Branch) (bs : List Branch) → ((x : Branch) → (edit x).is_cancel ≡ x.is_cancel)
-    → AllByRecursion (λ (x : Branch). x.is_cancel ≡ false → is_final (edit x).phase ≡ true → is_final x.phase ≡ true) bs → targets_final (map edit bs) ≡ true → targets_final bs ≡ true
+    → AllByRecursion (λ (x : Branch). x.is_cancel ≡ false → is_final (edit x).phase ≡ true → is_final x.phase ≡ true) bs → targets_final (map edit bs) ≡ true
+    → targets_final bs ≡ true
 were_final edit [] keeps all e = refl
 were_final edit (x ∷ xs) keeps all e = by_cancel x.is_cancel refl (keeps x) (λ later. were_final edit xs keeps all.1 later) e where
-  by_cancel : (c : Bool) → x.is_cancel ≡ c → (edit x).is_cancel ≡ x.is_cancel → (targets_final (map edit xs) ≡ true → targets_final xs ≡ true) → targets_final (edit x ∷ map edit xs) ≡ true → targets_final (x ∷ xs) ≡ true
+  by_cancel : (c : Bool) → x.is_cancel ≡ c → (edit x).is_cancel ≡ x.is_cancel → (targets_final (map edit xs) ≡ true → targets_final xs ≡ true)
+      → targets_final (edit x ∷ map edit xs) ≡ true → targets_final (x ∷ xs) ≡ true
   by_cancel true is same rest e =
       let now : (edit x).is_cancel ≡ true = same ∙ is in
       rw is (rest (rw now at e))
@@ -108,7 +111,8 @@ pub others_were_final : (b : Branch) (edit : Branch → Branch) → Edits b edit
 others_were_final b edit h [] e = tt
 others_were_final b edit h (x ∷ xs) e = by_cancel x.is_cancel refl (h.keeps x) (λ later. others_were_final b edit h xs later) e where
   by_cancel : (c : Bool) → x.is_cancel ≡ c → (edit x).is_cancel ≡ x.is_cancel
-      → (targets_final (map edit xs) ≡ true → AllByRecursion (λ (y : Branch). y.is_cancel ≡ false → is_same_branch y b ≡ false → is_final y.phase ≡ true) xs) → targets_final (edit x ∷ map edit xs) ≡ true
+      → (targets_final (map edit xs) ≡ true → AllByRecursion (λ (y : Branch). y.is_cancel ≡ false → is_same_branch y b ≡ false → is_final y.phase ≡ true) xs)
+      → targets_final (edit x ∷ map edit xs) ≡ true
       → AllByRecursion (λ (y : Branch). y.is_cancel ≡ false → is_same_branch y b ≡ false → is_final y.phase ≡ true) (x ∷ xs)
   by_cancel true is same rest e =
       let now : (edit x).is_cancel ≡ true = same ∙ is in

@@ -1,5 +1,6 @@
 -- What the changes of an open request have in common: an event makes a request in between of it, which then settles.
-use Rattle.std.proofs.Common.{◌≡◌, ◌⊎◌, inl, inr, ℕ, ◌+◌, ◌≤◌, Bool, true, false, not, ◌&&◌, ◌||◌, cond, ◌==◌, List, [], ◌∷◌, ◌++◌, map, Option, Some, None, refl, sym, ap, ◌∙◌, arith, subst}
+use Rattle.std.proofs.Common.{◌≡◌, ◌⊎◌, inl, inr, ℕ, ◌+◌, ◌≤◌, Bool, true, false, not, ◌&&◌, ◌||◌, cond, ◌==◌, List, [], ◌∷◌, ◌++◌, map, Option, Some, None, refl, sym}
+use Rattle.std.proofs.Common.{ap, ◌∙◌, arith, subst}
 use Rattle.std.specs.List.{AllByRecursion, list_any}
 use Rattle.sip_message_form.specs.declared.message.Message.{Message}
 use Rattle.sip_best.specs.declared.final_answer.Final.{Final}
@@ -15,11 +16,14 @@ use Rattle.model_steps.specs.state.declared.open_request.Side.TheVariants.{Answe
 use Rattle.model_steps.specs.state.State.{is_invite, is_final, is_answering, phase_deadline, side_deadline, is_success, is_decline, is_provisional}
 use Rattle.model_steps.specs.state.declared.open_request.Upward.{Upward}
 use Rattle.model_steps.specs.context_model.Retransmission.{IsResent, OfAnswer, OfRequest, branch_next}
-use Rattle.model_steps.specs.context_model.Branches.{Change, is_same_branch, with_phase, with_final, marked, given_up, settled, invite_heard, other_heard, heard, relayed_from, relayed_provisional, relayed_success, is_accepted, further, with_answer, acks_of, final_of, linger, target_responded, cancel_responded, responded, target_overdue, side_overdue, turned, told_to}
+use Rattle.model_steps.specs.context_model.Branches.{Change, is_same_branch, with_phase, with_final, marked, given_up, settled, invite_heard, other_heard, heard}
+use Rattle.model_steps.specs.context_model.Branches.{relayed_from, relayed_provisional, relayed_success, is_accepted, further, with_answer, acks_of, final_of, linger}
+use Rattle.model_steps.specs.context_model.Branches.{target_responded, cancel_responded, responded, target_overdue, side_overdue, turned, told_to}
 use Rattle.model_steps.specs.Step.{IsOverdue, OfSide, OfBranch}
 use Rattle.sip_model.specs.Order.{IsChangeOf, ByResponse, ByDeadline, ByFault, ByCancel}
 use Rattle.sip_model.proofs.Places.{IsIn, all_in, in_from_contains, contains_from_in}
-use Rattle.sip_model.proofs.Resending.{DueFrom, both_cancel, goes, IsBranchAgain, IsAgain, branch_again, phase_again, final_only, other_only, heard_only, marked_again, wanting_again, final_again, closed_again}
+use Rattle.sip_model.proofs.Resending.{DueFrom, both_cancel, goes, IsBranchAgain, IsAgain, branch_again, phase_again, final_only, other_only, heard_only, marked_again}
+use Rattle.sip_model.proofs.Resending.{wanting_again, final_again, closed_again}
 
 -- ---- what an event keeps
 
@@ -45,7 +49,8 @@ IsFinalStatus f = is_provisional f.status ≡ false
 abbrev pub is_target : Branch → Bool
 is_target b = not b.is_cancel
 
--- While a request owes an answer none of its branches' final answers is missing, and it has a branch to a target; once it had its answer none is kept. Each that is kept is final.
+-- While a request owes an answer none of its branches' final answers is missing, and it has a branch to a target; once it had its answer none is kept. Each that is kept
+-- is final.
 pub record IsCounted (r : OpenRequest) : Type 0 where
   pub seen : is_answering r.side ≡ true → AllByRecursion (IsSeen r.finals) r.branches
   pub none_kept : is_answering r.side ≡ false → r.finals ≡ []
@@ -55,7 +60,8 @@ pub record IsCounted (r : OpenRequest) : Type 0 where
 -- an answer that goes up at once: a provisional one while none was final, or a 2xx, the first or a further one of an INVITE
 abbrev pub IsRelayed : OpenRequest → Option Upward → Type 0
 IsRelayed r None = Unit {0}
-IsRelayed r (Some u) = ((is_provisional u.status ≡ true) × (is_answering r.side ≡ true)) ⊎ ((is_success u.status ≡ true) × ((is_answering r.side || is_accepted r) ≡ true))
+IsRelayed r (Some u) = ((is_provisional u.status ≡ true) × (is_answering r.side ≡ true))
+    ⊎ ((is_success u.status ≡ true) × ((is_answering r.side || is_accepted r) ≡ true))
 
 -- a side that an event leaves as it is, or closes once its deadline has passed
 abbrev pub IsSideAfter : Side → Side → Type 0
@@ -101,7 +107,8 @@ same_cancel b x phase true = refl
 same_cancel b x phase false = refl
 
 -- its deadline is the phase's
-due_in_phase : (floor : ℕ) (b : Branch) (phase : Phase) (x : Branch) (t : Bool) → DueFrom floor (phase_deadline phase) → DueFrom floor (phase_deadline x.phase) → DueFrom floor (phase_deadline (cond t (turned b phase x) x).phase)
+due_in_phase : (floor : ℕ) (b : Branch) (phase : Phase) (x : Branch) (t : Bool) → DueFrom floor (phase_deadline phase) → DueFrom floor (phase_deadline x.phase)
+    → DueFrom floor (phase_deadline (cond t (turned b phase x) x).phase)
 due_in_phase floor b phase x true later before = later
 due_in_phase floor b phase x false later before = before
 
@@ -109,19 +116,23 @@ due_in_phase floor b phase x false later before = before
 phase_due : (floor : ℕ) (b : Branch) (phase : Phase) (r : OpenRequest) → DueFrom floor (phase_deadline phase) → IsDue floor r → IsDue floor (with_phase b phase r)
 phase_due floor b phase r later h = record {
   side_due = h.side_due;
-  branches_due = all_map (λ x. DueFrom floor (phase_deadline x.phase)) (λ x. DueFrom floor (phase_deadline x.phase)) (in_phase b phase) r.branches (λ x before. due_in_phase floor b phase x (is_same_branch x b) later before) h.branches_due;
+  branches_due = all_map (λ x. DueFrom floor (phase_deadline x.phase)) (λ x. DueFrom floor (phase_deadline x.phase)) (in_phase b phase) r.branches
+      (λ x before. due_in_phase floor b phase x (is_same_branch x b) later before) h.branches_due;
 }
 
 -- the final answer of the branch is there
-seen_in_phase : (finals : List Final) (b : Branch) (phase : Phase) (x : Branch) (t : Bool) → is_same_branch x b ≡ t → (b.is_cancel ≡ false → is_final phase ≡ true → IsSome finals) → IsSeen finals x
+seen_in_phase : (finals : List Final) (b : Branch) (phase : Phase) (x : Branch) (t : Bool) → is_same_branch x b ≡ t
+    → (b.is_cancel ≡ false → is_final phase ≡ true → IsSome finals) → IsSeen finals x
     → IsSeen finals (cond t (turned b phase x) x)
 seen_in_phase finals b phase x true same later before = λ target final. later (sym (both_cancel x.is_cancel b.is_cancel (x.number == b.number) same) ∙ target) final
 seen_in_phase finals b phase x false same later before = before
 
 -- and so are those of the request
-phase_counted : (b : Branch) (phase : Phase) (r : OpenRequest) → (is_answering r.side ≡ true → b.is_cancel ≡ false → is_final phase ≡ true → IsSome r.finals) → IsCounted r → IsCounted (with_phase b phase r)
+phase_counted : (b : Branch) (phase : Phase) (r : OpenRequest) → (is_answering r.side ≡ true → b.is_cancel ≡ false → is_final phase ≡ true → IsSome r.finals)
+    → IsCounted r → IsCounted (with_phase b phase r)
 phase_counted b phase r later h = record {
-  seen = λ owes. all_map (IsSeen r.finals) (IsSeen r.finals) (in_phase b phase) r.branches (λ x before. seen_in_phase r.finals b phase x (is_same_branch x b) refl (later owes) before) (h.seen owes);
+  seen = λ owes. all_map (IsSeen r.finals) (IsSeen r.finals) (in_phase b phase) r.branches
+      (λ x before. seen_in_phase r.finals b phase x (is_same_branch x b) refl (later owes) before) (h.seen owes);
   none_kept = h.none_kept;
   final = h.final;
   has_target = λ answering. any_map (in_phase b phase) r.branches (λ x. same_cancel b x phase (is_same_branch x b)) ∙ h.has_target answering;
@@ -152,7 +163,8 @@ all_seen finals (x ∷ xs) some = (λ target final. some, all_seen finals xs som
 -- a final answer of a branch, in whichever phase the branch is after it
 final_counted : (f : Final) (b : Branch) (phase : Phase) (r : OpenRequest) → IsFinalStatus f → IsCounted r → IsCounted (with_final f (with_phase b phase r))
 final_counted f b phase r status h = record {
-  seen = λ owes. all_seen (cond (is_answering r.side) (r.finals ++ f ∷ []) r.finals) (map (in_phase b phase) r.branches) (subst (λ (t : Bool). IsSome (cond t (r.finals ++ f ∷ []) r.finals)) (sym owes) (some_behind r.finals f));
+  seen = λ owes. all_seen (cond (is_answering r.side) (r.finals ++ f ∷ []) r.finals) (map (in_phase b phase) r.branches)
+      (subst (λ (t : Bool). IsSome (cond t (r.finals ++ f ∷ []) r.finals)) (sym owes) (some_behind r.finals f));
   none_kept = λ had. subst (λ (t : Bool). cond t (r.finals ++ f ∷ []) r.finals ≡ []) (sym had) (h.none_kept had);
   final = final_either (is_answering r.side) (r.finals ++ f ∷ []) r.finals (final_behind r.finals f status h.final) h.final;
   has_target = λ answering. any_map (in_phase b phase) r.branches (λ x. same_cancel b x phase (is_same_branch x b)) ∙ h.has_target answering;
@@ -180,7 +192,8 @@ wanted_seen finals true x h = h
 wanted_seen finals false x h = h
 
 -- the same where the test keeps a branch as it is: its deadline
-marked_due_at : (floor : ℕ) (t : Bool) (x : Branch) → DueFrom floor (phase_deadline x.phase) → DueFrom floor (phase_deadline (cond t x (record x { wants_cancel = true })).phase)
+marked_due_at : (floor : ℕ) (t : Bool) (x : Branch) → DueFrom floor (phase_deadline x.phase)
+    → DueFrom floor (phase_deadline (cond t x (record x { wants_cancel = true })).phase)
 marked_due_at floor true x h = h
 marked_due_at floor false x h = h
 
@@ -198,7 +211,8 @@ marked_cancel false x = refl
 marked_due : (floor : ℕ) (r : OpenRequest) → IsDue floor r → IsDue floor (marked r)
 marked_due floor r h = record {
   side_due = h.side_due;
-  branches_due = all_map (λ x. DueFrom floor (phase_deadline x.phase)) (λ x. DueFrom floor (phase_deadline x.phase)) (λ (x : Branch). cond (x.is_cancel || is_final x.phase) x (record x { wants_cancel = true })) r.branches
+  branches_due = all_map (λ x. DueFrom floor (phase_deadline x.phase)) (λ x. DueFrom floor (phase_deadline x.phase))
+      (λ (x : Branch). cond (x.is_cancel || is_final x.phase) x (record x { wants_cancel = true })) r.branches
       (λ x before. marked_due_at floor (x.is_cancel || is_final x.phase) x before) h.branches_due;
 }
 
@@ -209,7 +223,8 @@ marked_counted r h = record {
       (λ x before. marked_seen_at r.finals (x.is_cancel || is_final x.phase) x before) (h.seen owes);
   none_kept = h.none_kept;
   final = h.final;
-  has_target = λ answering. any_map (λ (x : Branch). cond (x.is_cancel || is_final x.phase) x (record x { wants_cancel = true })) r.branches (λ x. marked_cancel (x.is_cancel || is_final x.phase) x) ∙ h.has_target answering;
+  has_target = λ answering. any_map (λ (x : Branch). cond (x.is_cancel || is_final x.phase) x (record x { wants_cancel = true })) r.branches
+      (λ x. marked_cancel (x.is_cancel || is_final x.phase) x) ∙ h.has_target answering;
 }
 
 -- a branch that is to be cancelled
@@ -220,14 +235,16 @@ wanting b r = record r { branches = map (λ (x : Branch). cond (is_same_branch x
 wanting_due : (floor : ℕ) (b : Branch) (r : OpenRequest) → IsDue floor r → IsDue floor (wanting b r)
 wanting_due floor b r h = record {
   side_due = h.side_due;
-  branches_due = all_map (λ x. DueFrom floor (phase_deadline x.phase)) (λ x. DueFrom floor (phase_deadline x.phase)) (λ (x : Branch). wanted (is_same_branch x b) x) r.branches
+  branches_due = all_map (λ x. DueFrom floor (phase_deadline x.phase)) (λ x. DueFrom floor (phase_deadline x.phase)) (λ (x : Branch). wanted (is_same_branch x b) x)
+      r.branches
       (λ x before. wanted_due floor (is_same_branch x b) x before) h.branches_due;
 }
 
 -- and so do final answers
 wanting_counted : (b : Branch) (r : OpenRequest) → IsCounted r → IsCounted (wanting b r)
 wanting_counted b r h = record {
-  seen = λ owes. all_map (IsSeen r.finals) (IsSeen r.finals) (λ (x : Branch). wanted (is_same_branch x b) x) r.branches (λ x before. wanted_seen r.finals (is_same_branch x b) x before) (h.seen owes);
+  seen = λ owes. all_map (IsSeen r.finals) (IsSeen r.finals) (λ (x : Branch). wanted (is_same_branch x b) x) r.branches
+      (λ x before. wanted_seen r.finals (is_same_branch x b) x before) (h.seen owes);
   none_kept = h.none_kept;
   final = h.final;
   has_target = λ answering. any_map (λ (x : Branch). wanted (is_same_branch x b) x) r.branches (λ x. wanted_cancel (is_same_branch x b) x) ∙ h.has_target answering;
@@ -261,7 +278,8 @@ heard_later : (floor due : ℕ) → floor ≤ due → floor ≤ due + 153000
 heard_later floor due h = omega arith
 
 -- the deadline after a provisional response to an INVITE
-invite_heard_due : (floor now status : ℕ) (phase : Phase) → floor ≤ now + 1 → DueFrom floor (phase_deadline phase) → DueFrom floor (phase_deadline (invite_heard now status phase))
+invite_heard_due : (floor now status : ℕ) (phase : Phase) → floor ≤ now + 1 → DueFrom floor (phase_deadline phase)
+    → DueFrom floor (phase_deadline (invite_heard now status phase))
 invite_heard_due floor now status (Unheard due) low h = heard_either floor now (due + 153000) (status == 100) low (heard_later floor due h)
 invite_heard_due floor now status (Heard due) low h = heard_either floor now due (status == 100) low h
 invite_heard_due floor now status (Cancelled due) low h = h
@@ -282,7 +300,8 @@ invite_heard_final now status (Done due f) = refl
 invite_heard_final now status Ended = refl
 
 -- the deadline after a provisional response, by the method
-heard_due_by : (floor now status : ℕ) (t : Bool) (phase : Phase) → floor ≤ now + 1 → DueFrom floor (phase_deadline phase) → DueFrom floor (phase_deadline (cond t (invite_heard now status phase) (other_heard phase)))
+heard_due_by : (floor now status : ℕ) (t : Bool) (phase : Phase) → floor ≤ now + 1 → DueFrom floor (phase_deadline phase)
+    → DueFrom floor (phase_deadline (cond t (invite_heard now status phase) (other_heard phase)))
 heard_due_by floor now status true phase low h = invite_heard_due floor now status phase low h
 heard_due_by floor now status false phase low h = other_heard_due floor phase h
 
@@ -324,7 +343,8 @@ further_relayed r b Ended status m = tt
 -- ---- a response
 
 -- one of two changes, by a test
-either_event : (server : Server) (now : ℕ) (r : OpenRequest) (t : Bool) (first second : Change) → (t ≡ true → IsEvent server now r first) → (t ≡ false → IsEvent server now r second) → IsEvent server now r (cond t first second)
+either_event : (server : Server) (now : ℕ) (r : OpenRequest) (t : Bool) (first second : Change) → (t ≡ true → IsEvent server now r first)
+    → (t ≡ false → IsEvent server now r second) → IsEvent server now r (cond t first second)
 either_event server now r true first second so not_so = so refl
 either_event server now r false first second so not_so = not_so refl
 
@@ -337,12 +357,14 @@ branch_seen : (r : OpenRequest) (b : Branch) → IsIn b r.branches → IsCounted
 branch_seen r b there h owes = all_in (IsSeen r.finals) r.branches b (h.seen owes) there
 
 -- a branch in a phase in which it goes again only if it did
-phase_keeps : (floor : ℕ) (r : OpenRequest) (b : Branch) (phase : Phase) → IsIn b r.branches → (goes b.is_cancel (is_invite r) phase ≡ true → goes b.is_cancel (is_invite r) b.phase ≡ true) → IsAgain floor r
+phase_keeps : (floor : ℕ) (r : OpenRequest) (b : Branch) (phase : Phase) → IsIn b r.branches
+    → (goes b.is_cancel (is_invite r) phase ≡ true → goes b.is_cancel (is_invite r) b.phase ≡ true) → IsAgain floor r
     → IsAgain floor (with_phase b phase r)
 phase_keeps floor r b phase there only h = phase_again floor b phase r only (branch_again floor r b (contains_from_in r.branches b there) h) h
 
 -- the same where it was told what its ACK is made with, and is done
-done_keeps : (floor : ℕ) (r : OpenRequest) (b : Branch) (status due : ℕ) (m : Message) → IsIn b r.branches → IsAgain floor r → IsAgain floor (with_final (final_of status m) (with_phase (told_to r b status m) (Done due status) r))
+done_keeps : (floor : ℕ) (r : OpenRequest) (b : Branch) (status due : ℕ) (m : Message) → IsIn b r.branches → IsAgain floor r
+    → IsAgain floor (with_final (final_of status m) (with_phase (told_to r b status m) (Done due status) r))
 done_keeps floor r b status due m there h =
     let this : IsBranchAgain floor (is_invite r) b = branch_again floor r b (contains_from_in r.branches b there) h in
     final_again floor (final_of status m) (with_phase (told_to r b status m) (Done due status) r)
@@ -397,9 +419,11 @@ lingers floor now true low = omega arith
 lingers floor now false low = omega arith
 
 -- the first final answer of a branch, after which the others are to be cancelled or not
-answer_event : (server : Server) (now : ℕ) (r : OpenRequest) (b : Branch) (status : ℕ) (m : Message) (acks : List Packet) (relayed : Option Upward) (t : Bool) → is_provisional status ≡ false → IsRelayed r relayed → IsIn b r.branches
+answer_event : (server : Server) (now : ℕ) (r : OpenRequest) (b : Branch) (status : ℕ) (m : Message) (acks : List Packet) (relayed : Option Upward) (t : Bool)
+    → is_provisional status ≡ false → IsRelayed r relayed → IsIn b r.branches
     → IsEvent server now r (settled server now acks relayed
-    (cond t (marked (with_final (final_of status m) (with_phase (told_to r b status m) (Done (now + linger r) status) r))) (with_final (final_of status m) (with_phase (told_to r b status m) (Done (now + linger r) status) r))))
+    (cond t (marked (with_final (final_of status m) (with_phase (told_to r b status m) (Done (now + linger r) status) r)))
+    (with_final (final_of status m) (with_phase (told_to r b status m) (Done (now + linger r) status) r))))
 answer_event server now r b status m acks relayed true e is_relayed is_there = record {
   acks = acks;
   relayed = relayed;
@@ -411,9 +435,12 @@ answer_event server now r b status m acks relayed true e is_relayed is_there = r
   side_is = inl refl;
   relayed_is = is_relayed;
   due = λ floor low h. let there = phase_due floor (told_to r b status m) (Done (now + linger r) status) r (lingers floor now (is_invite r) low) h in
-      marked_due floor (with_final (final_of status m) (with_phase (told_to r b status m) (Done (now + linger r) status) r)) (record { side_due = there.side_due; branches_due = there.branches_due });
-  again = λ floor h. marked_again floor (with_final (final_of status m) (with_phase (told_to r b status m) (Done (now + linger r) status) r)) (done_keeps floor r b status (now + linger r) m is_there h);
-  counted = λ h. marked_counted (with_final (final_of status m) (with_phase (told_to r b status m) (Done (now + linger r) status) r)) (final_counted (final_of status m) (told_to r b status m) (Done (now + linger r) status) r e h);
+      marked_due floor (with_final (final_of status m) (with_phase (told_to r b status m) (Done (now + linger r) status) r))
+      (record { side_due = there.side_due; branches_due = there.branches_due });
+  again = λ floor h. marked_again floor (with_final (final_of status m) (with_phase (told_to r b status m) (Done (now + linger r) status) r))
+      (done_keeps floor r b status (now + linger r) m is_there h);
+  counted = λ h. marked_counted (with_final (final_of status m) (with_phase (told_to r b status m) (Done (now + linger r) status) r))
+      (final_counted (final_of status m) (told_to r b status m) (Done (now + linger r) status) r e h);
 }
 answer_event server now r b status m acks relayed false e is_relayed is_there = record {
   acks = acks;
@@ -432,10 +459,12 @@ answer_event server now r b status m acks relayed false e is_relayed is_there = 
 }
 
 -- a response to the request of a branch
-target_response : (server : Server) (now : ℕ) (r : OpenRequest) (b : Branch) (status : ℕ) (m : Message) → IsIn b r.branches → IsEvent server now r (target_responded server now r b status m)
+target_response : (server : Server) (now : ℕ) (r : OpenRequest) (b : Branch) (status : ℕ) (m : Message) → IsIn b r.branches
+    → IsEvent server now r (target_responded server now r b status m)
 target_response server now r b status m there =
     either_event server now r (is_provisional status) (settled server now [] (relayed_provisional r b status m) (with_phase b (heard r now status b.phase) r))
-    (cond (is_final b.phase) (settled server now [] (further r b b.phase status m) r) (settled server now (acks_of server r b status m) (relayed_success r b status m) (with_answer r b now status m)))
+    (cond (is_final b.phase) (settled server now [] (further r b b.phase status m) r)
+    (settled server now (acks_of server r b status m) (relayed_success r b status m) (with_answer r b now status m)))
     (λ provisional. phase_event server now r b (heard r now status b.phase) (relayed_provisional r b status m) there
     (provisional_relayed r (relayed_from b status m) (not (status == 100)) (not (is_final b.phase)) provisional)
     (λ floor low h. heard_due_by floor now status (is_invite r) b.phase low h)
@@ -443,21 +472,26 @@ target_response server now r b status m there =
     (λ final. either_event server now r (is_final b.phase) (settled server now [] (further r b b.phase status m) r)
     (settled server now (acks_of server r b status m) (relayed_success r b status m) (with_answer r b now status m))
     (λ again. same_event server now r (further r b b.phase status m) (further_relayed r b b.phase status m))
-    (λ first. answer_event server now r b status m (acks_of server r b status m) (relayed_success r b status m) (is_invite r && (is_success status || is_decline status)) final (success_relayed r (relayed_from b status m)) there))
+    (λ first. answer_event server now r b status m (acks_of server r b status m) (relayed_success r b status m) (is_invite r && (is_success status || is_decline status))
+    final (success_relayed r (relayed_from b status m)) there))
 
 -- a response to a CANCEL
-cancel_response : (server : Server) (now : ℕ) (r : OpenRequest) (b : Branch) (status : ℕ) (m : Message) → b.is_cancel ≡ true → IsIn b r.branches → IsEvent server now r (cancel_responded server now r b status m)
+cancel_response : (server : Server) (now : ℕ) (r : OpenRequest) (b : Branch) (status : ℕ) (m : Message) → b.is_cancel ≡ true → IsIn b r.branches
+    → IsEvent server now r (cancel_responded server now r b status m)
 cancel_response server now r b status m is_cancel there =
     either_event server now r (is_provisional status) (settled server now [] None (with_phase b (other_heard b.phase) r))
     (cond (is_final b.phase) (settled server now [] None r) (settled server now [] None (with_phase b (Done (now + 5000) status) r)))
-    (λ provisional. phase_event server now r b (other_heard b.phase) None there tt (λ floor low h. other_heard_due floor b.phase h) (λ target is. sym (other_heard_final b.phase) ∙ is) (other_only b.is_cancel (is_invite r) b.phase))
+    (λ provisional. phase_event server now r b (other_heard b.phase) None there tt (λ floor low h. other_heard_due floor b.phase h)
+    (λ target is. sym (other_heard_final b.phase) ∙ is) (other_only b.is_cancel (is_invite r) b.phase))
     (λ final. either_event server now r (is_final b.phase) (settled server now [] None r) (settled server now [] None (with_phase b (Done (now + 5000) status) r))
     (λ again. same_event server now r None tt)
-    (λ first. phase_event server now r b (Done (now + 5000) status) None there tt (λ floor low h. let due : floor ≤ now + 5000 = omega arith in due) (λ target is. absurd (cc))
+    (λ first. phase_event server now r b (Done (now + 5000) status) None there tt (λ floor low h. let due : floor ≤ now + 5000 = omega arith in due)
+    (λ target is. absurd (cc))
     (final_only b.is_cancel (is_invite r) (Done (now + 5000) status) (goes b.is_cancel (is_invite r) b.phase) refl)))
 
 -- a response
-response_event : (server : Server) (now : ℕ) (r : OpenRequest) (b : Branch) (status : ℕ) (m : Message) → IsIn b r.branches → IsEvent server now r (responded server now r b status m)
+response_event : (server : Server) (now : ℕ) (r : OpenRequest) (b : Branch) (status : ℕ) (m : Message) → IsIn b r.branches
+    → IsEvent server now r (responded server now r b status m)
 response_event server now r b status m there =
     either_event server now r b.is_cancel (cancel_responded server now r b status m) (target_responded server now r b status m)
     (λ is_cancel. cancel_response server now r b status m is_cancel there) (λ target. target_response server now r b status m there)
@@ -465,7 +499,8 @@ response_event server now r b status m there =
 -- ---- a deadline, a fault, and the caller's CANCEL
 
 -- a branch is given up with a status
-given_up_event : (server : Server) (now : ℕ) (r : OpenRequest) (b : Branch) (status : ℕ) → is_provisional status ≡ false → IsIn b r.branches → IsEvent server now r (settled server now [] None (given_up b status r))
+given_up_event : (server : Server) (now : ℕ) (r : OpenRequest) (b : Branch) (status : ℕ) → is_provisional status ≡ false → IsIn b r.branches
+    → IsEvent server now r (settled server now [] None (given_up b status r))
 given_up_event server now r b status e is_there = record {
   acks = [];
   relayed = None;
@@ -500,17 +535,20 @@ wanting_event server now r b = record {
 }
 
 -- a branch ends that is a CANCEL or has its final answer
-ended_event : (server : Server) (now : ℕ) (r : OpenRequest) (b : Branch) → IsIn b r.branches → (b.is_cancel ≡ false → is_final b.phase ≡ true) → IsEvent server now r (settled server now [] None (with_phase b Ended r))
+ended_event : (server : Server) (now : ℕ) (r : OpenRequest) (b : Branch) → IsIn b r.branches → (b.is_cancel ≡ false → is_final b.phase ≡ true)
+    → IsEvent server now r (settled server now [] None (with_phase b Ended r))
 ended_event server now r b there final = phase_event server now r b Ended None there tt (λ floor low h. tt) (λ target is. final target)
     (final_only b.is_cancel (is_invite r) Ended (goes b.is_cancel (is_invite r) b.phase) refl)
 
 -- the deadline of a branch that was heard, by the method
-heard_overdue : (server : Server) (now : ℕ) (r : OpenRequest) (b : Branch) (t : Bool) → IsIn b r.branches → IsEvent server now r (settled server now [] None (cond t (wanting b r) (given_up b 408 r)))
+heard_overdue : (server : Server) (now : ℕ) (r : OpenRequest) (b : Branch) (t : Bool) → IsIn b r.branches
+    → IsEvent server now r (settled server now [] None (cond t (wanting b r) (given_up b 408 r)))
 heard_overdue server now r b true there = wanting_event server now r b
 heard_overdue server now r b false there = given_up_event server now r b 408 refl there
 
 -- the deadline of a branch to a target
-target_overdue_event : (server : Server) (now : ℕ) (r : OpenRequest) (b : Branch) (phase : Phase) → b.phase ≡ phase → IsIn b r.branches → IsEvent server now r (settled server now [] None (target_overdue r b phase))
+target_overdue_event : (server : Server) (now : ℕ) (r : OpenRequest) (b : Branch) (phase : Phase) → b.phase ≡ phase → IsIn b r.branches
+    → IsEvent server now r (settled server now [] None (target_overdue r b phase))
 target_overdue_event server now r b (Unheard due) is there = given_up_event server now r b 408 refl there
 target_overdue_event server now r b (Heard due) is there = heard_overdue server now r b (is_invite r) there
 target_overdue_event server now r b (Cancelled due) is there = given_up_event server now r b 487 refl there
@@ -571,7 +609,8 @@ cancelled_event server now r true = record {
 cancelled_event server now r false = same_event server now r None tt
 
 -- other moments of going again at its branches
-again_due_at : (floor : ℕ) (x : Branch) (t : Bool) (again : Resend) → DueFrom floor (phase_deadline x.phase) → DueFrom floor (phase_deadline (cond t (record x { again = again }) x).phase)
+again_due_at : (floor : ℕ) (x : Branch) (t : Bool) (again : Resend) → DueFrom floor (phase_deadline x.phase)
+    → DueFrom floor (phase_deadline (cond t (record x { again = again }) x).phase)
 again_due_at floor x true again h = h
 again_due_at floor x false again h = h
 
@@ -584,16 +623,19 @@ again_cancel x true again = refl
 again_cancel x false again = refl
 
 -- something of it goes again: what is due stays so
-pub resent_due : (server : Server) (floor now : ℕ) (r : OpenRequest) (packets : List Packet) (next : OpenRequest) → IsResent server now r packets next → IsDue floor r → IsDue floor next
+pub resent_due : (server : Server) (floor now : ℕ) (r : OpenRequest) (packets : List Packet) (next : OpenRequest) → IsResent server now r packets next → IsDue floor r
+    → IsDue floor next
 resent_due server floor now r _ _ (OfAnswer is) h = record { side_due = h.side_due; branches_due = h.branches_due }
 resent_due server floor now r _ _ (OfRequest b there is) h = record {
   side_due = h.side_due;
-  branches_due = all_map (λ x. DueFrom floor (phase_deadline x.phase)) (λ x. DueFrom floor (phase_deadline x.phase)) (λ (x : Branch). cond (is_same_branch x b) (record x { again = branch_next r b }) x) r.branches
+  branches_due = all_map (λ x. DueFrom floor (phase_deadline x.phase)) (λ x. DueFrom floor (phase_deadline x.phase))
+      (λ (x : Branch). cond (is_same_branch x b) (record x { again = branch_next r b }) x) r.branches
       (λ x. again_due_at floor x (is_same_branch x b) (branch_next r b)) h.branches_due;
 }
 
 -- so do its final answers
-pub resent_counted : (server : Server) (now : ℕ) (r : OpenRequest) (packets : List Packet) (next : OpenRequest) → IsResent server now r packets next → IsCounted r → IsCounted next
+pub resent_counted : (server : Server) (now : ℕ) (r : OpenRequest) (packets : List Packet) (next : OpenRequest) → IsResent server now r packets next → IsCounted r
+    → IsCounted next
 resent_counted server now r _ _ (OfAnswer is) h = record { seen = h.seen; none_kept = h.none_kept; final = h.final; has_target = h.has_target }
 resent_counted server now r _ _ (OfRequest b there is) h =
     let edit : Branch → Branch = λ x. cond (is_same_branch x b) (record x { again = branch_next r b }) x in
@@ -609,7 +651,8 @@ pub resent_key : (server : Server) (now : ℕ) (r : OpenRequest) (packets : List
 resent_key server now r _ _ (OfAnswer is) = refl
 resent_key server now r _ _ (OfRequest b there is) = refl
 
-pub resent_number : (server : Server) (now : ℕ) (r : OpenRequest) (packets : List Packet) (next : OpenRequest) → IsResent server now r packets next → next.number ≡ r.number
+pub resent_number : (server : Server) (now : ℕ) (r : OpenRequest) (packets : List Packet) (next : OpenRequest) → IsResent server now r packets next
+    → next.number ≡ r.number
 resent_number server now r _ _ (OfAnswer is) = refl
 resent_number server now r _ _ (OfRequest b there is) = refl
 

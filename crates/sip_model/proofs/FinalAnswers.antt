@@ -1,5 +1,6 @@
 -- The final answers of a history, request by request.
-use Rattle.std.proofs.Common.{◌≡◌, inl, inr, ℕ, zero, suc, ◌≤◌, Bool, true, false, cond, ◌==◌, List, [], ◌∷◌, ◌++◌, length, map, filter, append-nil, refl, sym, ap, subst, ◌∙◌, arith, count_by}
+use Rattle.std.proofs.Common.{◌≡◌, inl, inr, ℕ, zero, suc, ◌≤◌, Bool, true, false, cond, ◌==◌, List, [], ◌∷◌, ◌++◌, length, map, filter, append-nil, refl, sym, ap, subst}
+use Rattle.std.proofs.Common.{◌∙◌, arith, count_by}
 use Rattle.std.specs.List.{AllByRecursion}
 use Rattle.std.proofs.lemmas.List.Elements.{filter-append}
 use Rattle.model_steps.specs.state.declared.open_request.OpenRequest.{OpenRequest}
@@ -27,7 +28,8 @@ test_is a n t e is = ap (λ v. v == n) e ∙ is
 -- all of a list are to the number that they are to
 finals_own : (n : ℕ) (fs : List FinalAnswer) → AreTo n fs → finals_to n fs ≡ fs
 finals_own n [] all = refl
-finals_own n (f ∷ fs) all = ap (λ (t : Bool). cond t (f ∷ finals_to n fs) (finals_to n fs)) (test_is f.number n true all.0 (same_number n n refl)) ∙ ap (λ (xs : List FinalAnswer). f ∷ xs) (finals_own n fs all.1)
+finals_own n (f ∷ fs) all = ap (λ (t : Bool). cond t (f ∷ finals_to n fs) (finals_to n fs)) (test_is f.number n true all.0 (same_number n n refl))
+    ∙ ap (λ (xs : List FinalAnswer). f ∷ xs) (finals_own n fs all.1)
 
 -- and none to any other
 finals_other : (n k : ℕ) (fs : List FinalAnswer) → (k == n) ≡ false → AreTo k fs → finals_to n fs ≡ []
@@ -56,10 +58,12 @@ up_numbered r us = each (filter is_final_answer us) where
   each (v ∷ vs) = (refl, each vs)
 
 -- what holds of the final ones that go up
-up_all : (P : Upward → Type 0) (Q : FinalAnswer → Type 0) (r : OpenRequest) (us : List Upward) → ((u : Upward) → P u → Q (final_from r u)) → AllByRecursion (λ (u : Upward). is_final_answer u ≡ true → P u) us → AllByRecursion Q (finals_up r us)
+up_all : (P : Upward → Type 0) (Q : FinalAnswer → Type 0) (r : OpenRequest) (us : List Upward) → ((u : Upward) → P u → Q (final_from r u))
+    → AllByRecursion (λ (u : Upward). is_final_answer u ≡ true → P u) us → AllByRecursion Q (finals_up r us)
 up_all P Q r [] to all = tt
 up_all P Q r (u ∷ us) to all = by_test (is_final_answer u) refl (up_all P Q r us to all.1) where
-  by_test : (t : Bool) → is_final_answer u ≡ t → AllByRecursion Q (finals_up r us) → AllByRecursion Q (map (final_from r) (cond t (u ∷ filter is_final_answer us) (filter is_final_answer us)))
+  by_test : (t : Bool) → is_final_answer u ≡ t → AllByRecursion Q (finals_up r us) → AllByRecursion Q
+      (map (final_from r) (cond t (u ∷ filter is_final_answer us) (filter is_final_answer us)))
   by_test true is rest = (to u (all.0 is), rest)
   by_test false is rest = rest
 
@@ -67,7 +71,8 @@ up_all P Q r (u ∷ us) to all = by_test (is_final_answer u) refl (up_all P Q r 
 up_length : (r : OpenRequest) (us : List Upward) → length (finals_up r us) ≡ count_by is_final_answer us
 up_length r [] = refl
 up_length r (u ∷ us) = by_test (is_final_answer u) refl (up_length r us) where
-  by_test : (t : Bool) → is_final_answer u ≡ t → length (finals_up r us) ≡ count_by is_final_answer us → length (map (final_from r) (cond t (u ∷ filter is_final_answer us) (filter is_final_answer us))) ≡ count_by is_final_answer (u ∷ us)
+  by_test : (t : Bool) → is_final_answer u ≡ t → length (finals_up r us) ≡ count_by is_final_answer us
+      → length (map (final_from r) (cond t (u ∷ filter is_final_answer us) (filter is_final_answer us))) ≡ count_by is_final_answer (u ∷ us)
   by_test true is rest = omega (arith, count_cons is_final_answer u us, one_at (is_final_answer u) is, rest)
   by_test false is rest = omega (arith, count_cons is_final_answer u us, none_at (is_final_answer u) is, rest)
 
@@ -97,18 +102,22 @@ pub record IsAnswer (finals sent : List FinalAnswer) (r : OpenRequest) : Type 0 
 
 -- at most one, and none before it
 one_alone : (finals rest : List FinalAnswer) → length finals ≤ 1 → rest ≡ [] → AreOneAnswer (finals ++ rest)
-one_alone finals rest few e = inl (subst (λ (fs : List FinalAnswer). length (finals ++ fs) ≤ 1) (sym e) (subst (λ (fs : List FinalAnswer). length fs ≤ 1) (sym (append-nil finals)) few))
+one_alone finals rest few e = inl (subst (λ (fs : List FinalAnswer). length (finals ++ fs) ≤ 1) (sym e)
+    (subst (λ (fs : List FinalAnswer). length fs ≤ 1) (sym (append-nil finals)) few))
 
 -- a change that sends at most one, of a request that had none
-pub once_answers : (sent : List FinalAnswer) (change : Change) → AnswersOnce change → finals_to change.request.number sent ≡ [] → IsAnswer (change_finals change) sent change.request
+pub once_answers : (sent : List FinalAnswer) (change : Change) → AnswersOnce change → finals_to change.request.number sent ≡ []
+    → IsAnswer (change_finals change) sent change.request
 once_answers sent change h none = record {
   numbered_so = own;
   one = one_alone (change_finals change) (finals_to change.request.number sent) (omega (arith, up_length change.request change.upward, h.is_one)) none;
   fits = record {
-    owes = λ answering. finals_with change.request.number (change_finals change) sent own ∙ ap (λ (xs : List FinalAnswer). xs ++ finals_to change.request.number sent) (nothing answering) ∙ none;
+    owes = λ answering. finals_with change.request.number (change_finals change) sent own
+        ∙ ap (λ (xs : List FinalAnswer). xs ++ finals_to change.request.number sent) (nothing answering) ∙ none;
     accepts = λ invite success. subst (AllByRecursion IsAccepting) (sym (finals_with change.request.number (change_finals change) sent own))
         (all_append IsAccepting (change_finals change) (finals_to change.request.number sent)
-        (up_all (λ (u : Upward). has_success change.request.answer ≡ is_success u.status) IsAccepting change.request change.upward (λ u same. (invite, sym same ∙ success)) h.is_last)
+        (up_all (λ (u : Upward). has_success change.request.answer ≡ is_success u.status) IsAccepting change.request change.upward
+        (λ u same. (invite, sym same ∙ success)) h.is_last)
         (subst (AllByRecursion IsAccepting) (sym none) tt));
   };
 } where
@@ -122,7 +131,8 @@ once_answers sent change h none = record {
     by_count (suc n) e = absurd (cc (answering, h.is_answered (omega (arith, e))))
 
 -- further 2xx to an INVITE beside 2xx to it
-further_one : (finals rest : List FinalAnswer) → AllByRecursion (λ (f : FinalAnswer). IsAccepting f × AllByRecursion IsAccepting rest) finals → AreOneAnswer rest → AreOneAnswer (finals ++ rest)
+further_one : (finals rest : List FinalAnswer) → AllByRecursion (λ (f : FinalAnswer). IsAccepting f × AllByRecursion IsAccepting rest) finals → AreOneAnswer rest
+    → AreOneAnswer (finals ++ rest)
 further_one [] rest all one = one
 further_one (f ∷ fs) rest all one = inr (all_append IsAccepting (f ∷ fs) rest (each (f ∷ fs) all) all.0.1) where
   each : (gs : List FinalAnswer) → AllByRecursion (λ (g : FinalAnswer). IsAccepting g × AllByRecursion IsAccepting rest) gs → AllByRecursion IsAccepting gs
@@ -130,7 +140,8 @@ further_one (f ∷ fs) rest all one = inr (all_append IsAccepting (f ∷ fs) res
   each (g ∷ gs) h = (h.0.0, each gs h.1)
 
 -- what a change that sends nothing final but further 2xx leaves
-pub further_answers : (sent : List FinalAnswer) (r : OpenRequest) (change : Change) → AddsSuccessesAlone r change → change.request.number ≡ r.number → is_invite change.request ≡ is_invite r
+pub further_answers : (sent : List FinalAnswer) (r : OpenRequest) (change : Change) → AddsSuccessesAlone r change → change.request.number ≡ r.number
+    → is_invite change.request ≡ is_invite r
     → AreOneAnswer (finals_to r.number sent) → IsFit sent r → IsAnswer (change_finals change) sent change.request
 further_answers sent r change h number invites one fit = record {
   numbered_so = own;
@@ -146,7 +157,8 @@ further_answers sent r change h number invites one fit = record {
   own = up_numbered change.request change.upward
 
   accepting : AllByRecursion IsAccepting (change_finals change)
-  accepting = up_all (λ (u : Upward). (is_success u.status ≡ true) × (is_invite r ≡ true) × (has_success r.answer ≡ true)) IsAccepting change.request change.upward (λ u is. (invites ∙ is.1, is.0)) h.are_further
+  accepting = up_all (λ (u : Upward). (is_success u.status ≡ true) × (is_invite r ≡ true) × (has_success r.answer ≡ true)) IsAccepting change.request change.upward
+      (λ u is. (invites ∙ is.1, is.0)) h.are_further
 
   further : AllByRecursion (λ (f : FinalAnswer). IsAccepting f × AllByRecursion IsAccepting (finals_to change.request.number sent)) (change_finals change)
   further = up_all (λ (u : Upward). (is_success u.status ≡ true) × (is_invite r ≡ true) × (has_success r.answer ≡ true))

@@ -1,5 +1,6 @@
 -- What open requests keep: where their final answers come from, what goes up of these, and which branches are to be cancelled.
-use Rattle.std.proofs.Common.{◌≡◌, ℕ, ◌≤◌, ◌==◌, List, [], ◌∷◌, cond, Bool, true, false, refl, true≢false, ◌∙◌, ap, subst, sym, Contains, Option, Some, None, IfSome, option_map, arith}
+use Rattle.std.proofs.Common.{◌≡◌, ℕ, ◌≤◌, ◌==◌, List, [], ◌∷◌, cond, Bool, true, false, refl, true≢false, ◌∙◌, ap, subst, sym, Contains, Option, Some, None, IfSome}
+use Rattle.std.proofs.Common.{option_map, arith}
 use Rattle.std.specs.List.{AllByRecursion, flat_map}
 use Rattle.sip_message_fields.specs.declared.field_name.FieldName.{FieldName}
 use Rattle.sip_message_fields.specs.declared.field_name.FieldName.TheVariants as Name
@@ -9,7 +10,8 @@ use Rattle.sip_message_fields.specs.FieldName.{is_same_name}
 use Rattle.sip_message_fields.specs.Values.{without_first}
 use Rattle.sip_edit.specs.OwnVia.{without_top_via}
 use Rattle.sip_best.specs.declared.final_answer.Final.{Final}
-use Rattle.sip_best.specs.Best.{picked, chosen_of, is_unbeaten, is_challenge_status, is_challenge_field, challenge_fields, challenges_of, challenging, going_up, best_of, taking_along}
+use Rattle.sip_best.specs.Best.{picked, chosen_of, is_unbeaten, is_challenge_status, is_challenge_field, challenge_fields, challenges_of, challenging, going_up, best_of}
+use Rattle.sip_best.specs.Best.{taking_along}
 use Rattle.model_steps.specs.state.declared.server.Server.{Server}
 use Rattle.model_steps.specs.state.declared.branch.Branch.{Branch}
 use Rattle.model_steps.specs.state.declared.open_request.OpenRequest.{OpenRequest}
@@ -90,10 +92,12 @@ finals_before server link history number finals h =
     all_weaker (IsHonest server history number) (IsHonest server (link ∷ history) number) (λ f. honest_before_as server link history number f.status f.message) finals h
 
 -- so do those of all open requests
-pub honest_before : (server : Server) (link : Link) (history : List Link) (requests : List OpenRequest) → AreHonest server history requests → AreHonest server (link ∷ history) requests
+pub honest_before : (server : Server) (link : Link) (history : List Link) (requests : List OpenRequest) → AreHonest server history requests
+    → AreHonest server (link ∷ history) requests
 honest_before server link history requests h =
     all_weaker (IsHonestRequest server history) (IsHonestRequest server (link ∷ history))
-    (λ r own. record { finals = finals_before server link history r.number r.finals own.finals; marks = own.marks; differ = own.differ; numbers = own.numbers }) requests h
+    (λ r own. record { finals = finals_before server link history r.number r.finals own.finals; marks = own.marks; differ = own.differ; numbers = own.numbers }) requests
+    h
 
 -- nothing came in an empty history
 pub came_never : (server : Server) (number status : ℕ) (m : Message) → CameFor server [] number status m → ⊥
@@ -117,12 +121,14 @@ left_there name (field ∷ fields) = by_test (is_same_name field.name name) (lef
   later : (others : List Field) → AllByRecursion (Contains fields) others → AllByRecursion (Contains (field ∷ fields)) others
   later others h = all_weaker (Contains fields) (Contains (field ∷ fields)) (λ other there. tail_there field other fields there) others h
 
-  by_test : (t : Bool) → AllByRecursion (Contains fields) (without_first name fields) → AllByRecursion (Contains (field ∷ fields)) (cond t fields (field ∷ without_first name fields))
+  by_test : (t : Bool) → AllByRecursion (Contains fields) (without_first name fields)
+      → AllByRecursion (Contains (field ∷ fields)) (cond t fields (field ∷ without_first name fields))
   by_test true rest = later fields (all_there fields)
   by_test false rest = (head_there field fields, later (without_first name fields) rest)
 
 -- the challenges of a 401 or 407 of a history are its
-response_challenges : (server : Server) (history : List Link) (number status : ℕ) (m : Message) → is_challenge_status status ≡ true → IsResponse server history number status m
+response_challenges : (server : Server) (history : List Link) (number status : ℕ) (m : Message) → is_challenge_status status ≡ true
+    → IsResponse server history number status m
     → AllByRecursion (IsTakenAlong server history number) (challenge_fields (Some m))
 response_challenges server history number status m asks h =
     subst (λ (v : Message). AllByRecursion (IsTakenAlong server history number) (challenge_fields (Some v))) (sym h.is_same)
@@ -131,9 +137,11 @@ response_challenges server history number status m asks h =
     (without_first Name.Via h.response.fields) (left_there Name.Via h.response.fields))
 
 -- the challenges of an honest answer are those of a response of a history
-honest_challenges : (server : Server) (history : List Link) (number : ℕ) (f : Final) → IsHonest server history number f → AllByRecursion (IsTakenAlong server history number) (challenges_of f)
+honest_challenges : (server : Server) (history : List Link) (number : ℕ) (f : Final) → IsHonest server history number f
+    → AllByRecursion (IsTakenAlong server history number) (challenges_of f)
 honest_challenges server history number f h = by_test (is_challenge_status f.status) refl where
-  by_message : is_challenge_status f.status ≡ true → (o : Option Message) → IsHonestAs server history number f.status o → AllByRecursion (IsTakenAlong server history number) (challenge_fields o)
+  by_message : is_challenge_status f.status ≡ true → (o : Option Message) → IsHonestAs server history number f.status o
+      → AllByRecursion (IsTakenAlong server history number) (challenge_fields o)
   by_message asks None own = tt
   by_message asks (Some m) own = response_challenges server history number f.status m asks own
 
@@ -146,7 +154,8 @@ honest_all_challenges : (server : Server) (history : List Link) (number : ℕ) (
     → AllByRecursion (IsTakenAlong server history number) (flat_map challenges_of fs)
 honest_all_challenges server history number fs h =
     all_flat_map (IsTakenAlong server history number) challenges_of fs
-    (all_weaker (IsHonest server history number) (λ f. AllByRecursion (IsTakenAlong server history number) (challenges_of f)) (honest_challenges server history number) fs h)
+    (all_weaker (IsHonest server history number) (λ f. AllByRecursion (IsTakenAlong server history number) (challenges_of f)) (honest_challenges server history number) fs
+    h)
 
 -- ---- what goes up
 
@@ -179,28 +188,49 @@ picked_all P test (f ∷ fs) h = by_test (test f) (picked test fs) (picked_all P
   by_test false (Some x) rest = (rest.0, (h.0, rest.1))
 
 -- an honest 401 or 407 takes challenges along
-taken_with : (server : Server) (history : List Link) (number : ℕ) (status : ℕ) (o : Option Message) (challenges : List Field) → AllByRecursion (IsTakenAlong server history number) challenges
-    → is_challenge_status status ≡ true → IsHonestAs server history number status o → IsTakenAs server history number status (option_map (λ m. taking_along m challenges) o)
+taken_with : (server : Server) (history : List Link) (number : ℕ) (status : ℕ) (o : Option Message) (challenges : List Field)
+    → AllByRecursion (IsTakenAlong server history number) challenges
+    → is_challenge_status status ≡ true → IsHonestAs server history number status o →
+    IsTakenAs server history number status (option_map (λ m. taking_along m challenges) o)
 taken_with server history number status None challenges along asks h = h
 taken_with server history number status (Some m) challenges along asks h =
-    record { response = h.response; came = h.came; challenges = challenges; along = along; only_challenging = λ other. absurd (true≢false (sym asks ∙ other)); is_same = ap (λ v. taking_along v challenges) h.is_same }
+    record {
+      response = h.response;
+      came = h.came;
+      challenges = challenges;
+      along = along;
+      only_challenging = λ other. absurd (true≢false (sym asks ∙ other));
+      is_same = ap (λ v. taking_along v challenges) h.is_same;
+    }
 
 -- an honest answer goes up as it is
-taken_alone : (server : Server) (history : List Link) (number : ℕ) (status : ℕ) (o : Option Message) → IsHonestAs server history number status o → IsTakenAs server history number status o
+taken_alone : (server : Server) (history : List Link) (number : ℕ) (status : ℕ) (o : Option Message) → IsHonestAs server history number status o
+    → IsTakenAs server history number status o
 taken_alone server history number status None h = h
-taken_alone server history number status (Some m) h = record { response = h.response; came = h.came; challenges = []; along = tt; only_challenging = λ other. refl; is_same = h.is_same }
+taken_alone server history number status (Some m) h = record {
+  response = h.response;
+  came = h.came;
+  challenges = [];
+  along = tt;
+  only_challenging = λ other. refl;
+  is_same = h.is_same;
+}
 
 -- the chosen answer goes up, as it is, with challenges, or as a 500 made here
-going_up_taken : (server : Server) (history : List Link) (number : ℕ) (others : List Final) (f : Final) → IsHonest server history number f → AllByRecursion (IsHonest server history number) others
+going_up_taken : (server : Server) (history : List Link) (number : ℕ) (others : List Final) (f : Final) → IsHonest server history number f
+    → AllByRecursion (IsHonest server history number) others
     → GoesUp server history number (going_up others f)
 going_up_taken server history number others f h rest = by_tests (f.status == 503) (is_challenge_status f.status) refl where
-  by_tests : (t u : Bool) → is_challenge_status f.status ≡ u → GoesUp server history number (cond t (record { status = 500; message = None }) (cond u (challenging others f) f))
+  by_tests : (t u : Bool) → is_challenge_status f.status ≡ u → GoesUp server history number
+      (cond t (record { status = 500; message = None }) (cond u (challenging others f) f))
   by_tests true u asks = λ e. omega arith
-  by_tests false true asks = taken_with server history number f.status f.message (flat_map challenges_of others) (honest_all_challenges server history number others rest) asks h
+  by_tests false true asks = taken_with server history number f.status f.message (flat_map challenges_of others) (honest_all_challenges server history number others rest)
+      asks h
   by_tests false false asks = taken_alone server history number f.status f.message h
 
 -- the best of honest answers goes up
-pub best_taken : (server : Server) (history : List Link) (number : ℕ) (finals : List Final) → AllByRecursion (IsHonest server history number) finals → IfSome (best_of finals) (GoesUp server history number)
+pub best_taken : (server : Server) (history : List Link) (number : ℕ) (finals : List Final) → AllByRecursion (IsHonest server history number) finals
+    → IfSome (best_of finals) (GoesUp server history number)
 best_taken server history number finals h = by_choice (chosen_of finals) (picked_all (IsHonest server history number) (is_unbeaten finals) finals h) where
   by_choice : (o : Option (Final × List Final)) → IfSome o (λ x. IsHonest server history number x.0 × AllByRecursion (IsHonest server history number) x.1)
       → IfSome (option_map (λ x. going_up x.1 x.0) o) (GoesUp server history number)

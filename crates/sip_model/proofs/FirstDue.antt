@@ -1,5 +1,6 @@
 -- What is due first of open requests, and that fewer are left due once it fired or went again.
-use Rattle.std.proofs.Common.{◌≡◌, ◌⊎◌, ◌∙◌, inl, inr, ℕ, ◌+◌, ◌≤◌, Bool, true, false, cond, ◌==◌, nat_le, List, [], ◌∷◌, map, Option, Some, None, refl, ap, arith, count_by}
+use Rattle.std.proofs.Common.{◌≡◌, ◌⊎◌, ◌∙◌, inl, inr, ℕ, ◌+◌, ◌≤◌, Bool, true, false, cond, ◌==◌, nat_le, List, [], ◌∷◌, map, Option, Some, None, refl, ap, arith}
+use Rattle.std.proofs.Common.{count_by}
 use Rattle.std.proofs.lemmas.Bool.Decides.{nat_tests}
 use Rattle.std.specs.List.{AllByRecursion}
 use Rattle.sip_event.specs.declared.packet.Packet.{Packet}
@@ -9,7 +10,8 @@ use Rattle.model_steps.specs.state.declared.branch.Branch.{Branch}
 use Rattle.model_steps.specs.state.declared.open_request.OpenRequest.{OpenRequest}
 use Rattle.model_steps.specs.state.State.{is_invite, phase_deadline, side_deadline}
 use Rattle.model_steps.specs.context_model.Branches.{Change, is_same_branch, overdue, side_overdue}
-use Rattle.model_steps.specs.context_model.Retransmission.{answers_again, answer_due, answer_next, branch_next, insists, goes_again, resent_branch, with_resend, IsResent, OfAnswer, OfRequest}
+use Rattle.model_steps.specs.context_model.Retransmission.{answers_again, answer_due, answer_next, branch_next, insists, goes_again, resent_branch, with_resend, IsResent}
+use Rattle.model_steps.specs.context_model.Retransmission.{OfAnswer, OfRequest}
 use Rattle.model_steps.specs.context_model.Sending.{branch_packets}
 use Rattle.model_steps.specs.Step.{IsOverdue, OfSide, OfBranch}
 use Rattle.sip_model.proofs.Places.{IsIn, contains_from_in, in_from_contains, all_weaker, count_cons, one_at, none_at}
@@ -35,7 +37,8 @@ IsAt {X} f t xs = (x : X) × IsIn x xs × (f x ≡ Some t)
 first_at : {X : Type 0} (f : X → Option ℕ) (t : ℕ) (xs : List X) → AllByRecursion (λ x. DueFrom t (f x)) xs → IsAt f t xs ⊎ AllByRecursion (λ x. DueFrom (t + 1) (f x)) xs
 first_at f t [] all = inr tt
 first_at f t (x ∷ xs) all = by_head (due_next t (f x) all.0) (first_at f t xs all.1) where
-  by_head : (f x ≡ Some t) ⊎ DueFrom (t + 1) (f x) → IsAt f t xs ⊎ AllByRecursion (λ y. DueFrom (t + 1) (f y)) xs → IsAt f t (x ∷ xs) ⊎ AllByRecursion (λ y. DueFrom (t + 1) (f y)) (x ∷ xs)
+  by_head : (f x ≡ Some t) ⊎ DueFrom (t + 1) (f x) → IsAt f t xs ⊎ AllByRecursion (λ y. DueFrom (t + 1) (f y)) xs
+      → IsAt f t (x ∷ xs) ⊎ AllByRecursion (λ y. DueFrom (t + 1) (f y)) (x ∷ xs)
   by_head (inl is) rest = inl (x, inl refl, is)
   by_head (inr later) (inl found) = inl (found.0, inr found.1, found.2)
   by_head (inr later) (inr rest) = inr (later, rest)
@@ -60,7 +63,8 @@ overdue_of server t r h = by_parts (due_next t (side_deadline r.side) h.side_due
   by_parts (inr later) (inr all) = inr (record { side_due = later; branches_due = all })
 
 -- a deadline of one of some requests does, or all are later
-pub overdue_at : (server : Server) (t : ℕ) (requests : List OpenRequest) → AllByRecursion (IsDue t) requests → IsOverdueAt server t requests ⊎ AllByRecursion (IsDue (t + 1)) requests
+pub overdue_at : (server : Server) (t : ℕ) (requests : List OpenRequest) → AllByRecursion (IsDue t) requests
+    → IsOverdueAt server t requests ⊎ AllByRecursion (IsDue (t + 1)) requests
 overdue_at server t [] all = inr tt
 overdue_at server t (r ∷ rs) all = by_head (overdue_of server t r all.0) (overdue_at server t rs all.1) where
   by_head : ((change : Change) × IsOverdue server t r change) ⊎ IsDue (t + 1) r → IsOverdueAt server t rs ⊎ AllByRecursion (IsDue (t + 1)) rs
@@ -80,27 +84,40 @@ pub record IsResentAt (server : Server) (t : ℕ) (requests : List OpenRequest) 
   pub goes : IsResent server t request packets next
 
 -- branches with a wait, of which none goes again before the next moment
-later_branches : (t : ℕ) (invite : Bool) (bs : List Branch) → AllByRecursion (IsBranchAgain t invite) bs → AllByRecursion (λ (b : Branch). DueFrom (t + 1) (again_at invite b)) bs → AllByRecursion (IsBranchAgain (t + 1) invite) bs
+later_branches : (t : ℕ) (invite : Bool) (bs : List Branch) → AllByRecursion (IsBranchAgain t invite) bs
+    → AllByRecursion (λ (b : Branch). DueFrom (t + 1) (again_at invite b)) bs → AllByRecursion (IsBranchAgain (t + 1) invite) bs
 later_branches t invite [] waits all = tt
 later_branches t invite (b ∷ bs) waits all = (record { due_from = all.0; waits = waits.0.waits }, later_branches t invite bs waits.1 all.1)
 
 -- something of a request does, or all of it later
-resent_of : (server : Server) (t : ℕ) (r : OpenRequest) → IsAgain t r → ((packets : List Packet) × (next : OpenRequest) × IsResent server t r packets next) ⊎ IsAgain (t + 1) r
+resent_of : (server : Server) (t : ℕ) (r : OpenRequest) → IsAgain t r → ((packets : List Packet) × (next : OpenRequest) × IsResent server t r packets next)
+    ⊎ IsAgain (t + 1) r
 resent_of server t r h =
     by_parts (due_next t (answer_due r) h.answer_from)
-    (first_at (again_at (is_invite r)) t r.branches (all_weaker (IsBranchAgain t (is_invite r)) (λ (b : Branch). DueFrom t (again_at (is_invite r) b)) r.branches (λ b one. one.due_from) h.branches_again)) where
+    (first_at (again_at (is_invite r)) t r.branches (all_weaker (IsBranchAgain t (is_invite r)) (λ (b : Branch). DueFrom t (again_at (is_invite r) b)) r.branches
+    (λ b one. one.due_from) h.branches_again)) where
       by_parts : (answer_due r ≡ Some t) ⊎ DueFrom (t + 1) (answer_due r)
           → IsAt (again_at (is_invite r)) t r.branches ⊎ AllByRecursion (λ (b : Branch). DueFrom (t + 1) (again_at (is_invite r) b)) r.branches
           → ((packets : List Packet) × (next : OpenRequest) × IsResent server t r packets next) ⊎ IsAgain (t + 1) r
       by_parts (inl is) branches = inl (answers_again r r.answer, record r { again = answer_next r }, OfAnswer is)
-      by_parts (inr later) (inl found) = inl (branch_packets server true r found.0, with_resend found.0 r, OfRequest found.0 (contains_from_in r.branches found.0 found.1) found.2)
-      by_parts (inr later) (inr all) = inr (record { answer_from = later; answer_waits = h.answer_waits; branches_again = later_branches t (is_invite r) r.branches h.branches_again all })
+      by_parts (inr later) (inl found) = inl (
+        branch_packets server true r found.0,
+        with_resend found.0 r,
+        OfRequest found.0 (contains_from_in r.branches found.0 found.1) found.2,
+      )
+      by_parts (inr later) (inr all) = inr (record {
+        answer_from = later;
+        answer_waits = h.answer_waits;
+        branches_again = later_branches t (is_invite r) r.branches h.branches_again all;
+      })
 
 -- something of one of some requests does, or all of them later
-pub resent_at : (server : Server) (t : ℕ) (requests : List OpenRequest) → AllByRecursion (IsAgain t) requests → IsResentAt server t requests ⊎ AllByRecursion (IsAgain (t + 1)) requests
+pub resent_at : (server : Server) (t : ℕ) (requests : List OpenRequest) → AllByRecursion (IsAgain t) requests
+    → IsResentAt server t requests ⊎ AllByRecursion (IsAgain (t + 1)) requests
 resent_at server t [] all = inr tt
 resent_at server t (r ∷ rs) all = by_head (resent_of server t r all.0) (resent_at server t rs all.1) where
-  by_head : ((packets : List Packet) × (next : OpenRequest) × IsResent server t r packets next) ⊎ IsAgain (t + 1) r → IsResentAt server t rs ⊎ AllByRecursion (IsAgain (t + 1)) rs
+  by_head : ((packets : List Packet) × (next : OpenRequest) × IsResent server t r packets next) ⊎ IsAgain (t + 1) r
+      → IsResentAt server t rs ⊎ AllByRecursion (IsAgain (t + 1)) rs
       → IsResentAt server t (r ∷ rs) ⊎ AllByRecursion (IsAgain (t + 1)) (r ∷ rs)
   by_head (inl found) rest = inl (record { request = r; packets = found.0; next = found.1; is_open = inl refl; goes = found.2 })
   by_head (inr later) (inl found) = inl (record { request = found.request; packets = found.packets; next = found.next; is_open = inr found.is_open; goes = found.goes })
@@ -121,7 +138,8 @@ abbrev pub moments_by : ℕ → OpenRequest → ℕ
 moments_by t r = cond (nat_le r.again.due t) 1 0 + count_by (λ (b : Branch). nat_le b.again.due t) r.branches
 
 -- where one is due and isn't any longer, and no other becomes due, fewer are
-count_less : (p : Branch → Bool) (f : Branch → Branch) (bs : List Branch) (b : Branch) → ((x : Branch) → p (f x) ≡ true → p x ≡ true) → IsIn b bs → p b ≡ true → p (f b) ≡ false
+count_less : (p : Branch → Bool) (f : Branch → Branch) (bs : List Branch) (b : Branch) → ((x : Branch) → p (f x) ≡ true → p x ≡ true) → IsIn b bs → p b ≡ true
+    → p (f b) ≡ false
     → count_by p (map f bs) + 1 ≤ count_by p bs
 count_less p f [] b narrower h was is = absurd h
 count_less p f (x ∷ xs) b narrower (inl same) was is =
@@ -143,12 +161,14 @@ count_less p f (x ∷ xs) b narrower (inr there) was is = by_test (p (f x)) refl
   by_test false e rest = omega (arith, count_cons p x xs, count_cons p (f x) (map f xs), none_at (p (f x)) e, rest)
 
 -- the moment of a branch that went again is a later one
-moved : (t : ℕ) (b : Branch) (next : Resend) (x : Branch) (same : Bool) → nat_le next.due t ≡ false → nat_le (cond same (record x { again = next }) x).again.due t ≡ true → nat_le x.again.due t ≡ true
+moved : (t : ℕ) (b : Branch) (next : Resend) (x : Branch) (same : Bool) → nat_le next.due t ≡ false → nat_le (cond same (record x { again = next }) x).again.due t ≡ true
+    → nat_le x.again.due t ≡ true
 moved t b next x true late e = absurd (cc)
 moved t b next x false late e = e
 
 -- once something went again, fewer are due
-pub fewer_due : (server : Server) (t : ℕ) (r : OpenRequest) (packets : List Packet) (next : OpenRequest) → IsResent server t r packets next → IsAgain t r → moments_by t next + 1 ≤ moments_by t r
+pub fewer_due : (server : Server) (t : ℕ) (r : OpenRequest) (packets : List Packet) (next : OpenRequest) → IsResent server t r packets next → IsAgain t r
+    → moments_by t next + 1 ≤ moments_by t r
 fewer_due server t r _ _ (OfAnswer is) h =
     let due : r.again.due ≡ t = due_is r.again.due t (insists r) is in
     let later : t + 1 ≤ (answer_next r).due = (after_again (t + 1) 4000 r.again (omega arith) (omega (arith, due)) h.answer_waits).0 in

@@ -17,7 +17,8 @@ use Rattle.sip_model.proofs.Orders.{chain_named}
 use Rattle.sip_model.proofs.Rising.{chain_rising}
 
 -- requests whose numbers are below that of the next datagram
-all_fit : (server : Server) (history : List Link) (next : ℕ) (requests : List OpenRequest) → next ≤ 2 ^ 64 → AllByRecursion (λ (r : OpenRequest). r.number < next) requests
+all_fit : (server : Server) (history : List Link) (next : ℕ) (requests : List OpenRequest) → next ≤ 2 ^ 64
+    → AllByRecursion (λ (r : OpenRequest). r.number < next) requests
     → AreHonest server history requests → AllByRecursion HasNumbers requests
 all_fit server history next [] low below honest = tt
 all_fit server history next (r ∷ rs) low below honest = (
@@ -29,8 +30,10 @@ all_fit server history next (r ∷ rs) low below honest = (
 )
 
 -- those of every history, while the number of the next datagram is
-pub chain_fits : (server : Server) (first : ℕ) (history : List Link) (last : ProxyState) → IsChain server (first_state first) history last → last.next ≤ 2 ^ 64 → AllByRecursion HasNumbers last.requests
-chain_fits server first history last h low = all_fit server history last.next last.requests low (chain_rising server first history last h).below (honest_of_chain server first history last h)
+pub chain_fits : (server : Server) (first : ℕ) (history : List Link) (last : ProxyState) → IsChain server (first_state first) history last → last.next ≤ 2 ^ 64
+    → AllByRecursion HasNumbers last.requests
+chain_fits server first history last h low = all_fit server history last.next last.requests low (chain_rising server first history last h).below
+    (honest_of_chain server first history last h)
 
 -- so the branch that a response is to is found by its numbers
 pub chain_by_numbers : (server : Server) (first : ℕ) (history : List Link) (last : ProxyState) → IsChain server (first_state first) history last → last.next ≤ 2 ^ 64
@@ -42,5 +45,6 @@ chain_by_numbers server first history last h low = λ text method.
 pub chain_sixteen : (server : Server) (first : ℕ) (history : List Link) (last : ProxyState) → IsChain server (first_state first) history last
     → AllByRecursion (λ (r : OpenRequest). AllByRecursion (λ (b : Branch). b.number ≤ 16) r.branches) last.requests
 chain_sixteen server first history last h =
-    all_weaker (IsHonestRequest server history) (λ (r : OpenRequest). AllByRecursion (λ (b : Branch). b.number ≤ 16) r.branches) last.requests (λ r honest. honest.numbers)
+    all_weaker (IsHonestRequest server history) (λ (r : OpenRequest). AllByRecursion (λ (b : Branch). b.number ≤ 16) r.branches) last.requests
+    (λ r honest. honest.numbers)
     (honest_of_chain server first history last h)

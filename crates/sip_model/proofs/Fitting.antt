@@ -1,5 +1,6 @@
 -- What stands wherever a verdict on a datagram is given.
-use Rattle.std.proofs.Common.{◌≡◌, ◌∙◌, ℕ, ◌&&◌, ◌||◌, not, is_some, List, [], ◌∷◌, find, cond, codes, Bool, true, false, refl, ap, subst, Contains, Option, Some, None, Result, Ok, Err, IfSome, option_map, option_and_then, bytes_eq, arith}
+use Rattle.std.proofs.Common.{◌≡◌, ◌∙◌, ℕ, ◌&&◌, ◌||◌, not, is_some, List, [], ◌∷◌, find, cond, codes, Bool, true, false, refl, ap, subst, Contains, Option, Some, None}
+use Rattle.std.proofs.Common.{Result, Ok, Err, IfSome, option_map, option_and_then, bytes_eq, arith}
 use Rattle.std.specs.List.{AllByRecursion}
 use Rattle.std.specs.Option.{option_map_or}
 use Rattle.std.specs.Result.{result_ok}
@@ -43,7 +44,11 @@ use Rattle.model_steps.specs.context_model.Branches.{is_accepted}
 use Rattle.model_steps.specs.context_model.FoundBranch.{is_branch, branch_in, found_branch}
 use Rattle.model_steps.specs.state.Arrival.{Arrival}
 use Rattle.model_steps.specs.verdict_model.declared.question.Question.{Question}
-use Rattle.model_steps.specs.verdict_model.Verdict.{Registered, Bound, Refused, Verdict, Drop, Respond, Copy, AckOn, Cancel, Answer, InDialog, Challenge, Deny, Send, Register, is_many, response_verdict, top_branch, responding, next_address, within_at, within, ack_verdict, is_full, is_cancelled_by, found_for_cancel, cancel_verdict, is_register, question_of, registered_by, registration_by, is_own_uri, request_targets, decided, policy_verdict, is_outside, core_verdict, checked_verdict, new_verdict, by_open, by_key, by_start, message_verdict, message_in}
+use Rattle.model_steps.specs.verdict_model.Verdict.{Registered, Bound, Refused, Verdict, Drop, Respond, Copy, AckOn, Cancel, Answer, InDialog, Challenge, Deny, Send}
+use Rattle.model_steps.specs.verdict_model.Verdict.{Register, is_many, response_verdict, top_branch, responding, next_address, within_at, within, ack_verdict, is_full}
+use Rattle.model_steps.specs.verdict_model.Verdict.{is_cancelled_by, found_for_cancel, cancel_verdict, is_register, question_of, registered_by, registration_by}
+use Rattle.model_steps.specs.verdict_model.Verdict.{is_own_uri, request_targets, decided, policy_verdict, is_outside, core_verdict, checked_verdict, new_verdict, by_open}
+use Rattle.model_steps.specs.verdict_model.Verdict.{by_key, by_start, message_verdict, message_in}
 use Rattle.model_steps.specs.Effect.{method_of}
 use Rattle.model_steps.specs.Step.{Act}
 use Rattle.sip_model.specs.Access.{IsNewRequest, IsSaidAt, IsWithin, decision_on, rule_of}
@@ -181,14 +186,27 @@ ok_is (Err f) x e = absurd (cc)
 -- each check refuses by a final status, and none by 403
 refusal_other : (own : Own) (m : Message) (short : Bool) → IfSome (refusal_of own m short) (λ refused. IsOtherFinal refused.0)
 refusal_other own m short = by_candidate (candidate_of own m short) where
-  by_row : (r : Candidate) (o : Option Row) → IfSome o (λ row. IsOtherFinal row.status) → IfSome {T = ℕ × List ℕ} (option_map (λ row. (row.status, row.extra r)) o) (λ refused. IsOtherFinal refused.0)
+  by_row : (r : Candidate) (o : Option Row) → IfSome o (λ row. IsOtherFinal row.status)
+      → IfSome {T = ℕ × List ℕ} (option_map (λ row. (row.status, row.extra r)) o) (λ refused. IsOtherFinal refused.0)
   by_row r None h = tt
   by_row r (Some row) h = h
 
   others : AllByRecursion (λ (row : Row). IsOtherFinal row.status) rows
   others = (
     (refl, λ e. omega arith),
-    ((refl, λ e. omega arith), ((refl, λ e. omega arith), ((refl, λ e. omega arith), ((refl, λ e. omega arith), ((refl, λ e. omega arith), ((refl, λ e. omega arith), tt)))))),
+    (
+      (refl, λ e. omega arith),
+      (
+        (refl, λ e. omega arith),
+        (
+          (refl, λ e. omega arith),
+          (
+            (refl, λ e. omega arith),
+            ((refl, λ e. omega arith), ((refl, λ e. omega arith), tt)),
+          ),
+        ),
+      ),
+    ),
   )
 
   by_candidate : (o : Option Candidate) → IfSome (option_map_or refusal o None) (λ refused. IsOtherFinal refused.0)
@@ -196,7 +214,8 @@ refusal_other own m short = by_candidate (candidate_of own m short) where
   by_candidate (Some r) = by_row r (find (λ row. row.applies r) rows) (all_find (λ (row : Row). IsOtherFinal row.status) (λ row. row.applies r) rows others)
 
 -- a request that passes every check has its whole body
-passes_whole : (own : Own) (m : Message) (method uri version : List ℕ) (short : Bool) → m.start ≡ Request method uri version → refusal_of own m short ≡ None → short ≡ false
+passes_whole : (own : Own) (m : Message) (method uri version : List ℕ) (short : Bool) → m.start ≡ Request method uri version → refusal_of own m short ≡ None
+    → short ≡ false
 passes_whole own m method uri version true is_request passes =
     let refused : refusal_of own m true ≡ Some (400, []) = ap (λ start. option_map_or refusal (candidate_by own m.fields true start) None) is_request in
     absurd (cc)
@@ -209,15 +228,18 @@ found_there : (server : Server) (text method : List ℕ) (requests rs : List Ope
     → IfSome (found_branch server text method rs) (λ x. Contains requests x.0 × Contains x.0.branches x.1)
 found_there server text method requests [] h = tt
 found_there server text method requests (r ∷ rs) h =
-    by_branch (branch_in server text method r) (all_find (Contains r.branches) (is_branch server text method r) r.branches (all_there r.branches)) (found_branch server text method rs)
+    by_branch (branch_in server text method r) (all_find (Contains r.branches) (is_branch server text method r) r.branches (all_there r.branches))
+    (found_branch server text method rs)
     (found_there server text method requests rs h.1) where
-      by_branch : (o : Option Branch) → IfSome o (Contains r.branches) → (later : Option (OpenRequest × Branch)) → IfSome later (λ x. Contains requests x.0 × Contains x.0.branches x.1)
+      by_branch : (o : Option Branch) → IfSome o (Contains r.branches) → (later : Option (OpenRequest × Branch))
+          → IfSome later (λ x. Contains requests x.0 × Contains x.0.branches x.1)
           → IfSome {T = OpenRequest × Branch} (option_map_or (λ b. Some (r, b)) o later) (λ x. Contains requests x.0 × Contains x.0.branches x.1)
       by_branch None found later rest = rest
       by_branch (Some b) found later rest = (h.0, found)
 
 -- so is the branch that the fields of a response name
-responding_there : (server : Server) (requests : List OpenRequest) (fields : List Field) → IfSome (responding server requests fields) (λ x. Contains requests x.0 × Contains x.0.branches x.1)
+responding_there : (server : Server) (requests : List OpenRequest) (fields : List Field)
+    → IfSome (responding server requests fields) (λ x. Contains requests x.0 × Contains x.0.branches x.1)
 responding_there server requests fields =
     and_then_all (λ (x : OpenRequest × Branch). Contains requests x.0 × Contains x.0.branches x.1)
     (λ text. option_and_then (λ (cseq : CSeq). found_branch server text cseq.method requests) (result_ok (cseq_in fields)))
@@ -265,7 +287,8 @@ passing server m short method uri version is_request no_register no_cancel valid
     }
 
 -- what is no ACK by its method is none
-pub brought : (state : ProxyState) (m : Message) (method uri version : List ℕ) (key : Key) → m.start ≡ Request method uri version → key_of m ≡ Some key → find (has_key key) state.requests ≡ None
+pub brought : (state : ProxyState) (m : Message) (method uri version : List ℕ) (key : Key) → m.start ≡ Request method uri version → key_of m ≡ Some key
+    → find (has_key key) state.requests ≡ None
     → bytes_eq method (codes "ACK") ≡ false → IsBrought state m
 brought state m method uri version key is_request key_is is_new no_ack =
     record { key = key; key_is = key_is; is_new = is_new; is_no_ack = ap (λ (start : Start). bytes_eq (method_of start) (codes "ACK")) is_request ∙ no_ack }
@@ -280,23 +303,32 @@ module _ (server : Server) (state : ProxyState) (a : Arrival) (bytes : List ℕ)
       → ((address : Addr) (id : DialogId) → IsInside server state a m short address id → Fits server state a bytes m short (on address id))
       → Fits server state a bytes m short otherwise → Fits server state a bytes m short (within server state a.now m on otherwise)
   within_fits on otherwise passes fits fits_otherwise = by_options (dialog_of m) refl (next_address server m) refl where
-    by_test : (address : Addr) (id : DialogId) → dialog_of m ≡ Some id → next_address server m ≡ Some address → (t : Bool) → is_in_dialog a.now state.dialogs id address ≡ t
+    by_test : (address : Addr) (id : DialogId) → dialog_of m ≡ Some id → next_address server m ≡ Some address → (t : Bool)
+        → is_in_dialog a.now state.dialogs id address ≡ t
         → Fits server state a bytes m short (cond t (on address id) otherwise)
-    by_test address id named goes true is = fits address id (record { passing = passes; has_dialog = named; goes_to = goes; in_dialog = test_says a.now state.dialogs id address is })
+    by_test address id named goes true is = fits address id (record {
+      passing = passes;
+      has_dialog = named;
+      goes_to = goes;
+      in_dialog = test_says a.now state.dialogs id address is;
+    })
     by_test address id named goes false is = fits_otherwise
 
-    by_options : (o : Option DialogId) → dialog_of m ≡ o → (p : Option Addr) → next_address server m ≡ p → Fits server state a bytes m short (within_at state a.now on otherwise o p)
+    by_options : (o : Option DialogId) → dialog_of m ≡ o → (p : Option Addr) → next_address server m ≡ p
+        → Fits server state a bytes m short (within_at state a.now on otherwise o p)
     by_options None named p goes = fits_otherwise
     by_options (Some id) named None goes = fits_otherwise
     by_options (Some id) named (Some address) goes = by_test address id named goes (is_in_dialog a.now state.dialogs id address) refl
 
   -- an ACK that no open request takes
-  ack_fits : (method uri version : List ℕ) → m.start ≡ Request method uri version → bytes_eq method (codes "ACK") ≡ true → Fits server state a bytes m short (ack_verdict server state a.now m short)
+  ack_fits : (method uri version : List ℕ) → m.start ≡ Request method uri version → bytes_eq method (codes "ACK") ≡ true
+      → Fits server state a bytes m short (ack_verdict server state a.now m short)
   ack_fits method uri version is_request ack = by_refusal (refusal_of server.config.own m short) refl where
     is_ack : bytes_eq (method_of m.start) (codes "ACK") ≡ true
     is_ack = ap (λ (start : Start). bytes_eq (method_of start) (codes "ACK")) is_request ∙ ack
 
-    by_refusal : (o : Option (ℕ × List ℕ)) → refusal_of server.config.own m short ≡ o → Fits server state a bytes m short (cond (is_some o) Drop (within server state a.now m AckOn Drop))
+    by_refusal : (o : Option (ℕ × List ℕ)) → refusal_of server.config.own m short ≡ o
+        → Fits server state a bytes m short (cond (is_some o) Drop (within server state a.now m AckOn Drop))
     by_refusal (Some refused) valid = tt
     by_refusal None valid =
         within_fits AckOn Drop
@@ -304,7 +336,8 @@ module _ (server : Server) (state : ProxyState) (a : Arrival) (bytes : List ℕ)
         (λ address id h. (h, is_ack)) tt
 
   -- a CANCEL whose key isn't open
-  cancel_fits : (method uri version : List ℕ) (key : Key) → m.start ≡ Request method uri version → bytes_eq method (codes "CANCEL") ≡ true → key_of m ≡ Some key → IsBrought state m
+  cancel_fits : (method uri version : List ℕ) (key : Key) → m.start ≡ Request method uri version → bytes_eq method (codes "CANCEL") ≡ true → key_of m ≡ Some key
+      → IsBrought state m
       → Fits server state a bytes m short (cancel_verdict server state a m short key)
   cancel_fits method uri version key is_request cancel key_is fresh = by_tests (is_bad_request server.config.own m short) (is_full state) where
     same_source : (r : OpenRequest) → Contains state.requests r → (t : Bool) → IfSome (cond t (Some r) None) (Contains state.requests)
@@ -326,23 +359,39 @@ module _ (server : Server) (state : ProxyState) (a : Arrival) (bytes : List ℕ)
           key_is = key_is;
           is_cancel = ap (λ (start : Start). bytes_eq (method_of start) (codes "CANCEL")) is_request ∙ cancel;
           found_is = refl;
-          there = by_found (find (is_cancelled_by key) state.requests) (all_find (Contains state.requests) (is_cancelled_by key) state.requests (all_there state.requests));
+          there = by_found (find (is_cancelled_by key) state.requests) (all_find (Contains state.requests) (is_cancelled_by key) state.requests
+              (all_there state.requests));
         }
 
   -- what policy decides fits a valid new request
-  policy_fits : (method : List ℕ) (core : CoreFields) → IsNewRequest server state bytes m method core → Fits server state a bytes m short (policy_verdict server state a.now m method core)
+  policy_fits : (method : List ℕ) (core : CoreFields) → IsNewRequest server state bytes m method core
+      → Fits server state a bytes m short (policy_verdict server state a.now m method core)
   policy_fits method core is_new = by_decision (decision_on server state a.now m method core) refl where
     question : Question
     question = question_of server state.nonces a.now m method core
 
     let_fits : (d : Decision) (id : ℕ) → rule_of d ≡ Some id → decision_on server state a.now m method core ≡ d → (t : Bool) → is_register method ≡ t
-        → Fits server state a bytes m short (cond t (Register question id (registration_by server state.bindings a.now m core)) (Send question id (request_targets server state.bindings a.now m question d)))
+        → Fits server state a bytes m short (cond t (Register question id (registration_by server state.bindings a.now m core))
+        (Send question id (request_targets server state.bindings a.now m question d)))
     let_fits d id rule is true t_is =
-        record { decision = d; asked = record { method = method; core = core; is_new = is_new; question = refl; decision = is }; rule = rule; is_one = t_is; outcome_is = refl }
+        record {
+          decision = d;
+          asked = record { method = method; core = core; is_new = is_new; question = refl; decision = is };
+          rule = rule;
+          is_one = t_is;
+          outcome_is = refl;
+        }
     let_fits d id rule is false t_is =
-        record { decision = d; asked = record { method = method; core = core; is_new = is_new; question = refl; decision = is }; rule = rule; is_other = t_is; targets_are = refl }
+        record {
+          decision = d;
+          asked = record { method = method; core = core; is_new = is_new; question = refl; decision = is };
+          rule = rule;
+          is_other = t_is;
+          targets_are = refl;
+        }
 
-    by_decision : (d : Decision) → decision_on server state a.now m method core ≡ d → Fits server state a bytes m short (decided server state a.now m method core question d)
+    by_decision : (d : Decision) → decision_on server state a.now m method core ≡ d →
+        Fits server state a bytes m short (decided server state a.now m method core question d)
     by_decision Decision.Challenge is = record { method = method; core = core; is_new = is_new; question = refl; decision = is }
     by_decision (Decision.Deny id) is = record { method = method; core = core; is_new = is_new; question = refl; decision = is }
     by_decision (Decision.Allow id) is = let_fits (Decision.Allow id) id refl is (is_register method) refl
@@ -376,36 +425,42 @@ module _ (server : Server) (state : ProxyState) (a : Arrival) (bytes : List ℕ)
   checked_fits : (method uri version : List ℕ) (key : Key) → m.start ≡ Request method uri version → key_of m ≡ Some key → find (has_key key) state.requests ≡ None
       → bytes_eq method (codes "ACK") ≡ false → bytes_eq method (codes "CANCEL") ≡ false
       → Fits server state a bytes m short (checked_verdict server state a.now m method (refusal_of server.config.own m short))
-  checked_fits method uri version key is_request key_is is_new no_ack no_cancel = by_refusal (refusal_of server.config.own m short) refl (refusal_other server.config.own m short) where
-    fresh : IsBrought state m
-    fresh = brought state m method uri version key is_request key_is is_new no_ack
+  checked_fits method uri version key is_request key_is is_new no_ack no_cancel = by_refusal (refusal_of server.config.own m short) refl
+      (refusal_other server.config.own m short) where
+        fresh : IsBrought state m
+        fresh = brought state m method uri version key is_request key_is is_new no_ack
 
-    inside : (core : CoreFields) → is_outside method core ≡ false → is_register method ≡ false
-    inside core outside = by_tests (is_register method) (not (is_some (id_of core))) outside where
-      by_tests : (t u : Bool) → (t || u) ≡ false → t ≡ false
-      by_tests true u e = e
-      by_tests false u e = refl
+        inside : (core : CoreFields) → is_outside method core ≡ false → is_register method ≡ false
+        inside core outside = by_tests (is_register method) (not (is_some (id_of core))) outside where
+          by_tests : (t u : Bool) → (t || u) ≡ false → t ≡ false
+          by_tests true u e = e
+          by_tests false u e = refl
 
-    outside_fits : (core : CoreFields) → refusal_of server.config.own m short ≡ None → is_full state ≡ false → result_ok (core_of m) ≡ Some core → (t : Bool) → is_outside method core ≡ t
-        → Fits server state a bytes m short (cond t (policy_verdict server state a.now m method core) (within server state a.now m InDialog (Answer 481 [])))
-    outside_fits core valid room core_is true outside =
-        policy_fits server state a bytes m short method core (new_request server state bytes m method uri version short key core said is_request key_is is_new no_ack no_cancel valid room core_is outside)
-    outside_fits core valid room core_is false outside =
-        within_fits server state a bytes m short InDialog (Answer 481 []) (passing server m short method uri version is_request (inside core outside) no_cancel valid) (λ address id h. (fresh, h))
-        (fresh, (refl, λ e. omega arith))
+        outside_fits : (core : CoreFields) → refusal_of server.config.own m short ≡ None → is_full state ≡ false → result_ok (core_of m) ≡ Some core → (t : Bool)
+            → is_outside method core ≡ t
+            → Fits server state a bytes m short (cond t (policy_verdict server state a.now m method core) (within server state a.now m InDialog (Answer 481 [])))
+        outside_fits core valid room core_is true outside =
+            policy_fits server state a bytes m short method core (new_request server state bytes m method uri version short key core said is_request key_is is_new no_ack
+            no_cancel valid room core_is outside)
+        outside_fits core valid room core_is false outside =
+            within_fits server state a bytes m short InDialog (Answer 481 []) (passing server m short method uri version is_request (inside core outside) no_cancel valid)
+            (λ address id h. (fresh, h))
+            (fresh, (refl, λ e. omega arith))
 
-    by_core : refusal_of server.config.own m short ≡ None → is_full state ≡ false → (o : Option CoreFields) → result_ok (core_of m) ≡ o → Fits server state a bytes m short (core_verdict server state a.now m method o)
-    by_core valid room None core_is = tt
-    by_core valid room (Some core) core_is = outside_fits core valid room core_is (is_outside method core) refl
+        by_core : refusal_of server.config.own m short ≡ None → is_full state ≡ false → (o : Option CoreFields) → result_ok (core_of m) ≡ o
+            → Fits server state a bytes m short (core_verdict server state a.now m method o)
+        by_core valid room None core_is = tt
+        by_core valid room (Some core) core_is = outside_fits core valid room core_is (is_outside method core) refl
 
-    by_room : refusal_of server.config.own m short ≡ None → (t : Bool) → is_full state ≡ t
-        → Fits server state a bytes m short (cond t (Answer 503 []) (core_verdict server state a.now m method (result_ok (core_of m))))
-    by_room valid true room = (fresh, (refl, λ e. omega arith))
-    by_room valid false room = by_core valid room (result_ok (core_of m)) refl
+        by_room : refusal_of server.config.own m short ≡ None → (t : Bool) → is_full state ≡ t
+            → Fits server state a bytes m short (cond t (Answer 503 []) (core_verdict server state a.now m method (result_ok (core_of m))))
+        by_room valid true room = (fresh, (refl, λ e. omega arith))
+        by_room valid false room = by_core valid room (result_ok (core_of m)) refl
 
-    by_refusal : (o : Option (ℕ × List ℕ)) → refusal_of server.config.own m short ≡ o → IfSome o (λ refused. IsOtherFinal refused.0) → Fits server state a bytes m short (checked_verdict server state a.now m method o)
-    by_refusal None valid other = by_room valid (is_full state) refl
-    by_refusal (Some refused) valid other = (fresh, other)
+        by_refusal : (o : Option (ℕ × List ℕ)) → refusal_of server.config.own m short ≡ o → IfSome o (λ refused. IsOtherFinal refused.0)
+            → Fits server state a bytes m short (checked_verdict server state a.now m method o)
+        by_refusal None valid other = by_room valid (is_full state) refl
+        by_refusal (Some refused) valid other = (fresh, other)
 
   -- a request whose key isn't open
   new_fits : (method uri version : List ℕ) (key : Key) → m.start ≡ Request method uri version → key_of m ≡ Some key → find (has_key key) state.requests ≡ None
@@ -415,11 +470,13 @@ module _ (server : Server) (state : ProxyState) (a : Arrival) (bytes : List ℕ)
         → Fits server state a bytes m short (cond t (ack_verdict server state a.now m short)
         (cond u (cancel_verdict server state a m short key) (checked_verdict server state a.now m method (refusal_of server.config.own m short))))
     by_tests true ack u cancel = ack_fits server state a bytes m short method uri version is_request ack
-    by_tests false ack true cancel = cancel_fits server state a bytes m short method uri version key is_request cancel key_is (brought state m method uri version key is_request key_is is_new ack)
+    by_tests false ack true cancel = cancel_fits server state a bytes m short method uri version key is_request cancel key_is
+        (brought state m method uri version key is_request key_is is_new ack)
     by_tests false ack false cancel = checked_fits method uri version key is_request key_is is_new ack cancel
 
   -- a request
-  request_fits : (method uri version : List ℕ) → m.start ≡ Request method uri version → Fits server state a bytes m short (by_key server state a m short method (key_of m))
+  request_fits : (method uri version : List ℕ) → m.start ≡ Request method uri version
+      → Fits server state a bytes m short (by_key server state a m short method (key_of m))
   request_fits method uri version is_request = by_option (key_of m) refl where
     copy_fits : (r : OpenRequest) → IsCopy state m r → (t : Bool) → bytes_eq method (codes "ACK") ≡ t → (u : Bool)
         → Fits server state a bytes m short (cond (t && u) (ack_verdict server state a.now m short) (Copy r))
@@ -430,21 +487,25 @@ module _ (server : Server) (state : ProxyState) (a : Arrival) (bytes : List ℕ)
     by_found : (key : Key) → key_of m ≡ Some key → (o : Option OpenRequest) → find (has_key key) state.requests ≡ o → IfSome o (Contains state.requests)
         → Fits server state a bytes m short (by_open server state a m short method key o)
     by_found key key_is None is there = new_fits method uri version key is_request key_is is
-    by_found key key_is (Some r) is there = copy_fits r (record { key = key; key_is = key_is; is_open = is; there = there }) (bytes_eq method (codes "ACK")) refl (is_accepted r)
+    by_found key key_is (Some r) is there = copy_fits r (record { key = key; key_is = key_is; is_open = is; there = there }) (bytes_eq method (codes "ACK")) refl
+        (is_accepted r)
 
     by_option : (o : Option Key) → key_of m ≡ o → Fits server state a bytes m short (by_key server state a m short method o)
     by_option None key_is = tt
-    by_option (Some key) key_is = by_found key key_is (find (has_key key) state.requests) refl (all_find (Contains state.requests) (has_key key) state.requests (all_there state.requests))
+    by_option (Some key) key_is = by_found key key_is (find (has_key key) state.requests) refl
+        (all_find (Contains state.requests) (has_key key) state.requests (all_there state.requests))
 
   -- a response
   response_fits : (code : ℕ) (reason : List ℕ) → m.start ≡ Status code reason → Fits server state a bytes m short (by_start server state a m short (Status code reason))
   response_fits code reason is_response = by_short short refl where
-    by_test : short ≡ false → (x : OpenRequest × Branch) → responding server state.requests m.fields ≡ Some x → Contains state.requests x.0 × Contains x.0.branches x.1 → (t : Bool)
+    by_test : short ≡ false → (x : OpenRequest × Branch) → responding server state.requests m.fields ≡ Some x → Contains state.requests x.0 × Contains x.0.branches x.1
+        → (t : Bool)
         → Fits server state a bytes m short (cond t (Respond x.0 x.1 code) Drop)
     by_test whole x e there true = record { reason = reason; is_whole = whole; is_response = is_response; there = there.0; in_it = there.1; is_for = e }
     by_test whole x e there false = tt
 
-    by_found : short ≡ false → (o : Option (OpenRequest × Branch)) → responding server state.requests m.fields ≡ o → IfSome o (λ x. Contains state.requests x.0 × Contains x.0.branches x.1)
+    by_found : short ≡ false → (o : Option (OpenRequest × Branch)) → responding server state.requests m.fields ≡ o
+        → IfSome o (λ x. Contains state.requests x.0 × Contains x.0.branches x.1)
         → Fits server state a bytes m short (response_verdict m.fields code o)
     by_found whole None e there = tt
     by_found whole (Some x) e there = by_test whole x e there (x.1.is_cancel || is_many (values_of Name.Via m.fields))

@@ -19,7 +19,8 @@ use Rattle.model_steps.specs.state.declared.proxy_state.ProxyState.{ProxyState}
 use Rattle.model_steps.specs.state.State.{first_state}
 use Rattle.model_steps.proofs.of_state.Sameness.{after_request_same}
 use Rattle.model_steps.specs.state.Arrival.{Arrival}
-use Rattle.model_steps.specs.verdict_model.Verdict.{Bound, Refused, Verdict, Drop, Respond, Copy, AckOn, Cancel, Answer, InDialog, Challenge, Deny, Send, Register, verdict_of}
+use Rattle.model_steps.specs.verdict_model.Verdict.{Bound, Refused, Verdict, Drop, Respond, Copy, AckOn, Cancel, Answer, InDialog, Challenge, Deny, Send, Register}
+use Rattle.model_steps.specs.verdict_model.Verdict.{verdict_of}
 use Rattle.model_steps.specs.state.Dialogs.{after_request}
 use Rattle.model_steps.specs.context_model.Branches.{settled, responded, send_failed, cancelled}
 use Rattle.sip_targets.specs.Targets.{target_list}
@@ -27,7 +28,8 @@ use Rattle.model_steps.specs.context_model.Opening.{forking, branches_from, dial
 use Rattle.model_steps.specs.Effect.{Effect, counted, effect_of, nothing}
 use Rattle.model_steps.specs.Step.{Act, Given, Passing, IsStep, arrival_of, is_failed, failed_branch, failed_request, moment_of}
 use Rattle.sip_model.specs.Run.{Link, under, IsChain}
-use Rattle.sip_model.specs.Histories.{Judged, judged_at, nonces_by, nonces_after, records_of, records_at, verdict_dialogs, forking_dialogs, branch_dialogs, fault_dialogs, step_dialogs, history_dialogs}
+use Rattle.sip_model.specs.Histories.{Judged, judged_at, nonces_by, nonces_after, records_of, records_at, verdict_dialogs, forking_dialogs, branch_dialogs, fault_dialogs}
+use Rattle.sip_model.specs.Histories.{step_dialogs, history_dialogs}
 use Rattle.sip_model.proofs.Steps.{stands_at, step_taken}
 use Rattle.sip_model.proofs.Deadlines.{chain_passes_none}
 use Rattle.sip_model.proofs.Again.{chain_again}
@@ -65,7 +67,8 @@ effect_nonces server a m (Register q id (Bound rows)) state = refl
 effect_nonces server a m (Register q id (Refused status extras)) state = refl
 
 datagram_nonces : (server : Server) (a : Arrival) (state : ProxyState) (o : Option (Message × Verdict))
-    → (DatagramEffect server a state o).state.nonces ≡ option_map_or (nonces_by state.nonces) (option_map (λ x. record { arrival = a; message = x.0; verdict = x.1 }) o) state.nonces
+    → (DatagramEffect server a state o).state.nonces ≡ option_map_or (nonces_by state.nonces) (option_map (λ x. record { arrival = a; message = x.0; verdict = x.1 }) o)
+    state.nonces
 datagram_nonces server a state None = refl
 datagram_nonces server a state (Some x) = effect_nonces server a x.0 x.1 (counted a state)
 
@@ -74,7 +77,8 @@ branch_nonces : (server : Server) (now : ℕ) (state : ProxyState) (r : OpenRequ
 branch_nonces server now state r None = refl
 branch_nonces server now state r (Some b) = refl
 
-request_nonces : (server : Server) (now : ℕ) (ticket : Ticket) (state : ProxyState) (r : Option OpenRequest) → (failed_request server now ticket state r).state.nonces ≡ state.nonces
+request_nonces : (server : Server) (now : ℕ) (ticket : Ticket) (state : ProxyState) (r : Option OpenRequest)
+    → (failed_request server now ticket state r).state.nonces ≡ state.nonces
 request_nonces server now ticket state None = refl
 request_nonces server now ticket state (Some r) = branch_nonces server now state r (find (is_failed ticket.branch) r.branches)
 
@@ -84,17 +88,20 @@ step_nonces server old (Given (Datagram at word from bytes)) out new h =
     h.does.leaves.nonces ∙ datagram_nonces server (arrival_of old at word from) old (verdict_of server old (arrival_of old at word from) bytes)
 step_nonces server old (Given (Time at)) out new h = h.quiet.does.leaves.nonces
 step_nonces server old (Given (Fault at ticket)) out new h =
-    h.does.leaves.nonces ∙ request_nonces server (moment_of old at) ticket (record old { moment = moment_of old at }) (find (λ (r : OpenRequest). r.number == ticket.datagram) old.requests)
+    h.does.leaves.nonces ∙ request_nonces server (moment_of old at) ticket (record old { moment = moment_of old at })
+    (find (λ (r : OpenRequest). r.number == ticket.datagram) old.requests)
 step_nonces server old (Passing at) out new (inl quiet) = quiet.does.leaves.nonces
 step_nonces server old (Passing at) out new (inr (inl due)) = due.does.leaves.nonces
 step_nonces server old (Passing at) out new (inr (inr goes)) = goes.does.leaves.nonces
 
 -- The nonces after a history are those that its verdicts say
-pub nonces_of_chain : (server : Server) (first : ℕ) (history : List Link) (last : ProxyState) → IsChain server (first_state first) history last → last.nonces ≡ nonces_after server history
+pub nonces_of_chain : (server : Server) (first : ℕ) (history : List Link) (last : ProxyState) → IsChain server (first_state first) history last
+    → last.nonces ≡ nonces_after server history
 nonces_of_chain server first [] last h = ap (λ (s : ProxyState). s.nonces) h
 nonces_of_chain server first (link ∷ history) last h =
     ap (λ (s : ProxyState). s.nonces) h.0 ∙ step_nonces (under server link.config) link.before link.act link.out link.after h.1
-    ∙ ap (λ (nonces : List Nonce). option_map_or (nonces_by nonces) (judged_at (under server link.config) link.before link.act) nonces) (nonces_of_chain server first history link.before h.2)
+    ∙ ap (λ (nonces : List Nonce). option_map_or (nonces_by nonces) (judged_at (under server link.config) link.before link.act) nonces)
+    (nonces_of_chain server first history link.before h.2)
 
 -- ---- the audit log
 
@@ -117,7 +124,8 @@ effect_records server a m (Register q id (Bound rows)) state = refl
 effect_records server a m (Register q id (Refused status extras)) state = refl
 
 datagram_records : (server : Server) (a : Arrival) (state : ProxyState) (o : Option (Message × Verdict))
-    → (DatagramEffect server a state o).records ≡ option_map_or (λ (j : Judged). records_of server j.arrival j.message j.verdict) (option_map (λ x. record { arrival = a; message = x.0; verdict = x.1 }) o) []
+    → (DatagramEffect server a state o).records ≡ option_map_or (λ (j : Judged). records_of server j.arrival j.message j.verdict)
+    (option_map (λ x. record { arrival = a; message = x.0; verdict = x.1 }) o) []
 datagram_records server a state None = refl
 datagram_records server a state (Some x) = effect_records server a x.0 x.1 (counted a state)
 
@@ -129,12 +137,14 @@ request_records : (server : Server) (now : ℕ) (ticket : Ticket) (state : Proxy
 request_records server now ticket state None = refl
 request_records server now ticket state (Some r) = branch_records server now state r (find (is_failed ticket.branch) r.branches)
 
-pub step_records : (server : Server) (old : ProxyState) (act : Act) (out : StepOut) (new : ProxyState) → IsStep server old act out new → out.records ≡ records_at server old act
+pub step_records : (server : Server) (old : ProxyState) (act : Act) (out : StepOut) (new : ProxyState) → IsStep server old act out new
+    → out.records ≡ records_at server old act
 step_records server old (Given (Datagram at word from bytes)) out new h =
     h.does.records ∙ datagram_records server (arrival_of old at word from) old (verdict_of server old (arrival_of old at word from) bytes)
 step_records server old (Given (Time at)) out new h = h.quiet.does.records
 step_records server old (Given (Fault at ticket)) out new h =
-    h.does.records ∙ request_records server (moment_of old at) ticket (record old { moment = moment_of old at }) (find (λ (r : OpenRequest). r.number == ticket.datagram) old.requests)
+    h.does.records ∙ request_records server (moment_of old at) ticket (record old { moment = moment_of old at })
+    (find (λ (r : OpenRequest). r.number == ticket.datagram) old.requests)
 step_records server old (Passing at) out new (inl quiet) = quiet.does.records
 step_records server old (Passing at) out new (inr (inl due)) = due.does.records
 step_records server old (Passing at) out new (inr (inr goes)) = goes.does.records
@@ -143,7 +153,10 @@ step_records server old (Passing at) out new (inr (inr goes)) = goes.does.record
 pub records_of_chain : (server : Server) (first : ProxyState) (history : List Link) (last : ProxyState) → IsChain server first history last
     → AllByRecursion (λ (link : Link). link.out.records ≡ records_at (under server link.config) link.before link.act) history
 records_of_chain server first [] last h = tt
-records_of_chain server first (link ∷ history) last h = (step_records (under server link.config) link.before link.act link.out link.after h.1, records_of_chain server first history link.before h.2)
+records_of_chain server first (link ∷ history) last h = (
+  step_records (under server link.config) link.before link.act link.out link.after h.1,
+  records_of_chain server first history link.before h.2,
+)
 
 -- ---- dialogs
 
@@ -151,7 +164,8 @@ either_dialogs : (b : Bool) (left right : ProxyState) → left.dialogs ≡ right
 either_dialogs true left right h = h
 either_dialogs false left right h = refl
 
-effect_dialogs : (server : Server) (a : Arrival) (m : Message) (v : Verdict) (state : ProxyState) → (effect_of server a m v state).state.dialogs ≡ verdict_dialogs server a m v state.dialogs
+effect_dialogs : (server : Server) (a : Arrival) (m : Message) (v : Verdict) (state : ProxyState)
+    → (effect_of server a m v state).state.dialogs ≡ verdict_dialogs server a m v state.dialogs
 effect_dialogs server a m (Copy r) state = either_dialogs _ _ state refl
 effect_dialogs server a m Drop state = refl
 effect_dialogs server a m (Respond r b status) state = refl
@@ -188,11 +202,13 @@ request_dialogs server now ticket state (Some r) = failed_dialogs server now sta
 same_step_dialogs : (server : Server) (old : ProxyState) (act : Act) (out : StepOut) (new : ProxyState) (h : IsStep server old act out new)
     → SameDialogs new.moment new.dialogs (step_dialogs server old act out new h old.dialogs)
 same_step_dialogs server old (Given (Datagram at word from bytes)) out new h =
-    subst (SameDialogs new.moment new.dialogs) (datagram_dialogs server (arrival_of old at word from) old (verdict_of server old (arrival_of old at word from) bytes)) h.does.leaves.dialogs
+    subst (SameDialogs new.moment new.dialogs) (datagram_dialogs server (arrival_of old at word from) old (verdict_of server old (arrival_of old at word from) bytes))
+    h.does.leaves.dialogs
 same_step_dialogs server old (Given (Time at)) out new h = h.quiet.does.leaves.dialogs
 same_step_dialogs server old (Given (Fault at ticket)) out new h =
     subst (SameDialogs new.moment new.dialogs)
-    (request_dialogs server (moment_of old at) ticket (record old { moment = moment_of old at }) (find (λ (r : OpenRequest). r.number == ticket.datagram) old.requests)) h.does.leaves.dialogs
+    (request_dialogs server (moment_of old at) ticket (record old { moment = moment_of old at }) (find (λ (r : OpenRequest). r.number == ticket.datagram) old.requests))
+    h.does.leaves.dialogs
 same_step_dialogs server old (Passing at) out new (inl quiet) = quiet.does.leaves.dialogs
 same_step_dialogs server old (Passing at) out new (inr (inl due)) = due.does.leaves.dialogs
 same_step_dialogs server old (Passing at) out new (inr (inr goes)) = goes.does.leaves.dialogs
@@ -213,8 +229,10 @@ verdict_keeps server a m (InDialog address id) left right h =
     (after_request_same server a.now id m left right h)
 verdict_keeps server a m (Send q id Targets.NotFound) left right h = h
 verdict_keeps server a m (Send q id Targets.Unavailable) left right h = h
-verdict_keeps server a m (Send q id (Targets.Bindings targets)) left right h = forking_keeps server a.now (forking a m (branches_from a.now 1 (target_list (Targets.Bindings targets)))) left right h
-verdict_keeps server a m (Send q id (Targets.Hop uri address)) left right h = forking_keeps server a.now (forking a m (branches_from a.now 1 (target_list (Targets.Hop uri address)))) left right h
+verdict_keeps server a m (Send q id (Targets.Bindings targets)) left right h = forking_keeps server a.now
+    (forking a m (branches_from a.now 1 (target_list (Targets.Bindings targets)))) left right h
+verdict_keeps server a m (Send q id (Targets.Hop uri address)) left right h = forking_keeps server a.now
+    (forking a m (branches_from a.now 1 (target_list (Targets.Hop uri address)))) left right h
 verdict_keeps server a m Drop left right h = h
 verdict_keeps server a m (Copy r) left right h = h
 verdict_keeps server a m (Answer status extras) left right h = h
@@ -259,11 +277,15 @@ dialogs_of_chain server first (link ∷ history) last chain =
     let now : ℕ = stands_at old link.act link.out in
     let earlier : List Dialog = history_dialogs server (first_state first) history old chain.2 in
     let is_at : link.after.moment ≡ now = (step_taken (under server link.config) old link.act link.out link.after chain.1).is_at in
-    let rises : old.moment ≤ link.after.moment = moment_rises (under server link.config) old link.act link.out link.after (chain_passes_none server first history old chain.2) (chain_again server first history old chain.2) chain.1 in
-    let before : SameDialogs link.after.moment old.dialogs earlier = dialogs_later old.moment link.after.moment old.dialogs earlier rises (dialogs_of_chain server first history old chain.2) in
+    let rises : old.moment ≤ link.after.moment = moment_rises (under server link.config) old link.act link.out link.after
+    (chain_passes_none server first history old chain.2) (chain_again server first history old chain.2) chain.1 in
+    let before : SameDialogs link.after.moment old.dialogs earlier = dialogs_later old.moment link.after.moment old.dialogs earlier rises
+    (dialogs_of_chain server first history old chain.2) in
     let after : List Dialog → List Dialog = step_dialogs (under server link.config) old link.act link.out link.after chain.1 in
     let both : SameDialogs link.after.moment (after old.dialogs) (after earlier) =
     subst (λ (moment : ℕ). SameDialogs moment (after old.dialogs) (after earlier)) (sym is_at)
-    (step_keeps (under server link.config) old link.act link.out link.after chain.1 old.dialogs earlier (subst (λ (moment : ℕ). SameDialogs moment old.dialogs earlier) is_at before)) in
+    (step_keeps (under server link.config) old link.act link.out link.after chain.1 old.dialogs earlier
+    (subst (λ (moment : ℕ). SameDialogs moment old.dialogs earlier) is_at before)) in
     subst (λ (s : ProxyState). SameDialogs s.moment s.dialogs (after earlier)) (sym chain.0)
-    (dialogs_joined link.after.moment link.after.dialogs (after old.dialogs) (after earlier) (same_step_dialogs (under server link.config) old link.act link.out link.after chain.1) both)
+    (dialogs_joined link.after.moment link.after.dialogs (after old.dialogs) (after earlier)
+    (same_step_dialogs (under server link.config) old link.act link.out link.after chain.1) both)

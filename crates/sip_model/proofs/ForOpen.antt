@@ -1,5 +1,6 @@
 -- What a change of an open request sends is what a step may send for it: an ACK, an answer, and CANCELs.
-use Rattle.std.proofs.Common.{◌≡◌, inl, ℕ, Bool, true, false, not, ◌&&◌, ◌||◌, cond, List, [], ◌∷◌, ◌++◌, filter, flat_map, Contains, Option, Some, None, option_map, refl, sym, ap, subst, ◌∙◌, true≢false}
+use Rattle.std.proofs.Common.{◌≡◌, inl, ℕ, Bool, true, false, not, ◌&&◌, ◌||◌, cond, List, [], ◌∷◌, ◌++◌, filter, flat_map, Contains, Option, Some, None, option_map}
+use Rattle.std.proofs.Common.{refl, sym, ap, subst, ◌∙◌, true≢false}
 use Rattle.std.specs.List.{AllByRecursion}
 use Rattle.sip_message_form.specs.declared.message.Message.{Message}
 use Rattle.sip_message_form.specs.Text.{text_of}
@@ -14,11 +15,13 @@ use Rattle.model_steps.specs.state.declared.open_request.Upward.{Upward}
 use Rattle.model_steps.specs.state.declared.proxy_state.ProxyState.{ProxyState}
 use Rattle.model_steps.specs.state.State.{is_invite, is_final, is_answering}
 use Rattle.model_steps.specs.context_model.Sending.{answer_to}
-use Rattle.model_steps.specs.context_model.Branches.{all_final, best_upward, upward_of, upward_list, after_upward, is_cancellable, is_ready, is_unheard, settled, relayed_from}
+use Rattle.model_steps.specs.context_model.Branches.{all_final, best_upward, upward_of, upward_list, after_upward, is_cancellable, is_ready, is_unheard, settled}
+use Rattle.model_steps.specs.context_model.Branches.{relayed_from}
 use Rattle.model_steps.specs.Effect.{change_packets, upward_packets}
 use Rattle.model_steps.specs.Step.{Act}
 use Rattle.sip_model.specs.Run.{Link}
-use Rattle.sip_model.specs.Access.{ComesNow, IsAckNow, IsAnswerNow, NoAnswer, PassedOn, Best, IsPassedOn, EndsNow, OthersEnded, IsMadeLater, IsCancelledNow, WasGivenUp, IsForOpen, ForOne}
+use Rattle.sip_model.specs.Access.{ComesNow, IsAckNow, IsAnswerNow, NoAnswer, PassedOn, Best, IsPassedOn, EndsNow, OthersEnded, IsMadeLater, IsCancelledNow, WasGivenUp}
+use Rattle.sip_model.specs.Access.{IsForOpen, ForOne}
 use Rattle.sip_model.proofs.Later.{bare}
 use Rattle.sip_model.proofs.Settled.{IsBetween, cancel_packets, settled_sends, upward_same}
 
@@ -57,7 +60,8 @@ module _ (server : Server) (history : List Link) (state : ProxyState) (act : Act
   IsRight edit x = is_cancellable (edit x) ≡ true → IsCancelledNow server history state act at r x
 
   -- one that was heard before
-  heard_before : (x : Branch) → x.is_cancel ≡ false → is_invite r ≡ true → is_ready x.phase ≡ true → WasGivenUp server history r.number → IsCancelledNow server history state act at r x
+  heard_before : (x : Branch) → x.is_cancel ≡ false → is_invite r ≡ true → is_ready x.phase ≡ true → WasGivenUp server history r.number
+      → IsCancelledNow server history state act at r x
   heard_before x target invite ready given = record { is_target = target; is_of_invite = invite; was_heard = inl ready; was_given_up = inl given }
 
   -- one that stays as it was
@@ -67,12 +71,15 @@ module _ (server : Server) (history : List Link) (state : ProxyState) (act : Act
       heard_before x is.0 (kept.of_invite is.1) is.2 (kept.given_up is.1 (ready_goes x.phase is.2))
 
   -- the whole, by its three parts
-  pub for_open : Contains state.requests r → (acks : List Packet) (relayed : Option Upward) (s : OpenRequest) (edit : Branch → Branch) → IsBetween r s edit → IsAckNow server state act r acks
-      → IsAnswerNow server state act at r (upward_packets r (upward_list relayed ++ upward_list (best_upward server (after_upward at relayed s)))) → AllByRecursion (IsRight edit) r.branches
+  pub for_open : Contains state.requests r → (acks : List Packet) (relayed : Option Upward) (s : OpenRequest) (edit : Branch → Branch) → IsBetween r s edit
+      → IsAckNow server state act r acks
+      → IsAnswerNow server state act at r (upward_packets r (upward_list relayed ++ upward_list (best_upward server (after_upward at relayed s))))
+      → AllByRecursion (IsRight edit) r.branches
       → MaySend (change_packets (settled server at acks relayed s))
   for_open there acks relayed s edit between ack answer each =
       subst MaySend (sym (settled_sends server at r acks relayed s edit between))
-      (ForOne r acks (upward_packets r (upward_list relayed ++ upward_list (best_upward server (after_upward at relayed s)))) (flat_map (cancel_packets server r) (filter (λ (b : Branch). is_cancellable (edit b)) r.branches)) there ack answer
+      (ForOne r acks (upward_packets r (upward_list relayed ++ upward_list (best_upward server (after_upward at relayed s))))
+      (flat_map (cancel_packets server r) (filter (λ (b : Branch). is_cancellable (edit b)) r.branches)) there ack answer
       (record { is_one = λ (b : Branch). is_cancellable (edit b); are_all = refl; each = each }))
 
   -- ---- what goes to the caller
@@ -86,17 +93,20 @@ module _ (server : Server) (history : List Link) (state : ProxyState) (act : Act
     by_tests false y waits = refl
 
   -- nothing goes to the caller
-  pub nothing_goes : (s : OpenRequest) → (is_answering s.side ≡ true → all_final s ≡ false) → IsAnswerNow server state act at r (upward_packets r (upward_list None ++ upward_list (best_upward server (after_upward at None s))))
+  pub nothing_goes : (s : OpenRequest) → (is_answering s.side ≡ true → all_final s ≡ false)
+      → IsAnswerNow server state act at r (upward_packets r (upward_list None ++ upward_list (best_upward server (after_upward at None s))))
   nothing_goes s waits = rw (no_best s waits) NoAnswer
 
   -- a response that is passed on, and nothing else
   pub one_goes : (s : OpenRequest) (b : Branch) (status : ℕ) (m : Message) → ComesNow server state act r b status m → IsPassedOn r b status
       → (is_answering (after_upward at (Some (relayed_from b status m)) s).side ≡ true → all_final (after_upward at (Some (relayed_from b status m)) s) ≡ false)
-      → IsAnswerNow server state act at r (upward_packets r (upward_list (Some (relayed_from b status m)) ++ upward_list (best_upward server (after_upward at (Some (relayed_from b status m)) s))))
+      → IsAnswerNow server state act at r (upward_packets r (upward_list (Some (relayed_from b status m))
+      ++ upward_list (best_upward server (after_upward at (Some (relayed_from b status m)) s))))
   one_goes s b status m comes passes waits = rw (no_best (after_upward at (Some (relayed_from b status m)) s) waits) (PassedOn b status m comes passes)
 
   -- the best answer, once a branch ends
-  pub best_goes : (s : OpenRequest) (b : Branch) (last : Final) → bare s ≡ bare r → Contains r.branches b → b.is_cancel ≡ false → is_final b.phase ≡ false → EndsNow server state act at r b last
+  pub best_goes : (s : OpenRequest) (b : Branch) (last : Final) → bare s ≡ bare r → Contains r.branches b → b.is_cancel ≡ false → is_final b.phase ≡ false
+      → EndsNow server state act at r b last
       → is_answering s.side ≡ is_answering r.side → (is_answering r.side ≡ true → s.finals ≡ r.finals ++ last ∷ []) → (all_final s ≡ true → OthersEnded r b)
       → ((best : Final) → best_of (r.finals ++ last ∷ []) ≡ Some best → best.message ≡ None → IsMadeLater best.status)
       → IsAnswerNow server state act at r (upward_packets r (upward_list None ++ upward_list (best_upward server (after_upward at None s))))

@@ -45,18 +45,22 @@ kept_packet p packets h = ap (λ b. cond b (p ∷ of_branches packets) (of_branc
 
 -- where a branch of a number above 0 has an address, what goes there is kept in front of the others; where it has none there is nothing
 kept_at : (datagram number : ℕ) (bytes : List ℕ) (address : Option Addr) (packets : List Packet) → 1 ≤ number
-    → of_branches (option_map_or (λ to. record { to = to; bytes = bytes; ticket = record { datagram = datagram; branch = number }; again = false } ∷ []) address [] ++ packets)
-    ≡ option_map_or (λ to. record { to = to; bytes = bytes; ticket = record { datagram = datagram; branch = number }; again = false } ∷ []) address [] ++ of_branches packets
+    → of_branches (option_map_or (λ to. record { to = to; bytes = bytes; ticket = record { datagram = datagram; branch = number }; again = false } ∷ []) address []
+    ++ packets)
+    ≡ option_map_or (λ to. record { to = to; bytes = bytes; ticket = record { datagram = datagram; branch = number }; again = false } ∷ []) address []
+    ++ of_branches packets
 kept_at datagram number bytes None packets h = refl
 kept_at datagram number bytes (Some to) packets h =
     kept_packet (record { to = to; bytes = bytes; ticket = record { datagram = datagram; branch = number }; again = false }) packets (is_positive number h)
 
 -- all requests to targets are some, since their branches are numbered from 1
 pub all_kept : (server : Server) (r : OpenRequest) (now number : ℕ) (targets : List Target) → 1 ≤ number
-    → of_branches (flat_map (branch_packets server false r) (branches_from now number targets)) ≡ flat_map (branch_packets server false r) (branches_from now number targets)
+    → of_branches (flat_map (branch_packets server false r) (branches_from now number targets))
+    ≡ flat_map (branch_packets server false r) (branches_from now number targets)
 all_kept server r now number [] h = refl
 all_kept server r now number (t ∷ ts) h =
-    kept_at r.number number (text_of (sent_of server r (branch_to now number t))) t.address (flat_map (branch_packets server false r) (branches_from now (number + 1) ts)) h
+    kept_at r.number number (text_of (sent_of server r (branch_to now number t))) t.address (flat_map (branch_packets server false r) (branches_from now (number + 1) ts))
+    h
     ∙ ap (λ packets. branch_packets server false r (branch_to now number t) ++ packets) (all_kept server r now (number + 1) ts (omega arith))
 
 -- ---- CANCELs

@@ -1,5 +1,6 @@
 -- What is found where at most one passes, and what stays of open requests where one is replaced.
-use Rattle.std.proofs.Common.{◌≡◌, inl, inr, ℕ, ◌≤◌, ◌==◌, Bool, true, false, not, ◌&&◌, cond, List, [], ◌∷◌, find, count_by, Option, Some, refl, sym, ap, ◌∙◌, true≢false, arith}
+use Rattle.std.proofs.Common.{◌≡◌, inl, inr, ℕ, ◌≤◌, ◌==◌, Bool, true, false, not, ◌&&◌, cond, List, [], ◌∷◌, find, count_by, Option, Some, refl, sym, ap, ◌∙◌}
+use Rattle.std.proofs.Common.{true≢false, arith}
 use Rattle.model_steps.specs.state.declared.branch.Branch.{Branch}
 use Rattle.model_steps.specs.state.declared.open_request.OpenRequest.{OpenRequest}
 use Rattle.model_steps.specs.state.State.{has_left}
@@ -31,9 +32,11 @@ one_request rs r q few first second same =
     (find_only (is_numbered q.number) rs q second (same_number q.number q.number refl) few)
 
 -- the branch of a ticket is found, where targets differ
-pub failed_found : (bs : List Branch) (b : Branch) (number : ℕ) → TargetsDiffer bs → IsIn b bs → b.is_cancel ≡ false → number ≡ b.number → is_unheard b.phase ≡ true → find (is_failed number) bs ≡ Some b
+pub failed_found : (bs : List Branch) (b : Branch) (number : ℕ) → TargetsDiffer bs → IsIn b bs → b.is_cancel ≡ false → number ≡ b.number → is_unheard b.phase ≡ true
+    → find (is_failed number) bs ≡ Some b
 failed_found bs b number differ there target same unheard =
-    find_only (is_failed number) bs b there (three b.is_cancel (b.number == number) (is_unheard b.phase) target (same_number b.number number (sym same)) unheard) few where
+    find_only (is_failed number) bs b there (three b.is_cancel (b.number == number) (is_unheard b.phase) target (same_number b.number number (sym same)) unheard)
+    few where
       three : (x y z : Bool) → x ≡ false → y ≡ true → z ≡ true → (not x && y && z) ≡ true
       three false true true e f g = refl
       three true y z e f g = absurd (cc)
@@ -58,7 +61,8 @@ failed_found bs b number differ there target same unheard =
 pub other_stays : (new : OpenRequest) (rs : List OpenRequest) (x : OpenRequest) → IsIn x rs → (x.number == new.number) ≡ false → IsIn x (replaced new rs)
 other_stays new [] x there other = absurd there
 other_stays new (y ∷ ys) x there other = by_test (y.number == new.number) refl (has_left new) there (λ later. other_stays new ys x later other) where
-  by_test : (t : Bool) → (y.number == new.number) ≡ t → (left : Bool) → IsIn x (y ∷ ys) → (IsIn x ys → IsIn x (replaced new ys)) → IsIn x (cond t (cond left ys (new ∷ ys)) (y ∷ replaced new ys))
+  by_test : (t : Bool) → (y.number == new.number) ≡ t → (left : Bool) → IsIn x (y ∷ ys) → (IsIn x ys → IsIn x (replaced new ys))
+      → IsIn x (cond t (cond left ys (new ∷ ys)) (y ∷ replaced new ys))
   by_test true is left (inl here) rest = absurd (true≢false (sym is ∙ ap (λ (z : OpenRequest). z.number == new.number) here ∙ other))
   by_test true is true (inr later) rest = later
   by_test true is false (inr later) rest = inr later
@@ -66,10 +70,12 @@ other_stays new (y ∷ ys) x there other = by_test (y.number == new.number) refl
   by_test false is left (inr later) rest = inr (rest later)
 
 -- and the new one is there, unless it left
-pub new_there : (new : OpenRequest) (rs : List OpenRequest) (old : OpenRequest) → IsIn old rs → old.number ≡ new.number → has_left new ≡ false → IsIn new (replaced new rs)
+pub new_there : (new : OpenRequest) (rs : List OpenRequest) (old : OpenRequest) → IsIn old rs → old.number ≡ new.number → has_left new ≡ false
+    → IsIn new (replaced new rs)
 new_there new [] old there same stays = absurd there
 new_there new (y ∷ ys) old there same stays = by_test (y.number == new.number) refl (has_left new) stays there (λ later. new_there new ys old later same stays) where
-  by_test : (t : Bool) → (y.number == new.number) ≡ t → (left : Bool) → left ≡ false → IsIn old (y ∷ ys) → (IsIn old ys → IsIn new (replaced new ys)) → IsIn new (cond t (cond left ys (new ∷ ys)) (y ∷ replaced new ys))
+  by_test : (t : Bool) → (y.number == new.number) ≡ t → (left : Bool) → left ≡ false → IsIn old (y ∷ ys) → (IsIn old ys → IsIn new (replaced new ys))
+      → IsIn new (cond t (cond left ys (new ∷ ys)) (y ∷ replaced new ys))
   by_test true is true e there rest = absurd (cc)
   by_test true is false e there rest = inl refl
   by_test false is left e (inl here) rest = absurd (true≢false (sym (same_number y.number new.number (ap (λ (z : OpenRequest). z.number) here ∙ same)) ∙ is))

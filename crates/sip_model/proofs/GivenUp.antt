@@ -1,5 +1,6 @@
 -- Over every history: a branch that is to be cancelled, and has neither its CANCEL nor a final answer, is one whose request was given up (RFC 3261 16.7 step 10, 16.10).
-use Rattle.std.proofs.Common.{◌≡◌, ℕ, ◌+◌, ◌≤◌, ◌<◌, ◌==◌, not, ◌&&◌, ◌||◌, Bool, true, false, cond, List, [], ◌∷◌, refl, sym, ap, subst, ◌∙◌, true≢false, arith, count_by, None}
+use Rattle.std.proofs.Common.{◌≡◌, ℕ, ◌+◌, ◌≤◌, ◌<◌, ◌==◌, not, ◌&&◌, ◌||◌, Bool, true, false, cond, List, [], ◌∷◌, refl, sym, ap, subst, ◌∙◌, true≢false, arith}
+use Rattle.std.proofs.Common.{count_by, None}
 use Rattle.std.specs.List.{AllByRecursion}
 use Rattle.std.proofs.lemmas.Bool.Decides.{nat_tests}
 use Rattle.sip_message_form.specs.declared.message.Message.{Message}
@@ -18,7 +19,8 @@ use Rattle.model_steps.specs.context_model.Retransmission.{IsResent, OfAnswer, O
 use Rattle.model_steps.specs.Effect.{change_packets}
 use Rattle.sip_model.specs.Run.{Link, under, IsChain}
 use Rattle.sip_model.specs.Access.{WasGivenUp}
-use Rattle.sip_model.specs.Parts.{IsBegun, AreBegun, IsOpening, Answered, Sent, IsPart, Stays, Passes, Copies, TurnsAway, Opens, Changes, Resends, Acknowledges, AreParts, One, Two, HasParts}
+use Rattle.sip_model.specs.Parts.{IsBegun, AreBegun, IsOpening, Answered, Sent, IsPart, Stays, Passes, Copies, TurnsAway, Opens, Changes, Resends, Acknowledges, AreParts}
+use Rattle.sip_model.specs.Parts.{One, Two, HasParts}
 use Rattle.sip_model.proofs.Places.{count_cons, none_at, all_push, all_replaced}
 use Rattle.sip_model.proofs.Apart.{TargetsDiffer, goes_to, at_most_one, differ_edited}
 use Rattle.sip_model.proofs.StepParts.{step_parts}
@@ -33,16 +35,19 @@ given_under : (server : Server) (config : Config) (history : List Link) (request
 given_under server config history requests h = all_weaker (IsGivenRequest server history) (IsGivenRequest (under server config) history)
     (λ r own. record {
       branches = all_weaker (IsGivenBranch server history r.number) (IsGivenBranch (under server config) history r.number)
-          (λ b one. record { is_target = one.is_target; was_given_up = λ wants waits. given_up_under server config history r.number (one.was_given_up wants waits) }) r.branches own.branches;
+          (λ b one. record { is_target = one.is_target; was_given_up = λ wants waits. given_up_under server config history r.number (one.was_given_up wants waits) })
+          r.branches own.branches;
       differ = own.differ;
     }) requests h
 
-given_back : (server : Server) (config : Config) (history : List Link) (requests : List OpenRequest) → AllByRecursion (IsGivenRequest (under server config) history) requests
+given_back : (server : Server) (config : Config) (history : List Link) (requests : List OpenRequest)
+    → AllByRecursion (IsGivenRequest (under server config) history) requests
     → AllByRecursion (IsGivenRequest server history) requests
 given_back server config history requests h = all_weaker (IsGivenRequest (under server config) history) (IsGivenRequest server history)
     (λ r own. record {
       branches = all_weaker (IsGivenBranch (under server config) history r.number) (IsGivenBranch server history r.number)
-          (λ b one. record { is_target = one.is_target; was_given_up = λ wants waits. given_up_back server config history r.number (one.was_given_up wants waits) }) r.branches own.branches;
+          (λ b one. record { is_target = one.is_target; was_given_up = λ wants waits. given_up_back server config history r.number (one.was_given_up wants waits) })
+          r.branches own.branches;
       differ = own.differ;
     }) requests h
 
@@ -53,7 +58,8 @@ AreGiven server history requests = AllByRecursion (IsGivenRequest server history
 -- ---- a longer history
 
 -- the branches of open requests are so in a longer history
-given_before : (server : Server) (link : Link) (history : List Link) (requests : List OpenRequest) → AreGiven server history requests → AreGiven server (link ∷ history) requests
+given_before : (server : Server) (link : Link) (history : List Link) (requests : List OpenRequest) → AreGiven server history requests
+    → AreGiven server (link ∷ history) requests
 given_before server link history requests h = all_weaker (IsGivenRequest server history) (IsGivenRequest server (link ∷ history)) by_request requests h where
   by_branch : (number : ℕ) (b : Branch) → IsGivenBranch server history number b → IsGivenBranch server (link ∷ history) number b
   by_branch number b own = record { is_target = own.is_target; was_given_up = λ wants waits. given_up_before server link history number (own.was_given_up wants waits) }
@@ -68,7 +74,8 @@ given_before server link history requests h = all_weaker (IsGivenRequest server 
 -- ---- a new request
 
 -- nobody gave up a branch that is first sent
-begun_nearly : (server : Server) (history : List Link) (number now first : ℕ) (bs : List Branch) → AreBegun now first bs → AllByRecursion (IsNearlyGiven server history number) bs
+begun_nearly : (server : Server) (history : List Link) (number now first : ℕ) (bs : List Branch) → AreBegun now first bs
+    → AllByRecursion (IsNearlyGiven server history number) bs
 begun_nearly server history number now first [] begun = tt
 begun_nearly server history number now first (b ∷ bs) begun =
     let this : IsBegun now first b = begun.0 in (
@@ -116,7 +123,8 @@ opening_given server history a m _ _ (Sent first others begun) =
 
 module _ (server : Server) (history : List Link) where
   -- a branch that goes again at another moment
-  again_given : (number : ℕ) (x : Branch) (t : Bool) (again : Resend) → IsGivenBranch server history number x → IsGivenBranch server history number (cond t (record x { again = again }) x)
+  again_given : (number : ℕ) (x : Branch) (t : Bool) (again : Resend) → IsGivenBranch server history number x
+      → IsGivenBranch server history number (cond t (record x { again = again }) x)
   again_given number x true again own = record { is_target = own.is_target; was_given_up = own.was_given_up }
   again_given number x false again own = own
 
@@ -129,7 +137,8 @@ module _ (server : Server) (history : List Link) where
       record {
         branches =
             all_map (IsGivenBranch server history r.number) edit r.branches
-            (all_weaker (IsGivenBranch server history r.number) (λ x. IsGivenBranch server history r.number (edit x)) (λ x. again_given r.number x (is_same_branch x b) (branch_next r b)) r.branches own.branches);
+            (all_weaker (IsGivenBranch server history r.number) (λ x. IsGivenBranch server history r.number (edit x))
+            (λ x. again_given r.number x (is_same_branch x b) (branch_next r b)) r.branches own.branches);
         differ = differ_edited edit (λ number x. goes_either number (is_same_branch x b) (record x { again = branch_next r b }) x x refl refl) r.branches own.differ;
       }
 
@@ -144,14 +153,17 @@ module _ (server : Server) (history : List Link) where
 
 module _ (server : Server) (link : Link) (past : List Link) (now : ℕ) where
   -- what a part of a step makes of the open requests
-  part_given : (requests after : List OpenRequest) (firsts again : List Packet) → IsPart server link.before link.act now requests after firsts again → AreGiven server (link ∷ past) requests
+  part_given : (requests after : List OpenRequest) (firsts again : List Packet) → IsPart server link.before link.act now requests after firsts again
+      → AreGiven server (link ∷ past) requests
       → AreGiven server (link ∷ past) after
   part_given requests after firsts again (Stays same none none_again) h = subst (AreGiven server (link ∷ past)) (sym same) h
   part_given requests after firsts again (Passes a m address within is_ack same sends none_again) h = subst (AreGiven server (link ∷ past)) (sym same) h
   part_given requests after firsts again (Copies a bytes m short key r said no_ack key_is is_open same none goes) h = subst (AreGiven server (link ∷ past)) (sym same) h
-  part_given requests after firsts again (TurnsAway a bytes m short r said key_is no_ack begins is_full same none_again) h = subst (AreGiven server (link ∷ past)) (sym same) h
+  part_given requests after firsts again (TurnsAway a bytes m short r said key_is no_ack begins is_full same none_again) h =
+      subst (AreGiven server (link ∷ past)) (sym same) h
   part_given requests after firsts again (Opens a bytes m short r said key_is no_ack at begins has_room is_new same none_again) h =
-      subst (AreGiven server (link ∷ past)) (sym same) (all_push (IsGivenRequest server (link ∷ past)) requests r h (opening_given server (link ∷ past) a m r firsts begins))
+      subst (AreGiven server (link ∷ past)) (sym same) (all_push (IsGivenRequest server (link ∷ past)) requests r h
+      (opening_given server (link ∷ past) a m r firsts begins))
   part_given requests after firsts again (Changes r change there changes same sends) h =
       let own : IsGivenRequest server (link ∷ past) r = all_contains (IsGivenRequest server (link ∷ past)) requests r h there in
       subst (AreGiven server (link ∷ past)) (sym same)
@@ -177,10 +189,12 @@ module _ (server : Server) (link : Link) (past : List Link) (now : ℕ) where
 -- ---- a run
 
 -- the branches of all open requests at the end of a run
-pub given_of_chain : (server : Server) (first : ℕ) (history : List Link) (last : ProxyState) → IsChain server (first_state first) history last → AreGiven server history last.requests
+pub given_of_chain : (server : Server) (first : ℕ) (history : List Link) (last : ProxyState) → IsChain server (first_state first) history last
+    → AreGiven server history last.requests
 given_of_chain server first [] last chain = subst (λ (s : ProxyState). AreGiven server [] s.requests) (sym chain) tt
 given_of_chain server first (link ∷ history) last chain =
-    let has : HasParts (under server link.config) link.before link.act link.out link.after = step_parts (under server link.config) link.before link.act link.out link.after chain.1 in
+    let has : HasParts (under server link.config) link.before link.act link.out link.after =
+    step_parts (under server link.config) link.before link.act link.out link.after chain.1 in
     subst (λ (s : ProxyState). AreGiven server (link ∷ history) s.requests) (sym chain.0)
     (given_back server link.config (link ∷ history) link.after.requests
     (parts_given (under server link.config) link history link.after.moment link.before.requests link.after.requests _ _ has.parts
@@ -198,14 +212,10 @@ all_given_up server history requests h =
     all_weaker (IsGivenRequest server history) (λ (r : OpenRequest). AllByRecursion (IsGivenUp server history r.number) r.branches)
     (λ r own. all_weaker (IsGivenBranch server history r.number) (IsGivenUp server history r.number) (λ b branch. branch.was_given_up) r.branches own.branches) requests h
 
--- of the open requests at the end of a run
-pub given_up_of_chain : (server : Server) (first : ℕ) (history : List Link) (last : ProxyState) → IsChain server (first_state first) history last
-    → AllByRecursion (λ (r : OpenRequest). AllByRecursion (IsGivenUp server history r.number) r.branches) last.requests
-given_up_of_chain server first history last chain = all_given_up server history last.requests (given_of_chain server first history last chain)
-
 -- of those before a step, with the step in the history
 pub given_up_in_step : (server : Server) (first : ℕ) (link : Link) (history : List Link) → IsChain server (first_state first) history link.before
     → AllByRecursion (λ (r : OpenRequest). AllByRecursion (IsGivenUp (under server link.config) (link ∷ history) r.number) r.branches) link.before.requests
 given_up_in_step server first link history chain =
     all_given_up (under server link.config) (link ∷ history) link.before.requests
-    (given_under server link.config (link ∷ history) link.before.requests (given_before server link history link.before.requests (given_of_chain server first history link.before chain)))
+    (given_under server link.config (link ∷ history) link.before.requests (given_before server link history link.before.requests
+    (given_of_chain server first history link.before chain)))

@@ -20,7 +20,8 @@ joined_chain server first middle last history (link ∷ later) before behind =
 pub joined_events : (history later : List Link) → events_of (later ++ history) ≡ events_of later ++ events_of history
 joined_events history [] = refl
 joined_events history (link ∷ later) = by_act link.act (joined_events history later) where
-  by_act : (act : Act) → events_of (later ++ history) ≡ events_of later ++ events_of history → event_of act (events_of (later ++ history)) ≡ event_of act (events_of later) ++ events_of history
+  by_act : (act : Act) → events_of (later ++ history) ≡ events_of later ++ events_of history
+      → event_of act (events_of (later ++ history)) ≡ event_of act (events_of later) ++ events_of history
   by_act (Given event) rest = ap (λ (events : List Event). event ∷ events) rest
   by_act (Passing at) rest = rest
 
@@ -58,7 +59,8 @@ joined_pace next history [] pace before = before
 joined_pace next history (link ∷ later) pace before = (pace.0, joined_pace (next_moment next link.act) history later pace.1 before)
 
 -- a history that ends with an event keeps the pace whatever comes next
-paced_act : (next : Option ℕ) (act : Act) (history : List Link) → (IsUpTo None act × IsPaced (next_moment None act) history) → (IsUpTo next act × IsPaced (next_moment next act) history)
+paced_act : (next : Option ℕ) (act : Act) (history : List Link) → (IsUpTo None act × IsPaced (next_moment None act) history)
+    → (IsUpTo next act × IsPaced (next_moment next act) history)
 paced_act next (Given event) history h = h
 paced_act next (Passing at) history h = absurd h.0
 
@@ -74,14 +76,17 @@ all_joined P history [] before behind = before
 all_joined P history (link ∷ later) before behind = (behind.0, all_joined P history later before behind.1)
 
 -- two runs, one behind the other, are one
-pub joined_run : (server : Server) (first middle last : ProxyState) (events more : List Event) (until : Option ℕ) (steps further : List StepOut) (history later : List Link)
+pub joined_run : (server : Server) (first middle last : ProxyState) (events more : List Event) (until : Option ℕ) (steps further : List StepOut)
+    (history later : List Link)
     → IsRun server first events (first_moment more until) steps history middle → IsRun server middle more until further later last
     → IsRun server first (events ++ more) until (steps ++ further) (later ++ history) last
 joined_run server first middle last events more until steps further history later before behind = record {
   chain = joined_chain server first middle last history later before.chain behind.chain;
   paced = joined_pace until history later behind.paced
       (subst (λ next. IsPaced next history) (sym (next_is later until ∙ ap (λ (es : List Event). first_moment es until) behind.of_events)) before.paced);
-  of_events = ap reverse (joined_events history later) ∙ reverse-append (events_of later) (events_of history) ∙ ap₂ (λ (a b : List Event). a ++ b) before.of_events behind.of_events;
-  of_steps = ap reverse (joined_steps history later) ∙ reverse-append (steps_of later) (steps_of history) ∙ ap₂ (λ (a b : List StepOut). a ++ b) before.of_steps behind.of_steps;
+  of_events = ap reverse (joined_events history later) ∙ reverse-append (events_of later) (events_of history)
+      ∙ ap₂ (λ (a b : List Event). a ++ b) before.of_events behind.of_events;
+  of_steps = ap reverse (joined_steps history later) ∙ reverse-append (steps_of later) (steps_of history)
+      ∙ ap₂ (λ (a b : List StepOut). a ++ b) before.of_steps behind.of_steps;
   configured = all_joined (IsUnder server.config) history later before.configured behind.configured;
 }

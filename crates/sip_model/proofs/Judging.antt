@@ -26,7 +26,9 @@ use Rattle.model_steps.specs.state.State.{has_key}
 use Rattle.model_steps.specs.context_model.Branches.{is_accepted}
 use Rattle.model_steps.specs.state.Dialogs.{dialog_of}
 use Rattle.model_steps.specs.state.Arrival.{Arrival}
-use Rattle.model_steps.specs.verdict_model.Verdict.{Verdict, Drop, Respond, Copy, AckOn, Cancel, Answer, InDialog, Challenge, Deny, Send, Register, response_verdict, responding, next_address, within_at, within, ack_verdict, is_full, found_for_cancel, cancel_verdict, policy_verdict, is_outside, core_verdict, checked_verdict, new_verdict, by_open, by_key, by_start, message_verdict, message_in}
+use Rattle.model_steps.specs.verdict_model.Verdict.{Verdict, Drop, Respond, Copy, AckOn, Cancel, Answer, InDialog, Challenge, Deny, Send, Register, response_verdict}
+use Rattle.model_steps.specs.verdict_model.Verdict.{responding, next_address, within_at, within, ack_verdict, is_full, found_for_cancel, cancel_verdict, policy_verdict}
+use Rattle.model_steps.specs.verdict_model.Verdict.{is_outside, core_verdict, checked_verdict, new_verdict, by_open, by_key, by_start, message_verdict, message_in}
 use Rattle.sip_model.specs.Access.{IsNewRequest}
 
 -- whether a verdict is one that policy gives
@@ -68,7 +70,8 @@ response_not_by_policy fields status None = refl
 response_not_by_policy fields status (Some x) = neither_by_policy _ (Respond x.0 x.1 status) Drop refl refl
 
 -- an ACK that is looked for in a dialog
-ack_within_not_by_policy : (state : ProxyState) (now : ℕ) (id : Option DialogId) (address : Option Addr) → is_by_policy (within_at state now AckOn Drop id address) ≡ false
+ack_within_not_by_policy : (state : ProxyState) (now : ℕ) (id : Option DialogId) (address : Option Addr)
+    → is_by_policy (within_at state now AckOn Drop id address) ≡ false
 ack_within_not_by_policy state now None address = refl
 ack_within_not_by_policy state now (Some id) None = refl
 ack_within_not_by_policy state now (Some id) (Some address) = neither_by_policy (is_in_dialog now state.dialogs id address) (AckOn address id) Drop refl refl
@@ -79,13 +82,15 @@ ack_not_by_policy server state now m short =
     neither_by_policy _ Drop (within server state now m AckOn Drop) refl (ack_within_not_by_policy state now (dialog_of m) (next_address server m))
 
 -- a request within a dialog
-within_not_by_policy : (state : ProxyState) (now : ℕ) (id : Option DialogId) (address : Option Addr) → is_by_policy (within_at state now InDialog (Answer 481 []) id address) ≡ false
+within_not_by_policy : (state : ProxyState) (now : ℕ) (id : Option DialogId) (address : Option Addr)
+    → is_by_policy (within_at state now InDialog (Answer 481 []) id address) ≡ false
 within_not_by_policy state now None address = refl
 within_not_by_policy state now (Some id) None = refl
 within_not_by_policy state now (Some id) (Some address) = neither_by_policy (is_in_dialog now state.dialogs id address) (InDialog address id) (Answer 481 []) refl refl
 
 -- a CANCEL
-cancel_not_by_policy : (server : Server) (state : ProxyState) (a : Arrival) (m : Message) (short : Bool) (key : Key) → is_by_policy (cancel_verdict server state a m short key) ≡ false
+cancel_not_by_policy : (server : Server) (state : ProxyState) (a : Arrival) (m : Message) (short : Bool) (key : Key)
+    → is_by_policy (cancel_verdict server state a m short key) ≡ false
 cancel_not_by_policy server state a m short key =
     neither_by_policy (is_bad_request server.config.own m short) (Answer 400 []) _ refl
     (neither_by_policy (is_full state) (Answer 503 []) (Cancel (found_for_cancel state key a.from)) refl refl)
@@ -94,7 +99,8 @@ cancel_not_by_policy server state a m short key =
 copy_not_by_policy : (server : Server) (state : ProxyState) (a : Arrival) (m : Message) (short : Bool) (method : List ℕ) (key : Key) (r : OpenRequest)
     → is_by_policy (by_open server state a m short method key (Some r)) ≡ false
 copy_not_by_policy server state a m short method key r =
-    neither_by_policy (bytes_eq method (codes "ACK") && is_accepted r) (ack_verdict server state a.now m short) (Copy r) (ack_not_by_policy server state a.now m short) refl
+    neither_by_policy (bytes_eq method (codes "ACK") && is_accepted r) (ack_verdict server state a.now m short) (Copy r) (ack_not_by_policy server state a.now m short)
+    refl
 
 -- ---- what is known where policy is asked
 
@@ -118,12 +124,14 @@ checked_by_policy server state now m method None h =
 -- it is neither ACK nor CANCEL
 new_by_policy : (server : Server) (state : ProxyState) (a : Arrival) (m : Message) (short : Bool) (method : List ℕ) (key : Key)
     → is_by_policy (new_verdict server state a m short method key) ≡ true
-    → (bytes_eq method (codes "ACK") ≡ false) × (bytes_eq method (codes "CANCEL") ≡ false) × (is_by_policy (checked_verdict server state a.now m method (refusal_of server.config.own m short)) ≡ true)
+    → (bytes_eq method (codes "ACK") ≡ false) × (bytes_eq method (codes "CANCEL") ≡ false)
+    × (is_by_policy (checked_verdict server state a.now m method (refusal_of server.config.own m short)) ≡ true)
 new_by_policy server state a m short method key h =
     let checked : Verdict = checked_verdict server state a.now m method (refusal_of server.config.own m short) in
     let others : Verdict = cond (bytes_eq method (codes "CANCEL")) (cancel_verdict server state a m short key) checked in
     let k = second_by_policy (bytes_eq method (codes "ACK")) (ack_verdict server state a.now m short) others (ack_not_by_policy server state a.now m short) h in
-    let l = second_by_policy (bytes_eq method (codes "CANCEL")) (cancel_verdict server state a m short key) checked (cancel_not_by_policy server state a m short key) k.1 in
+    let l = second_by_policy (bytes_eq method (codes "CANCEL")) (cancel_verdict server state a m short key) checked (cancel_not_by_policy server state a m short key) k.1
+    in
     (k.0, l.0, l.1)
 
 -- its key isn't open
@@ -143,7 +151,8 @@ key_by_policy server state a m short method (Some key) h = (key, refl, h)
 status_not_by_policy : (server : Server) (state : ProxyState) (a : Arrival) (m : Message) (short : Bool) (code : ℕ) (reason : List ℕ)
     → is_by_policy (by_start server state a m short (Begins.Status code reason)) ≡ false
 status_not_by_policy server state a m short code reason =
-    neither_by_policy short Drop (response_verdict m.fields code (responding server state.requests m.fields)) refl (response_not_by_policy m.fields code (responding server state.requests m.fields))
+    neither_by_policy short Drop (response_verdict m.fields code (responding server state.requests m.fields)) refl
+    (response_not_by_policy m.fields code (responding server state.requests m.fields))
 
 -- it is a request
 start_by_policy : (server : Server) (state : ProxyState) (a : Arrival) (m : Message) (short : Bool) (start : Start)
@@ -159,7 +168,8 @@ short_refused : (own : Own) (m : Message) (method uri version : List ℕ) → m.
 short_refused own m method uri version h = ap (λ start. option_map_or refusal (candidate_by own m.fields true start) None) h
 
 -- where a request isn't refused its body isn't short
-not_short : (own : Own) (m : Message) (short : Bool) (method uri version : List ℕ) → m.start ≡ Begins.Request method uri version → refusal_of own m short ≡ None → short ≡ false
+not_short : (own : Own) (m : Message) (short : Bool) (method uri version : List ℕ) → m.start ≡ Begins.Request method uri version → refusal_of own m short ≡ None
+    → short ≡ false
 not_short own m true method uri version h passed = let k : refusal_of own m true ≡ Some (400, []) = short_refused own m method uri version h in cc
 not_short own m false method uri version h passed = refl
 
@@ -171,7 +181,8 @@ ok_of (Err e) x h = cc
 -- ---- the verdict on a valid new request outside a dialog
 
 -- a request that is checked and new gets policy's verdict
-checked_verdict_is : (server : Server) (state : ProxyState) (bytes : List ℕ) (m : Message) (method : List ℕ) (core : CoreFields) → IsNewRequest server state bytes m method core → (now : ℕ)
+checked_verdict_is : (server : Server) (state : ProxyState) (bytes : List ℕ) (m : Message) (method : List ℕ) (core : CoreFields)
+    → IsNewRequest server state bytes m method core → (now : ℕ)
     → checked_verdict server state now m method (refusal_of server.config.own m false) ≡ policy_verdict server state now m method core
 checked_verdict_is server state bytes m method core h now =
     ap (checked_verdict server state now m method) h.is_valid
@@ -180,14 +191,16 @@ checked_verdict_is server state bytes m method core h now =
     ∙ ap (λ b. cond b (policy_verdict server state now m method core) (within server state now m InDialog (Answer 481 []))) h.is_outside_dialog
 
 -- a valid new request outside a dialog gets policy's verdict
-pub verdict_is : (server : Server) (state : ProxyState) (bytes : List ℕ) (m : Message) (method : List ℕ) (core : CoreFields) → IsNewRequest server state bytes m method core → (a : Arrival)
+pub verdict_is : (server : Server) (state : ProxyState) (bytes : List ℕ) (m : Message) (method : List ℕ) (core : CoreFields)
+    → IsNewRequest server state bytes m method core → (a : Arrival)
     → message_verdict server state a m false ≡ policy_verdict server state a.now m method core
 verdict_is server state bytes m method core h a =
     ap (by_start server state a m false) h.is_request
     ∙ ap (by_key server state a m false method) h.key_is
     ∙ ap (by_open server state a m false method h.key) h.is_new
     ∙ ap (λ b. cond b (ack_verdict server state a.now m false)
-    (cond (bytes_eq method (codes "CANCEL")) (cancel_verdict server state a m false h.key) (checked_verdict server state a.now m method (refusal_of server.config.own m false)))) h.is_no_ack
+    (cond (bytes_eq method (codes "CANCEL")) (cancel_verdict server state a m false h.key)
+    (checked_verdict server state a.now m method (refusal_of server.config.own m false)))) h.is_no_ack
     ∙ ap (λ b. cond b (cancel_verdict server state a m false h.key) (checked_verdict server state a.now m method (refusal_of server.config.own m false))) h.is_no_cancel
     ∙ checked_verdict_is server state bytes m method core h a.now
 
@@ -195,7 +208,8 @@ verdict_is server state bytes m method core h a =
 
 -- Whatever policy is asked about is a valid new request outside a dialog, whose body isn't short
 pub judged : (server : Server) (state : ProxyState) (a : Arrival) (bytes : List ℕ) (m : Message) (short : Bool) → message_in (reading_of bytes) ≡ Some (m, short)
-    → is_by_policy (message_verdict server state a m short) ≡ true → (method : List ℕ) × (core : CoreFields) × (short ≡ false) × IsNewRequest server state bytes m method core
+    → is_by_policy (message_verdict server state a m short) ≡ true → (method : List ℕ) × (core : CoreFields) × (short ≡ false)
+    × IsNewRequest server state bytes m method core
 judged server state a bytes m short said h =
     let started = start_by_policy server state a m short m.start h in
     let method : List ℕ = started.0 in
@@ -227,6 +241,7 @@ judged server state a bytes m short said h =
     )
 
 -- A message that was judged so gets policy's verdict
-pub judged_verdict : (server : Server) (state : ProxyState) (a : Arrival) (bytes : List ℕ) (m : Message) (short : Bool) (method : List ℕ) (core : CoreFields) → short ≡ false
+pub judged_verdict : (server : Server) (state : ProxyState) (a : Arrival) (bytes : List ℕ) (m : Message) (short : Bool) (method : List ℕ) (core : CoreFields)
+    → short ≡ false
     → IsNewRequest server state bytes m method core → message_verdict server state a m short ≡ policy_verdict server state a.now m method core
 judged_verdict server state a bytes m short method core whole h = ap (message_verdict server state a m) whole ∙ verdict_is server state bytes m method core h a

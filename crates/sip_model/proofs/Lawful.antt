@@ -36,21 +36,29 @@ lawful_of_chain : (server : Server) (first : ℕ) (link : Link) (history : List 
     → IsLawful server history link
 lawful_of_chain server first link history last chain =
     let before : SameBindings link.before.moment link.before.bindings (bindings_after server history) = bindings_of_chain server first history link.before chain.2 in
-    let parts : HasParts (under server link.config) link.before link.act link.out link.after = step_parts (under server link.config) link.before link.act link.out link.after chain.1 in
+    let parts : HasParts (under server link.config) link.before link.act link.out link.after =
+    step_parts (under server link.config) link.before link.act link.out link.after chain.1 in
     record {
       stands = stands_of_chain server first link history last chain;
       bindings = before;
-      binds = subst (λ (s : ProxyState). SameBindings s.moment s.bindings (bindings_after server (link ∷ history))) chain.0 (bindings_of_chain server first (link ∷ history) last chain);
-      serves = serves_same (under server link.config) link.before.bindings (bindings_after server history) link.before link.act link.out before (serves_of_step (under server link.config) link.before link.act link.out link.after chain.1);
+      binds = subst (λ (s : ProxyState). SameBindings s.moment s.bindings (bindings_after server (link ∷ history))) chain.0
+          (bindings_of_chain server first (link ∷ history) last chain);
+      serves = serves_same (under server link.config) link.before.bindings (bindings_after server history) link.before link.act link.out before
+          (serves_of_step (under server link.config) link.before link.act link.out link.after chain.1);
       owed =
-          all_weaker (IsOwed (under server link.config) (link ∷ history) link.before link.act link.before.bindings) (IsOwed (under server link.config) (link ∷ history) link.before link.act (bindings_after server history))
-          (originals link.out.packets) (owed_same (under server link.config) (link ∷ history) link.before link.act link.before.bindings (bindings_after server history) before)
-          (owed_of_step (under server link.config) history link chain.1 (few_of_chain server first history link.before chain.2) (honest_under server link.config history link.before.requests (honest_of_chain server first history link.before chain.2)));
-      sent = step_sends (under server link.config) link.config history link.before link.act link.out link.after best_made chain.1 (steady_in_step server first link history chain.2);
+          all_weaker (IsOwed (under server link.config) (link ∷ history) link.before link.act link.before.bindings)
+          (IsOwed (under server link.config) (link ∷ history) link.before link.act (bindings_after server history))
+          (originals link.out.packets) (owed_same (under server link.config) (link ∷ history) link.before link.act link.before.bindings (bindings_after server history)
+          before)
+          (owed_of_step (under server link.config) history link chain.1 (few_of_chain server first history link.before chain.2)
+          (honest_under server link.config history link.before.requests (honest_of_chain server first history link.before chain.2)));
+      sent = step_sends (under server link.config) link.config history link.before link.act link.out link.after best_made chain.1
+          (steady_in_step server first link history chain.2);
       again = step_causes (under server link.config) link.before link.act link.out link.after chain.1;
       repeats = step_repeats (under server link.config) link.before link.act link.out link.after chain.1;
       went = went_of_chain server first link history last chain;
-      pays = owed_pays (under server link.config) (link ∷ history) link chain.1 (chain_named server first history link.before chain.2).numbers.differ (steady_in_step server first link history chain.2);
+      pays = owed_pays (under server link.config) (link ∷ history) link chain.1 (chain_named server first history link.before chain.2).numbers.differ
+          (steady_in_step server first link history chain.2);
       none_passed = subst (λ (moment : ℕ). NoneBefore moment link.before.requests) (sym parts.is_at) parts.none_passed;
       none_again = subst (λ (moment : ℕ). NoneAgainBefore moment link.before.requests) (sym parts.is_at) parts.none_again;
       records = step_records (under server link.config) link.before link.act link.out link.after chain.1;

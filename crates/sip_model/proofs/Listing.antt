@@ -27,7 +27,8 @@ lives aor now b e =
     (mine, later)
 
 -- is listed by its field
-one_listed : (now : ℕ) (aor : Aor) (rows : List Binding) (b : Binding) → (is_of aor b && is_live now b) ≡ true → Contains rows b → IsListed now aor rows (contact_field now b)
+one_listed : (now : ℕ) (aor : Aor) (rows : List Binding) (b : Binding) → (is_of aor b && is_live now b) ≡ true → Contains rows b
+    → IsListed now aor rows (contact_field now b)
 one_listed now aor rows b passes there =
     let it = lives aor now b passes in
     record {
@@ -45,4 +46,5 @@ one_listed now aor rows b passes there =
 pub all_listed : (now : ℕ) (aor : Aor) (rows : List Binding) → AllByRecursion (IsListed now aor rows) (contact_fields now aor rows)
 all_listed now aor rows =
     all_map (IsListed now aor rows) (contact_field now) (live aor now rows)
-    (all_passing (Contains rows) (λ (b : Binding). IsListed now aor rows (contact_field now b)) (λ b. is_of aor b && is_live now b) (one_listed now aor rows) rows (all_there rows))
+    (all_passing (Contains rows) (λ (b : Binding). IsListed now aor rows (contact_field now b)) (λ b. is_of aor b && is_live now b) (one_listed now aor rows) rows
+    (all_there rows))

@@ -1,5 +1,7 @@
--- Over every history: a final answer that is kept without a message was made here, as 408, 487 or 503; and the best of such goes up as 408, 487 or 500 (RFC 3261 16.7 step 6, 16.8, 16.9).
-use Rattle.std.proofs.Common.{◌≡◌, ◌⊎◌, inl, inr, ℕ, ◌+◌, ◌==◌, not, ◌&&◌, ◌||◌, Bool, true, false, cond, List, [], ◌∷◌, ◌++◌, map, filter, refl, sym, subst, arith, Option, Some, None, is_some, option_map}
+-- Over every history: a final answer that is kept without a message was made here, as 408, 487 or 503; and the best of such goes up as 408, 487 or 500 (RFC 3261 16.7
+-- step 6, 16.8, 16.9).
+use Rattle.std.proofs.Common.{◌≡◌, ◌⊎◌, inl, inr, ℕ, ◌+◌, ◌==◌, not, ◌&&◌, ◌||◌, Bool, true, false, cond, List, [], ◌∷◌, ◌++◌, map, filter, refl, sym, subst, arith}
+use Rattle.std.proofs.Common.{Option, Some, None, is_some, option_map}
 use Rattle.std.specs.List.{AllByRecursion, flat_map}
 use Rattle.std.proofs.lemmas.Bool.Decides.{nat_tests}
 use Rattle.sip_message_fields.specs.declared.field.Field.{Field}
@@ -17,14 +19,17 @@ use Rattle.model_steps.specs.state.declared.open_request.Side.TheVariants.{Close
 use Rattle.model_steps.specs.state.State.{first_state, is_invite, is_final, is_answering, is_success, is_decline, is_provisional}
 use Rattle.model_steps.specs.state.declared.open_request.Upward.{Upward}
 use Rattle.model_steps.specs.state.Arrival.{Arrival}
-use Rattle.model_steps.specs.context_model.Branches.{Change, is_same_branch, with_phase, with_final, marked, given_up, answered, after_upward, best_upward, settled, other_heard, heard, relayed_provisional, relayed_success, final_of, linger, told_to, with_answer, acks_of, further, target_responded, cancel_responded, target_overdue, was_refused, acknowledged_side, acknowledged}
+use Rattle.model_steps.specs.context_model.Branches.{Change, is_same_branch, with_phase, with_final, marked, given_up, answered, after_upward, best_upward, settled}
+use Rattle.model_steps.specs.context_model.Branches.{other_heard, heard, relayed_provisional, relayed_success, final_of, linger, told_to, with_answer, acks_of, further}
+use Rattle.model_steps.specs.context_model.Branches.{target_responded, cancel_responded, target_overdue, was_refused, acknowledged_side, acknowledged}
 use Rattle.model_steps.specs.context_model.Opening.{forking, trying, tried}
 use Rattle.model_steps.specs.context_model.Retransmission.{IsResent, OfAnswer, OfRequest}
 use Rattle.model_steps.specs.Effect.{change_packets}
 use Rattle.model_steps.specs.Step.{Act, IsOverdue, OfSide, OfBranch}
 use Rattle.sip_model.specs.Run.{Link, under, IsChain}
 use Rattle.sip_model.specs.Access.{IsMadeLater}
-use Rattle.sip_model.specs.Parts.{IsChangeAt, ByResponse, ByDeadline, ByFault, ByCancel, IsOpening, Answered, Sent, IsPart, Stays, Passes, Copies, TurnsAway, Opens, Changes, Resends, Acknowledges, AreParts, One, Two, HasParts}
+use Rattle.sip_model.specs.Parts.{IsChangeAt, ByResponse, ByDeadline, ByFault, ByCancel, IsOpening, Answered, Sent, IsPart, Stays, Passes, Copies, TurnsAway, Opens}
+use Rattle.sip_model.specs.Parts.{Changes, Resends, Acknowledges, AreParts, One, Two, HasParts}
 use Rattle.sip_model.proofs.Places.{all_push, all_replaced}
 use Rattle.sip_model.proofs.StepParts.{step_parts}
 use Rattle.sip_model.proofs.Lists.{all_append, all_map, all_every, all_contains}
@@ -87,7 +92,8 @@ upward_made now None r h = h
 upward_made now (Some u) r h = all_either IsMadeFinal (is_provisional u.status) r.finals [] h tt
 
 -- nor does settling
-settled_made : (server : Server) (now : ℕ) (acks : List Packet) (relayed : Option Upward) (r : OpenRequest) → KeepsMadeFinals r → KeepsMadeFinals (settled server now acks relayed r).request
+settled_made : (server : Server) (now : ℕ) (acks : List Packet) (relayed : Option Upward) (r : OpenRequest) → KeepsMadeFinals r
+    → KeepsMadeFinals (settled server now acks relayed r).request
 settled_made server now acks relayed r h =
     let told : OpenRequest = after_upward now relayed r in
     upward_made now (best_upward server told) told (upward_made now relayed r h)
@@ -105,37 +111,48 @@ either_made false first second so not_so = not_so
 
 module _ (server : Server) (now : ℕ) (r : OpenRequest) (h : KeepsMadeFinals r) where
   -- with a branch in another phase, no final answer more
-  phase_made : (acks : List Packet) (relayed : Option Upward) (b : Branch) (phase : Phase) → KeepsMadeFinals (settled server now acks relayed (with_phase b phase r)).request
+  phase_made : (acks : List Packet) (relayed : Option Upward) (b : Branch) (phase : Phase)
+      → KeepsMadeFinals (settled server now acks relayed (with_phase b phase r)).request
   phase_made acks relayed b phase = settled_made server now acks relayed (with_phase b phase r) h
 
   -- with a branch that is given up with one of these statuses
-  given_up_made : (b : Branch) (status : ℕ) → (status ≡ 408) ⊎ ((status ≡ 487) ⊎ (status ≡ 503)) → KeepsMadeFinals (settled server now [] None (given_up b status r)).request
-  given_up_made b status is = settled_made server now [] None (given_up b status r) (final_made (record { status = status; message = None }) (with_phase b Ended r) (λ none. is) h)
+  given_up_made : (b : Branch) (status : ℕ) → (status ≡ 408) ⊎ ((status ≡ 487) ⊎ (status ≡ 503))
+      → KeepsMadeFinals (settled server now [] None (given_up b status r)).request
+  given_up_made b status is = settled_made server now [] None (given_up b status r) (final_made (record { status = status; message = None }) (with_phase b Ended r)
+      (λ none. is) h)
 
   -- with the first final answer of a branch, after which the others are to be cancelled, or not
   answered_made : (acks : List Packet) (relayed : Option Upward) (c : Branch) (phase : Phase) (status : ℕ) (m : Message) (t : Bool)
-      → KeepsMadeFinals (settled server now acks relayed (cond t (marked (with_final (final_of status m) (with_phase c phase r))) (with_final (final_of status m) (with_phase c phase r)))).request
+      → KeepsMadeFinals (settled server now acks relayed (cond t (marked (with_final (final_of status m) (with_phase c phase r)))
+      (with_final (final_of status m) (with_phase c phase r)))).request
   answered_made acks relayed c phase status m true =
-      settled_made server now acks relayed (marked (with_final (final_of status m) (with_phase c phase r))) (final_made (final_of status m) (with_phase c phase r) (λ none. absurd (cc)) h)
+      settled_made server now acks relayed (marked (with_final (final_of status m) (with_phase c phase r)))
+      (final_made (final_of status m) (with_phase c phase r) (λ none. absurd (cc)) h)
   answered_made acks relayed c phase status m false =
-      settled_made server now acks relayed (with_final (final_of status m) (with_phase c phase r)) (final_made (final_of status m) (with_phase c phase r) (λ none. absurd (cc)) h)
+      settled_made server now acks relayed (with_final (final_of status m) (with_phase c phase r))
+      (final_made (final_of status m) (with_phase c phase r) (λ none. absurd (cc)) h)
 
   -- a response to the request of a branch
   target_made : (b : Branch) (status : ℕ) (m : Message) → KeepsMadeFinals (target_responded server now r b status m).request
   target_made b status m =
       either_made (is_provisional status) (settled server now [] (relayed_provisional r b status m) (with_phase b (heard r now status b.phase) r))
-      (cond (is_final b.phase) (settled server now [] (further r b b.phase status m) r) (settled server now (acks_of server r b status m) (relayed_success r b status m) (with_answer r b now status m)))
+      (cond (is_final b.phase) (settled server now [] (further r b b.phase status m) r)
+      (settled server now (acks_of server r b status m) (relayed_success r b status m) (with_answer r b now status m)))
       (phase_made [] (relayed_provisional r b status m) b (heard r now status b.phase))
       (either_made (is_final b.phase) (settled server now [] (further r b b.phase status m) r)
-      (settled server now (acks_of server r b status m) (relayed_success r b status m) (with_answer r b now status m)) (settled_made server now [] (further r b b.phase status m) r h)
-      (answered_made (acks_of server r b status m) (relayed_success r b status m) (told_to r b status m) (Done (now + linger r) status) status m (is_invite r && (is_success status || is_decline status))))
+      (settled server now (acks_of server r b status m) (relayed_success r b status m) (with_answer r b now status m))
+      (settled_made server now [] (further r b b.phase status m) r h)
+      (answered_made (acks_of server r b status m) (relayed_success r b status m) (told_to r b status m) (Done (now + linger r) status) status m
+      (is_invite r && (is_success status || is_decline status))))
 
   -- a response to a CANCEL
   cancel_made : (b : Branch) (status : ℕ) (m : Message) → KeepsMadeFinals (cancel_responded server now r b status m).request
   cancel_made b status m =
       either_made (is_provisional status) (settled server now [] None (with_phase b (other_heard b.phase) r))
-      (cond (is_final b.phase) (settled server now [] None r) (settled server now [] None (with_phase b (Done (now + 5000) status) r))) (phase_made [] None b (other_heard b.phase))
-      (either_made (is_final b.phase) (settled server now [] None r) (settled server now [] None (with_phase b (Done (now + 5000) status) r)) (settled_made server now [] None r h)
+      (cond (is_final b.phase) (settled server now [] None r) (settled server now [] None (with_phase b (Done (now + 5000) status) r)))
+      (phase_made [] None b (other_heard b.phase))
+      (either_made (is_final b.phase) (settled server now [] None r) (settled server now [] None (with_phase b (Done (now + 5000) status) r))
+      (settled_made server now [] None r h)
       (phase_made [] None b (Done (now + 5000) status)))
 
   -- the deadline of a branch to a target
@@ -143,8 +160,14 @@ module _ (server : Server) (now : ℕ) (r : OpenRequest) (h : KeepsMadeFinals r)
   target_overdue_made b (Unheard due) = given_up_made b 408 (inl refl)
   target_overdue_made b (Heard due) = by_method (is_invite r) where
     by_method : (t : Bool)
-        → KeepsMadeFinals (settled server now [] None (cond t (record r { branches = map (λ (x : Branch). cond (is_same_branch x b) (record x { wants_cancel = true }) x) r.branches }) (given_up b 408 r))).request
-    by_method true = settled_made server now [] None (record r { branches = map (λ (x : Branch). cond (is_same_branch x b) (record x { wants_cancel = true }) x) r.branches }) h
+        → KeepsMadeFinals (settled server now [] None (cond t (record r {
+          branches = map (λ (x : Branch). cond (is_same_branch x b) (record x { wants_cancel = true }) x)
+              r.branches;
+        }) (given_up b 408 r))).request
+    by_method true = settled_made server now [] None (record r {
+      branches = map (λ (x : Branch). cond (is_same_branch x b) (record x { wants_cancel = true }) x)
+          r.branches;
+    }) h
     by_method false = given_up_made b 408 (inl refl)
   target_overdue_made b (Cancelled due) = given_up_made b 487 (inr (inl refl))
   target_overdue_made b (Done due status) = phase_made [] None b Ended
@@ -164,7 +187,8 @@ module _ (server : Server) (now : ℕ) (r : OpenRequest) (h : KeepsMadeFinals r)
   cancelled_made false = settled_made server now [] None r h
 
   -- each change
-  pub change_made : (state : ProxyState) (act : Act) (change : Change) (again : List Packet) → IsChangeAt server state act now r change again → KeepsMadeFinals change.request
+  pub change_made : (state : ProxyState) (act : Act) (change : Change) (again : List Packet) → IsChangeAt server state act now r change again
+      → KeepsMadeFinals change.request
   change_made state act _ _ (ByResponse a bytes m status reason b said is_response is_for there) =
       either_made b.is_cancel (cancel_responded server now r b status m) (target_responded server now r b status m) (cancel_made b status m) (target_made b status m)
   change_made state act change _ (ByDeadline _ passes) = overdue_made change passes
@@ -174,7 +198,8 @@ module _ (server : Server) (now : ℕ) (r : OpenRequest) (h : KeepsMadeFinals r)
 -- ---- the other parts of a step
 
 -- a request of which something went again
-resent_made : (server : Server) (now : ℕ) (r : OpenRequest) (packets : List Packet) (next : OpenRequest) → IsResent server now r packets next → KeepsMadeFinals r → KeepsMadeFinals next
+resent_made : (server : Server) (now : ℕ) (r : OpenRequest) (packets : List Packet) (next : OpenRequest) → IsResent server now r packets next → KeepsMadeFinals r
+    → KeepsMadeFinals next
 resent_made server now r _ _ (OfAnswer is) h = h
 resent_made server now r _ _ (OfRequest b there is) h = h
 
@@ -210,14 +235,17 @@ module _ (server : Server) (state : ProxyState) (act : Act) (now : ℕ) where
   part_made requests after firsts again (Stays same none none_again) h = subst (AllByRecursion KeepsMadeFinals) (sym same) h
   part_made requests after firsts again (Passes a m address within is_ack same sends none_again) h = subst (AllByRecursion KeepsMadeFinals) (sym same) h
   part_made requests after firsts again (Copies a bytes m short key r said no_ack key_is is_open same none goes) h = subst (AllByRecursion KeepsMadeFinals) (sym same) h
-  part_made requests after firsts again (TurnsAway a bytes m short r said key_is no_ack begins is_full same none_again) h = subst (AllByRecursion KeepsMadeFinals) (sym same) h
+  part_made requests after firsts again (TurnsAway a bytes m short r said key_is no_ack begins is_full same none_again) h =
+      subst (AllByRecursion KeepsMadeFinals) (sym same) h
   part_made requests after firsts again (Opens a bytes m short r said key_is no_ack at begins has_room is_new same none_again) h =
       subst (AllByRecursion KeepsMadeFinals) (sym same) (all_push KeepsMadeFinals requests r h (opening_made server a m r firsts begins))
   part_made requests after firsts again (Changes r change there changes same sends) h =
       subst (AllByRecursion KeepsMadeFinals) (sym same)
-      (all_replaced KeepsMadeFinals change.request requests h (λ stays. change_made server now r (all_contains KeepsMadeFinals requests r h there) state act change again changes))
+      (all_replaced KeepsMadeFinals change.request requests h (λ stays. change_made server now r (all_contains KeepsMadeFinals requests r h there) state act change again
+      changes))
   part_made requests after firsts again (Resends r later there goes same none) h =
-      subst (AllByRecursion KeepsMadeFinals) (sym same) (all_replaced KeepsMadeFinals later requests h (λ stays. resent_made server now r again later goes (all_contains KeepsMadeFinals requests r h there)))
+      subst (AllByRecursion KeepsMadeFinals) (sym same) (all_replaced KeepsMadeFinals later requests h
+      (λ stays. resent_made server now r again later goes (all_contains KeepsMadeFinals requests r h there)))
   part_made requests after firsts again (Acknowledges r there same none none_again) h =
       subst (AllByRecursion KeepsMadeFinals) (sym same)
       (all_replaced KeepsMadeFinals (acknowledged now r) requests h (λ stays. acknowledged_made now r (all_contains KeepsMadeFinals requests r h there)))
@@ -233,9 +261,12 @@ module _ (server : Server) (state : ProxyState) (act : Act) (now : ℕ) where
 
 -- the final answers that all open requests keep at the end of a run
 pub made_of_chain : (server : Server) (first : ℕ) (history : List Link) (last : ProxyState) → IsChain server (first_state first) history last
-    → AllByRecursion (λ (r : OpenRequest). AllByRecursion (λ (f : Final). f.message ≡ None → (f.status ≡ 408) ⊎ ((f.status ≡ 487) ⊎ (f.status ≡ 503))) r.finals) last.requests
+    → AllByRecursion (λ (r : OpenRequest). AllByRecursion (λ (f : Final). f.message ≡ None → (f.status ≡ 408) ⊎ ((f.status ≡ 487) ⊎ (f.status ≡ 503))) r.finals)
+    last.requests
 made_of_chain server first [] last chain = subst (λ (s : ProxyState). AllByRecursion KeepsMadeFinals s.requests) (sym chain) tt
 made_of_chain server first (link ∷ history) last chain =
-    let has : HasParts (under server link.config) link.before link.act link.out link.after = step_parts (under server link.config) link.before link.act link.out link.after chain.1 in
+    let has : HasParts (under server link.config) link.before link.act link.out link.after =
+    step_parts (under server link.config) link.before link.act link.out link.after chain.1 in
     subst (λ (s : ProxyState). AllByRecursion KeepsMadeFinals s.requests) (sym chain.0)
-    (parts_made (under server link.config) link.before link.act link.after.moment link.before.requests link.after.requests _ _ has.parts (made_of_chain server first history link.before chain.2))
+    (parts_made (under server link.config) link.before link.act link.after.moment link.before.requests link.after.requests _ _ has.parts
+    (made_of_chain server first history link.before chain.2))

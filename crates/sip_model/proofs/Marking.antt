@@ -1,5 +1,6 @@
 -- A branch that is to be cancelled, and has neither its CANCEL nor a final answer: its request was given up, or Timer C passes (RFC 3261 16.7 step 10, 16.8, 16.10).
-use Rattle.std.proofs.Common.{◌≡◌, ◌⊎◌, inl, inr, ⊎_elim, ℕ, ◌+◌, ◌==◌, not, ◌&&◌, ◌||◌, Bool, true, false, cond, List, [], ◌∷◌, ◌++◌, map, flat_map, refl, sym, ap, ap₂, subst, ◌∙◌, true≢false, Contains, Option, Some, None}
+use Rattle.std.proofs.Common.{◌≡◌, ◌⊎◌, inl, inr, ⊎_elim, ℕ, ◌+◌, ◌==◌, not, ◌&&◌, ◌||◌, Bool, true, false, cond, List, [], ◌∷◌, ◌++◌, map, flat_map, refl, sym, ap, ap₂}
+use Rattle.std.proofs.Common.{subst, ◌∙◌, true≢false, Contains, Option, Some, None}
 use Rattle.std.specs.List.{AllByRecursion}
 use Rattle.std.proofs.lemmas.List.{map-id}
 use Rattle.sip_message_form.specs.declared.message.Start.TheVariants.{Status}
@@ -14,7 +15,10 @@ use Rattle.model_steps.specs.state.declared.branch.Phase.TheVariants.{Unheard, H
 use Rattle.model_steps.specs.state.declared.open_request.Side.TheVariants.{Closed}
 use Rattle.model_steps.specs.state.State.{is_invite, is_final, is_answering, phase_deadline, is_success, is_decline, is_provisional}
 use Rattle.model_steps.specs.state.declared.open_request.Upward.{Upward}
-use Rattle.model_steps.specs.context_model.Branches.{Change, is_same_branch, turned, with_phase, with_final, marked, given_up, is_ready, is_unheard, is_cancellable, held_branch, cancel_branch, with_cancel, after_upward, best_upward, settled, invite_heard, other_heard, heard, relayed_provisional, relayed_success, final_of, linger, told_to, with_answer, acks_of, further, target_responded, cancel_responded, target_overdue}
+use Rattle.model_steps.specs.context_model.Branches.{Change, is_same_branch, turned, with_phase, with_final, marked, given_up, is_ready, is_unheard, is_cancellable}
+use Rattle.model_steps.specs.context_model.Branches.{held_branch, cancel_branch, with_cancel, after_upward, best_upward, settled, invite_heard, other_heard, heard}
+use Rattle.model_steps.specs.context_model.Branches.{relayed_provisional, relayed_success, final_of, linger, told_to, with_answer, acks_of, further, target_responded}
+use Rattle.model_steps.specs.context_model.Branches.{cancel_responded, target_overdue}
 use Rattle.model_steps.specs.state.Arrival.{Arrival}
 use Rattle.model_steps.specs.verdict_model.Verdict.{responding}
 use Rattle.model_steps.specs.Step.{IsOverdue, OfSide, OfBranch}
@@ -57,7 +61,8 @@ cancelled_before server link history number c =
 -- what was given up in a history was given up in a longer one
 pub given_up_before : (server : Server) (link : Link) (history : List Link) (number : ℕ) → WasGivenUp server history number → WasGivenUp server (link ∷ history) number
 given_up_before server link history number (ByCaller c) = ByCaller (cancelled_before server link history number c)
-given_up_before server link history number (ByAnswer status response came ends) = ByAnswer status response (came_before server link history number status response came) ends
+given_up_before server link history number (ByAnswer status response came ends) = ByAnswer status response (came_before server link history number status response came)
+    ends
 
 -- ---- what is kept of each branch
 
@@ -93,7 +98,8 @@ module _ (server : Server) (history : List Link) (number : ℕ) where
   unsent_given b stays h =
       record {
         is_target = h.is_target;
-        was_given_up = λ wants waits. ⊎_elim (λ given. given) (λ ready. absurd (true≢false (sym (is_sent b (h.is_target wants) wants ready) ∙ stays))) (h.was_given_up wants waits);
+        was_given_up = λ wants waits. ⊎_elim (λ given. given) (λ ready. absurd (true≢false (sym (is_sent b (h.is_target wants) wants ready) ∙ stays)))
+            (h.was_given_up wants waits);
       }
 
   -- a branch that is
@@ -129,7 +135,8 @@ settled_given server history now acks relayed r all differ =
     let same = settled_branches server now acks relayed r in
     record {
       branches =
-          subst (λ (number : ℕ). AllByRecursion (IsGivenBranch server history number) (settled server now acks relayed r).request.branches) (sym (settled_number server now acks relayed r))
+          subst (λ (number : ℕ). AllByRecursion (IsGivenBranch server history number) (settled server now acks relayed r).request.branches)
+          (sym (settled_number server now acks relayed r))
           (subst (AllByRecursion (IsGivenBranch server history r.number)) (sym same) (cancels_given server history r.number now r.branches all));
       differ = subst TargetsDiffer (sym same) (differ_with_cancels now r.branches differ);
     }
@@ -220,7 +227,8 @@ module _ (server : Server) (link : Link) (past : List Link) (now : ℕ) (r : Ope
   abbrev pub IsHeardBefore : Branch → Type 0
   IsHeardBefore x = (is_ready x.phase ≡ true) ⊎ ((is_unheard x.phase ≡ true) × IsHeardNow server link.before link.act r x)
 
-  -- A branch of the request, and the same once the event came. If it is to be cancelled then, it goes to a target; and if it has neither its CANCEL nor a final answer, its request was given up,
+  -- A branch of the request, and the same once the event came. If it is to be cancelled then, it goes to a target; and if it has neither its CANCEL nor a final answer,
+  -- its request was given up,
   -- or its Timer C passes. If it is ready for a CANCEL, it was heard before, or is heard now.
   pub record IsEdited (x y : Branch) : Type 0 where
     pub is_target : y.wants_cancel ≡ true → y.is_cancel ≡ false
@@ -252,7 +260,8 @@ module _ (server : Server) (link : Link) (past : List Link) (now : ℕ) (r : Ope
   itself x own = record { is_target = own.is_target; was_given_up = λ wants waits. inl (own.was_given_up wants waits); was_heard = λ target ready. inl ready }
 
   -- one that gets its final answer, or ends
-  closed : (c : Branch) (phase : Phase) (x : Branch) (t : Bool) → is_waiting phase ≡ false → IsGivenBranch server (link ∷ past) r.number x → IsEdited x (cond t (turned c phase x) x)
+  closed : (c : Branch) (phase : Phase) (x : Branch) (t : Bool) → is_waiting phase ≡ false → IsGivenBranch server (link ∷ past) r.number x
+      → IsEdited x (cond t (turned c phase x) x)
   closed c phase x true never own =
       record {
         is_target = own.is_target;
@@ -272,10 +281,12 @@ module _ (server : Server) (link : Link) (past : List Link) (now : ℕ) (r : Ope
     is_it : (x b : Branch) → Contains r.branches x → Contains r.branches b → is_same_branch x b ≡ true → x.is_cancel ≡ false → x ≡ b
     is_it x b first second same target =
         let parts : ((x.number == b.number) ≡ true) × (x.is_cancel ≡ b.is_cancel) = same_parts (x.number == b.number) x.is_cancel b.is_cancel same in
-        only_target r.branches x b own.differ (in_from_contains r.branches x first) (in_from_contains r.branches b second) target (sym parts.1 ∙ target) (number_is x.number b.number parts.0)
+        only_target r.branches x b own.differ (in_from_contains r.branches x first) (in_from_contains r.branches b second) target (sym parts.1 ∙ target)
+        (number_is x.number b.number parts.0)
 
     -- one that hears a provisional response
-    hears : (b : Branch) (phase : Phase) (x : Branch) (t : Bool) → is_same_branch x b ≡ t → Contains r.branches b → Contains r.branches x → is_waiting phase ≡ is_waiting b.phase
+    hears : (b : Branch) (phase : Phase) (x : Branch) (t : Bool) → is_same_branch x b ≡ t → Contains r.branches b → Contains r.branches x
+        → is_waiting phase ≡ is_waiting b.phase
         → (b.is_cancel ≡ false → is_ready phase ≡ true → IsHeardBefore b) → IsGivenBranch server (link ∷ past) r.number x → IsEdited x (cond t (turned b phase x) x)
     hears b phase x true same there first only heard_before h =
         let one : x.is_cancel ≡ false → x ≡ b = λ target. is_it x b first there same target in
@@ -303,7 +314,8 @@ module _ (server : Server) (link : Link) (past : List Link) (now : ℕ) (r : Ope
     each_edited : (edit : Branch → Branch) → ((x : Branch) → Contains r.branches x → IsGivenBranch server (link ∷ past) r.number x → IsEdited x (edit x))
         → AllByRecursion (λ (x : Branch). IsEdited x (edit x)) r.branches
     each_edited edit each =
-        all_weaker (Contains r.branches) (λ (x : Branch). IsEdited x (edit x)) (λ x there. each x there (all_contains (IsGivenBranch server (link ∷ past) r.number) r.branches x own.branches there)) r.branches
+        all_weaker (Contains r.branches) (λ (x : Branch). IsEdited x (edit x)) (λ x there.
+        each x there (all_contains (IsGivenBranch server (link ∷ past) r.number) r.branches x own.branches there)) r.branches
         (all_there r.branches)
 
     -- with each branch as it is
@@ -324,7 +336,8 @@ module _ (server : Server) (link : Link) (past : List Link) (now : ℕ) (r : Ope
         }
 
     -- with a branch that gets its final answer, or ends
-    closed_settles : (acks : List Packet) (relayed : Option Upward) (c : Branch) (phase : Phase) (between : OpenRequest) → is_waiting phase ≡ false → bare between ≡ bare r
+    closed_settles : (acks : List Packet) (relayed : Option Upward) (c : Branch) (phase : Phase) (between : OpenRequest) → is_waiting phase ≡ false
+        → bare between ≡ bare r
         → between.branches ≡ (with_phase c phase r).branches → IsSettling (settled server now acks relayed between)
     closed_settles acks relayed c phase between never is_same same =
         let edit : Branch → Branch = λ x. cond (is_same_branch x c) (turned c phase x) x in
@@ -362,7 +375,9 @@ module _ (server : Server) (link : Link) (past : List Link) (now : ℕ) (r : Ope
 
     -- with a branch whose Timer C passes
     times_out_settles : (b : Branch) → Contains r.branches b → b.is_cancel ≡ false → b.phase ≡ Heard now
-        → IsSettling (settled server now [] None (record r { branches = map (λ (x : Branch). cond (is_same_branch x b) (record x { wants_cancel = true }) x) r.branches }))
+        → IsSettling (settled server now [] None (record r {
+          branches = map (λ (x : Branch). cond (is_same_branch x b) (record x { wants_cancel = true }) x) r.branches;
+        }))
     times_out_settles b there target is =
         let edit : Branch → Branch = λ x. cond (is_same_branch x b) (record x { wants_cancel = true }) x in
         record {
@@ -426,7 +441,8 @@ module _ (server : Server) (link : Link) (past : List Link) (now : ℕ) (r : Ope
         → ((is_success status || is_decline status) ≡ true → WasGivenUp server (link ∷ past) r.number) → IsSettling (target_responded server now r b status m)
     target_settles b status m there comes given =
         either_settles (is_provisional status) (settled server now [] (relayed_provisional r b status m) (with_phase b (heard r now status b.phase) r))
-        (cond (is_final b.phase) (settled server now [] (further r b b.phase status m) r) (settled server now (acks_of server r b status m) (relayed_success r b status m) (with_answer r b now status m)))
+        (cond (is_final b.phase) (settled server now [] (further r b b.phase status m) r)
+        (settled server now (acks_of server r b status m) (relayed_success r b status m) (with_answer r b now status m)))
         (λ provisional. hears_settles (relayed_provisional r b status m) b (heard r now status b.phase) there waits (λ target ready. heard_before provisional ready))
         (λ final. either_settles (is_final b.phase) (settled server now [] (further r b b.phase status m) r)
         (settled server now (acks_of server r b status m) (relayed_success r b status m) (with_answer r b now status m))
@@ -438,7 +454,8 @@ module _ (server : Server) (link : Link) (past : List Link) (now : ℕ) (r : Ope
 
           heard_before : is_provisional status ≡ true → is_ready (heard r now status b.phase) ≡ true → IsHeardBefore b
           heard_before provisional ready =
-              ⊎_elim (λ was. inl was) (λ unheard. inr (unheard, comes provisional)) (either (is_unheard b.phase) (is_ready b.phase) (sym waits ∙ ready_waits (heard r now status b.phase) ready))
+              ⊎_elim (λ was. inl was) (λ unheard. inr (unheard, comes provisional)) (either (is_unheard b.phase) (is_ready b.phase)
+              (sym waits ∙ ready_waits (heard r now status b.phase) ready))
 
           both : (t u : Bool) → (t && u) ≡ true → u ≡ true
           both true u e = e
@@ -467,7 +484,10 @@ module _ (server : Server) (link : Link) (past : List Link) (now : ℕ) (r : Ope
       due_is = cc
 
       by_method : (t : Bool)
-          → IsSettling (settled server now [] None (cond t (record r { branches = map (λ (x : Branch). cond (is_same_branch x b) (record x { wants_cancel = true }) x) r.branches }) (given_up b 408 r)))
+          → IsSettling (settled server now [] None (cond t (record r {
+            branches = map (λ (x : Branch). cond (is_same_branch x b) (record x { wants_cancel = true }) x)
+                r.branches;
+          }) (given_up b 408 r)))
       by_method true = times_out_settles b there target (is ∙ ap Heard due_is)
       by_method false = given_up_settles b 408
     target_overdue_settles b (Cancelled due) is passes target there = given_up_settles b 487
@@ -483,7 +503,8 @@ module _ (server : Server) (link : Link) (past : List Link) (now : ℕ) (r : Ope
       by_kind false is = target_overdue_settles b b.phase refl passes is there
 
     -- a response that comes in the step's datagram
-    came_now : (a : Arrival) (bytes : List ℕ) (m : Message) (status : ℕ) (reason : List ℕ) (b : Branch) → IsSaidAt link.before link.act a bytes m false → m.start ≡ Status status reason
+    came_now : (a : Arrival) (bytes : List ℕ) (m : Message) (status : ℕ) (reason : List ℕ) (b : Branch) → IsSaidAt link.before link.act a bytes m false
+        → m.start ≡ Status status reason
         → responding server link.before.requests m.fields ≡ Some (r, b) → b.is_cancel ≡ false → CameFor server (link ∷ past) r.number status m
     came_now a bytes m status reason b said is_response is_for target =
         record {
@@ -504,9 +525,20 @@ module _ (server : Server) (link : Link) (past : List Link) (now : ℕ) (r : Ope
     -- each change
     pub given_up_between : (change : Change) (again : List Packet) → IsChangeAt server link.before link.act now r change again → IsSettling change
     given_up_between _ _ (ByResponse a bytes m status reason b said is_response is_for there) =
-        either_settles b.is_cancel (cancel_responded server now r b status m) (target_responded server now r b status m) (λ is_cancel. cancel_settles b status m is_cancel there)
+        either_settles b.is_cancel (cancel_responded server now r b status m) (target_responded server now r b status m)
+        (λ is_cancel. cancel_settles b status m is_cancel there)
         (λ target. target_settles b status m there
-        (λ provisional. record { a = a; bytes = bytes; status = status; reason = reason; response = m; is_said = said; is_response = is_response; is_before_final = provisional; is_for = is_for })
+        (λ provisional. record {
+          a = a;
+          bytes = bytes;
+          status = status;
+          reason = reason;
+          response = m;
+          is_said = said;
+          is_response = is_response;
+          is_before_final = provisional;
+          is_for = is_for;
+        })
         (λ ends. ByAnswer status m (came_now a bytes m status reason b said is_response is_for target) ends))
     given_up_between change _ (ByDeadline _ passes) = overdue_settles change passes
     given_up_between _ _ (ByFault at ticket b act_is number_same fails) = given_up_settles b 503
@@ -547,5 +579,6 @@ module _ (server : Server) (link : Link) (past : List Link) (now : ℕ) (r : Ope
       (subst (λ (number : ℕ). AllByRecursion (IsNearlyGiven server (link ∷ past) number) s.between.branches) (sym (ap (λ (q : OpenRequest). q.number) s.is_same))
       (subst (AllByRecursion (IsNearlyGiven server (link ∷ past) r.number)) (sym s.branches_are)
       (all_map (IsNearlyGiven server (link ∷ past) r.number) s.edit r.branches
-      (all_weaker (λ (x : Branch). IsEdited x (s.edit x)) (λ (x : Branch). IsNearlyGiven server (link ∷ past) r.number (s.edit x)) (λ x e. nearly x (s.edit x) e) r.branches s.edited))))
+      (all_weaker (λ (x : Branch). IsEdited x (s.edit x)) (λ (x : Branch). IsNearlyGiven server (link ∷ past) r.number (s.edit x)) (λ x e. nearly x (s.edit x) e)
+      r.branches s.edited))))
       (subst TargetsDiffer (sym s.branches_are) (differ_edited s.edit (stays_going change s) r.branches own.differ)))

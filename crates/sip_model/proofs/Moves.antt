@@ -33,35 +33,46 @@ pub data IsOpening (server : Server) (a : Arrival) (m : Message) (r : OpenReques
       → finals ≡ forked_finals server a.now (forking a m (first ∷ others)) → IsOpening server a m r finals
 
 -- what may become of open requests at a moment, of the number of the next datagram, and the final answers that go up
-pub data IsMove (server : Server) (now : ℕ) (requests : List OpenRequest) (next : ℕ) (after : List OpenRequest) (after_next : ℕ) (finals : List FinalAnswer) : Type 0 where
+pub data IsMove (server : Server) (now : ℕ) (requests : List OpenRequest) (next : ℕ) (after : List OpenRequest) (after_next : ℕ) (finals : List FinalAnswer) : Type
+    0 where
   Stays : after ≡ requests → next ≤ after_next → finals ≡ [] → IsMove server now requests next after after_next finals
-  TurnsAway : (a : Arrival) (m : Message) (r : OpenRequest) → IsOpening server a m r finals → a.number ≡ next → next + 1 ≤ after_next → after ≡ requests → IsMove server now requests next after after_next finals
-  Opens : (a : Arrival) (m : Message) (r : OpenRequest) → IsOpening server a m r finals → a.now ≡ now → a.number ≡ next → next + 1 ≤ after_next → count_by (has_key r.key) requests ≡ 0
+  TurnsAway : (a : Arrival) (m : Message) (r : OpenRequest) → IsOpening server a m r finals → a.number ≡ next → next + 1 ≤ after_next → after ≡ requests
+      → IsMove server now requests next after after_next finals
+  Opens : (a : Arrival) (m : Message) (r : OpenRequest) → IsOpening server a m r finals → a.now ≡ now → a.number ≡ next → next + 1 ≤ after_next
+      → count_by (has_key r.key) requests ≡ 0
       → after ≡ requests ++ r ∷ [] → IsMove server now requests next after after_next finals
-  Changes : (r : OpenRequest) (change : Change) → IsIn r requests → IsChangeOf server now r change → next ≤ after_next → after ≡ replaced change.request requests → finals ≡ change_finals change
+  Changes : (r : OpenRequest) (change : Change) → IsIn r requests → IsChangeOf server now r change → next ≤ after_next → after ≡ replaced change.request requests
+      → finals ≡ change_finals change
       → IsMove server now requests next after after_next finals
-  Resends : (r : OpenRequest) (packets : List Packet) (later : OpenRequest) → IsIn r requests → IsResent server now r packets later → next ≤ after_next → after ≡ replaced later requests → finals ≡ []
+  Resends : (r : OpenRequest) (packets : List Packet) (later : OpenRequest) → IsIn r requests → IsResent server now r packets later → next ≤ after_next
+      → after ≡ replaced later requests → finals ≡ []
       → IsMove server now requests next after after_next finals
-  Acknowledges : (r : OpenRequest) → IsIn r requests → next ≤ after_next → after ≡ replaced (acknowledged now r) requests → finals ≡ [] → IsMove server now requests next after after_next finals
+  Acknowledges : (r : OpenRequest) → IsIn r requests → next ≤ after_next → after ≡ replaced (acknowledged now r) requests → finals ≡ []
+      → IsMove server now requests next after after_next finals
 
 -- one move, or two
-pub data AreMoves (server : Server) (now : ℕ) (requests : List OpenRequest) (next : ℕ) (after : List OpenRequest) (after_next : ℕ) (finals : List FinalAnswer) : Type 0 where
+pub data AreMoves (server : Server) (now : ℕ) (requests : List OpenRequest) (next : ℕ) (after : List OpenRequest) (after_next : ℕ) (finals : List FinalAnswer) : Type
+    0 where
   One : IsMove server now requests next after after_next finals → AreMoves server now requests next after after_next finals
   Two : (middle : List OpenRequest) (middle_next : ℕ) (earlier later : List FinalAnswer) → IsMove server now requests next middle middle_next earlier
       → IsMove server now middle middle_next after after_next later → finals ≡ later ++ earlier → AreMoves server now requests next after after_next finals
 
 -- what every move keeps, moves keep
 pub kept_by_moves : (server : Server) (now : ℕ) (P : List OpenRequest → ℕ → Type 0)
-    → ((requests : List OpenRequest) (next : ℕ) (after : List OpenRequest) (after_next : ℕ) (finals : List FinalAnswer) → IsMove server now requests next after after_next finals → P requests next → P after after_next)
-    → (requests : List OpenRequest) (next : ℕ) (after : List OpenRequest) (after_next : ℕ) (finals : List FinalAnswer) → AreMoves server now requests next after after_next finals → P requests next → P after after_next
+    → ((requests : List OpenRequest) (next : ℕ) (after : List OpenRequest) (after_next : ℕ) (finals : List FinalAnswer)
+    → IsMove server now requests next after after_next finals → P requests next → P after after_next)
+    → (requests : List OpenRequest) (next : ℕ) (after : List OpenRequest) (after_next : ℕ) (finals : List FinalAnswer)
+    → AreMoves server now requests next after after_next finals → P requests next → P after after_next
 kept_by_moves server now P keeps requests next after after_next finals (One move) h = keeps requests next after after_next finals move h
 kept_by_moves server now P keeps requests next after after_next finals (Two middle middle_next earlier later first second e) h =
     keeps middle middle_next after after_next later second (keeps requests next middle middle_next earlier first h)
 
 -- the same of what tells of final answers, too
 pub finals_by_moves : (server : Server) (now : ℕ) (P : List OpenRequest → ℕ → List FinalAnswer → Type 0)
-    → ((requests : List OpenRequest) (next : ℕ) (after : List OpenRequest) (after_next : ℕ) (finals sent : List FinalAnswer) → IsMove server now requests next after after_next finals → P requests next sent → P after after_next (finals ++ sent))
-    → (requests : List OpenRequest) (next : ℕ) (after : List OpenRequest) (after_next : ℕ) (finals sent : List FinalAnswer) → AreMoves server now requests next after after_next finals → P requests next sent
+    → ((requests : List OpenRequest) (next : ℕ) (after : List OpenRequest) (after_next : ℕ) (finals sent : List FinalAnswer)
+    → IsMove server now requests next after after_next finals → P requests next sent → P after after_next (finals ++ sent))
+    → (requests : List OpenRequest) (next : ℕ) (after : List OpenRequest) (after_next : ℕ) (finals sent : List FinalAnswer)
+    → AreMoves server now requests next after after_next finals → P requests next sent
     → P after after_next (finals ++ sent)
 finals_by_moves server now P keeps requests next after after_next finals sent (One move) h = keeps requests next after after_next finals sent move h
 finals_by_moves server now P keeps requests next after after_next finals sent (Two middle middle_next earlier later first second e) h =

@@ -1,5 +1,6 @@
 -- The counts with which right credentials use a nonce rise.
-use Rattle.std.proofs.Common.{◌≡◌, ℕ, zero, suc, ◌+◌, ◌≤◌, ◌<◌, Bool, true, false, cond, List, [], ◌∷◌, ◌++◌, length, find, Option, Some, None, refl, sym, subst, ap, ◌∙◌, arith, count_by, take, drop}
+use Rattle.std.proofs.Common.{◌≡◌, ℕ, zero, suc, ◌+◌, ◌≤◌, ◌<◌, Bool, true, false, cond, List, [], ◌∷◌, ◌++◌, length, find, Option, Some, None, refl, sym, subst, ap, ◌∙◌}
+use Rattle.std.proofs.Common.{arith, count_by, take, drop}
 use Rattle.std.specs.Prelude.{◌==◌, ◌-◌, nat_lt}
 use Rattle.std.specs.Option.{option_map_or, option_and_then, option_to_list}
 use Rattle.std.specs.List.{AllByRecursion, list_any}
@@ -96,12 +97,14 @@ pushed_other word issues counts rows row unlike h =
     let few = h.are_few in
     record {
       are_few = omega (arith, less, few);
-      are_above = all_dropped (IsAbove word counts) (length (rows ++ row ∷ []) - 4096) (rows ++ row ∷ []) (all_push (IsAbove word counts) rows row h.are_above (λ same. absurd (never (sym unlike ∙ same))));
+      are_above = all_dropped (IsAbove word counts) (length (rows ++ row ∷ []) - 4096) (rows ++ row ∷ [])
+          (all_push (IsAbove word counts) rows row h.are_above (λ same. absurd (never (sym unlike ∙ same))));
       were_issued = h.were_issued;
       are_falling = h.are_falling;
     }
 
-issued_other : (word issues : ℕ) (counts : List ℕ) (rows : List Nonce) (other now : ℕ) → (other == word) ≡ false → AreKept word issues counts rows → AreKept word issues counts (issued rows other now)
+issued_other : (word issues : ℕ) (counts : List ℕ) (rows : List Nonce) (other now : ℕ) → (other == word) ≡ false → AreKept word issues counts rows
+    → AreKept word issues counts (issued rows other now)
 issued_other word issues counts rows other now unlike h = by_test (list_any (is_this other now) rows) where
   by_test : (t : Bool) → AreKept word issues counts (cond t rows (last_rows (rows ++ record { word = other; since = now; count = 0 } ∷ [])))
   by_test true = h
@@ -112,7 +115,8 @@ all_above : (word : ℕ) (rows : List Nonce) → AllByRecursion (IsAbove word []
 all_above word [] = tt
 all_above word (row ∷ rows) = (λ same. tt, all_above word rows)
 
-pushed_first : (word : ℕ) (rows : List Nonce) (row : Nonce) → is_of_word word row ≡ true → count_by (is_of_word word) rows ≤ 0 → AreKept word 1 [] (last_rows (rows ++ row ∷ []))
+pushed_first : (word : ℕ) (rows : List Nonce) (row : Nonce) → is_of_word word row ≡ true → count_by (is_of_word word) rows ≤ 0
+    → AreKept word 1 [] (last_rows (rows ++ row ∷ []))
 pushed_first word rows row same few =
     let more = few_more (is_of_word word) rows row same in
     record { are_few = omega (arith, more, few); are_above = all_above word (last_rows (rows ++ row ∷ [])); were_issued = λ e. refl; are_falling = tt }
@@ -121,22 +125,26 @@ same_number : (n : ℕ) → (n == n) ≡ true
 same_number n = grind (arith, nat_tests)
 
 issued_first : (word : ℕ) (counts : List ℕ) (rows : List Nonce) (now : ℕ) → AreKept word 0 counts rows → AreKept word 1 counts (issued rows word now)
-issued_first word counts rows now h = subst (λ (cs : List ℕ). AreKept word 1 cs (issued rows word now)) (sym (h.were_issued refl)) (by_test (list_any (is_this word now) rows)) where
-  by_test : (t : Bool) → AreKept word 1 [] (cond t rows (last_rows (rows ++ record { word = word; since = now; count = 0 } ∷ [])))
-  by_test true = let few = h.are_few in record { are_few = omega (arith, few); are_above = all_above word rows; were_issued = λ e. refl; are_falling = tt }
-  by_test false = pushed_first word rows (record { word = word; since = now; count = 0 }) (same_number word) h.are_few
+issued_first word counts rows now h = subst (λ (cs : List ℕ). AreKept word 1 cs (issued rows word now)) (sym (h.were_issued refl))
+    (by_test (list_any (is_this word now) rows)) where
+      by_test : (t : Bool) → AreKept word 1 [] (cond t rows (last_rows (rows ++ record { word = word; since = now; count = 0 } ∷ [])))
+      by_test true = let few = h.are_few in record { are_few = omega (arith, few); are_above = all_above word rows; were_issued = λ e. refl; are_falling = tt }
+      by_test false = pushed_first word rows (record { word = word; since = now; count = 0 }) (same_number word) h.are_few
 
 -- ---- using
 
 -- a use changes no word
-counted_words : (p : ℕ → Bool) (word count : ℕ) (rows : List Nonce) (now : ℕ) → count_by (λ (row : Nonce). p row.word) (counted word count rows now) ≡ count_by (λ (row : Nonce). p row.word) rows
+counted_words : (p : ℕ → Bool) (word count : ℕ) (rows : List Nonce) (now : ℕ) → count_by (λ (row : Nonce). p row.word) (counted word count rows now)
+    ≡ count_by (λ (row : Nonce). p row.word) rows
 counted_words p word count [] now = refl
 counted_words p word count (row ∷ rows) now = by_test (is_this word now row) (counted_words p word count rows now) where
   by_test : (t : Bool) → count_by (λ (r : Nonce). p r.word) (counted word count rows now) ≡ count_by (λ (r : Nonce). p r.word) rows
-      → count_by (λ (r : Nonce). p r.word) (cond t (record row { count = count } ∷ rows) (row ∷ counted word count rows now)) ≡ count_by (λ (r : Nonce). p r.word) (row ∷ rows)
+      → count_by (λ (r : Nonce). p r.word) (cond t (record row { count = count } ∷ rows) (row ∷ counted word count rows now))
+      ≡ count_by (λ (r : Nonce). p r.word) (row ∷ rows)
   by_test true later = count_first (λ (r : Nonce). p r.word) (record row { count = count }) rows ∙ sym (count_first (λ (r : Nonce). p r.word) row rows)
   by_test false later =
-      count_first (λ (r : Nonce). p r.word) row (counted word count rows now) ∙ ap (λ (n : ℕ). cond (p row.word) 1 0 + n) later ∙ sym (count_first (λ (r : Nonce). p r.word) row rows)
+      count_first (λ (r : Nonce). p r.word) row (counted word count rows now) ∙ ap (λ (n : ℕ). cond (p row.word) 1 0 + n) later
+      ∙ sym (count_first (λ (r : Nonce). p r.word) row rows)
 
 -- a row that is used is of the word
 this_word : (word now : ℕ) (row : Nonce) → is_this word now row ≡ true → row.word ≡ word
@@ -159,7 +167,8 @@ counted_other word counts other count (row ∷ rows) now unlike h = by_test (is_
 found_counts : (word now : ℕ) (rows : List Nonce) (r : Nonce) → find (is_this word now) rows ≡ Some r → 1 ≤ count_by (is_of_word word) rows
 found_counts word now [] r e = absurd (cc)
 found_counts word now (row ∷ rows) r e = by_test (is_this word now row) refl (found_counts word now rows r) e where
-  by_test : (t : Bool) → is_this word now row ≡ t → (find (is_this word now) rows ≡ Some r → 1 ≤ count_by (is_of_word word) rows) → cond t (Some row) (find (is_this word now) rows) ≡ Some r → 1 ≤ count_by (is_of_word word) (row ∷ rows)
+  by_test : (t : Bool) → is_this word now row ≡ t → (find (is_this word now) rows ≡ Some r → 1 ≤ count_by (is_of_word word) rows)
+      → cond t (Some row) (find (is_this word now) rows) ≡ Some r → 1 ≤ count_by (is_of_word word) (row ∷ rows)
   by_test true is later found =
       let its : row.word ≡ word = this_word word now row is in
       let it : is_of_word word row ≡ true = ap (λ (w : ℕ). w == word) its ∙ same_number word in
@@ -170,7 +179,8 @@ found_counts word now (row ∷ rows) r e = by_test (is_this word now row) refl (
 none_above : (word : ℕ) (counts : List ℕ) (rows : List Nonce) → count_by (is_of_word word) rows ≤ 0 → AllByRecursion (IsAbove word counts) rows
 none_above word counts [] none = tt
 none_above word counts (row ∷ rows) none = by_test (is_of_word word row) refl (none_above word counts rows) where
-  by_test : (t : Bool) → is_of_word word row ≡ t → (count_by (is_of_word word) rows ≤ 0 → AllByRecursion (IsAbove word counts) rows) → IsAbove word counts row × AllByRecursion (IsAbove word counts) rows
+  by_test : (t : Bool) → is_of_word word row ≡ t → (count_by (is_of_word word) rows ≤ 0 → AllByRecursion (IsAbove word counts) rows)
+      → IsAbove word counts row × AllByRecursion (IsAbove word counts) rows
   by_test true is later = absurd (let one = count_true (is_of_word word) row rows is in omega (arith, none, one))
   by_test false is later = (λ same. absurd (never (sym is ∙ same)), later (omega (arith, none, count_false (is_of_word word) row rows is)))
 
@@ -178,20 +188,21 @@ none_above word counts (row ∷ rows) none = by_test (is_of_word word row) refl 
 counted_above : (word count : ℕ) (counts : List ℕ) (rows : List Nonce) (now : ℕ) (r : Nonce) → find (is_this word now) rows ≡ Some r → count_by (is_of_word word) rows ≤ 1
     → AllByRecursion (λ earlier. earlier ≤ count) counts → AllByRecursion (IsAbove word counts) (counted word count rows now)
 counted_above word count counts [] now r e few h = tt
-counted_above word count counts (row ∷ rows) now r e few h = by_test (is_this word now row) refl (λ found less. counted_above word count counts rows now r found less h) e where
-  by_test : (t : Bool) → is_this word now row ≡ t
-      → (find (is_this word now) rows ≡ Some r → count_by (is_of_word word) rows ≤ 1 → AllByRecursion (IsAbove word counts) (counted word count rows now))
-      → cond t (Some row) (find (is_this word now) rows) ≡ Some r
-      → AllByRecursion (IsAbove word counts) (cond t (record row { count = count } ∷ rows) (row ∷ counted word count rows now))
-  by_test true is later found =
-      let its : row.word ≡ word = this_word word now row is in
-      let it : is_of_word word row ≡ true = ap (λ (w : ℕ). w == word) its ∙ same_number word in
-      (λ same. h, none_above word counts rows (omega (arith, few, count_true (is_of_word word) row rows it)))
-  by_test false is later found = by_word (is_of_word word row) refl (later found) (found_counts word now rows r found) where
-    by_word : (u : Bool) → is_of_word word row ≡ u → (count_by (is_of_word word) rows ≤ 1 → AllByRecursion (IsAbove word counts) (counted word count rows now))
-        → 1 ≤ count_by (is_of_word word) rows → IsAbove word counts row × AllByRecursion (IsAbove word counts) (counted word count rows now)
-    by_word true it after one = absurd (let two = count_true (is_of_word word) row rows it in omega (arith, few, one, two))
-    by_word false it after one = (λ same. absurd (never (sym it ∙ same)), after (omega (arith, few, count_false (is_of_word word) row rows it)))
+counted_above word count counts (row ∷ rows) now r e few h = by_test (is_this word now row) refl (λ found less. counted_above word count counts rows now r found less h)
+    e where
+      by_test : (t : Bool) → is_this word now row ≡ t
+          → (find (is_this word now) rows ≡ Some r → count_by (is_of_word word) rows ≤ 1 → AllByRecursion (IsAbove word counts) (counted word count rows now))
+          → cond t (Some row) (find (is_this word now) rows) ≡ Some r
+          → AllByRecursion (IsAbove word counts) (cond t (record row { count = count } ∷ rows) (row ∷ counted word count rows now))
+      by_test true is later found =
+          let its : row.word ≡ word = this_word word now row is in
+          let it : is_of_word word row ≡ true = ap (λ (w : ℕ). w == word) its ∙ same_number word in
+          (λ same. h, none_above word counts rows (omega (arith, few, count_true (is_of_word word) row rows it)))
+      by_test false is later found = by_word (is_of_word word row) refl (later found) (found_counts word now rows r found) where
+        by_word : (u : Bool) → is_of_word word row ≡ u → (count_by (is_of_word word) rows ≤ 1 → AllByRecursion (IsAbove word counts) (counted word count rows now))
+            → 1 ≤ count_by (is_of_word word) rows → IsAbove word counts row × AllByRecursion (IsAbove word counts) (counted word count rows now)
+        by_word true it after one = absurd (let two = count_true (is_of_word word) row rows it in omega (arith, few, one, two))
+        by_word false it after one = (λ same. absurd (never (sym it ∙ same)), after (omega (arith, few, count_false (is_of_word word) row rows it)))
 
 -- ---- a proof
 
@@ -218,7 +229,8 @@ uncounted None e = absurd (cc)
 uncounted (Some r) e = absurd (cc)
 
 -- the nonce of a word is used with a count above that of its row
-used_this : (word issues : ℕ) (counts : List ℕ) (rows : List Nonce) (now n : ℕ) (r : Nonce) → find (is_this word now) rows ≡ Some r → r.count < n → issues ≤ 1 → AreKept word issues counts rows
+used_this : (word issues : ℕ) (counts : List ℕ) (rows : List Nonce) (now n : ℕ) (r : Nonce) → find (is_this word now) rows ≡ Some r → r.count < n → issues ≤ 1
+    → AreKept word issues counts rows
     → AreKept word issues (n ∷ counts) (counted word n rows now)
 used_this word issues counts rows now n r found less once h =
     let it = found_is (IsAbove word counts) (is_this word now) rows r h.are_above found in
@@ -275,4 +287,5 @@ issued_kept word issues counts rows other now once h = by_word (other == word) r
       subst (λ (k : ℕ). AreKept word k counts (issued rows other now)) more
       (subst (λ (x : ℕ). AreKept word 1 counts (issued rows x now)) (sym same) (issued_first word counts rows now (subst (λ (k : ℕ). AreKept word k counts rows) none h)))
   by_word false is few =
-      let no_more : issues ≡ 0 + issues = omega arith in subst (λ (k : ℕ). AreKept word k counts (issued rows other now)) no_more (issued_other word issues counts rows other now is h)
+      let no_more : issues ≡ 0 + issues = omega arith in subst (λ (k : ℕ). AreKept word k counts (issued rows other now)) no_more
+      (issued_other word issues counts rows other now is h)

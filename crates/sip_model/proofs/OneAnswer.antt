@@ -1,5 +1,6 @@
 -- Of each request of a history one final answer went up, or several 2xx to an INVITE.
-use Rattle.std.proofs.Common.{◌≡◌, inl, inr, ℕ, ◌+◌, ◌≤◌, Bool, true, false, ◌&&◌, cond, ◌==◌, List, [], ◌∷◌, ◌++◌, length, append-nil, None, refl, sym, ap, subst, ◌∙◌, arith, count_by, bytes_eq, codes, nat_le}
+use Rattle.std.proofs.Common.{◌≡◌, inl, inr, ℕ, ◌+◌, ◌≤◌, Bool, true, false, ◌&&◌, cond, ◌==◌, List, [], ◌∷◌, ◌++◌, length, append-nil, None, refl, sym, ap, subst, ◌∙◌}
+use Rattle.std.proofs.Common.{arith, count_by, bytes_eq, codes, nat_le}
 use Rattle.std.specs.List.{AllByRecursion}
 use Rattle.std.proofs.lemmas.Bool.Decides.{nat_tests}
 use Rattle.sip_message_form.specs.declared.message.Message.{Message}
@@ -17,7 +18,8 @@ use Rattle.model_steps.specs.state.Arrival.{Arrival}
 use Rattle.model_steps.specs.context_model.Opening.{arriving, closing, forking, is_tried, tried, trying}
 use Rattle.model_steps.specs.Effect.{replaced}
 use Rattle.sip_model.specs.Run.{Link, under, IsChain}
-use Rattle.sip_model.specs.Order.{is_numbered, AreNumbered, FinalAnswer, finals_up, change_finals, reply_finals, forked_finals, step_finals, history_finals, finals_to, IsAccepting, AreOneAnswer}
+use Rattle.sip_model.specs.Order.{is_numbered, AreNumbered, FinalAnswer, finals_up, change_finals, reply_finals, forked_finals, step_finals, history_finals, finals_to}
+use Rattle.sip_model.specs.Order.{IsAccepting, AreOneAnswer}
 use Rattle.sip_model.proofs.Places.{same_number, IsIn, all_in, all_push, all_replaced, counts_in, count_cons, one_at}
 use Rattle.sip_model.proofs.Moves.{Resends, sent_request, IsOpening, Answered, Sent, IsMove, Stays, TurnsAway, Opens, Changes, Acknowledges, finals_by_moves}
 use Rattle.sip_model.proofs.Events.{IsEvent, change_event}
@@ -51,16 +53,19 @@ alone : (finals rest : List FinalAnswer) → rest ≡ [] → finals ++ rest ≡ 
 alone finals rest e = ap (λ (fs : List FinalAnswer). finals ++ fs) e ∙ append-nil finals
 
 -- a request that is answered at once
-closing_answers : (sent : List FinalAnswer) (a : Arrival) (m : Message) (status : ℕ) (text : List ℕ) → finals_to a.number sent ≡ [] → IsAnswer (reply_finals a m status) sent (closing a m status text)
+closing_answers : (sent : List FinalAnswer) (a : Arrival) (m : Message) (status : ℕ) (text : List ℕ) → finals_to a.number sent ≡ []
+    → IsAnswer (reply_finals a m status) sent (closing a m status text)
 closing_answers sent a m status text none =
     let f : FinalAnswer = record { number = a.number; is_to_invite = is_invite (arriving a m); status = status } in
     let own : AreTo a.number (reply_finals a m status) = reply_to (is_provisional status) f in
     record {
       numbered_so = own;
-      one = inl (subst (λ (fs : List FinalAnswer). length fs ≤ 1) (sym (alone (reply_finals a m status) (finals_to a.number sent) none)) (reply_one (is_provisional status) f));
+      one = inl (subst (λ (fs : List FinalAnswer). length fs ≤ 1) (sym (alone (reply_finals a m status) (finals_to a.number sent) none))
+          (reply_one (is_provisional status) f));
       fits = record {
         owes = λ answering. absurd (cc);
-        accepts = λ invite success. subst (AllByRecursion IsAccepting) (sym (finals_with a.number (reply_finals a m status) sent own ∙ alone (reply_finals a m status) (finals_to a.number sent) none))
+        accepts = λ invite success. subst (AllByRecursion IsAccepting) (sym (finals_with a.number (reply_finals a m status) sent own
+            ∙ alone (reply_finals a m status) (finals_to a.number sent) none))
             (reply_accepts (is_provisional status) f (invite, success));
       };
     }
@@ -73,14 +78,17 @@ none_tried server r = by_test (is_tried r) where
   by_test false = refl
 
 -- after a 100 an answer is still owed
-tried_owes : (server : Server) (a : Arrival) (m : Message) (branches : List Branch) → is_answering (tried a.now (trying server (forking a m branches)) (forking a m branches)).side ≡ true
+tried_owes : (server : Server) (a : Arrival) (m : Message) (branches : List Branch) →
+    is_answering (tried a.now (trying server (forking a m branches)) (forking a m branches)).side ≡ true
 tried_owes server a m branches = by_test (is_tried (forking a m branches)) where
-  by_test : (t : Bool) → is_answering (tried a.now (cond t (record { status = 100; message = made_answer server a.number m a.from 100 []; target = None } ∷ []) []) (forking a m branches)).side ≡ true
+  by_test : (t : Bool) → is_answering (tried a.now (cond t (record { status = 100; message = made_answer server a.number m a.from 100 []; target = None } ∷ []) [])
+      (forking a m branches)).side ≡ true
   by_test true = refl
   by_test false = refl
 
 -- a request that is sent to its branches
-sent_answers : (server : Server) (sent : List FinalAnswer) (a : Arrival) (m : Message) (branches : List Branch) → finals_to (sent_request server a m branches).number sent ≡ []
+sent_answers : (server : Server) (sent : List FinalAnswer) (a : Arrival) (m : Message) (branches : List Branch)
+    → finals_to (sent_request server a m branches).number sent ≡ []
     → IsAnswer (forked_finals server a.now (forking a m branches)) sent (sent_request server a m branches)
 sent_answers server sent a m branches none =
     let fork : OpenRequest = forking a m branches in
@@ -89,7 +97,8 @@ sent_answers server sent a m branches none =
     (once_answers sent change (sent_once server a.now (tried a.now (trying server fork) fork) (tried_owes server a m branches)) none)
 
 -- a request as it is opened
-opening_answers : (server : Server) (sent : List FinalAnswer) (a : Arrival) (m : Message) (r : OpenRequest) (finals : List FinalAnswer) → IsOpening server a m r finals → finals_to r.number sent ≡ [] → IsAnswer finals sent r
+opening_answers : (server : Server) (sent : List FinalAnswer) (a : Arrival) (m : Message) (r : OpenRequest) (finals : List FinalAnswer) → IsOpening server a m r finals
+    → finals_to r.number sent ≡ [] → IsAnswer finals sent r
 opening_answers server sent a m r finals (Answered status text e up) none =
     subst (λ (x : OpenRequest). IsAnswer finals sent x) (sym e) (subst (λ (fs : List FinalAnswer). IsAnswer fs sent (closing a m status text)) (sym up)
     (closing_answers sent a m status text (sym (ap (λ (x : OpenRequest). finals_to x.number sent) e) ∙ none)))
@@ -119,31 +128,38 @@ are_equal : (a b : ℕ) → (a == b) ≡ true → a ≡ b
 are_equal a b h = grind (arith, nat_tests)
 
 -- with the final answers of one request, the number of which isn't to come any more
-one_each : (sent finals : List FinalAnswer) (k : ℕ) → AreTo k finals → AreOneAnswer (finals ++ finals_to k sent) → ((n : ℕ) → AreOneAnswer (finals_to n sent)) → (n : ℕ) → AreOneAnswer (finals_to n (finals ++ sent))
+one_each : (sent finals : List FinalAnswer) (k : ℕ) → AreTo k finals → AreOneAnswer (finals ++ finals_to k sent) → ((n : ℕ) → AreOneAnswer (finals_to n sent)) → (n : ℕ)
+    → AreOneAnswer (finals_to n (finals ++ sent))
 one_each sent finals k own one before n = by_test (k == n) refl where
   by_test : (t : Bool) → (k == n) ≡ t → AreOneAnswer (finals_to n (finals ++ sent))
   by_test true e = subst (λ (v : ℕ). AreOneAnswer (finals_to v (finals ++ sent))) (are_equal k n e) (subst AreOneAnswer (sym (finals_with k finals sent own)) one)
   by_test false e = subst AreOneAnswer (sym (finals_beside n k finals sent e own)) (before n)
 
 -- nothing was sent to numbers that are still to come
-none_each : (sent finals : List FinalAnswer) (k next after_next : ℕ) → AreTo k finals → k + 1 ≤ after_next → next ≤ after_next → ((n : ℕ) → next ≤ n → finals_to n sent ≡ []) → (n : ℕ) → after_next ≤ n → finals_to n (finals ++ sent) ≡ []
+none_each : (sent finals : List FinalAnswer) (k next after_next : ℕ) → AreTo k finals → k + 1 ≤ after_next → next ≤ after_next
+    → ((n : ℕ) → next ≤ n → finals_to n sent ≡ []) → (n : ℕ) → after_next ≤ n → finals_to n (finals ++ sent) ≡ []
 none_each sent finals k next after_next own below more before n high = finals_beside n k finals sent (apart k n (omega arith)) own ∙ before n (omega arith)
 
 -- the others fit as before
-fit_others : (k : ℕ) (finals sent : List FinalAnswer) (rs : List OpenRequest) → AreTo k finals → count_by (is_numbered k) rs ≡ 0 → AllByRecursion (IsFit sent) rs → AllByRecursion (IsFit (finals ++ sent)) rs
+fit_others : (k : ℕ) (finals sent : List FinalAnswer) (rs : List OpenRequest) → AreTo k finals → count_by (is_numbered k) rs ≡ 0 → AllByRecursion (IsFit sent) rs
+    → AllByRecursion (IsFit (finals ++ sent)) rs
 fit_others k finals sent [] own none all = tt
-fit_others k finals sent (r ∷ rs) own none all =
-    (fit_beside k finals sent r (apart_back r.number k (by_test (r.number == k) refl)) own all.0, fit_others k finals sent rs own (omega (arith, none, count_cons (is_numbered k) r rs)) all.1) where
-      by_test : (t : Bool) → (r.number == k) ≡ t → (r.number == k) ≡ false
-      by_test true e = absurd (omega (arith, none, count_cons (is_numbered k) r rs, one_at (is_numbered k r) e))
-      by_test false e = e
+fit_others k finals sent (r ∷ rs) own none all = (
+  fit_beside k finals sent r (apart_back r.number k (by_test (r.number == k) refl)) own all.0,
+  fit_others k finals sent rs own (omega (arith, none, count_cons (is_numbered k) r rs)) all.1,
+) where
+  by_test : (t : Bool) → (r.number == k) ≡ t → (r.number == k) ≡ false
+  by_test true e = absurd (omega (arith, none, count_cons (is_numbered k) r rs, one_at (is_numbered k r) e))
+  by_test false e = e
 
 -- and so they do where the request is replaced
-fit_replaced : (finals sent : List FinalAnswer) (new old : OpenRequest) (rs : List OpenRequest) → AreTo old.number finals → new.number ≡ old.number → count_by (is_numbered old.number) rs ≤ 1 → IsIn old rs
+fit_replaced : (finals sent : List FinalAnswer) (new old : OpenRequest) (rs : List OpenRequest) → AreTo old.number finals → new.number ≡ old.number
+    → count_by (is_numbered old.number) rs ≤ 1 → IsIn old rs
     → IsFit (finals ++ sent) new → AllByRecursion (IsFit sent) rs → AllByRecursion (IsFit (finals ++ sent)) (replaced new rs)
 fit_replaced finals sent new old [] own e few there fit all = absurd there
 fit_replaced finals sent new old (x ∷ xs) own e few there fit all =
-    by_test (x.number == new.number) refl (λ later. fit_replaced finals sent new old xs own e (omega (arith, few, count_cons (is_numbered old.number) x xs)) later fit all.1) there where
+    by_test (x.number == new.number) refl (λ later. fit_replaced finals sent new old xs own e (omega (arith, few, count_cons (is_numbered old.number) x xs)) later fit
+    all.1) there where
       stays : (left : Bool) → AllByRecursion (IsFit (finals ++ sent)) xs → AllByRecursion (IsFit (finals ++ sent)) (cond left xs (new ∷ xs))
       stays true rest = rest
       stays false rest = (fit, rest)
@@ -157,7 +173,10 @@ fit_replaced finals sent new old (x ∷ xs) own e few there fit all =
       by_test true is rest at =
           let one = one_at (is_numbered old.number x) (ap (λ v. x.number == v) (sym e) ∙ is) in
           stays (has_left new) (fit_others old.number finals sent xs own (omega (arith, few, count_cons (is_numbered old.number) x xs, one)) all.1)
-      by_test false is rest at = (fit_beside old.number finals sent x (apart_back x.number old.number (ap (λ v. x.number == v) (sym e) ∙ is)) own all.0, rest (still_in is at))
+      by_test false is rest at = (
+        fit_beside old.number finals sent x (apart_back x.number old.number (ap (λ v. x.number == v) (sym e) ∙ is)) own all.0,
+        rest (still_in is at),
+      )
 
 -- ---- moves
 
@@ -166,15 +185,18 @@ same_invite : (a b : OpenRequest) → a.key ≡ b.key → is_invite a ≡ is_inv
 same_invite a b e = ap (λ (k : Key). bytes_eq k.method (codes "INVITE")) e
 
 -- a change of an open request
-change_answers : (server : Server) (now : ℕ) (sent : List FinalAnswer) (r : OpenRequest) (change : Change) (owes : Bool) → is_answering r.side ≡ owes → IsEvent server now r change → AreOneAnswer (finals_to r.number sent) → IsFit sent r
+change_answers : (server : Server) (now : ℕ) (sent : List FinalAnswer) (r : OpenRequest) (change : Change) (owes : Bool) → is_answering r.side ≡ owes
+    → IsEvent server now r change → AreOneAnswer (finals_to r.number sent) → IsFit sent r
     → IsAnswer (change_finals change) sent change.request
 change_answers server now sent r change true e event one fit =
     once_answers sent change (answers_once server now r change event e) (ap (λ (n : ℕ). finals_to n sent) (event_number server now r change event) ∙ fit.owes e)
 change_answers server now sent r change false e event one fit =
-    further_answers sent r change (adds_successes server now r change event e) (event_number server now r change event) (same_invite change.request r (event_key server now r change event)) one fit
+    further_answers sent r change (adds_successes server now r change event e) (event_number server now r change event)
+    (same_invite change.request r (event_key server now r change event)) one fit
 
 -- an ACK sends nothing
-resent_fit : (server : Server) (now : ℕ) (sent : List FinalAnswer) (r : OpenRequest) (packets : List Packet) (next : OpenRequest) → IsResent server now r packets next → IsFit sent r → IsFit sent next
+resent_fit : (server : Server) (now : ℕ) (sent : List FinalAnswer) (r : OpenRequest) (packets : List Packet) (next : OpenRequest) → IsResent server now r packets next
+    → IsFit sent r → IsFit sent next
 resent_fit server now sent r _ _ (OfAnswer is) h = record { owes = h.owes; accepts = h.accepts }
 resent_fit server now sent r _ _ (OfRequest b there is) h = record { owes = h.owes; accepts = h.accepts }
 
@@ -194,7 +216,8 @@ number_below requests next r h there = by_order (nat_le next r.number) refl wher
   by_order false e = grind (arith, nat_tests)
 
 -- a request that a datagram brings is sent its first answers
-opened_answered : (server : Server) (requests : List OpenRequest) (next after_next : ℕ) (a : Arrival) (m : Message) (r : OpenRequest) (finals sent : List FinalAnswer) → IsOpening server a m r finals → a.number ≡ next → next + 1 ≤ after_next
+opened_answered : (server : Server) (requests : List OpenRequest) (next after_next : ℕ) (a : Arrival) (m : Message) (r : OpenRequest) (finals sent : List FinalAnswer)
+    → IsOpening server a m r finals → a.number ≡ next → next + 1 ≤ after_next
     → AreAnswered requests next sent → IsAnswer finals sent r × (r.number ≡ next) × AllByRecursion (IsFit (finals ++ sent)) requests
 opened_answered server requests next after_next a m r finals sent opening number more h =
     let is : r.number ≡ next = opening_number server a m r finals opening ∙ number in
@@ -202,7 +225,8 @@ opened_answered server requests next after_next a m r finals sent opening number
     (answer, is, fit_others r.number finals sent requests answer.numbered_so (h.named.numbers.are_below r.number (omega arith)) h.fit)
 
 -- what a move leaves of all that
-move_answered : (server : Server) (now : ℕ) (requests : List OpenRequest) (next : ℕ) (after : List OpenRequest) (after_next : ℕ) (finals sent : List FinalAnswer) → IsMove server now requests next after after_next finals
+move_answered : (server : Server) (now : ℕ) (requests : List OpenRequest) (next : ℕ) (after : List OpenRequest) (after_next : ℕ) (finals sent : List FinalAnswer)
+    → IsMove server now requests next after after_next finals
     → AreAnswered requests next sent → AreAnswered after after_next (finals ++ sent)
 move_answered server now requests next after after_next finals sent (Stays e more up) h = record {
   named = move_named server now requests next after after_next finals (Stays e more up) h.named;
@@ -241,7 +265,8 @@ move_answered server now requests next after after_next finals sent (Changes r c
       none_later = none_each sent finals change.request.number next after_next answer.numbered_so (omega arith) more h.none_later;
       each_one = one_each sent finals change.request.number answer.numbered_so answer.one h.each_one;
       fit = subst (AllByRecursion (IsFit (finals ++ sent))) (sym e)
-          (fit_replaced finals sent change.request r requests (subst (λ (n : ℕ). AreTo n finals) number answer.numbered_so) number (h.named.numbers.differ r.number) there answer.fits h.fit);
+          (fit_replaced finals sent change.request r requests (subst (λ (n : ℕ). AreTo n finals) number answer.numbered_so) number (h.named.numbers.differ r.number) there
+          answer.fits h.fit);
     }
 move_answered server now requests next after after_next finals sent (Resends r packets later there goes more e up) h = record {
   named = move_named server now requests next after after_next finals (Resends r packets later there goes more e up) h.named;
@@ -256,7 +281,8 @@ move_answered server now requests next after after_next finals sent (Acknowledge
   named = move_named server now requests next after after_next finals (Acknowledges r there more e up) h.named;
   none_later = λ n high. same n ∙ h.none_later n (omega arith);
   each_one = λ n. subst AreOneAnswer (sym (same n)) (h.each_one n);
-  fit = subst (AllByRecursion (IsFit (finals ++ sent))) (sym e) (subst (λ (fs : List FinalAnswer). AllByRecursion (IsFit (fs ++ sent)) (replaced (acknowledged now r) requests)) (sym up)
+  fit = subst (AllByRecursion (IsFit (finals ++ sent))) (sym e) (subst (λ (fs : List FinalAnswer).
+      AllByRecursion (IsFit (fs ++ sent)) (replaced (acknowledged now r) requests)) (sym up)
       (all_replaced (IsFit sent) (acknowledged now r) requests h.fit (λ stays. acknowledged_fit now sent r (all_in (IsFit sent) requests r h.fit there))));
 } where
   same : (n : ℕ) → finals_to n (finals ++ sent) ≡ finals_to n sent
@@ -276,7 +302,8 @@ chain_answered server first (link ∷ history) last chain =
     let finals = step_finals (under server link.config) link.before link.act link.out link.after chain.1 in
     let sent = history_finals server (first_state first) history link.before chain.2 in
     subst (λ (s : ProxyState). AreAnswered s.requests s.next (finals ++ sent)) (sym chain.0)
-    (finals_by_moves (under server link.config) now AreAnswered (λ requests next after after_next fs earlier. move_answered (under server link.config) now requests next after after_next fs earlier)
+    (finals_by_moves (under server link.config) now AreAnswered (λ requests next after after_next fs earlier.
+    move_answered (under server link.config) now requests next after after_next fs earlier)
     link.before.requests link.before.next link.after.requests link.after.next finals sent taken.moves (chain_answered server first history link.before chain.2))
 
 -- of each number of a history one final answer went up, or several 2xx to an INVITE

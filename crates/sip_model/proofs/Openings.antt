@@ -65,23 +65,29 @@ started_due_by floor now true low = omega arith
 started_due_by floor now false low = tt
 
 -- those of all of them
-started_due : (floor now : ℕ) (bs : List Branch) → floor ≤ now + 1 → AllByRecursion (IsStarted now) bs → AllByRecursion (λ (b : Branch). DueFrom floor (phase_deadline b.phase)) bs
+started_due : (floor now : ℕ) (bs : List Branch) → floor ≤ now + 1 → AllByRecursion (IsStarted now) bs
+    → AllByRecursion (λ (b : Branch). DueFrom floor (phase_deadline b.phase)) bs
 started_due floor now [] low all = tt
-started_due floor now (b ∷ bs) low all = (subst (λ (p : Phase). DueFrom floor (phase_deadline p)) (sym all.0.is_due) (started_due_by floor now (is_some b.address) low), started_due floor now bs low all.1)
+started_due floor now (b ∷ bs) low all = (
+  subst (λ (p : Phase). DueFrom floor (phase_deadline p)) (sym all.0.is_due) (started_due_by floor now (is_some b.address) low),
+  started_due floor now bs low all.1,
+)
 
 -- those of the request
 forking_due : (floor : ℕ) (a : Arrival) (m : Message) (bs : List Branch) → floor ≤ a.now + 1 → AllByRecursion (IsStarted a.now) bs → IsDue floor (forking a m bs)
 forking_due floor a m bs low all = record { side_due = tt; branches_due = started_due floor a.now bs low all }
 
 -- each deadline of a request is later than its arrival
-pub opening_due : (server : Server) (floor : ℕ) (a : Arrival) (m : Message) (r : OpenRequest) (finals : List FinalAnswer) → IsOpening server a m r finals → floor ≤ a.now + 1 → IsDue floor r
+pub opening_due : (server : Server) (floor : ℕ) (a : Arrival) (m : Message) (r : OpenRequest) (finals : List FinalAnswer) → IsOpening server a m r finals
+    → floor ≤ a.now + 1 → IsDue floor r
 opening_due server floor a m r finals (Answered status text e up) low =
     let due : floor ≤ a.now + 32000 = omega arith in
     subst (IsDue floor) (sym e) (record { side_due = due; branches_due = tt })
 opening_due server floor a m r finals (Sent first others started e up) low =
     let fork : OpenRequest = forking a m (first ∷ others) in
     let tried_due : IsDue floor (tried a.now (trying server fork) fork) =
-    subst (IsDue floor) (sym (tried_is server a.now fork)) (upward_due floor a.now (tried_first server fork) fork low (forking_due floor a m (first ∷ others) low started)) in
+    subst (IsDue floor) (sym (tried_is server a.now fork)) (upward_due floor a.now (tried_first server fork) fork low
+    (forking_due floor a m (first ∷ others) low started)) in
     subst (IsDue floor) (sym e) (settled_due server floor a.now [] None (tried a.now (trying server fork) fork) low tried_due)
 
 -- ---- when it goes again
@@ -92,7 +98,8 @@ started_again_by floor now invite b low same =
     let later : floor ≤ now + 500 = omega arith in
     let some : 1 ≤ 500 = omega arith in
     record {
-      due_from = subst (λ (y : Resend). DueFrom floor (cond (goes b.is_cancel invite b.phase) (Some y.due) None)) (sym same) (due_if floor (now + 500) (goes b.is_cancel invite b.phase) later);
+      due_from = subst (λ (y : Resend). DueFrom floor (cond (goes b.is_cancel invite b.phase) (Some y.due) None)) (sym same)
+          (due_if floor (now + 500) (goes b.is_cancel invite b.phase) later);
       waits = subst (λ (y : Resend). 1 ≤ y.wait) (sym same) some;
     }
 
@@ -113,13 +120,19 @@ forking_again floor a m bs low all =
     }
 
 -- nothing of a request goes again before its arrival, or at it
-pub opening_again : (server : Server) (floor : ℕ) (a : Arrival) (m : Message) (r : OpenRequest) (finals : List FinalAnswer) → IsOpening server a m r finals → floor ≤ a.now + 1 → IsAgain floor r
+pub opening_again : (server : Server) (floor : ℕ) (a : Arrival) (m : Message) (r : OpenRequest) (finals : List FinalAnswer) → IsOpening server a m r finals
+    → floor ≤ a.now + 1 → IsAgain floor r
 opening_again server floor a m r finals (Answered status text e up) low =
     let later : floor ≤ a.now + 500 = omega arith in
     let some : 1 ≤ 500 = omega arith in
-    subst (IsAgain floor) (sym e) (record { answer_from = due_if floor (a.now + 500) (insists (closing a m status text)) later; answer_waits = some; branches_again = tt })
+    subst (IsAgain floor) (sym e) (record {
+      answer_from = due_if floor (a.now + 500) (insists (closing a m status text)) later;
+      answer_waits = some;
+      branches_again = tt;
+    })
 opening_again server floor a m r finals (Sent first others started e up) low =
     let fork : OpenRequest = forking a m (first ∷ others) in
     let tried_again : IsAgain floor (tried a.now (trying server fork) fork) =
-    subst (IsAgain floor) (sym (tried_is server a.now fork)) (upward_again floor a.now (tried_first server fork) fork low (forking_again floor a m (first ∷ others) low started)) in
+    subst (IsAgain floor) (sym (tried_is server a.now fork)) (upward_again floor a.now (tried_first server fork) fork low
+    (forking_again floor a m (first ∷ others) low started)) in
     subst (IsAgain floor) (sym e) (settled_again server floor a.now [] None (tried a.now (trying server fork) fork) low tried_again)

@@ -34,8 +34,10 @@ same_key_parts a b e =
 same_key_is : (a b : Key) → same_key a b ≡ true → a ≡ b
 same_key_is a b e =
     let parts = same_key_parts a b e in
-    ap (λ v. record { branch = v; host = a.host; port = a.port; method = a.method }) parts.0 ∙ ap (λ v. record { branch = b.branch; host = v; port = a.port; method = a.method }) parts.1
-    ∙ ap (λ v. record { branch = b.branch; host = b.host; port = v; method = a.method }) parts.2 ∙ ap (λ v. record { branch = b.branch; host = b.host; port = b.port; method = v }) parts.3
+    ap (λ v. record { branch = v; host = a.host; port = a.port; method = a.method }) parts.0
+    ∙ ap (λ v. record { branch = b.branch; host = v; port = a.port; method = a.method }) parts.1
+    ∙ ap (λ v. record { branch = b.branch; host = b.host; port = v; method = a.method }) parts.2
+    ∙ ap (λ v. record { branch = b.branch; host = b.host; port = b.port; method = v }) parts.3
 
 -- an ACK leaves the key
 acknowledged_key : (now : ℕ) (r : OpenRequest) → (acknowledged now r).key ≡ r.key
@@ -59,7 +61,8 @@ pub record AreNamed (requests : List OpenRequest) (next : ℕ) : Type 0 where
   pub numbers : AreNumbered next requests
 
 -- one more request, whose key is new
-one_more_key : (requests : List OpenRequest) (r : OpenRequest) (key : Key) → KeysDiffer requests → count_by (has_key r.key) requests ≡ 0 → count_by (has_key key) (requests ++ r ∷ []) ≤ 1
+one_more_key : (requests : List OpenRequest) (r : OpenRequest) (key : Key) → KeysDiffer requests → count_by (has_key r.key) requests ≡ 0
+    → count_by (has_key key) (requests ++ r ∷ []) ≤ 1
 one_more_key requests r key differ is_new = by_test (same_key r.key key) refl where
   by_test : (t : Bool) → same_key r.key key ≡ t → count_by (has_key key) (requests ++ r ∷ []) ≤ 1
   by_test true is =
@@ -68,7 +71,8 @@ one_more_key requests r key differ is_new = by_test (same_key r.key key) refl wh
   by_test false is = omega (arith, count_push (has_key key) requests r, none_at (same_key r.key key) is, differ key)
 
 -- a request with the next number
-numbered_push : (requests : List OpenRequest) (r : OpenRequest) (next after_next : ℕ) → r.number ≡ next → next + 1 ≤ after_next → AreNumbered next requests → AreNumbered after_next (requests ++ r ∷ [])
+numbered_push : (requests : List OpenRequest) (r : OpenRequest) (next after_next : ℕ) → r.number ≡ next → next + 1 ≤ after_next → AreNumbered next requests
+    → AreNumbered after_next (requests ++ r ∷ [])
 numbered_push requests r next after_next e more h = record {
   differ = λ n. differ_by n (r.number == n) refl;
   are_below = λ n high. below_by n (r.number == n) refl high;
@@ -85,7 +89,8 @@ numbered_push requests r next after_next e more h = record {
   below_by n false is high = let none = h.are_below n (omega arith) in omega (arith, count_push (is_numbered n) requests r, none_at (r.number == n) is, none)
 
 -- a request in place of the one of its name
-replaced_named : (requests : List OpenRequest) (next after_next : ℕ) (new old : OpenRequest) → IsIn old requests → new.key ≡ old.key → new.number ≡ old.number → next ≤ after_next
+replaced_named : (requests : List OpenRequest) (next after_next : ℕ) (new old : OpenRequest) → IsIn old requests → new.key ≡ old.key → new.number ≡ old.number
+    → next ≤ after_next
     → AreNamed requests next → AreNamed (replaced new requests) after_next
 replaced_named requests next after_next new old there key number more h =
     let fewer = λ (p : OpenRequest → Bool) (same : p new ≡ p old). count_replaced p new old requests there number (h.numbers.differ old.number) same in
@@ -105,10 +110,13 @@ named_later requests next after_next more h = record {
 }
 
 -- what a move makes of keys and numbers
-pub move_named : (server : Server) (now : ℕ) (requests : List OpenRequest) (next : ℕ) (after : List OpenRequest) (after_next : ℕ) (finals : List FinalAnswer) → IsMove server now requests next after after_next finals
+pub move_named : (server : Server) (now : ℕ) (requests : List OpenRequest) (next : ℕ) (after : List OpenRequest) (after_next : ℕ) (finals : List FinalAnswer)
+    → IsMove server now requests next after after_next finals
     → AreNamed requests next → AreNamed after after_next
-move_named server now requests next after after_next finals (Stays e more up) h = subst (λ rs. AreNamed rs after_next) (sym e) (named_later requests next after_next more h)
-move_named server now requests next after after_next finals (TurnsAway a m r opening number more e) h = subst (λ rs. AreNamed rs after_next) (sym e) (named_later requests next after_next (omega arith) h)
+move_named server now requests next after after_next finals (Stays e more up) h = subst (λ rs. AreNamed rs after_next) (sym e)
+    (named_later requests next after_next more h)
+move_named server now requests next after after_next finals (TurnsAway a m r opening number more e) h =
+    subst (λ rs. AreNamed rs after_next) (sym e) (named_later requests next after_next (omega arith) h)
 move_named server now requests next after after_next finals (Opens a m r opening at number more is_new e) h =
     subst (λ rs. AreNamed rs after_next) (sym e) (record {
       keys = λ key. one_more_key requests r key h.keys is_new;
@@ -116,18 +124,26 @@ move_named server now requests next after after_next finals (Opens a m r opening
     })
 move_named server now requests next after after_next finals (Changes r change there is more e up) h =
     let event = change_event server now r change is in
-    subst (λ rs. AreNamed rs after_next) (sym e) (replaced_named requests next after_next change.request r there (event_key server now r change event) (event_number server now r change event) more h)
+    subst (λ rs. AreNamed rs after_next) (sym e) (replaced_named requests next after_next change.request r there (event_key server now r change event)
+    (event_number server now r change event) more h)
 move_named server now requests next after after_next finals (Resends r packets later there goes more e up) h =
-    subst (λ rs. AreNamed rs after_next) (sym e) (replaced_named requests next after_next later r there (resent_key server now r packets later goes) (resent_number server now r packets later goes) more h)
+    subst (λ rs. AreNamed rs after_next) (sym e) (replaced_named requests next after_next later r there (resent_key server now r packets later goes)
+    (resent_number server now r packets later goes) more h)
 move_named server now requests next after after_next finals (Acknowledges r there more e up) h =
-    subst (λ rs. AreNamed rs after_next) (sym e) (replaced_named requests next after_next (acknowledged now r) r there (acknowledged_key now r) (acknowledged_number now r) more h)
+    subst (λ rs. AreNamed rs after_next) (sym e) (replaced_named requests next after_next (acknowledged now r) r there (acknowledged_key now r)
+    (acknowledged_number now r) more h)
 
 -- of each state of a history keys and numbers are told apart
-pub chain_named : (server : Server) (first : ℕ) (history : List Link) (last : ProxyState) → IsChain server (first_state first) history last → AreNamed last.requests last.next
+pub chain_named : (server : Server) (first : ℕ) (history : List Link) (last : ProxyState) → IsChain server (first_state first) history last
+    → AreNamed last.requests last.next
 chain_named server first [] last h =
-    subst (λ (s : ProxyState). AreNamed s.requests s.next) (sym h) (record { keys = λ key. omega arith; numbers = record { differ = λ n. omega arith; are_below = λ n high. refl } })
+    subst (λ (s : ProxyState). AreNamed s.requests s.next) (sym h) (record {
+      keys = λ key. omega arith;
+      numbers = record { differ = λ n. omega arith; are_below = λ n high. refl };
+    })
 chain_named server first (link ∷ history) last h =
     let taken = step_taken (under server link.config) link.before link.act link.out link.after h.1 in
     subst (λ (s : ProxyState). AreNamed s.requests s.next) (sym h.0)
-    (kept_by_moves (under server link.config) (stands_at link.before link.act link.out) AreNamed (λ requests next after after_next finals. move_named (under server link.config) (stands_at link.before link.act link.out) requests next after after_next finals)
+    (kept_by_moves (under server link.config) (stands_at link.before link.act link.out) AreNamed
+    (λ requests next after after_next finals. move_named (under server link.config) (stands_at link.before link.act link.out) requests next after after_next finals)
     link.before.requests link.before.next link.after.requests link.after.next _ taken.moves (chain_named server first history link.before h.2))

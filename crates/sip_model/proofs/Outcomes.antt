@@ -1,5 +1,6 @@
 -- What an effect sends for the first time is marked so, and so is what goes again: each effect is what some step does.
-use Rattle.std.proofs.Common.{◌≡◌, ◌∙◌, ℕ, ◌+◌, ◌==◌, Bool, true, false, not, ◌&&◌, cond, List, [], ◌∷◌, ◌++◌, find, flat_map, bytes_eq, codes, Option, Some, None, refl, ap}
+use Rattle.std.proofs.Common.{◌≡◌, ◌∙◌, ℕ, ◌+◌, ◌==◌, Bool, true, false, not, ◌&&◌, cond, List, [], ◌∷◌, ◌++◌, find, flat_map, bytes_eq, codes, Option, Some, None, refl}
+use Rattle.std.proofs.Common.{ap}
 use Rattle.std.specs.Option.{option_map_or}
 use Rattle.std.specs.List.{AllByRecursion}
 use Rattle.sip_uri.specs.declared.addr.Addr.{Addr}
@@ -25,11 +26,14 @@ use Rattle.model_steps.specs.state.declared.proxy_state.ProxyState.{ProxyState}
 use Rattle.model_steps.specs.state.State.{is_invite, is_answering, is_failure, is_final, is_provisional, is_success}
 use Rattle.model_steps.proofs.of_state.Sameness.{state_self}
 use Rattle.model_steps.specs.context_model.Sending.{answer_to, to_branch, branch_packets, ack_packets, sent_of, ticket_branch, request_of}
-use Rattle.model_steps.specs.context_model.Branches.{Change, settled, after_upward, best_upward, new_cancels, responded, target_responded, cancel_responded, acks_of, relayed_provisional, relayed_success, further, with_phase, with_answer, heard, other_heard, marked, given_up, branch_overdue}
+use Rattle.model_steps.specs.context_model.Branches.{Change, settled, after_upward, best_upward, new_cancels, responded, target_responded, cancel_responded, acks_of}
+use Rattle.model_steps.specs.context_model.Branches.{relayed_provisional, relayed_success, further, with_phase, with_answer, heard, other_heard, marked, given_up}
+use Rattle.model_steps.specs.context_model.Branches.{branch_overdue}
 use Rattle.model_steps.specs.context_model.Retransmission.{answers_again, is_lasting, acks_again, IsResent, OfAnswer, OfRequest}
 use Rattle.model_steps.specs.state.Arrival.{Arrival}
 use Rattle.model_steps.specs.verdict_model.declared.question.Question.{Question}
-use Rattle.model_steps.specs.verdict_model.Verdict.{Registered, Bound, Refused, Verdict, Drop, Respond, Copy, AckOn, Cancel, Answer, InDialog, Challenge, Deny, Send, Register, verdict_of}
+use Rattle.model_steps.specs.verdict_model.Verdict.{Registered, Bound, Refused, Verdict, Drop, Respond, Copy, AckOn, Cancel, Answer, InDialog, Challenge, Deny, Send}
+use Rattle.model_steps.specs.verdict_model.Verdict.{Register, verdict_of}
 use Rattle.model_steps.specs.context_model.Opening.{tried, trying, forking, branches_from, dialog_branch}
 use Rattle.model_steps.specs.Effect.{upward_packets, change_packets, Effect, nothing, method_of, sending, registering, counted, effect_of, datagram_effect}
 use Rattle.model_steps.specs.Step.{originals, retransmissions, Does, IsOverdue, OfSide, OfBranch, is_failed, failed_branch, failed_request, fault_effect}
@@ -49,7 +53,12 @@ either_marked again false xs ys a b = b
 -- what goes to a branch
 to_branch_marked : (r : OpenRequest) (b : Branch) (target : ℕ) (again : Bool) (m : Message) → AreMarked again (to_branch r b target again m)
 to_branch_marked r b target again m = by_address b.address where
-  by_address : (o : Option Addr) → AreMarked again (option_map_or (λ address. record { to = address; bytes = text_of m; ticket = record { datagram = r.number; branch = target }; again = again } ∷ []) o [])
+  by_address : (o : Option Addr) → AreMarked again (option_map_or (λ address. record {
+    to = address;
+    bytes = text_of m;
+    ticket = record { datagram = r.number; branch = target };
+    again = again;
+  } ∷ []) o [])
   by_address None = tt
   by_address (Some address) = (refl, tt)
 
@@ -60,12 +69,14 @@ branch_marked server again r b = to_branch_marked r b (ticket_branch b) again (s
 -- what branches send
 branches_first : (server : Server) (r : OpenRequest) (bs : List Branch) → AreMarked false (flat_map (branch_packets server false r) bs)
 branches_first server r bs =
-    all_flat_map (λ (p : Packet). p.again ≡ false) (branch_packets server false r) bs (all_every (λ b. AreMarked false (branch_packets server false r b)) (λ b. branch_marked server false r b) bs)
+    all_flat_map (λ (p : Packet). p.again ≡ false) (branch_packets server false r) bs
+    (all_every (λ b. AreMarked false (branch_packets server false r b)) (λ b. branch_marked server false r b) bs)
 
 -- what goes to the caller
 upward_first : (r : OpenRequest) (upward : List Upward) → AreMarked false (upward_packets r upward)
 upward_first r upward =
-    all_map (λ (p : Packet). p.again ≡ false) (λ (u : Upward). answer_to false r (text_of u.message)) upward (all_every (λ u. (answer_to false r (text_of u.message)).again ≡ false) (λ u. refl) upward)
+    all_map (λ (p : Packet). p.again ≡ false) (λ (u : Upward). answer_to false r (text_of u.message)) upward
+    (all_every (λ u. (answer_to false r (text_of u.message)).again ≡ false) (λ u. refl) upward)
 
 -- the last answer, again
 answers_marked : (r : OpenRequest) (o : Option LastAnswer) → AreMarked true (answers_again r o)
@@ -78,7 +89,8 @@ acks_marked server r b (Unheard due) = tt
 acks_marked server r b (Heard due) = tt
 acks_marked server r b (Cancelled due) = tt
 acks_marked server r b (Done due status) =
-    either_marked true (is_invite r && not b.is_cancel && is_failure status) (ack_packets server true r b b.final_to) [] (to_branch_marked r b 0 true (ack_with b.final_to (request_of server r b))) tt
+    either_marked true (is_invite r && not b.is_cancel && is_failure status) (ack_packets server true r b b.final_to) []
+    (to_branch_marked r b 0 true (ack_with b.final_to (request_of server r b))) tt
 acks_marked server r b Ended = tt
 
 -- ---- changes
@@ -88,13 +100,15 @@ abbrev pub IsFirst : Change → Type 0
 IsFirst change = AreMarked false (change_packets change)
 
 -- once it settles
-settled_first : (server : Server) (now : ℕ) (acks : List Packet) (relayed : Option Upward) (r : OpenRequest) → AreMarked false acks → IsFirst (settled server now acks relayed r)
+settled_first : (server : Server) (now : ℕ) (acks : List Packet) (relayed : Option Upward) (r : OpenRequest) → AreMarked false acks
+    → IsFirst (settled server now acks relayed r)
 settled_first server now acks relayed r first =
     let told : OpenRequest = after_upward now relayed r in
     let after : OpenRequest = after_upward now (best_upward server told) told in
     let change : Change = settled server now acks relayed r in
     all_append (λ (p : Packet). p.again ≡ false) (acks ++ upward_packets change.request change.upward) change.cancels
-    (all_append (λ (p : Packet). p.again ≡ false) acks (upward_packets change.request change.upward) first (upward_first change.request change.upward)) (branches_first server after (new_cancels now after))
+    (all_append (λ (p : Packet). p.again ≡ false) acks (upward_packets change.request change.upward) first (upward_first change.request change.upward))
+    (branches_first server after (new_cancels now after))
 
 -- whichever of two
 either_first : (t : Bool) (c d : Change) → IsFirst c → IsFirst d → IsFirst (cond t c d)
@@ -110,7 +124,8 @@ responded_first server now r b status m =
     (either_first (is_provisional status) _ _ (settled_first server now [] (relayed_provisional r b status m) (with_phase b (heard r now status b.phase) r) tt)
     (either_first (is_final b.phase) _ _ (settled_first server now [] (further r b b.phase status m) r tt)
     (settled_first server now (acks_of server r b status m) (relayed_success r b status m) (with_answer r b now status m)
-    (either_marked false (is_invite r && is_failure status) (ack_packets server false r b (first_value Name.To m.fields)) [] (to_branch_marked r b 0 false (ack_with (first_value Name.To m.fields) (request_of server r b))) tt))))
+    (either_marked false (is_invite r && is_failure status) (ack_packets server false r b (first_value Name.To m.fields)) []
+    (to_branch_marked r b 0 false (ack_with (first_value Name.To m.fields) (request_of server r b))) tt))))
 
 -- a deadline
 pub overdue_first : (server : Server) (due : ℕ) (r : OpenRequest) (change : Change) → IsOverdue server due r change → IsFirst change
@@ -125,22 +140,34 @@ pub record IsMarked (effect : Effect) : Type 0 where
   pub agains : AreMarked true effect.again
 
 -- a request that is sent to its branches
-forked_first : (server : Server) (now : ℕ) (r : OpenRequest) → AreMarked false (upward_packets r (trying server r) ++ change_packets (settled server now [] None (tried now (trying server r) r)) ++ flat_map (branch_packets server false r) r.branches)
+forked_first : (server : Server) (now : ℕ) (r : OpenRequest) → AreMarked false (upward_packets r (trying server r)
+    ++ change_packets (settled server now [] None (tried now (trying server r) r)) ++ flat_map (branch_packets server false r) r.branches)
 forked_first server now r =
     let change : Change = settled server now [] None (tried now (trying server r) r) in
     all_append (λ (p : Packet). p.again ≡ false) (upward_packets r (trying server r) ++ change_packets change) (flat_map (branch_packets server false r) r.branches)
-    (all_append (λ (p : Packet). p.again ≡ false) (upward_packets r (trying server r)) (change_packets change) (upward_first r (trying server r)) (settled_first server now [] None (tried now (trying server r) r) tt))
+    (all_append (λ (p : Packet). p.again ≡ false) (upward_packets r (trying server r)) (change_packets change) (upward_first r (trying server r))
+    (settled_first server now [] None (tried now (trying server r) r) tt))
     (branches_first server r r.branches)
 
 -- a request that was let through
-sending_marked : (server : Server) (a : Arrival) (m : Message) (q : Question) (id : ℕ) (targets : Targets) (state : ProxyState) → IsMarked (sending server a m q id targets state)
+sending_marked : (server : Server) (a : Arrival) (m : Message) (q : Question) (id : ℕ) (targets : Targets) (state : ProxyState)
+    → IsMarked (sending server a m q id targets state)
 sending_marked server a m q id Targets.NotFound state = record { firsts = (refl, tt); agains = tt }
 sending_marked server a m q id Targets.Unavailable state = record { firsts = (refl, tt); agains = tt }
-sending_marked server a m q id (Targets.Bindings targets) state = record { firsts = forked_first server a.now (forking a m (branches_from a.now 1 (target_list (Targets.Bindings targets)))); agains = tt }
-sending_marked server a m q id (Targets.Hop uri address) state = record { firsts = forked_first server a.now (forking a m (branches_from a.now 1 (target_list (Targets.Hop uri address)))); agains = tt }
+sending_marked server a m q id (Targets.Bindings targets) state = record {
+  firsts = forked_first server a.now
+      (forking a m (branches_from a.now 1 (target_list (Targets.Bindings targets))));
+  agains = tt;
+}
+sending_marked server a m q id (Targets.Hop uri address) state = record {
+  firsts = forked_first server a.now
+      (forking a m (branches_from a.now 1 (target_list (Targets.Hop uri address))));
+  agains = tt;
+}
 
 -- a REGISTER that was
-registering_marked : (server : Server) (a : Arrival) (m : Message) (q : Question) (id : ℕ) (outcome : Registered) (state : ProxyState) → IsMarked (registering server a m q id outcome state)
+registering_marked : (server : Server) (a : Arrival) (m : Message) (q : Question) (id : ℕ) (outcome : Registered) (state : ProxyState)
+    → IsMarked (registering server a m q id outcome state)
 registering_marked server a m q id (Bound rows) state = record { firsts = (refl, tt); agains = tt }
 registering_marked server a m q id (Refused status extras) state = record { firsts = (refl, tt); agains = tt }
 
@@ -148,13 +175,31 @@ registering_marked server a m q id (Refused status extras) state = record { firs
 effect_marked : (server : Server) (a : Arrival) (m : Message) (v : Verdict) (state : ProxyState) → IsMarked (effect_of server a m v state)
 effect_marked server a m Drop state = record { firsts = tt; agains = tt }
 effect_marked server a m (Respond r b status) state =
-    record { firsts = responded_first server a.now r b status m; agains = either_marked true (is_failure status) (acks_again server r b b.phase) [] (acks_marked server r b b.phase) tt }
-effect_marked server a m (Copy r) state = record { firsts = tt; agains = either_marked true (bytes_eq (method_of m.start) (codes "ACK")) [] (answers_again r r.answer) tt (answers_marked r r.answer) }
+    record {
+      firsts = responded_first server a.now r b status m;
+      agains = either_marked true (is_failure status) (acks_again server r b b.phase) []
+          (acks_marked server r b b.phase) tt;
+    }
+effect_marked server a m (Copy r) state = record {
+  firsts = tt;
+  agains = either_marked true (bytes_eq (method_of m.start) (codes "ACK")) [] (answers_again r r.answer) tt
+      (answers_marked r r.answer);
+}
 effect_marked server a m (AckOn address id) state = record { firsts = (refl, tt); agains = tt }
 effect_marked server a m (Cancel None) state = record { firsts = (refl, tt); agains = tt }
-effect_marked server a m (Cancel (Some r)) state = record { firsts = (refl, settled_first server a.now [] None (cond (is_invite r && is_answering r.side) (marked r) r) tt); agains = tt }
+effect_marked server a m (Cancel (Some r)) state = record {
+  firsts = (
+    refl,
+    settled_first server a.now [] None (cond (is_invite r && is_answering r.side) (marked r) r)
+        tt,
+  );
+  agains = tt;
+}
 effect_marked server a m (Answer status extras) state = record { firsts = (refl, tt); agains = tt }
-effect_marked server a m (InDialog address id) state = record { firsts = forked_first server a.now (forking a m (dialog_branch server a.now m address ∷ [])); agains = tt }
+effect_marked server a m (InDialog address id) state = record {
+  firsts = forked_first server a.now (forking a m (dialog_branch server a.now m address ∷ []));
+  agains = tt;
+}
 effect_marked server a m (Challenge q) state = record { firsts = (refl, tt); agains = tt }
 effect_marked server a m (Deny q id) state = record { firsts = (refl, tt); agains = tt }
 effect_marked server a m (Send q id targets) state = sending_marked server a m q id targets state
@@ -180,7 +225,8 @@ pub fault_marked : (server : Server) (now : ℕ) (ticket : Ticket) (state : Prox
 fault_marked server now ticket state = failed_request_marked server now ticket state (find (λ (r : OpenRequest). r.number == ticket.datagram) state.requests)
 
 -- what goes again at a moment
-pub resent_marked : (server : Server) (due : ℕ) (r : OpenRequest) (packets : List Packet) (next : OpenRequest) → IsResent server due r packets next → AreMarked true packets
+pub resent_marked : (server : Server) (due : ℕ) (r : OpenRequest) (packets : List Packet) (next : OpenRequest) → IsResent server due r packets next
+    → AreMarked true packets
 resent_marked server due r _ _ (OfAnswer is) = answers_marked r r.answer
 resent_marked server due r _ _ (OfRequest b there is) = branch_marked server true r b
 
@@ -200,7 +246,8 @@ all_again (p ∷ ps) all = ap (λ (t : Bool). cond t (p ∷ retransmissions ps) 
 firsts_in_front : (firsts again : List Packet) → AreMarked false firsts → AreMarked true again → originals (firsts ++ again) ≡ firsts
 firsts_in_front [] again all more = none_first again more
 firsts_in_front (p ∷ ps) again all more =
-    ap (λ (t : Bool). cond (not t) (p ∷ originals (ps ++ again)) (originals (ps ++ again))) all.0 ∙ ap (λ (xs : List Packet). p ∷ xs) (firsts_in_front ps again all.1 more)
+    ap (λ (t : Bool). cond (not t) (p ∷ originals (ps ++ again)) (originals (ps ++ again))) all.0
+    ∙ ap (λ (xs : List Packet). p ∷ xs) (firsts_in_front ps again all.1 more)
 
 -- what goes again, behind it
 agains_behind : (firsts again : List Packet) → AreMarked false firsts → AreMarked true again → retransmissions (firsts ++ again) ≡ again

@@ -15,7 +15,10 @@ use Rattle.model_steps.specs.state.declared.branch.Phase.{Phase}
 use Rattle.model_steps.specs.state.declared.branch.Phase.TheVariants.{Unheard, Heard, Cancelled, Done, Ended}
 use Rattle.model_steps.specs.state.declared.open_request.OpenRequest.{OpenRequest}
 use Rattle.model_steps.specs.state.State.{is_invite, is_final, is_answering, is_success, is_failure, is_decline, is_provisional}
-use Rattle.model_steps.specs.context_model.Branches.{Change, upward_of, is_cancellable, is_ready, is_unheard, is_same_branch, is_accepted, settled, relayed_from, relayed_provisional, relayed_success, further, turned, phased, with_phase, with_final, marked, marked_branch, given_up, heard, invite_heard, other_heard, linger, final_of, acks_of, told_to, with_answer, cancel_responded, responded, cancelled}
+use Rattle.model_steps.specs.context_model.Branches.{Change, upward_of, is_cancellable, is_ready, is_unheard, is_same_branch, is_accepted, settled, relayed_from}
+use Rattle.model_steps.specs.context_model.Branches.{relayed_provisional, relayed_success, further, turned, phased, with_phase, with_final, marked, marked_branch}
+use Rattle.model_steps.specs.context_model.Branches.{given_up, heard, invite_heard, other_heard, linger, final_of, acks_of, told_to, with_answer, cancel_responded}
+use Rattle.model_steps.specs.context_model.Branches.{responded, cancelled}
 use Rattle.model_steps.specs.context_model.Sending.{answer_to, ack_packets}
 use Rattle.model_steps.specs.Effect.{change_packets}
 use Rattle.sip_model.specs.Access.{IsPassedOn, Early, Accepting, TakesSuccess, OthersEnded}
@@ -100,11 +103,17 @@ unchanged r = record { is_same = refl; branches = map_same r.branches; goes = λ
 
 -- one with a branch in another phase
 pub with_phase_between : (b : Branch) (phase : Phase) (r : OpenRequest) → IsBetween r (with_phase b phase r) (phased b phase)
-with_phase_between b phase r = let edits : Edits b (phased b phase) = phased_edits b b phase (λ x. refl) in record { is_same = refl; branches = refl; goes = edits.goes; keeps = edits.keeps }
+with_phase_between b phase r = let edits : Edits b (phased b phase) = phased_edits b b phase (λ x. refl) in
+    record { is_same = refl; branches = refl; goes = edits.goes; keeps = edits.keeps }
 
 -- one whose branches are all to be cancelled
 marked_between : (r : OpenRequest) → IsBetween r (marked r) marked_branch
-marked_between r = record { is_same = refl; branches = refl; goes = λ x. goes x (x.is_cancel || is_final x.phase); keeps = λ x. keeps x (x.is_cancel || is_final x.phase) } where
+marked_between r = record {
+  is_same = refl;
+  branches = refl;
+  goes = λ x. goes x (x.is_cancel || is_final x.phase);
+  keeps = λ x. keeps x (x.is_cancel || is_final x.phase);
+} where
   goes : (x : Branch) (t : Bool) → bare_branch (cond t x (record x { wants_cancel = true })) ≡ bare_branch x
   goes x true = refl
   goes x false = refl
@@ -150,7 +159,8 @@ module _ (server : Server) (now : ℕ) (r : OpenRequest) (b : Branch) (status : 
   pub given_up_pays : (best : Final) → OthersEnded r b → is_answering r.side ≡ true → best_of (r.finals ++ record { status = status; message = None } ∷ []) ≡ Some best
       → Contains (change_packets (settled server now [] None (given_up b status r))) (answer_to false r (text_of (upward_of server r best).message))
   given_up_pays best others answering found =
-      sends_best server now r (given_up b status r) [] None (phased b Ended) (record { is_same = refl; branches = refl; goes = edits.goes; keeps = edits.keeps }) refl best answering
+      sends_best server now r (given_up b status r) [] None (phased b Ended) (record { is_same = refl; branches = refl; goes = edits.goes; keeps = edits.keeps }) refl
+      best answering
       (all_now b (phased b Ended) edits (λ x same. ends x (is_same_branch x b) same) r.branches others) (ap best_of kept ∙ found) where
         edits : Edits b (phased b Ended)
         edits = phased_edits b b Ended (λ x. refl)
@@ -180,21 +190,26 @@ module _ (server : Server) (now : ℕ) (r : OpenRequest) (b : Branch) (status : 
 
   module _ (target : b.is_cancel ≡ false) where
     early_pays : (p : Packet) → is_provisional status ≡ true → Contains (change_packets early) p → Pays p
-    early_pays p is has = first_of p (cancel_responded server now r b status m) early again answered_first b.is_cancel (is_provisional status) (is_final b.phase) target is has
+    early_pays p is has = first_of p (cancel_responded server now r b status m) early again answered_first b.is_cancel (is_provisional status) (is_final b.phase) target
+        is has
 
     again_pays : (p : Packet) → is_provisional status ≡ false → is_final b.phase ≡ true → Contains (change_packets again) p → Pays p
-    again_pays p late final has = second_of p (cancel_responded server now r b status m) early again answered_first b.is_cancel (is_provisional status) (is_final b.phase) target late final has
+    again_pays p late final has = second_of p (cancel_responded server now r b status m) early again answered_first b.is_cancel (is_provisional status) (is_final b.phase)
+        target late final has
 
     first_pays : (p : Packet) → is_provisional status ≡ false → is_final b.phase ≡ false → Contains (change_packets answered_first) p → Pays p
-    first_pays p late first has = third_of p (cancel_responded server now r b status m) early again answered_first b.is_cancel (is_provisional status) (is_final b.phase) target late first has
+    first_pays p late first has = third_of p (cancel_responded server now r b status m) early again answered_first b.is_cancel (is_provisional status) (is_final b.phase)
+        target late first has
 
     -- ---- a provisional one
 
     -- it goes to the caller
-    early_goes : is_provisional status ≡ true → ((status ≡ 100) → ⊥) → is_final b.phase ≡ false → is_answering r.side ≡ true → Pays (answer_to false r (text_of (without_top_via m)))
+    early_goes : is_provisional status ≡ true → ((status ≡ 100) → ⊥) → is_final b.phase ≡ false → is_answering r.side ≡ true
+        → Pays (answer_to false r (text_of (without_top_via m)))
     early_goes is other first answering =
         early_pays (answer_to false r (text_of (without_top_via m))) is
-        (sends_relayed server now r (with_phase b (heard r now status b.phase) r) [] (relayed_provisional r b status m) (phased b (heard r now status b.phase)) (with_phase_between b (heard r now status b.phase) r) (relayed_from b status m)
+        (sends_relayed server now r (with_phase b (heard r now status b.phase) r) [] (relayed_provisional r b status m) (phased b (heard r now status b.phase))
+        (with_phase_between b (heard r now status b.phase) r) (relayed_from b status m)
         (by_tests (status == 100) (is_final b.phase) (is_answering r.side) (other_number status 100 other) first answering)) where
           by_tests : (x y z : Bool) → x ≡ false → y ≡ false → z ≡ true → cond (not x && not y && z) (Some (relayed_from b status m)) None ≡ Some (relayed_from b status m)
           by_tests false false true e f g = refl
@@ -203,11 +218,14 @@ module _ (server : Server) (now : ℕ) (r : OpenRequest) (b : Branch) (status : 
           by_tests false false false e f g = absurd (cc)
 
     -- the CANCEL that waited goes
-    pub heard_cancels : is_provisional status ≡ true → Contains r.branches b → b.wants_cancel ≡ true → is_unheard b.phase ≡ true → (p : Packet) → Contains (cancel_packets server r b) p → Pays p
+    pub heard_cancels : is_provisional status ≡ true → Contains r.branches b → b.wants_cancel ≡ true → is_unheard b.phase ≡ true → (p : Packet)
+        → Contains (cancel_packets server r b) p → Pays p
     heard_cancels is there wants unheard p has =
         early_pays p is
-        (sends_cancel server now r (with_phase b (heard r now status b.phase) r) [] (relayed_provisional r b status m) (phased b (heard r now status b.phase)) (with_phase_between b (heard r now status b.phase) r) b there
-        (ap is_cancellable (phased_itself b (heard r now status b.phase)) ∙ three_hold b.is_cancel b.wants_cancel (is_ready (heard r now status b.phase)) target wants (heard_now (is_invite r) now status b.phase unheard)) p has)
+        (sends_cancel server now r (with_phase b (heard r now status b.phase) r) [] (relayed_provisional r b status m) (phased b (heard r now status b.phase))
+        (with_phase_between b (heard r now status b.phase) r) b there
+        (ap is_cancellable (phased_itself b (heard r now status b.phase)) ∙ three_hold b.is_cancel b.wants_cancel (is_ready (heard r now status b.phase)) target wants
+        (heard_now (is_invite r) now status b.phase unheard)) p has)
 
     -- ---- the first final one
 
@@ -234,10 +252,12 @@ module _ (server : Server) (now : ℕ) (r : OpenRequest) (b : Branch) (status : 
     is_between false = record { is_same = refl; branches = refl; goes = (edits false).goes; keeps = (edits false).keeps }
 
     -- its ACK
-    pub ack_goes : is_invite r ≡ true → is_failure status ≡ true → is_final b.phase ≡ false → (p : Packet) → Contains (ack_packets server false r b (first_value Name.To m.fields)) p → Pays p
+    pub ack_goes : is_invite r ≡ true → is_failure status ≡ true → is_final b.phase ≡ false → (p : Packet)
+        → Contains (ack_packets server false r b (first_value Name.To m.fields)) p → Pays p
     ack_goes invite failure first p has =
         first_pays p (failure_final status failure) first
-        (sends_ack server now r (with_answer r b now status m) (acks_of server r b status m) (relayed_success r b status m) (edit ends_search) (is_between ends_search) p (by_tests (is_invite r) (is_failure status) invite failure)) where
+        (sends_ack server now r (with_answer r b now status m) (acks_of server r b status m) (relayed_success r b status m) (edit ends_search) (is_between ends_search) p
+        (by_tests (is_invite r) (is_failure status) invite failure)) where
           by_tests : (x y : Bool) → x ≡ true → y ≡ true → Contains (cond (x && y) (ack_packets server false r b (first_value Name.To m.fields)) []) p
           by_tests true true e f = has
           by_tests true false e f = absurd (cc)
@@ -251,12 +271,15 @@ module _ (server : Server) (now : ℕ) (r : OpenRequest) (b : Branch) (status : 
       by_tests true false e f = absurd (cc)
       by_tests false y e f = absurd (cc)
 
-    first_success : is_success status ≡ true → (is_answering r.side || is_accepted r) ≡ true → is_final b.phase ≡ false → Pays (answer_to false r (text_of (without_top_via m)))
+    first_success : is_success status ≡ true → (is_answering r.side || is_accepted r) ≡ true → is_final b.phase ≡ false
+        → Pays (answer_to false r (text_of (without_top_via m)))
     first_success success owes first =
         first_pays (answer_to false r (text_of (without_top_via m))) (success_final status success) first
-        (sends_relayed server now r (with_answer r b now status m) (acks_of server r b status m) (relayed_success r b status m) (edit ends_search) (is_between ends_search) (relayed_from b status m) (success_is success owes))
+        (sends_relayed server now r (with_answer r b now status m) (acks_of server r b status m) (relayed_success r b status m) (edit ends_search)
+        (is_between ends_search) (relayed_from b status m) (success_is success owes))
 
-    further_success : is_success status ≡ true → (is_answering r.side || is_accepted r) ≡ true → (due first : ℕ) → b.phase ≡ Done due first → is_invite r ≡ true → is_success first ≡ true
+    further_success : is_success status ≡ true → (is_answering r.side || is_accepted r) ≡ true → (due first : ℕ) → b.phase ≡ Done due first → is_invite r ≡ true
+        → is_success first ≡ true
         → Pays (answer_to false r (text_of (without_top_via m)))
     further_success success owes due first is invite well =
         again_pays (answer_to false r (text_of (without_top_via m))) (success_final status success) (ap is_final is)
@@ -267,7 +290,8 @@ module _ (server : Server) (now : ℕ) (r : OpenRequest) (b : Branch) (status : 
           by_tests true false e f = absurd (cc)
           by_tests false y e f = absurd (cc)
 
-    success_goes : is_success status ≡ true → (is_answering r.side || is_accepted r) ≡ true → (phase : Phase) → b.phase ≡ phase → TakesSuccess r phase → Pays (answer_to false r (text_of (without_top_via m)))
+    success_goes : is_success status ≡ true → (is_answering r.side || is_accepted r) ≡ true → (phase : Phase) → b.phase ≡ phase → TakesSuccess r phase
+        → Pays (answer_to false r (text_of (without_top_via m)))
     success_goes success owes (Unheard due) is takes = first_success success owes (ap is_final is)
     success_goes success owes (Heard due) is takes = first_success success owes (ap is_final is)
     success_goes success owes (Cancelled due) is takes = first_success success owes (ap is_final is)
@@ -286,7 +310,8 @@ module _ (server : Server) (now : ℕ) (r : OpenRequest) (b : Branch) (status : 
         first_pays (answer_to false r (text_of (upward_of server r best).message)) late first
         (sends_best server now r (with_answer r b now status m) (acks_of server r b status m) (relayed_success r b status m) (edit ends_search) (is_between ends_search)
         (by_test (is_success status) no_success) best (side ends_search ∙ answering)
-        (ap targets_final (is_between ends_search).branches ∙ all_now b (edit ends_search) (edits ends_search) (λ x same. ends ends_search x (is_same_branch x told) same) r.branches others)
+        (ap targets_final (is_between ends_search).branches ∙ all_now b (edit ends_search) (edits ends_search) (λ x same. ends ends_search x (is_same_branch x told) same)
+        r.branches others)
         (ap best_of (finals ends_search) ∙ found)) where
           by_test : (x : Bool) → x ≡ false → cond (x && (is_answering r.side || is_accepted r)) (Some (relayed_from b status m)) None ≡ None
           by_test true e = absurd (cc)
@@ -296,7 +321,8 @@ module _ (server : Server) (now : ℕ) (r : OpenRequest) (b : Branch) (status : 
           side true = refl
           side false = refl
 
-          ends : (t : Bool) (x : Branch) (u : Bool) → u ≡ true → is_final (cond t (marked_branch (cond u (turned told phase x) x)) (cond u (turned told phase x) x)).phase ≡ true
+          ends : (t : Bool) (x : Branch) (u : Bool) → u ≡ true → is_final (cond t (marked_branch (cond u (turned told phase x) x)) (cond u (turned told phase x) x)).phase
+              ≡ true
           ends true x true e = ap is_final (marked_phase (turned told phase x))
           ends false x true e = refl
           ends t x false e = absurd (cc)
@@ -306,11 +332,13 @@ module _ (server : Server) (now : ℕ) (r : OpenRequest) (b : Branch) (status : 
           finals false = ap (λ (v : Bool). cond v (r.finals ++ final_of status m ∷ []) r.finals) answering
 
     -- the CANCEL of another branch, by a 2xx or 6xx
-    pub another_cancels : is_final b.phase ≡ false → is_invite r ≡ true → (is_success status || is_decline status) ≡ true → (x : Branch) → Contains r.branches x → x.is_cancel ≡ false → is_same_branch x b ≡ false → is_ready x.phase ≡ true
+    pub another_cancels : is_final b.phase ≡ false → is_invite r ≡ true → (is_success status || is_decline status) ≡ true → (x : Branch) → Contains r.branches x
+        → x.is_cancel ≡ false → is_same_branch x b ≡ false → is_ready x.phase ≡ true
         → (p : Packet) → Contains (cancel_packets server r x) p → Pays p
     another_cancels first invite ends x there kind other ready p has =
         first_pays p (late (is_success status) refl ends) first
-        (sends_cancel server now r (with_answer r b now status m) (acks_of server r b status m) (relayed_success r b status m) (edit ends_search) (is_between ends_search) x there
+        (sends_cancel server now r (with_answer r b now status m) (acks_of server r b status m) (relayed_success r b status m) (edit ends_search) (is_between ends_search)
+        x there
         (by_search ends_search (both (is_invite r) (is_success status || is_decline status) invite ends) (is_same_branch x told) other) p has) where
           late : (t : Bool) → is_success status ≡ t → (t || is_decline status) ≡ true → is_provisional status ≡ false
           late true success e = success_final status success
@@ -321,7 +349,8 @@ module _ (server : Server) (now : ℕ) (r : OpenRequest) (b : Branch) (status : 
           both true false e f = absurd (cc)
           both false u e f = absurd (cc)
 
-          by_search : (t : Bool) → t ≡ true → (u : Bool) → u ≡ false → is_cancellable (cond t (marked_branch (cond u (turned told phase x) x)) (cond u (turned told phase x) x)) ≡ true
+          by_search : (t : Bool) → t ≡ true → (u : Bool) → u ≡ false → is_cancellable
+              (cond t (marked_branch (cond u (turned told phase x) x)) (cond u (turned told phase x) x)) ≡ true
           by_search true e false f = marked_ready x kind ready
           by_search true e true f = absurd (cc)
           by_search false e u f = absurd (cc)
@@ -329,7 +358,8 @@ module _ (server : Server) (now : ℕ) (r : OpenRequest) (b : Branch) (status : 
 -- ---- the caller's CANCEL
 
 -- it cancels each branch that was heard
-pub caller_cancels : (server : Server) (now : ℕ) (r : OpenRequest) (b : Branch) → Contains r.branches b → b.is_cancel ≡ false → is_invite r ≡ true → is_answering r.side ≡ true → is_ready b.phase ≡ true
+pub caller_cancels : (server : Server) (now : ℕ) (r : OpenRequest) (b : Branch) → Contains r.branches b → b.is_cancel ≡ false → is_invite r ≡ true
+    → is_answering r.side ≡ true → is_ready b.phase ≡ true
     → (p : Packet) → Contains (cancel_packets server r b) p → Contains (change_packets (cancelled server now r)) p
 caller_cancels server now r b there target invite answering ready p has = by_tests (is_invite r) (is_answering r.side) invite answering where
   by_tests : (x y : Bool) → x ≡ true → y ≡ true → Contains (change_packets (settled server now [] None (cond (x && y) (marked r) r))) p

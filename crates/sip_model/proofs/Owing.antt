@@ -21,7 +21,8 @@ use Rattle.model_steps.specs.context_model.Branches.{Change, send_failed}
 use Rattle.model_steps.specs.state.Arrival.{Arrival}
 use Rattle.model_steps.specs.verdict_model.Verdict.{message_verdict, message_in, verdict_in}
 use Rattle.model_steps.specs.Effect.{Effect, counted, effect_of, datagram_effect, nothing}
-use Rattle.model_steps.specs.Step.{Act, Given, Passing, Does, IsOverdue, OfSide, OfBranch, IsQuiet, IsDeadline, IsResend, resent, IsStep, originals, moment_of, arrival_of, is_failed, failed_branch, failed_request, fault_effect}
+use Rattle.model_steps.specs.Step.{Act, Given, Passing, Does, IsOverdue, OfSide, OfBranch, IsQuiet, IsDeadline, IsResend, resent, IsStep, originals, moment_of}
+use Rattle.model_steps.specs.Step.{arrival_of, is_failed, failed_branch, failed_request, fault_effect}
 use Rattle.sip_model.specs.Run.{Link, under, IsChain}
 use Rattle.sip_model.specs.Access.{CameFor, IsSaidAt, IsOwed}
 use Rattle.sip_model.proofs.Sixteen.{AreFew, few_of_chain}
@@ -60,7 +61,8 @@ datagram_good server config past old at word from bytes out new few h = by_messa
   by_message None says = nothing_good server (link ∷ past) old act (counted a old) h
   by_message (Some x) says =
       let said : IsSaidAt old act a bytes x.0 x.1 = said_at old at word from bytes x.0 x.1 says in
-      let came : (r : OpenRequest) (b : Branch) (status : ℕ) → IsResponding server old x.0 x.1 r b status → b.is_cancel ≡ false → CameFor server (link ∷ past) r.number status x.0 =
+      let came : (r : OpenRequest) (b : Branch) (status : ℕ) → IsResponding server old x.0 x.1 r b status → b.is_cancel ≡ false
+      → CameFor server (link ∷ past) r.number status x.0 =
       λ r b status fits target.
       record {
         link = link;
@@ -81,7 +83,8 @@ datagram_good server config past old at word from bytes out new few h = by_messa
 
 module _ (server : Server) (history : List Link) (old : ProxyState) (act : Act) (h : AreHonest server history old.requests) where
   -- what a deadline of an open request changes is owed
-  passed_due : (due : ℕ) (r : OpenRequest) → Contains old.requests r → (change : Change) → IsOverdue server due r change → IsDue server history old act old.bindings r change
+  passed_due : (due : ℕ) (r : OpenRequest) → Contains old.requests r → (change : Change) → IsOverdue server due r change
+      → IsDue server history old act old.bindings r change
   passed_due due r there _ (OfSide is) = side_due server history old act old.bindings due r there (kept_honest server history old act r there h)
   passed_due due r there _ (OfBranch b in_it is) = overdue_due server history old act old.bindings due r b there (kept_honest server history old act r there h)
 
@@ -111,7 +114,8 @@ record IsGoodStep (server : Server) (history : List Link) (old : ProxyState) (ac
   honest : AreHonest server history new.requests
 
 -- a step that does what is good is good
-does_good : (server : Server) (history : List Link) (old : ProxyState) (act : Act) (at : ℕ) (effect : Effect) (out : StepOut) (new : ProxyState) → Does server old at effect out new
+does_good : (server : Server) (history : List Link) (old : ProxyState) (act : Act) (at : ℕ) (effect : Effect) (out : StepOut) (new : ProxyState)
+    → Does server old at effect out new
     → IsGood server history old act effect → IsGoodStep server history old act out new
 does_good server history old act at effect out new does good =
     record {
@@ -120,53 +124,67 @@ does_good server history old act at effect out new does good =
     }
 
 -- where nothing happens
-quiet_good : (server : Server) (history : List Link) (old : ProxyState) (act : Act) (at : ℕ) (out : StepOut) (new : ProxyState) → IsQuiet server old at out new → AreHonest server history old.requests
+quiet_good : (server : Server) (history : List Link) (old : ProxyState) (act : Act) (at : ℕ) (out : StepOut) (new : ProxyState) → IsQuiet server old at out new
+    → AreHonest server history old.requests
     → IsGoodStep server history old act out new
 quiet_good server history old act at out new quiet h =
-    does_good server history old act out.at (nothing (record old { moment = out.at })) out new quiet.does (nothing_good server history old act (record old { moment = out.at }) h)
+    does_good server history old act out.at (nothing (record old { moment = out.at })) out new quiet.does
+    (nothing_good server history old act (record old { moment = out.at }) h)
 
 -- where a deadline passes
-deadline_good : (server : Server) (history : List Link) (old : ProxyState) (act : Act) (at : ℕ) (out : StepOut) (new : ProxyState) → IsDeadline server old at out new → AreHonest server history old.requests
+deadline_good : (server : Server) (history : List Link) (old : ProxyState) (act : Act) (at : ℕ) (out : StepOut) (new : ProxyState) → IsDeadline server old at out new
+    → AreHonest server history old.requests
     → IsGoodStep server history old act out new
 deadline_good server history old act at out new d h =
     does_good server history old act out.at _ out new d.does
     (changed_good server history old act out.at old d.request d.change d.is_open (passed_due server history old act h out.at d.request d.is_open d.change d.passes) h)
 
 -- where something goes again
-resend_good : (server : Server) (history : List Link) (old : ProxyState) (act : Act) (at : ℕ) (out : StepOut) (new : ProxyState) → IsResend server old at out new → AreHonest server history old.requests
+resend_good : (server : Server) (history : List Link) (old : ProxyState) (act : Act) (at : ℕ) (out : StepOut) (new : ProxyState) → IsResend server old at out new
+    → AreHonest server history old.requests
     → IsGoodStep server history old act out new
 resend_good server history old act at out new d h =
     let later : IsLater server history old act d.request d.next =
-    later_resent server history old act d.request out.at d.packets d.next d.request d.goes (later_itself server history old act d.request (kept_honest server history old act d.request d.is_open h)) in
+    later_resent server history old act d.request out.at d.packets d.next d.request d.goes
+    (later_itself server history old act d.request (kept_honest server history old act d.request d.is_open h)) in
     does_good server history old act out.at (resent out.at old d.packets d.next) out new d.does
     (record { sends = tt; honest = replaced_honest server history d.next old.requests (later_honest server history old act d.request d.next later) h })
 
 -- every step is good
-step_good : (server : Server) (config : Config) (past : List Link) (old : ProxyState) (act : Act) (out : StepOut) (new : ProxyState) → IsStep server old act out new → AreFew old
+step_good : (server : Server) (config : Config) (past : List Link) (old : ProxyState) (act : Act) (out : StepOut) (new : ProxyState) → IsStep server old act out new
+    → AreFew old
     → AreHonest server (record { config = config; before = old; act = act; out = out; after = new } ∷ past) old.requests
     → IsGoodStep server (record { config = config; before = old; act = act; out = out; after = new } ∷ past) old act out new
 step_good server config past old (Given (Datagram at word from bytes)) out new step few h =
-    does_good server _ old (Given (Datagram at word from bytes)) (moment_of old at) _ out new step.does (datagram_good server config past old at word from bytes out new (λ aor. few aor (moment_of old at) (omega arith)) h)
+    does_good server _ old (Given (Datagram at word from bytes)) (moment_of old at) _ out new step.does
+    (datagram_good server config past old at word from bytes out new (λ aor. few aor (moment_of old at) (omega arith)) h)
 step_good server config past old (Given (Time at)) out new step few h = quiet_good server _ old (Given (Time at)) at out new step.quiet h
 step_good server config past old (Given (Fault at ticket)) out new step few h =
-    does_good server _ old (Given (Fault at ticket)) (moment_of old at) _ out new step.does (failed_good server _ old (Given (Fault at ticket)) h (moment_of old at) ticket)
+    does_good server _ old (Given (Fault at ticket)) (moment_of old at) _ out new step.does
+    (failed_good server _ old (Given (Fault at ticket)) h (moment_of old at) ticket)
 step_good server config past old (Passing at) out new step few h =
-    ⊎_elim (λ quiet. quiet_good server _ old (Passing at) at out new quiet h) (λ due. ⊎_elim (λ deadline. deadline_good server _ old (Passing at) at out new deadline h) (λ goes. resend_good server _ old (Passing at) at out new goes h) due) step
+    ⊎_elim (λ quiet. quiet_good server _ old (Passing at) at out new quiet h) (λ due.
+    ⊎_elim (λ deadline. deadline_good server _ old (Passing at) at out new deadline h) (λ goes. resend_good server _ old (Passing at) at out new goes h) due) step
 
 -- ---- a run
 
 -- all that a step sends for the first time is owed, where what was kept before it is honest
-pub owed_of_step : (server : Server) (history : List Link) (link : Link) → IsStep server link.before link.act link.out link.after → AreFew link.before → AreHonest server history link.before.requests
+pub owed_of_step : (server : Server) (history : List Link) (link : Link) → IsStep server link.before link.act link.out link.after → AreFew link.before
+    → AreHonest server history link.before.requests
     → AllByRecursion (IsOwed server (link ∷ history) link.before link.act link.before.bindings) (originals link.out.packets)
-owed_of_step server history link step few h = (step_good server link.config history link.before link.act link.out link.after step few (honest_before server link history link.before.requests h)).sends
+owed_of_step server history link step few h = (step_good server link.config history link.before link.act link.out link.after step few
+    (honest_before server link history link.before.requests h)).sends
 
 -- what is kept after a step is honest, where what was kept before it is
-pub honest_of_step : (server : Server) (history : List Link) (link : Link) → IsStep server link.before link.act link.out link.after → AreFew link.before → AreHonest server history link.before.requests
+pub honest_of_step : (server : Server) (history : List Link) (link : Link) → IsStep server link.before link.act link.out link.after → AreFew link.before
+    → AreHonest server history link.before.requests
     → AreHonest server (link ∷ history) link.after.requests
-honest_of_step server history link step few h = (step_good server link.config history link.before link.act link.out link.after step few (honest_before server link history link.before.requests h)).honest
+honest_of_step server history link step few h = (step_good server link.config history link.before link.act link.out link.after step few
+    (honest_before server link history link.before.requests h)).honest
 
 -- what is kept at the end of a run is honest
-pub honest_of_chain : (server : Server) (first : ℕ) (history : List Link) (last : ProxyState) → IsChain server (first_state first) history last → AreHonest server history last.requests
+pub honest_of_chain : (server : Server) (first : ℕ) (history : List Link) (last : ProxyState) → IsChain server (first_state first) history last
+    → AreHonest server history last.requests
 honest_of_chain server first [] last chain = subst (λ (s : ProxyState). AreHonest server [] s.requests) (sym chain) tt
 honest_of_chain server first (link ∷ history) last chain =
     subst (λ (s : ProxyState). AreHonest server (link ∷ history) s.requests) (sym chain.0)

@@ -1,5 +1,6 @@
 -- The parts of what a datagram does.
-use Rattle.std.proofs.Common.{◌≡◌, ◌∙◌, ℕ, ◌+◌, Bool, true, false, cond, List, [], ◌∷◌, ◌++◌, codes, Option, Some, None, refl, sym, ap, subst, count_by, bytes_eq, Contains}
+use Rattle.std.proofs.Common.{◌≡◌, ◌∙◌, ℕ, ◌+◌, Bool, true, false, cond, List, [], ◌∷◌, ◌++◌, codes, Option, Some, None, refl, sym, ap, subst, count_by, bytes_eq}
+use Rattle.std.proofs.Common.{Contains}
 use Rattle.std.specs.Option.{option_map_or, unwrap_or}
 use Rattle.std.proofs.lemmas.List.Elements.{Contains-append_left}
 use Rattle.sip_message_fields.specs.declared.field.Field.{Field}
@@ -22,12 +23,15 @@ use Rattle.model_steps.specs.context_model.Branches.{responded, cancelled, ackno
 use Rattle.model_steps.specs.context_model.Sending.{answer_packet}
 use Rattle.model_steps.specs.context_model.Opening.{request_key, closing, forking, opening, branch_to, branches_from, dialog_branch}
 use Rattle.model_steps.specs.verdict_model.declared.question.Question.{Question}
-use Rattle.model_steps.specs.verdict_model.Verdict.{Registered, Bound, Refused, Verdict, Drop, Respond, Copy, AckOn, Cancel, Answer, InDialog, Challenge, Deny, Send, Register, is_full, message_verdict, message_in, verdict_in}
+use Rattle.model_steps.specs.verdict_model.Verdict.{Registered, Bound, Refused, Verdict, Drop, Respond, Copy, AckOn, Cancel, Answer, InDialog, Challenge, Deny, Send}
+use Rattle.model_steps.specs.verdict_model.Verdict.{Register, is_full, message_verdict, message_in, verdict_in}
 use Rattle.model_steps.specs.context_model.Retransmission.{answers_again}
-use Rattle.model_steps.specs.Effect.{Effect, replaced, opened, change_packets, opening_packets, is_registration, challenge_status, challenges_to, contact_fields, counted, nothing, sending, registering, method_of, effect_of}
+use Rattle.model_steps.specs.Effect.{Effect, replaced, opened, change_packets, opening_packets, is_registration, challenge_status, challenges_to, contact_fields, counted}
+use Rattle.model_steps.specs.Effect.{nothing, sending, registering, method_of, effect_of}
 use Rattle.model_steps.specs.Step.{Act}
 use Rattle.sip_model.specs.Access.{IsSaidAt, IsNewRequest}
-use Rattle.sip_model.specs.Parts.{AreBegun, made_text, IsOpening, Answered, Sent, ByResponse, ByCancel, IsPart, Stays, Passes, Copies, TurnsAway, Opens, Changes, Acknowledges, AreParts, One, Two}
+use Rattle.sip_model.specs.Parts.{AreBegun, made_text, IsOpening, Answered, Sent, ByResponse, ByCancel, IsPart, Stays, Passes, Copies, TurnsAway, Opens, Changes}
+use Rattle.sip_model.specs.Parts.{Acknowledges, AreParts, One, Two}
 use Rattle.sip_model.proofs.Openings.{sent_key}
 use Rattle.sip_model.proofs.Places.{none_found}
 use Rattle.sip_model.proofs.Verdicts.{IsThereOne, AreNotEmpty, verdict_fits}
@@ -37,7 +41,10 @@ use Rattle.sip_model.proofs.Fitting.{Fits, IsBrought, IsCopy, IsNaming, IsAsked,
 -- the branches of targets, as they are first sent
 begun : (now number : ℕ) (ts : List Target) → AreBegun now number (branches_from now number ts)
 begun now number [] = tt
-begun now number (t ∷ ts) = (record { is_numbered = refl; is_target = refl; is_wanted = refl; is_due = refl; goes_next = refl; has_no_final = refl }, begun now (number + 1) ts)
+begun now number (t ∷ ts) = (
+  record { is_numbered = refl; is_target = refl; is_wanted = refl; is_due = refl; goes_next = refl; has_no_final = refl },
+  begun now (number + 1) ts,
+)
 
 -- a challenge is a final answer
 challenge_final : (operation : Operation) → is_provisional (challenge_status operation) ≡ false
@@ -51,7 +58,8 @@ brought_key : (state : ProxyState) (m : Message) (new : IsBrought state m) → r
 brought_key state m new = ap (λ k. unwrap_or k (record { branch = []; host = []; port = 0; method = [] })) new.key_is
 
 -- one that policy was asked about is brought
-asked_brought : (server : Server) (state : ProxyState) (a : Arrival) (bytes : List ℕ) (m : Message) (q : Question) (d : Decision) → IsAsked server state a bytes m q d → IsBrought state m
+asked_brought : (server : Server) (state : ProxyState) (a : Arrival) (bytes : List ℕ) (m : Message) (q : Question) (d : Decision) → IsAsked server state a bytes m q d
+    → IsBrought state m
 asked_brought server state a bytes m q d asked =
     let new : IsNewRequest server state bytes m asked.method asked.core = asked.is_new in
     brought state m asked.method new.uri new.version new.key new.is_request new.key_is new.is_new new.is_no_ack
@@ -87,38 +95,45 @@ module _ (server : Server) (state : ProxyState) (act : Act) (a : Arrival) (bytes
 
   -- a request is sent to branches
   sends : (first : Branch) (others : List Branch) → AreBegun a.now 1 (first ∷ others) → IsBrought state m
-      → AreParts server state act a.now state.requests (opened (opening server a.now (forking a m (first ∷ others))).request state) (opening_packets server a.now (forking a m (first ∷ others))) []
+      → AreParts server state act a.now state.requests (opened (opening server a.now (forking a m (first ∷ others))).request state)
+      (opening_packets server a.now (forking a m (first ∷ others))) []
   sends first others started new =
-      One (opens (opening server a.now (forking a m (first ∷ others))).request (opening_packets server a.now (forking a m (first ∷ others))) new (sent_key server a m (first ∷ others))
+      One (opens (opening server a.now (forking a m (first ∷ others))).request (opening_packets server a.now (forking a m (first ∷ others))) new
+      (sent_key server a m (first ∷ others))
       (Sent first others started) (is_full state) refl)
 
   -- a request is sent to targets
   sends_to : (targets : List Target) → IsThereOne targets → IsBrought state m
-      → AreParts server state act a.now state.requests (opened (opening server a.now (forking a m (branches_from a.now 1 targets))).request state) (opening_packets server a.now (forking a m (branches_from a.now 1 targets))) []
+      → AreParts server state act a.now state.requests (opened (opening server a.now (forking a m (branches_from a.now 1 targets))).request state)
+      (opening_packets server a.now (forking a m (branches_from a.now 1 targets))) []
   sends_to [] some new = absurd some
   sends_to (t ∷ ts) some new = sends (branch_to a.now 1 t) (branches_from a.now (1 + 1) ts) (begun a.now 1 (t ∷ ts)) new
 
   -- a request that was let through
-  sending_parts : (q : Question) (id : ℕ) (targets : Targets) → AreNotEmpty targets → IsBrought state m → HasPartsAt server state act a.now (sending server a m q id targets (counted a state))
+  sending_parts : (q : Question) (id : ℕ) (targets : Targets) → AreNotEmpty targets → IsBrought state m
+      → HasPartsAt server state act a.now (sending server a m q id targets (counted a state))
   sending_parts q id Targets.NotFound some new = replies 404 [] refl new
   sending_parts q id Targets.Unavailable some new = replies 480 [] refl new
   sending_parts q id (Targets.Bindings targets) some new = sends_to targets some new
   sending_parts q id (Targets.Hop uri address) some new = sends_to (record { uri = uri; address = Some address } ∷ []) tt new
 
   -- a REGISTER that was let through
-  registering_parts : (q : Question) (id : ℕ) (outcome : Registered) → RefusesOtherwise outcome → IsBrought state m → HasPartsAt server state act a.now (registering server a m q id outcome (counted a state))
+  registering_parts : (q : Question) (id : ℕ) (outcome : Registered) → RefusesOtherwise outcome → IsBrought state m
+      → HasPartsAt server state act a.now (registering server a m q id outcome (counted a state))
   registering_parts q id (Bound rows) final new = replies 200 (contact_fields a.now q.target rows) refl new
   registering_parts q id (Refused status extras) final new = replies status extras final.0 new
 
   -- a copy gets the last answer again, unless it is an ACK
   copied_parts : (r : OpenRequest) → IsCopy state m r → (t : Bool) → bytes_eq (method_of m.start) (codes "ACK") ≡ t
-      → AreParts server state act a.now state.requests (cond t (record (counted a state) { requests = replaced (acknowledged a.now r) state.requests }) (counted a state)).requests [] (cond t [] (answers_again r r.answer))
+      → AreParts server state act a.now state.requests (cond t (record (counted a state) { requests = replaced (acknowledged a.now r) state.requests })
+      (counted a state)).requests [] (cond t [] (answers_again r r.answer))
   copied_parts r copy true is = One (Acknowledges r copy.there refl refl refl)
   copied_parts r copy false is = One (Copies a bytes m short copy.key r said is copy.key_is copy.is_open refl refl refl)
 
   -- a CANCEL is answered, and then cancels the request that it names
   cancelling_parts : (r : OpenRequest) → IsNaming state a m (Some r) → (full : Bool) → is_full state ≡ full
-      → AreParts server state act a.now state.requests (replaced (cancelled server a.now r).request (cond full state.requests (state.requests ++ closing a m 200 (made_text server a m 200 []) ∷ [])))
+      → AreParts server state act a.now state.requests (replaced (cancelled server a.now r).request
+      (cond full state.requests (state.requests ++ closing a m 200 (made_text server a m 200 []) ∷ [])))
       (answers 200 [] ++ change_packets (cancelled server a.now r)) []
   cancelling_parts r naming full is =
       Two (cond full state.requests (state.requests ++ closing a m 200 (made_text server a m 200 []) ∷ [])) (answers 200 []) r (cancelled server a.now r)
@@ -129,7 +144,8 @@ module _ (server : Server) (state : ProxyState) (act : Act) (a : Arrival) (bytes
         still_there false = Contains-append_left state.requests (closing a m 200 (made_text server a m 200 []) ∷ []) r naming.there
 
   -- a verdict on a message
-  effect_parts : (v : Verdict) → Keys.Fits state.requests m v → Fits server state a bytes m short v → HasPartsAt server state act a.now (effect_of server a m v (counted a state))
+  effect_parts : (v : Verdict) → Keys.Fits state.requests m v → Fits server state a bytes m short v
+      → HasPartsAt server state act a.now (effect_of server a m v (counted a state))
   effect_parts Drop keys fits = One (Stays refl refl refl)
   effect_parts (Respond r b status) keys fits =
       One (Changes r (responded server a.now r b status m) fits.there
@@ -140,17 +156,31 @@ module _ (server : Server) (state : ProxyState) (act : Act) (a : Arrival) (bytes
   effect_parts (Cancel (Some r)) keys fits = cancelling_parts r fits (is_full state) refl
   effect_parts (Answer status extras) keys fits = replies status extras fits.1.0 fits.0
   effect_parts (InDialog address id) keys fits =
-      sends (dialog_branch server a.now m address) [] (record { is_numbered = refl; is_target = refl; is_wanted = refl; is_due = refl; goes_next = refl; has_no_final = refl }, tt) fits.0
-  effect_parts (Challenge q) keys fits = replies (challenge_status q.operation) (challenges_to server a q) (challenge_final q.operation) (asked_brought server state a bytes m q _ fits)
+      sends (dialog_branch server a.now m address) [] (
+        record {
+          is_numbered = refl;
+          is_target = refl;
+          is_wanted = refl;
+          is_due = refl;
+          goes_next = refl;
+          has_no_final = refl;
+        },
+        tt,
+      ) fits.0
+  effect_parts (Challenge q) keys fits = replies (challenge_status q.operation) (challenges_to server a q) (challenge_final q.operation)
+      (asked_brought server state a bytes m q _ fits)
   effect_parts (Deny q id) keys fits = replies 403 (denial_warning server.config.own id ∷ []) refl (asked_brought server state a bytes m q _ fits)
   effect_parts (Send q id targets) keys fits = sending_parts q id targets keys.1 (asked_brought server state a bytes m q _ fits.asked)
   effect_parts (Register q id outcome) keys fits =
-      registering_parts q id outcome (subst RefusesOtherwise (sym fits.outcome_is) (registration_other server state.bindings a.now m fits.asked.core)) (asked_brought server state a bytes m q _ fits.asked)
+      registering_parts q id outcome (subst RefusesOtherwise (sym fits.outcome_is) (registration_other server state.bindings a.now m fits.asked.core))
+      (asked_brought server state a bytes m q _ fits.asked)
 
 -- what bytes say, or say not
-pub datagram_parts : (server : Server) (state : ProxyState) (act : Act) (a : Arrival) (bytes : List ℕ) → ((m : Message) (short : Bool) → message_in (reading_of bytes) ≡ Some (m, short) → IsSaidAt state act a bytes m short)
+pub datagram_parts : (server : Server) (state : ProxyState) (act : Act) (a : Arrival) (bytes : List ℕ)
+    → ((m : Message) (short : Bool) → message_in (reading_of bytes) ≡ Some (m, short) → IsSaidAt state act a bytes m short)
     → (o : Option (Message × Bool)) → message_in (reading_of bytes) ≡ o
     → HasPartsAt server state act a.now (option_map_or (λ x. effect_of server a x.0 x.1 (counted a state)) (verdict_in server state a o) (nothing (counted a state)))
 datagram_parts server state act a bytes said None says = One (Stays refl refl refl)
 datagram_parts server state act a bytes said (Some x) says =
-    effect_parts server state act a bytes x.0 x.1 (said x.0 x.1 says) (message_verdict server state a x.0 x.1) (verdict_fits server state a x.0 x.1) (message_fits server state a bytes x.0 x.1 says)
+    effect_parts server state act a bytes x.0 x.1 (said x.0 x.1 says) (message_verdict server state a x.0 x.1) (verdict_fits server state a x.0 x.1)
+    (message_fits server state a bytes x.0 x.1 says)

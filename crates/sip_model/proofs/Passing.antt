@@ -1,5 +1,6 @@
 -- Time can always pass, and each event has its step: a run never gets stuck.
-use Rattle.std.proofs.Common.{◌≡◌, ◌⊎◌, ◌∙◌, inl, inr, ℕ, zero, suc, ◌+◌, ◌-◌, ◌≤◌, ◌<◌, List, [], ◌∷◌, ◌++◌, reverse, max, Option, Some, refl, sym, ap, subst, arith, sum_by}
+use Rattle.std.proofs.Common.{◌≡◌, ◌⊎◌, ◌∙◌, inl, inr, ℕ, zero, suc, ◌+◌, ◌-◌, ◌≤◌, ◌<◌, List, [], ◌∷◌, ◌++◌, reverse, max, Option, Some, refl, sym, ap, subst, arith}
+use Rattle.std.proofs.Common.{sum_by}
 use Rattle.std.proofs.lemmas.List.{reverse-append, reverse-reverse, append_assoc, append-nil}
 use Rattle.std.specs.List.{AllByRecursion}
 use Rattle.sip_event.specs.declared.event.StepOut.{StepOut}
@@ -28,7 +29,8 @@ use Rattle.sip_model.proofs.Outcomes.{overdue_first, datagram_marked, fault_mark
 
 -- ---- where a run stands
 
--- A history from one state on, for some events, newest first; behind it time passes up to the moment of the next one, `at`, to the moment `most` in all, and nothing is due before `t`.
+-- A history from one state on, for some events, newest first; behind it time passes up to the moment of the next one, `at`, to the moment `most` in all, and nothing is
+-- due before `t`.
 record StandsAt (server : Server) (start : ProxyState) (at most : ℕ) (events : List Event) (t : ℕ) (history : List Link) (state : ProxyState) : Type 0 where
   pub chain : IsChain server start history state
   pub paced : IsPaced (Some at) history
@@ -91,13 +93,19 @@ not_before most dues all = all_weaker (λ due. most < due) (λ due. most ≤ due
 -- ---- the step of an event
 
 -- once all that was due has passed, an event has its step
-steps_to : (server : Server) (event : Event) (old : ProxyState) → NoneBy (max old.moment (event_moment event)) old.requests → NoneAgainBy (max old.moment (event_moment event)) old.requests → HasStep server old (Given event)
+steps_to : (server : Server) (event : Event) (old : ProxyState) → NoneBy (max old.moment (event_moment event)) old.requests
+    → NoneAgainBy (max old.moment (event_moment event)) old.requests → HasStep server old (Given event)
 steps_to server (Datagram at word from bytes) old none none_again =
     let effect : Effect = datagram_effect server old (arrival_of old at word from) bytes in
     record {
       out = out_of (moment_of old at) effect;
       new = effect.state;
-      is_step = record { none_due = none; none_again = none_again; does = does_say server old (moment_of old at) effect (datagram_marked server old (arrival_of old at word from) bytes) };
+      is_step = record {
+        none_due = none;
+        none_again = none_again;
+        does = does_say server old (moment_of old at) effect
+            (datagram_marked server old (arrival_of old at word from) bytes);
+      };
     }
 steps_to server (Time at) old none none_again =
     let now : ℕ = moment_of old at in
@@ -112,7 +120,13 @@ steps_to server (Time at) old none none_again =
         none_due = none;
         none_again_due = none_again;
         at_moment = refl;
-        quiet = record { no_earlier = low; no_later = high; none_passed = not_before now (deadlines old.requests) none; none_again_passed = not_before now (resends old.requests) none_again; does = does };
+        quiet = record {
+          no_earlier = low;
+          no_later = high;
+          none_passed = not_before now (deadlines old.requests) none;
+          none_again_passed = not_before now (resends old.requests) none_again;
+          does = does;
+        };
       };
     }
 steps_to server (Fault at ticket) old none none_again =
@@ -136,7 +150,8 @@ module _ (server : Server) (first : ℕ) (base : List Link) (start : ProxyState)
   stepped act old out new history = record { config = server.config; before = old; act = act; out = out; after = new } ∷ history
 
   -- a step of passing time leads to where nothing is due before its moment
-  stands_behind : (at most : ℕ) (events : List Event) (t : ℕ) (history : List Link) (old : ProxyState) (out : StepOut) (new : ProxyState) → StandsAt server start at most events t history old → t ≤ most → new.moment ≡ t
+  stands_behind : (at most : ℕ) (events : List Event) (t : ℕ) (history : List Link) (old : ProxyState) (out : StepOut) (new : ProxyState)
+      → StandsAt server start at most events t history old → t ≤ most → new.moment ≡ t
       → IsStep server old (Passing at) out new → StandsAt server start at most events t (stepped (Passing at) old out new history) new
   stands_behind at most events t history old out new h high is step =
       let chain : IsChain server start (stepped (Passing at) old out new history) new = (refl, step, h.chain) in
@@ -148,7 +163,8 @@ module _ (server : Server) (first : ℕ) (base : List Link) (start : ProxyState)
         of_events = h.of_events;
         up_to = ap (λ (m : ℕ). max m at) is ∙ between old.moment t at most h.low high h.up_to;
         low = omega (arith, is);
-        due = subst (λ (m : ℕ). AllByRecursion (IsDue m) new.requests) is (each_due new.moment new.requests (chain_passes_none server first (stepped (Passing at) old out new history ++ base) new whole));
+        due = subst (λ (m : ℕ). AllByRecursion (IsDue m) new.requests) is (each_due new.moment new.requests
+            (chain_passes_none server first (stepped (Passing at) old out new history ++ base) new whole));
         again = subst (λ (m : ℕ). AllByRecursion (IsAgain m) new.requests) is (chain_again server first (stepped (Passing at) old out new history ++ base) new whole);
       }
 
@@ -159,8 +175,10 @@ module _ (server : Server) (first : ℕ) (base : List Link) (start : ProxyState)
   after_deadline t state found = changed server t state found.change
 
   -- it passes
-  passes : (at most : ℕ) (events : List Event) (t : ℕ) (history : List Link) (state : ProxyState) (h : StandsAt server start at most events t history state) → t ≤ most → (found : IsOverdueAt server t state.requests)
-      → StandsAt server start at most events t (stepped (Passing at) state (out_of t (after_deadline t state found)) (after_deadline t state found).state history) (after_deadline t state found).state
+  passes : (at most : ℕ) (events : List Event) (t : ℕ) (history : List Link) (state : ProxyState) (h : StandsAt server start at most events t history state) → t ≤ most
+      → (found : IsOverdueAt server t state.requests)
+      → StandsAt server start at most events t (stepped (Passing at) state (out_of t (after_deadline t state found)) (after_deadline t state found).state history)
+      (after_deadline t state found).state
   passes at most events t history state h high found =
       let effect : Effect = after_deadline t state found in
       let step : IsDeadline server state at (out_of t effect) effect.state = record {
@@ -176,12 +194,14 @@ module _ (server : Server) (first : ℕ) (base : List Link) (start : ProxyState)
       stands_behind at most events t history state (out_of t effect) effect.state h high refl (inr (inl step))
 
   -- fewer are left then
-  passes_fewer : (at most : ℕ) (events : List Event) (t : ℕ) (history : List Link) (state : ProxyState) → StandsAt server start at most events t history state → (found : IsOverdueAt server t state.requests)
+  passes_fewer : (at most : ℕ) (events : List Event) (t : ℕ) (history : List Link) (state : ProxyState) → StandsAt server start at most events t history state
+      → (found : IsOverdueAt server t state.requests)
       → all_left (after_deadline t state found).state.requests + 1 ≤ all_left state.requests
   passes_fewer at most events t history state h found =
       let named = chain_named server first (history ++ base) state (joined_chain server (first_state first) start state base history before h.chain) in
       let event = change_event server t found.request found.change (ByDeadline found.change found.passes) in
-      sum_replaced deadlines_left 1 found.change.request found.request state.requests found.is_open (event_number server t found.request found.change event) (named.numbers.differ found.request.number)
+      sum_replaced deadlines_left 1 found.change.request found.request state.requests found.is_open (event_number server t found.request found.change event)
+      (named.numbers.differ found.request.number)
       (passed_left server t found.request found.change found.passes)
 
   -- ---- what goes again
@@ -191,8 +211,10 @@ module _ (server : Server) (first : ℕ) (base : List Link) (start : ProxyState)
   after_resend t state found = resent t state found.packets found.next
 
   -- it goes
-  goes : (at most : ℕ) (events : List Event) (t : ℕ) (history : List Link) (state : ProxyState) (h : StandsAt server start at most events t history state) → t ≤ most → (found : IsResentAt server t state.requests)
-      → StandsAt server start at most events t (stepped (Passing at) state (out_of t (after_resend t state found)) (after_resend t state found).state history) (after_resend t state found).state
+  goes : (at most : ℕ) (events : List Event) (t : ℕ) (history : List Link) (state : ProxyState) (h : StandsAt server start at most events t history state) → t ≤ most
+      → (found : IsResentAt server t state.requests)
+      → StandsAt server start at most events t (stepped (Passing at) state (out_of t (after_resend t state found)) (after_resend t state found).state history)
+      (after_resend t state found).state
   goes at most events t history state h high found =
       let effect : Effect = after_resend t state found in
       let step : IsResend server state at (out_of t effect) effect.state = record {
@@ -209,19 +231,23 @@ module _ (server : Server) (first : ℕ) (base : List Link) (start : ProxyState)
       stands_behind at most events t history state (out_of t effect) effect.state h high refl (inr (inr step))
 
   -- fewer are due then
-  goes_fewer : (at most : ℕ) (events : List Event) (t : ℕ) (history : List Link) (state : ProxyState) → StandsAt server start at most events t history state → (found : IsResentAt server t state.requests)
+  goes_fewer : (at most : ℕ) (events : List Event) (t : ℕ) (history : List Link) (state : ProxyState) → StandsAt server start at most events t history state
+      → (found : IsResentAt server t state.requests)
       → all_by t (after_resend t state found).state.requests + 1 ≤ all_by t state.requests
   goes_fewer at most events t history state h found =
       let named = chain_named server first (history ++ base) state (joined_chain server (first_state first) start state base history before h.chain) in
-      sum_replaced (moments_by t) 1 found.next found.request state.requests found.is_open (resent_number server t found.request found.packets found.next found.goes) (named.numbers.differ found.request.number)
+      sum_replaced (moments_by t) 1 found.next found.request state.requests found.is_open (resent_number server t found.request found.packets found.next found.goes)
+      (named.numbers.differ found.request.number)
       (fewer_due server t found.request found.packets found.next found.goes (all_in (IsAgain t) state.requests found.request h.again found.is_open))
 
   -- no more deadlines are left then
-  goes_left : (at most : ℕ) (events : List Event) (t : ℕ) (history : List Link) (state : ProxyState) → StandsAt server start at most events t history state → (found : IsResentAt server t state.requests)
+  goes_left : (at most : ℕ) (events : List Event) (t : ℕ) (history : List Link) (state : ProxyState) → StandsAt server start at most events t history state
+      → (found : IsResentAt server t state.requests)
       → all_left (after_resend t state found).state.requests ≤ all_left state.requests
   goes_left at most events t history state h found =
       let named = chain_named server first (history ++ base) state (joined_chain server (first_state first) start state base history before h.chain) in
-      let total = sum_replaced deadlines_left 0 found.next found.request state.requests found.is_open (resent_number server t found.request found.packets found.next found.goes) (named.numbers.differ found.request.number)
+      let total = sum_replaced deadlines_left 0 found.next found.request state.requests found.is_open
+      (resent_number server t found.request found.packets found.next found.goes) (named.numbers.differ found.request.number)
       (let one = resent_left server t found.request found.packets found.next found.goes in omega (arith, one)) in
       omega (arith, total)
 
@@ -230,10 +256,12 @@ module _ (server : Server) (first : ℕ) (base : List Link) (start : ProxyState)
   -- it can pass where so many deadlines are left at most
   abbrev CanPass : ℕ → ℕ → List Event → ℕ → Type 0
   CanPass at most events left =
-      (t k : ℕ) (history : List Link) (state : ProxyState) → StandsAt server start at most events t history state → most + 1 ≡ t + k → all_left state.requests ≤ left → HasPassed server start at most events
+      (t k : ℕ) (history : List Link) (state : ProxyState) → StandsAt server start at most events t history state → most + 1 ≡ t + k → all_left state.requests ≤ left
+      → HasPassed server start at most events
 
   -- it has, once nothing is due by the greatest moment
-  passed : (at most : ℕ) (events : List Event) (t : ℕ) (history : List Link) (state : ProxyState) → StandsAt server start at most events t history state → most + 1 ≤ t → HasPassed server start at most events
+  passed : (at most : ℕ) (events : List Event) (t : ℕ) (history : List Link) (state : ProxyState) → StandsAt server start at most events t history state → most + 1 ≤ t
+      → HasPassed server start at most events
   passed at most events t history state h late = record {
     history = history;
     state = state;
@@ -247,51 +275,75 @@ module _ (server : Server) (first : ℕ) (base : List Link) (start : ProxyState)
   }
 
   -- at one moment a deadline passes, after which fewer are left; or something goes again, after which fewer are due; or time goes on
-  at_moment : (at most : ℕ) (events : List Event) (left t k : ℕ) (history : List Link) (state : ProxyState) → StandsAt server start at most events t history state → most + 1 ≡ t + (k + 1) → all_left state.requests ≤ left
-      → ((later_history : List Link) (new : ProxyState) → StandsAt server start at most events t later_history new → all_left new.requests + 1 ≤ left → HasPassed server start at most events)
-      → ((later_history : List Link) (new : ProxyState) → StandsAt server start at most events t later_history new → all_left new.requests ≤ left → all_by t new.requests + 1 ≤ all_by t state.requests
+  at_moment : (at most : ℕ) (events : List Event) (left t k : ℕ) (history : List Link) (state : ProxyState) → StandsAt server start at most events t history state
+      → most + 1 ≡ t + (k + 1) → all_left state.requests ≤ left
+      → ((later_history : List Link) (new : ProxyState) → StandsAt server start at most events t later_history new → all_left new.requests + 1 ≤ left
+      → HasPassed server start at most events)
+      → ((later_history : List Link) (new : ProxyState) → StandsAt server start at most events t later_history new → all_left new.requests ≤ left
+      → all_by t new.requests + 1 ≤ all_by t state.requests
       → HasPassed server start at most events)
       → (StandsAt server start at most events (t + 1) history state → HasPassed server start at most events) → HasPassed server start at most events
   at_moment at most events left t k history state h e few fewer again later = by_deadline (overdue_at server t state.requests h.due) where
     high : t ≤ most
     high = omega (arith, e)
 
-    by_resend : AllByRecursion (IsDue (t + 1)) state.requests → IsResentAt server t state.requests ⊎ AllByRecursion (IsAgain (t + 1)) state.requests → HasPassed server start at most events
+    by_resend : AllByRecursion (IsDue (t + 1)) state.requests → IsResentAt server t state.requests ⊎ AllByRecursion (IsAgain (t + 1)) state.requests
+        → HasPassed server start at most events
     by_resend due (inl found) =
         let same = goes_left at most events t history state h found in
         again _ _ (goes at most events t history state h high found) (omega (arith, same, few)) (goes_fewer at most events t history state h found)
     by_resend due (inr rest) =
-        later (record { chain = h.chain; paced = h.paced; configured = h.configured; of_events = h.of_events; up_to = h.up_to; low = omega (arith, h.low); due = due; again = rest })
+        later (record {
+          chain = h.chain;
+          paced = h.paced;
+          configured = h.configured;
+          of_events = h.of_events;
+          up_to = h.up_to;
+          low = omega (arith, h.low);
+          due = due;
+          again = rest;
+        })
 
     by_deadline : IsOverdueAt server t state.requests ⊎ AllByRecursion (IsDue (t + 1)) state.requests → HasPassed server start at most events
-    by_deadline (inl found) = let less = passes_fewer at most events t history state h found in fewer _ _ (passes at most events t history state h high found) (omega (arith, less, few))
+    by_deadline (inl found) = let less = passes_fewer at most events t history state h found in
+        fewer _ _ (passes at most events t history state h high found) (omega (arith, less, few))
     by_deadline (inr due) = by_resend due (resent_at server t state.requests h.again)
 
   -- one thing after the other at one moment
   by_counts : (at most : ℕ) (events : List Event) (left t k : ℕ) → most + 1 ≡ t + (k + 1)
-      → ((later_history : List Link) (new : ProxyState) → StandsAt server start at most events t later_history new → all_left new.requests + 1 ≤ left → HasPassed server start at most events)
-      → ((later_history : List Link) (new : ProxyState) → StandsAt server start at most events (t + 1) later_history new → all_left new.requests ≤ left → HasPassed server start at most events)
-      → (count : ℕ) (history : List Link) (state : ProxyState) → StandsAt server start at most events t history state → all_left state.requests ≤ left → all_by t state.requests ≤ count → HasPassed server start at most events
+      → ((later_history : List Link) (new : ProxyState) → StandsAt server start at most events t later_history new → all_left new.requests + 1 ≤ left
+      → HasPassed server start at most events)
+      → ((later_history : List Link) (new : ProxyState) → StandsAt server start at most events (t + 1) later_history new → all_left new.requests ≤ left
+      → HasPassed server start at most events)
+      → (count : ℕ) (history : List Link) (state : ProxyState) → StandsAt server start at most events t history state → all_left state.requests ≤ left
+      → all_by t state.requests ≤ count → HasPassed server start at most events
   by_counts at most events left t k e fewer later zero history state h few counted =
-      at_moment at most events left t k history state h e few fewer (λ later_history new stands same less. absurd (omega (arith, less, counted))) (λ stands. later history state stands few)
+      at_moment at most events left t k history state h e few fewer (λ later_history new stands same less. absurd (omega (arith, less, counted)))
+      (λ stands. later history state stands few)
   by_counts at most events left t k e fewer later (suc count) history state h few counted =
       at_moment at most events left t k history state h e few fewer
-      (λ later_history new stands same less. by_counts at most events left t k e fewer later count later_history new stands same (omega (arith, less, counted))) (λ stands. later history state stands few)
+      (λ later_history new stands same less. by_counts at most events left t k e fewer later count later_history new stands same (omega (arith, less, counted)))
+      (λ stands. later history state stands few)
 
   -- from moment to moment
-  by_moments : (at most : ℕ) (events : List Event) (left : ℕ) → ((t k : ℕ) (history : List Link) (state : ProxyState) → StandsAt server start at most events t history state → most + 1 ≡ t + k
+  by_moments : (at most : ℕ) (events : List Event) (left : ℕ) → ((t k : ℕ) (history : List Link) (state : ProxyState)
+      → StandsAt server start at most events t history state → most + 1 ≡ t + k
       → all_left state.requests + 1 ≤ left → HasPassed server start at most events)
-      → (k t : ℕ) (history : List Link) (state : ProxyState) → StandsAt server start at most events t history state → most + 1 ≡ t + k → all_left state.requests ≤ left → HasPassed server start at most events
+      → (k t : ℕ) (history : List Link) (state : ProxyState) → StandsAt server start at most events t history state → most + 1 ≡ t + k → all_left state.requests ≤ left
+      → HasPassed server start at most events
   by_moments at most events left fewer zero t history state h e few = passed at most events t history state h (omega (arith, e))
   by_moments at most events left fewer (suc k) t history state h e few =
       by_counts at most events left t k (omega (arith, e)) (λ later_history new stands less. fewer t (k + 1) later_history new stands (omega (arith, e)) less)
-      (λ later_history new stands less. by_moments at most events left fewer k (t + 1) later_history new stands (omega (arith, e)) less) (all_by t state.requests) history state h few (omega arith)
+      (λ later_history new stands less. by_moments at most events left fewer k (t + 1) later_history new stands (omega (arith, e)) less) (all_by t state.requests) history
+      state h few (omega arith)
 
   -- from deadline to deadline
   by_deadlines : (at most : ℕ) (events : List Event) (left : ℕ) → CanPass at most events left
-  by_deadlines at most events zero t k history state h e few = by_moments at most events 0 (λ later k history state stands same less. absurd (omega (arith, less))) k t history state h e few
+  by_deadlines at most events zero t k history state h e few = by_moments at most events 0 (λ later k history state stands same less. absurd (omega (arith, less))) k t
+      history state h e few
   by_deadlines at most events (suc left) t k history state h e few =
-      by_moments at most events (suc left) (λ later k history state stands same less. by_deadlines at most events left later k history state stands same (omega (arith, less))) k t history state h e few
+      by_moments at most events (suc left) (λ later k history state stands same less.
+      by_deadlines at most events left later k history state stands same (omega (arith, less))) k t history state h e few
 
   -- ---- events
 
@@ -310,7 +362,8 @@ module _ (server : Server) (first : ℕ) (base : List Link) (start : ProxyState)
         due = each_due state.moment state.requests (chain_passes_none server first (h.history ++ base) state whole);
         again = chain_again server first (h.history ++ base) state whole;
       } in
-      by_deadlines at (max state.moment at) events (all_left state.requests) state.moment (max state.moment at + 1 - state.moment) h.history state stands (omega arith) (omega arith)
+      by_deadlines at (max state.moment at) events (all_left state.requests) state.moment (max state.moment at + 1 - state.moment) h.history state stands (omega arith)
+      (omega arith)
 
   -- then the event has its step
   take_event : (event : Event) (events : List Event) → HasTaken server start events → HasTaken server start (event ∷ events)
@@ -332,7 +385,8 @@ module _ (server : Server) (first : ℕ) (base : List Link) (start : ProxyState)
   take_all : (more events : List Event) → HasTaken server start events → HasTaken server start (reverse more ++ events)
   take_all [] events h = h
   take_all (event ∷ more) events h =
-      let behind : reverse (event ∷ more) ++ events ≡ reverse more ++ (event ∷ events) = ap (λ (es : List Event). es ++ events) (reverse-append (event ∷ []) more) ∙ append_assoc (reverse more) (event ∷ []) events in
+      let behind : reverse (event ∷ more) ++ events ≡ reverse more ++ (event ∷ events) = ap (λ (es : List Event). es ++ events) (reverse-append (event ∷ []) more)
+      ∙ append_assoc (reverse more) (event ∷ []) events in
       subst (HasTaken server start) (sym behind) (take_all more (event ∷ events) (take_event event events h))
 
   -- so each list of events has a run that goes on from there
@@ -344,5 +398,11 @@ module _ (server : Server) (first : ℕ) (base : List Link) (start : ProxyState)
         steps = reverse (steps_of h.history);
         history = h.history;
         last = h.state;
-        is_run = record { chain = h.chain; paced = h.paced until; of_events = ap reverse (h.of_events ∙ append-nil (reverse events)) ∙ reverse-reverse events; of_steps = refl; configured = h.configured };
+        is_run = record {
+          chain = h.chain;
+          paced = h.paced until;
+          of_events = ap reverse (h.of_events ∙ append-nil (reverse events)) ∙ reverse-reverse events;
+          of_steps = refl;
+          configured = h.configured;
+        };
       }

@@ -1,5 +1,6 @@
 -- Open requests in their list: which are there, how many pass a test, and what replacing one leaves.
-use Rattle.std.proofs.Common.{◌≡◌, ◌⊎◌, inl, inr, ℕ, zero, suc, ◌+◌, ◌≤◌, ◌<◌, Bool, true, false, cond, ◌==◌, List, [], ◌∷◌, ◌++◌, length, Some, None, refl, sym, ap, subst, ◌∙◌, arith, slice_index_or, Contains, find, count_by, sum_by}
+use Rattle.std.proofs.Common.{◌≡◌, ◌⊎◌, inl, inr, ℕ, zero, suc, ◌+◌, ◌≤◌, ◌<◌, Bool, true, false, cond, ◌==◌, List, [], ◌∷◌, ◌++◌, length, Some, None, refl, sym, ap}
+use Rattle.std.proofs.Common.{subst, ◌∙◌, arith, slice_index_or, Contains, find, count_by, sum_by}
 use Rattle.std.specs.List.{AllByRecursion}
 use Rattle.std.proofs.lemmas.Bool.Decides.{nat_tests}
 use Rattle.std.proofs.lemmas.List.Sums.{sum_by-cons, sum_by_push}
@@ -103,35 +104,39 @@ pub same_number : (a b : ℕ) → a ≡ b → (a == b) ≡ true
 same_number a b e = grind (arith, nat_tests)
 
 -- where a request replaces the one of its number, which is the only one, and has so much less of something, all together have
-pub sum_replaced : (measure : OpenRequest → ℕ) (less : ℕ) (new old : OpenRequest) (rs : List OpenRequest) → IsIn old rs → new.number ≡ old.number → count_by (is_numbered old.number) rs ≤ 1 → measure new + less ≤ measure old
+pub sum_replaced : (measure : OpenRequest → ℕ) (less : ℕ) (new old : OpenRequest) (rs : List OpenRequest) → IsIn old rs → new.number ≡ old.number
+    → count_by (is_numbered old.number) rs ≤ 1 → measure new + less ≤ measure old
     → sum_by measure (replaced new rs) + less ≤ sum_by measure rs
 sum_replaced measure less new old [] h e few fewer = absurd h
-sum_replaced measure less new old (x ∷ xs) h e few fewer = by_test (x.number == new.number) refl (λ there one. sum_replaced measure less new old xs there e one fewer) h where
-  stays : (left : Bool) → measure new + less ≤ measure x → sum_by measure (cond left xs (new ∷ xs)) + less ≤ sum_by measure (x ∷ xs)
-  stays true is = omega (arith, is, sum_by-cons measure x xs)
-  stays false is = omega (arith, is, sum_by-cons measure x xs, sum_by-cons measure new xs)
+sum_replaced measure less new old (x ∷ xs) h e few fewer = by_test (x.number == new.number) refl (λ there one. sum_replaced measure less new old xs there e one fewer)
+    h where
+      stays : (left : Bool) → measure new + less ≤ measure x → sum_by measure (cond left xs (new ∷ xs)) + less ≤ sum_by measure (x ∷ xs)
+      stays true is = omega (arith, is, sum_by-cons measure x xs)
+      stays false is = omega (arith, is, sum_by-cons measure x xs, sum_by-cons measure new xs)
 
-  only : (x.number == new.number) ≡ true → IsIn old (x ∷ xs) → measure new + less ≤ measure x
-  only is (inl here) = subst (λ (r : OpenRequest). measure new + less ≤ measure r) (sym here) fewer
-  only is (inr later) =
-      let number : x.number ≡ old.number = grind (arith, nat_tests) in
-      let one = one_at (is_numbered old.number x) (same_number x.number old.number number) in
-      let another = counts_in (is_numbered old.number) xs old later (same_number old.number old.number refl) in
-      absurd (omega (arith, few, count_cons (is_numbered old.number) x xs, one, another))
+      only : (x.number == new.number) ≡ true → IsIn old (x ∷ xs) → measure new + less ≤ measure x
+      only is (inl here) = subst (λ (r : OpenRequest). measure new + less ≤ measure r) (sym here) fewer
+      only is (inr later) =
+          let number : x.number ≡ old.number = grind (arith, nat_tests) in
+          let one = one_at (is_numbered old.number x) (same_number x.number old.number number) in
+          let another = counts_in (is_numbered old.number) xs old later (same_number old.number old.number refl) in
+          absurd (omega (arith, few, count_cons (is_numbered old.number) x xs, one, another))
 
-  later_in : (x.number == new.number) ≡ false → IsIn old (x ∷ xs) → IsIn old xs
-  later_in is (inl here) = let number : x.number ≡ old.number = ap (λ (r : OpenRequest). r.number) here in absurd (grind (arith, nat_tests))
-  later_in is (inr later) = later
+      later_in : (x.number == new.number) ≡ false → IsIn old (x ∷ xs) → IsIn old xs
+      later_in is (inl here) = let number : x.number ≡ old.number = ap (λ (r : OpenRequest). r.number) here in absurd (grind (arith, nat_tests))
+      later_in is (inr later) = later
 
-  by_test : (t : Bool) → (x.number == new.number) ≡ t → (IsIn old xs → count_by (is_numbered old.number) xs ≤ 1 → sum_by measure (replaced new xs) + less ≤ sum_by measure xs) → IsIn old (x ∷ xs)
-      → sum_by measure (cond t (cond (has_left new) xs (new ∷ xs)) (x ∷ replaced new xs)) + less ≤ sum_by measure (x ∷ xs)
-  by_test true is rest at = stays (has_left new) (only is at)
-  by_test false is rest at =
-      let one : count_by (is_numbered old.number) xs ≤ 1 = omega (arith, few, count_cons (is_numbered old.number) x xs) in
-      omega (arith, sum_by-cons measure x xs, sum_by-cons measure x (replaced new xs), rest (later_in is at) one)
+      by_test : (t : Bool) → (x.number == new.number) ≡ t → (IsIn old xs → count_by (is_numbered old.number) xs ≤ 1
+          → sum_by measure (replaced new xs) + less ≤ sum_by measure xs) → IsIn old (x ∷ xs)
+          → sum_by measure (cond t (cond (has_left new) xs (new ∷ xs)) (x ∷ replaced new xs)) + less ≤ sum_by measure (x ∷ xs)
+      by_test true is rest at = stays (has_left new) (only is at)
+      by_test false is rest at =
+          let one : count_by (is_numbered old.number) xs ≤ 1 = omega (arith, few, count_cons (is_numbered old.number) x xs) in
+          omega (arith, sum_by-cons measure x xs, sum_by-cons measure x (replaced new xs), rest (later_in is at) one)
 
 -- a request that replaces the one of its number, which is the only one, passes a test no more often
-pub count_replaced : (p : OpenRequest → Bool) (new old : OpenRequest) (rs : List OpenRequest) → IsIn old rs → new.number ≡ old.number → count_by (is_numbered old.number) rs ≤ 1 → p new ≡ p old
+pub count_replaced : (p : OpenRequest → Bool) (new old : OpenRequest) (rs : List OpenRequest) → IsIn old rs → new.number ≡ old.number
+    → count_by (is_numbered old.number) rs ≤ 1 → p new ≡ p old
     → count_by p (replaced new rs) ≤ count_by p rs
 count_replaced p new old rs h e few same =
     let counts : cond {A = ℕ} (p new) 1 0 ≡ cond (p old) 1 0 = ap (λ (t : Bool). cond {A = ℕ} t 1 0) same in
@@ -139,7 +144,8 @@ count_replaced p new old rs h e few same =
     omega (arith, total)
 
 -- what holds of all, and of a request that stays open, holds of all once it replaced another
-pub all_replaced : (P : OpenRequest → Type 0) (new : OpenRequest) (rs : List OpenRequest) → AllByRecursion P rs → (has_left new ≡ false → P new) → AllByRecursion P (replaced new rs)
+pub all_replaced : (P : OpenRequest → Type 0) (new : OpenRequest) (rs : List OpenRequest) → AllByRecursion P rs → (has_left new ≡ false → P new)
+    → AllByRecursion P (replaced new rs)
 all_replaced P new [] all h = tt
 all_replaced P new (x ∷ xs) all h = by_test (x.number == new.number) (has_left new) refl (all_replaced P new xs all.1 h) where
   by_test : (t left : Bool) → has_left new ≡ left → AllByRecursion P (replaced new xs) → AllByRecursion P (cond t (cond left xs (new ∷ xs)) (x ∷ replaced new xs))

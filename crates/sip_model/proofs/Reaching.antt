@@ -27,7 +27,8 @@ each_contact : (server : Server) (bindings : List Binding)
     → target_list (targets_at server.config.addresses (map (λ (b : Binding). b.uri) bindings)) ≡ map (λ (b : Binding). target_for server.config.addresses b.uri) bindings
 each_contact server [] = refl
 each_contact server (b ∷ bs) = ap (λ (ts : List Target). target_for server.config.addresses b.uri ∷ ts) (each_other server bs) where
-  each_other : (s : Server) (others : List Binding) → map (target_for s.config.addresses) (map (λ (x : Binding). x.uri) others) ≡ map (λ (x : Binding). target_for s.config.addresses x.uri) others
+  each_other : (s : Server) (others : List Binding) → map (target_for s.config.addresses) (map (λ (x : Binding). x.uri) others)
+      ≡ map (λ (x : Binding). target_for s.config.addresses x.uri) others
   each_other s [] = refl
   each_other s (x ∷ xs) = ap (λ (ts : List Target). target_for s.config.addresses x.uri ∷ ts) (each_other s xs)
 
@@ -47,31 +48,41 @@ allowed_targets server rows now id target o uri u t known =
     ∙ each_contact server (live (aor_of uri) now rows)
 
 -- the target that a decision for a hop gives
-hop_targets : (server : Server) (rows : List Binding) (now id : ℕ) (hop : ℕ) (target : Aor) (o : Option Uri) (uri : Uri) (address : Addr) → o ≡ Some uri → hop_of server.config.hops hop ≡ Some address
+hop_targets : (server : Server) (rows : List Binding) (now id : ℕ) (hop : ℕ) (target : Aor) (o : Option Uri) (uri : Uri) (address : Addr) → o ≡ Some uri
+    → hop_of server.config.hops hop ≡ Some address
     → target_list (targets_by server rows now target (Decision.Via id hop) o) ≡ record { uri = uri; address = Some address } ∷ []
 hop_targets server rows now id hop target o uri address u h =
     ap (λ x. target_list (targets_by server rows now target (Decision.Via id hop) x)) u ∙ ap (λ found. target_list (target_by uri found)) h
 
 module _ (server : Server) (rows : List Binding) (state : ProxyState) (now : ℕ) (m : Message) (method : List ℕ) (core : CoreFields) where
   -- a request that is let through to a user's address goes to exactly the live bindings
-  pub reaches_bindings : (id : ℕ) (uri : Uri) → is_register method ≡ false → decision_on server state now m method core ≡ Decision.Allow id → request_uri_of server.config.own m ≡ Some uri
+  pub reaches_bindings : (id : ℕ) (uri : Uri) → is_register method ≡ false → decision_on server state now m method core ≡ Decision.Allow id
+      → request_uri_of server.config.own m ≡ Some uri
       → is_users_address server.config.users server.config.own.domains (aor_of uri) ≡ true
       → targets_on server rows state now m method core ≡ map (λ (b : Binding). target_for server.config.addresses b.uri) (live (aor_of uri) now rows)
   reaches_bindings id uri r d u known =
-      ap (λ b. cond b [] (target_list (targets_by server rows now (cond (is_register method) (to_aor core) (aor_or_nobody (request_uri_of server.config.own m))) (decision_on server state now m method core) (request_uri_of server.config.own m)))) r
-      ∙ ap (λ decision. target_list (targets_by server rows now (cond (is_register method) (to_aor core) (aor_or_nobody (request_uri_of server.config.own m))) decision (request_uri_of server.config.own m))) d
-      ∙ allowed_targets server rows now id (cond (is_register method) (to_aor core) (aor_or_nobody (request_uri_of server.config.own m))) (request_uri_of server.config.own m) uri u
+      ap (λ b. cond b [] (target_list (targets_by server rows now (cond (is_register method) (to_aor core) (aor_or_nobody (request_uri_of server.config.own m)))
+      (decision_on server state now m method core) (request_uri_of server.config.own m)))) r
+      ∙ ap (λ decision. target_list (targets_by server rows now (cond (is_register method) (to_aor core) (aor_or_nobody (request_uri_of server.config.own m))) decision
+      (request_uri_of server.config.own m))) d
+      ∙ allowed_targets server rows now id (cond (is_register method) (to_aor core) (aor_or_nobody (request_uri_of server.config.own m)))
+      (request_uri_of server.config.own m) uri u
       (asked_aor (is_register method) core (request_uri_of server.config.own m) uri r u) known
 
   -- one that is let through by a hop goes there
   pub reaches_hop : (id : ℕ) (hop : ℕ) (uri : Uri) (address : Addr) → is_register method ≡ false → decision_on server state now m method core ≡ Decision.Via id hop
-      → request_uri_of server.config.own m ≡ Some uri → hop_of server.config.hops hop ≡ Some address → targets_on server rows state now m method core ≡ record { uri = uri; address = Some address } ∷ []
+      → request_uri_of server.config.own m ≡ Some uri → hop_of server.config.hops hop ≡ Some address
+      → targets_on server rows state now m method core ≡ record { uri = uri; address = Some address } ∷ []
   reaches_hop id hop uri address r d u h =
-      ap (λ b. cond b [] (target_list (targets_by server rows now (cond (is_register method) (to_aor core) (aor_or_nobody (request_uri_of server.config.own m))) (decision_on server state now m method core) (request_uri_of server.config.own m)))) r
-      ∙ ap (λ decision. target_list (targets_by server rows now (cond (is_register method) (to_aor core) (aor_or_nobody (request_uri_of server.config.own m))) decision (request_uri_of server.config.own m))) d
-      ∙ hop_targets server rows now id hop (cond (is_register method) (to_aor core) (aor_or_nobody (request_uri_of server.config.own m))) (request_uri_of server.config.own m) uri address u h
+      ap (λ b. cond b [] (target_list (targets_by server rows now (cond (is_register method) (to_aor core) (aor_or_nobody (request_uri_of server.config.own m)))
+      (decision_on server state now m method core) (request_uri_of server.config.own m)))) r
+      ∙ ap (λ decision. target_list (targets_by server rows now (cond (is_register method) (to_aor core) (aor_or_nobody (request_uri_of server.config.own m))) decision
+      (request_uri_of server.config.own m))) d
+      ∙ hop_targets server rows now id hop (cond (is_register method) (to_aor core) (aor_or_nobody (request_uri_of server.config.own m)))
+      (request_uri_of server.config.own m) uri address u h
 
   -- a REGISTER goes nowhere
   pub reaches_none : is_register method ≡ true → targets_on server rows state now m method core ≡ []
   reaches_none r =
-      ap (λ b. cond b [] (target_list (targets_by server rows now (cond (is_register method) (to_aor core) (aor_or_nobody (request_uri_of server.config.own m))) (decision_on server state now m method core) (request_uri_of server.config.own m)))) r
+      ap (λ b. cond b [] (target_list (targets_by server rows now (cond (is_register method) (to_aor core) (aor_or_nobody (request_uri_of server.config.own m)))
+      (decision_on server state now m method core) (request_uri_of server.config.own m)))) r

@@ -20,7 +20,9 @@ use Rattle.model_steps.specs.state.declared.branch.Branch.{Branch}
 use Rattle.model_steps.specs.state.State.{first_state}
 use Rattle.model_steps.specs.state.Arrival.{Arrival}
 use Rattle.model_steps.specs.verdict_model.declared.question.Question.{Question}
-use Rattle.model_steps.specs.verdict_model.Verdict.{Bound, Refused, Verdict, Drop, Respond, Copy, AckOn, Cancel, Answer, InDialog, Challenge, Deny, Send, Register, is_register, question_of, answer_of, registration_by, request_targets, decided, message_verdict, message_in, verdict_in, verdict_of}
+use Rattle.model_steps.specs.verdict_model.Verdict.{Bound, Refused, Verdict, Drop, Respond, Copy, AckOn, Cancel, Answer, InDialog, Challenge, Deny, Send, Register}
+use Rattle.model_steps.specs.verdict_model.Verdict.{is_register, question_of, answer_of, registration_by, request_targets, decided, message_verdict, message_in}
+use Rattle.model_steps.specs.verdict_model.Verdict.{verdict_in, verdict_of}
 use Rattle.model_steps.specs.Effect.{counted, effect_of, nothing}
 use Rattle.model_steps.specs.Step.{Act, Given, Passing, IsStep, arrival_of, is_failed, failed_branch, failed_request, fault_effect, moment_of}
 use Rattle.sip_model.specs.Run.{Link, under, IsChain}
@@ -56,7 +58,8 @@ either_binds true left right h = h
 either_binds false left right h = refl
 
 -- the effect of a verdict leaves these bindings
-pub effect_binds : (server : Server) (a : Arrival) (m : Message) (v : Verdict) (state : ProxyState) → (effect_of server a m v state).state.bindings ≡ bound_by v state.bindings
+pub effect_binds : (server : Server) (a : Arrival) (m : Message) (v : Verdict) (state : ProxyState)
+    → (effect_of server a m v state).state.bindings ≡ bound_by v state.bindings
 effect_binds server a m Drop state = refl
 effect_binds server a m (Respond r b status) state = refl
 effect_binds server a m (Copy r) state = either_binds _ _ state refl
@@ -110,7 +113,8 @@ either_faithful server rows now m true left q id targets h = h
 either_faithful server rows now m false left q id targets h = refl
 
 -- what a decision makes of a request binds what the REGISTER makes that it lets through
-decided_faithful : (server : Server) (state : ProxyState) (now : ℕ) (m : Message) (method : List ℕ) (core : CoreFields) (q : Question) (decision : Decision) → core_of m ≡ Ok core
+decided_faithful : (server : Server) (state : ProxyState) (now : ℕ) (m : Message) (method : List ℕ) (core : CoreFields) (q : Question) (decision : Decision)
+    → core_of m ≡ Ok core
     → IsFaithful server state.bindings now m (decided server state now m method core q decision)
 decided_faithful server state now m method core q Decision.Challenge h = refl
 decided_faithful server state now m method core q (Decision.Deny id) h = refl
@@ -124,7 +128,8 @@ decided_faithful server state now m method core q (Decision.Via id hop) h =
 -- ---- a datagram
 
 -- the verdict on a message does so, whether it is policy's or not
-message_faithful : (server : Server) (state : ProxyState) (a : Arrival) (bytes : List ℕ) (m : Message) (short : Bool) (b : Bool) → message_in (reading_of bytes) ≡ Some (m, short)
+message_faithful : (server : Server) (state : ProxyState) (a : Arrival) (bytes : List ℕ) (m : Message) (short : Bool) (b : Bool)
+    → message_in (reading_of bytes) ≡ Some (m, short)
     → is_by_policy (message_verdict server state a m short) ≡ b → IsFaithful server state.bindings a.now m (message_verdict server state a m short)
 message_faithful server state a bytes m short false said h = others_faithful server state.bindings a.now m (message_verdict server state a m short) h
 message_faithful server state a bytes m short true said h =
@@ -145,7 +150,8 @@ said_binds server state a bytes (Some x) h =
 -- ---- a step
 
 -- a fault changes no bindings, whether a branch has its ticket or none does
-failed_branch_binds : (server : Server) (now : ℕ) (state : ProxyState) (r : OpenRequest) (b : Option Branch) → (failed_branch server now state r b).state.bindings ≡ state.bindings
+failed_branch_binds : (server : Server) (now : ℕ) (state : ProxyState) (r : OpenRequest) (b : Option Branch)
+    → (failed_branch server now state r b).state.bindings ≡ state.bindings
 failed_branch_binds server now state r None = refl
 failed_branch_binds server now state r (Some b) = refl
 
@@ -195,14 +201,16 @@ verdict_same server left right now m (Send q id targets) h = h
 
 -- so they are after what a datagram says
 said_same : (server : Server) (now : ℕ) (left right : List Binding) (said : Option (Message × Verdict)) → SameBindings now left right
-    → SameBindings now (after_allowed server left (option_and_then (λ x. allowed_by server.config now x.0 x.1) said)) (after_allowed server right (option_and_then (λ x. allowed_by server.config now x.0 x.1) said))
+    → SameBindings now (after_allowed server left (option_and_then (λ x. allowed_by server.config now x.0 x.1) said))
+    (after_allowed server right (option_and_then (λ x. allowed_by server.config now x.0 x.1) said))
 said_same server now left right None h = h
 said_same server now left right (Some x) h = verdict_same server left right now x.0 x.1 h
 
 -- and after what a step lets through, from the moment at which it stands
 allowed_same : (server : Server) (old : ProxyState) (act : Act) (out : StepOut) (left right : List Binding) → SameBindings (stands_at old act out) left right
     → SameBindings (stands_at old act out) (after_allowed server left (allowed_at server old act)) (after_allowed server right (allowed_at server old act))
-allowed_same server old (Given (Datagram at word from bytes)) out left right h = said_same server (moment_of old at) left right (verdict_of server old (arrival_of old at word from) bytes) h
+allowed_same server old (Given (Datagram at word from bytes)) out left right h = said_same server (moment_of old at) left right
+    (verdict_of server old (arrival_of old at word from) bytes) h
 allowed_same server old (Given (Time at)) out left right h = h
 allowed_same server old (Given (Fault at ticket)) out left right h = h
 allowed_same server old (Passing at) out left right h = h
@@ -216,13 +224,15 @@ bindings_of_chain server first (link ∷ history) last h =
     let earlier : List Binding = bindings_after server history in
     let now : ℕ = stands_at old link.act link.out in
     let is_at : link.after.moment ≡ now = (step_taken (under server link.config) old link.act link.out link.after h.1).is_at in
-    let rises : old.moment ≤ link.after.moment = moment_rises (under server link.config) old link.act link.out link.after (chain_passes_none server first history old h.2) (chain_again server first history old h.2) h.1 in
+    let rises : old.moment ≤ link.after.moment = moment_rises (under server link.config) old link.act link.out link.after (chain_passes_none server first history old h.2)
+    (chain_again server first history old h.2) h.1 in
     let before : SameBindings link.after.moment old.bindings earlier =
     same_later old.moment link.after.moment old.bindings earlier rises (bindings_of_chain server first history old h.2) in
     let allowed : Option Arrived = allowed_at (under server link.config) old link.act in
     let both : SameBindings link.after.moment (after_allowed server old.bindings allowed) (after_allowed server earlier allowed) =
     subst (λ (moment : ℕ). SameBindings moment (after_allowed server old.bindings allowed) (after_allowed server earlier allowed)) (sym is_at)
-    (allowed_same (under server link.config) old link.act link.out old.bindings earlier (subst (λ (moment : ℕ). SameBindings moment old.bindings earlier) is_at before)) in
+    (allowed_same (under server link.config) old link.act link.out old.bindings earlier (subst (λ (moment : ℕ). SameBindings moment old.bindings earlier) is_at before))
+    in
     subst (λ (s : ProxyState). SameBindings s.moment s.bindings (bindings_after server (link ∷ history))) (sym h.0)
     (subst (SameBindings link.after.moment link.after.bindings) (sym (one_more server allowed (allowed_registers server history)))
     (same_joined link.after.moment link.after.bindings (after_allowed server old.bindings allowed) (after_allowed server earlier allowed)

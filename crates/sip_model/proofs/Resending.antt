@@ -1,5 +1,6 @@
 -- When what was sent of an open request goes again: not before a moment, and after a wait.
-use Rattle.std.proofs.Common.{◌≡◌, ℕ, ◌+◌, ◌*◌, ◌≤◌, Bool, true, false, not, ◌&&◌, ◌||◌, cond, ◌==◌, min, List, map, Contains, Option, Some, None, refl, sym, subst, arith}
+use Rattle.std.proofs.Common.{◌≡◌, ℕ, ◌+◌, ◌*◌, ◌≤◌, Bool, true, false, not, ◌&&◌, ◌||◌, cond, ◌==◌, min, List, map, Contains, Option, Some, None, refl, sym, subst}
+use Rattle.std.proofs.Common.{arith}
 use Rattle.std.proofs.Math.Nat.{le-min}
 use Rattle.std.specs.List.{AllByRecursion}
 use Rattle.sip_event.specs.declared.packet.Packet.{Packet}
@@ -14,8 +15,11 @@ use Rattle.model_steps.specs.state.declared.branch.Phase.TheVariants.{Unheard, H
 use Rattle.model_steps.specs.state.declared.open_request.Side.{Side}
 use Rattle.model_steps.specs.state.declared.open_request.Side.TheVariants.{Answering, Closing, Acknowledged, Closed}
 use Rattle.model_steps.specs.state.State.{is_invite, is_final}
-use Rattle.model_steps.specs.context_model.Branches.{is_same_branch, turned, with_phase, with_final, marked, answered, after_upward, best_upward, cancel_branch, with_cancels, settled, invite_heard, other_heard, is_closing, was_refused, is_unheard, acknowledged, acknowledged_side}
-use Rattle.model_steps.specs.context_model.Retransmission.{is_sent_again, is_cancelled_again, resend_after, branch_next, insists, answer_due, IsResent, OfAnswer, OfRequest}
+use Rattle.model_steps.specs.context_model.Branches.{is_same_branch, turned, with_phase, with_final, marked, answered, after_upward, best_upward, cancel_branch}
+use Rattle.model_steps.specs.context_model.Branches.{with_cancels, settled, invite_heard, other_heard, is_closing, was_refused, is_unheard, acknowledged}
+use Rattle.model_steps.specs.context_model.Branches.{acknowledged_side}
+use Rattle.model_steps.specs.context_model.Retransmission.{is_sent_again, is_cancelled_again, resend_after, branch_next, insists, answer_due, IsResent, OfAnswer}
+use Rattle.model_steps.specs.context_model.Retransmission.{OfRequest}
 use Rattle.sip_model.proofs.Cancels.{all_with_cancels}
 use Rattle.sip_model.proofs.Lists.{all_map, all_weaker, all_contains}
 
@@ -68,7 +72,8 @@ pub branch_again : (floor : ℕ) (r : OpenRequest) (b : Branch) → Contains r.b
 branch_again floor r b there h = all_contains (IsBranchAgain floor (is_invite r)) r.branches b h.branches_again there
 
 -- what each branch keeps all keep
-each_again : (floor : ℕ) (invite : Bool) (edit : Branch → Branch) (xs : List Branch) → ((x : Branch) → IsBranchAgain floor invite x → IsBranchAgain floor invite (edit x)) → AllByRecursion (IsBranchAgain floor invite) xs
+each_again : (floor : ℕ) (invite : Bool) (edit : Branch → Branch) (xs : List Branch) → ((x : Branch) → IsBranchAgain floor invite x → IsBranchAgain floor invite (edit x))
+    → AllByRecursion (IsBranchAgain floor invite) xs
     → AllByRecursion (IsBranchAgain floor invite) (map edit xs)
 each_again floor invite edit xs keeps h =
     all_map (IsBranchAgain floor invite) edit xs (all_weaker (IsBranchAgain floor invite) (λ x. IsBranchAgain floor invite (edit x)) keeps xs h)
@@ -85,17 +90,20 @@ both_cancel false true false e = absurd (cc)
 both_cancel false false t e = refl
 
 -- a branch in a phase in which it goes again only if it did
-phased_again : (floor : ℕ) (invite : Bool) (b : Branch) (phase : Phase) (x : Branch) (t : Bool) → is_same_branch x b ≡ t → (goes b.is_cancel invite phase ≡ true → goes b.is_cancel invite b.phase ≡ true)
+phased_again : (floor : ℕ) (invite : Bool) (b : Branch) (phase : Phase) (x : Branch) (t : Bool) → is_same_branch x b ≡ t
+    → (goes b.is_cancel invite phase ≡ true → goes b.is_cancel invite b.phase ≡ true)
     → IsBranchAgain floor invite b → IsBranchAgain floor invite x → IsBranchAgain floor invite (cond t (turned b phase x) x)
 phased_again floor invite b phase x true same only this h = record {
-  due_from = subst (λ (c : Bool). DueFrom floor (cond (goes c invite phase) (Some b.again.due) None)) (sym (both_cancel x.is_cancel b.is_cancel (x.number == b.number) same))
+  due_from = subst (λ (c : Bool). DueFrom floor (cond (goes c invite phase) (Some b.again.due) None))
+      (sym (both_cancel x.is_cancel b.is_cancel (x.number == b.number) same))
       (due_only floor b.again.due (goes b.is_cancel invite phase) (goes b.is_cancel invite b.phase) only this.due_from);
   waits = this.waits;
 }
 phased_again floor invite b phase x false same only this h = h
 
 -- so does the request
-pub phase_again : (floor : ℕ) (b : Branch) (phase : Phase) (r : OpenRequest) → (goes b.is_cancel (is_invite r) phase ≡ true → goes b.is_cancel (is_invite r) b.phase ≡ true) → IsBranchAgain floor (is_invite r) b
+pub phase_again : (floor : ℕ) (b : Branch) (phase : Phase) (r : OpenRequest) → (goes b.is_cancel (is_invite r) phase ≡ true
+    → goes b.is_cancel (is_invite r) b.phase ≡ true) → IsBranchAgain floor (is_invite r) b
     → IsAgain floor r → IsAgain floor (with_phase b phase r)
 phase_again floor b phase r only this h = record {
   answer_from = h.answer_from;
@@ -138,7 +146,8 @@ invite_only cancel now status (Done due first) h = h
 invite_only cancel now status Ended h = h
 
 -- of either
-pub heard_only : (cancel invite : Bool) (now status : ℕ) (phase : Phase) → goes cancel invite (cond invite (invite_heard now status phase) (other_heard phase)) ≡ true → goes cancel invite phase ≡ true
+pub heard_only : (cancel invite : Bool) (now status : ℕ) (phase : Phase) → goes cancel invite (cond invite (invite_heard now status phase) (other_heard phase)) ≡ true
+    → goes cancel invite phase ≡ true
 heard_only cancel true now status phase h = invite_only cancel now status phase h
 heard_only cancel false now status phase h = other_only cancel false phase h
 
@@ -149,7 +158,8 @@ wanted_again : (floor : ℕ) (invite : Bool) (x : Branch) → IsBranchAgain floo
 wanted_again floor invite x h = record { due_from = h.due_from; waits = h.waits }
 
 -- whichever of two branches does
-either_again : (floor : ℕ) (invite : Bool) (x y : Branch) (t : Bool) → IsBranchAgain floor invite x → IsBranchAgain floor invite y → IsBranchAgain floor invite (cond t x y)
+either_again : (floor : ℕ) (invite : Bool) (x y : Branch) (t : Bool) → IsBranchAgain floor invite x → IsBranchAgain floor invite y
+    → IsBranchAgain floor invite (cond t x y)
 either_again floor invite x y true a b = a
 either_again floor invite x y false a b = b
 
@@ -159,16 +169,19 @@ marked_again floor r h = record {
   answer_from = h.answer_from;
   answer_waits = h.answer_waits;
   branches_again = each_again floor (is_invite r) (λ (x : Branch). cond (x.is_cancel || is_final x.phase) x (record x { wants_cancel = true })) r.branches
-      (λ x before. either_again floor (is_invite r) x (record x { wants_cancel = true }) (x.is_cancel || is_final x.phase) before (wanted_again floor (is_invite r) x before)) h.branches_again;
+      (λ x before. either_again floor (is_invite r) x (record x { wants_cancel = true }) (x.is_cancel || is_final x.phase) before
+      (wanted_again floor (is_invite r) x before)) h.branches_again;
 }
 
 -- or one
-pub wanting_again : (floor : ℕ) (b : Branch) (r : OpenRequest) → IsAgain floor r → IsAgain floor (record r { branches = map (λ (x : Branch). cond (is_same_branch x b) (record x { wants_cancel = true }) x) r.branches })
+pub wanting_again : (floor : ℕ) (b : Branch) (r : OpenRequest) → IsAgain floor r → IsAgain floor
+    (record r { branches = map (λ (x : Branch). cond (is_same_branch x b) (record x { wants_cancel = true }) x) r.branches })
 wanting_again floor b r h = record {
   answer_from = h.answer_from;
   answer_waits = h.answer_waits;
   branches_again = each_again floor (is_invite r) (λ (x : Branch). cond (is_same_branch x b) (record x { wants_cancel = true }) x) r.branches
-      (λ x before. either_again floor (is_invite r) (record x { wants_cancel = true }) x (is_same_branch x b) (wanted_again floor (is_invite r) x before) before) h.branches_again;
+      (λ x before. either_again floor (is_invite r) (record x { wants_cancel = true }) x (is_same_branch x b) (wanted_again floor (is_invite r) x before) before)
+      h.branches_again;
 }
 
 -- ---- one more final answer, and the side's end
@@ -212,11 +225,13 @@ with_cancels_again floor now r low h = record {
   answer_from = h.answer_from;
   answer_waits = h.answer_waits;
   branches_again = all_with_cancels (IsBranchAgain floor (is_invite r)) (IsBranchAgain floor (is_invite r)) now r.branches (λ x before. before)
-      (λ x before. record { due_from = silent floor x.again.due x.is_cancel; waits = before.waits }) (λ x before. cancel_again floor now (is_invite r) low x) h.branches_again;
+      (λ x before. record { due_from = silent floor x.again.due x.is_cancel; waits = before.waits }) (λ x before. cancel_again floor now (is_invite r) low x)
+      h.branches_again;
 }
 
 -- settling brings nothing forward
-pub settled_again : (server : Server) (floor now : ℕ) (acks : List Packet) (relayed : Option Upward) (r : OpenRequest) → floor ≤ now + 1 → IsAgain floor r → IsAgain floor (settled server now acks relayed r).request
+pub settled_again : (server : Server) (floor now : ℕ) (acks : List Packet) (relayed : Option Upward) (r : OpenRequest) → floor ≤ now + 1 → IsAgain floor r
+    → IsAgain floor (settled server now acks relayed r).request
 settled_again server floor now acks relayed r low h =
     let told : OpenRequest = after_upward now relayed r in
     let best : Option Upward = best_upward server told in
@@ -238,7 +253,8 @@ acknowledged_again floor now r h = by_test (is_invite r && was_refused r.answer)
 
   by_test : (t : Bool) → IsAgain floor (cond t (record r { side = acknowledged_side now r.side }) r)
   by_test true = record {
-    answer_from = due_only floor r.again.due (insists (record r { side = acknowledged_side now r.side })) (insists r) (only (is_invite r) (was_refused r.answer)) h.answer_from;
+    answer_from = due_only floor r.again.due (insists (record r { side = acknowledged_side now r.side })) (insists r) (only (is_invite r) (was_refused r.answer))
+        h.answer_from;
     answer_waits = h.answer_waits;
     branches_again = h.branches_again;
   }
@@ -264,12 +280,14 @@ next_again floor r b low waits = by_tests (is_invite r && not b.is_cancel) (is_u
   by_tests false false = (omega (arith, low), omega arith)
 
 -- a branch that goes next then
-resent_at : (floor : ℕ) (invite : Bool) (next : Resend) (x : Branch) (t : Bool) → floor ≤ next.due → 1 ≤ next.wait → IsBranchAgain floor invite x → IsBranchAgain floor invite (cond t (record x { again = next }) x)
+resent_at : (floor : ℕ) (invite : Bool) (next : Resend) (x : Branch) (t : Bool) → floor ≤ next.due → 1 ≤ next.wait → IsBranchAgain floor invite x
+    → IsBranchAgain floor invite (cond t (record x { again = next }) x)
 resent_at floor invite next x true later some h = record { due_from = due_if floor next.due (goes x.is_cancel invite x.phase) later; waits = some }
 resent_at floor invite next x false later some h = h
 
 -- what went again at a moment goes again later
-pub resent_again : (server : Server) (floor now : ℕ) (r : OpenRequest) (packets : List Packet) (next : OpenRequest) → IsResent server now r packets next → floor ≤ now + 1 → IsAgain floor r → IsAgain floor next
+pub resent_again : (server : Server) (floor now : ℕ) (r : OpenRequest) (packets : List Packet) (next : OpenRequest) → IsResent server now r packets next → floor ≤ now + 1
+    → IsAgain floor r → IsAgain floor next
 resent_again server floor now r _ _ (OfAnswer is) low h =
     let due : r.again.due ≡ now = due_is r.again.due now (insists r) is in
     let later = after_again floor 4000 r.again (omega arith) (omega (arith, due, low)) h.answer_waits in

@@ -14,21 +14,25 @@ use Rattle.sip_model.proofs.Joins.{joined_chain, joined_events, joined_steps, jo
 use Rattle.sip_model.proofs.Passing.{goes_on}
 
 -- no step is a history
-one_empty : (server : Server) (first : ProxyState) (until : Option ℕ) (steps : List StepOut) (history : List Link) (last : ProxyState) → IsNoStep first steps history last → IsOneHistory server first [] until steps history last
+one_empty : (server : Server) (first : ProxyState) (until : Option ℕ) (steps : List StepOut) (history : List Link) (last : ProxyState) → IsNoStep first steps history last
+    → IsOneHistory server first [] until steps history last
 one_empty server first until steps history last h =
     subst (λ (links : List Link). IsOneHistory server first [] until steps links last) (sym h.no_history)
     (record { chain = h.stays; paced = tt; of_events = refl; of_steps = sym h.no_steps })
 
 -- a run under a configuration, and a history behind it, are one
-one_behind : (server : Server) (first middle last : ProxyState) (config : Config) (events more : List Event) (until : Option ℕ) (own further : List StepOut) (earlier later : List Link)
+one_behind : (server : Server) (first middle last : ProxyState) (config : Config) (events more : List Event) (until : Option ℕ) (own further : List StepOut)
+    (earlier later : List Link)
     → IsRun (under server config) first events (first_moment more until) own earlier middle → IsOneHistory server middle more until further later last
     → IsOneHistory server first (events ++ more) until (own ++ further) (later ++ earlier) last
 one_behind server first middle last config events more until own further earlier later before behind = record {
   chain = joined_chain server first middle last earlier later (chain_back server config first earlier middle before.chain) behind.chain;
   paced = joined_pace until earlier later behind.paced
       (subst (λ next. IsPaced next earlier) (sym (next_is later until ∙ ap (λ (es : List Event). first_moment es until) behind.of_events)) before.paced);
-  of_events = ap reverse (joined_events earlier later) ∙ reverse-append (events_of later) (events_of earlier) ∙ ap₂ (λ (a b : List Event). a ++ b) before.of_events behind.of_events;
-  of_steps = ap reverse (joined_steps earlier later) ∙ reverse-append (steps_of later) (steps_of earlier) ∙ ap₂ (λ (a b : List StepOut). a ++ b) before.of_steps behind.of_steps;
+  of_events = ap reverse (joined_events earlier later) ∙ reverse-append (events_of later) (events_of earlier)
+      ∙ ap₂ (λ (a b : List Event). a ++ b) before.of_events behind.of_events;
+  of_steps = ap reverse (joined_steps earlier later) ∙ reverse-append (steps_of later) (steps_of earlier)
+      ∙ ap₂ (λ (a b : List StepOut). a ++ b) before.of_steps behind.of_steps;
 }
 
 -- a period's run, behind which others come, or nothing
@@ -57,16 +61,22 @@ one_history server first (period ∷ periods) until steps history last h =
 -- ---- one period
 
 -- what is a run under the only period's configuration
-one_is : (server : Server) (first middle last : ProxyState) (config : Config) (events : List Event) (until : Option ℕ) (own further steps : List StepOut) (earlier later history : List Link)
-    → IsRun (under server config) first events until own earlier middle → IsNoStep middle further later last → steps ≡ own ++ further → history ≡ later ++ earlier → IsRun (under server config) first events until steps history last
+one_is : (server : Server) (first middle last : ProxyState) (config : Config) (events : List Event) (until : Option ℕ) (own further steps : List StepOut)
+    (earlier later history : List Link)
+    → IsRun (under server config) first events until own earlier middle → IsNoStep middle further later last → steps ≡ own ++ further → history ≡ later ++ earlier
+    → IsRun (under server config) first events until steps history last
 one_is server first middle last config events until own further steps earlier later history h none of_steps of_history =
     subst (λ (state : ProxyState). IsRun (under server config) first events until steps history state) (sym none.stays)
-    (subst (λ (links : List Link). IsRun (under server config) first events until steps links middle) (sym (of_history ∙ ap (λ (links : List Link). links ++ earlier) none.no_history))
-    (subst (λ (outs : List StepOut). IsRun (under server config) first events until outs earlier middle) (sym (of_steps ∙ ap (λ (outs : List StepOut). own ++ outs) none.no_steps ∙ append-nil own)) h))
+    (subst (λ (links : List Link). IsRun (under server config) first events until steps links middle)
+    (sym (of_history ∙ ap (λ (links : List Link). links ++ earlier) none.no_history))
+    (subst (λ (outs : List StepOut). IsRun (under server config) first events until outs earlier middle)
+    (sym (of_steps ∙ ap (λ (outs : List StepOut). own ++ outs) none.no_steps ∙ append-nil own)) h))
 
 -- one period's run is a run, and a run is one period's
-pub one_period : (server : Server) (first : ProxyState) (config : Config) (events : List Event) (until : Option ℕ) (steps : List StepOut) (history : List Link) (last : ProxyState)
-    → (IsRunUnder server first (record { config = config; events = events } ∷ []) until steps history last ↔ IsRun (under server config) first events until steps history last)
+pub one_period : (server : Server) (first : ProxyState) (config : Config) (events : List Event) (until : Option ℕ) (steps : List StepOut) (history : List Link)
+    (last : ProxyState)
+    → (IsRunUnder server first (record { config = config; events = events } ∷ []) until steps history last ↔ IsRun (under server config) first events until steps history
+    last)
 one_period server first config events until steps history last = (
   (λ h. one_is server first h.middle last config events until h.own h.further steps h.earlier h.later history h.is_run h.behind h.of_steps h.of_history),
   (λ h. record {
@@ -85,10 +95,17 @@ one_period server first config events until steps history last = (
 -- ---- there is one
 
 -- a run over periods goes on from where a history led
-pub goes_on_under : (server : Server) (first : ℕ) (base : List Link) (start : ProxyState) (periods : List Period) (until : Option ℕ) → IsChain server (first_state first) base start → HasRunUnder server start periods until
-goes_on_under server first base start [] until before = record { steps = []; history = []; last = start; is_run = record { no_steps = refl; no_history = refl; stays = refl } }
+pub goes_on_under : (server : Server) (first : ℕ) (base : List Link) (start : ProxyState) (periods : List Period) (until : Option ℕ)
+    → IsChain server (first_state first) base start → HasRunUnder server start periods until
+goes_on_under server first base start [] until before = record {
+  steps = [];
+  history = [];
+  last = start;
+  is_run = record { no_steps = refl; no_history = refl; stays = refl };
+}
 goes_on_under server first base start (period ∷ periods) until before =
-    let run = goes_on (under server period.config) first base start (chain_under server period.config (first_state first) base start before) period.events (until_of periods until) in
+    let run = goes_on (under server period.config) first base start (chain_under server period.config (first_state first) base start before) period.events
+    (until_of periods until) in
     let behind = goes_on_under server first (run.history ++ base) run.last periods until
     (joined_chain server (first_state first) start run.last base run.history before (chain_back server period.config start run.history run.last run.is_run.chain)) in
     record {

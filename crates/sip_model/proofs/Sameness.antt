@@ -29,16 +29,19 @@ use Rattle.model_steps.specs.Effect.{contact_field, contact_fields, dialogs_afte
 use Rattle.model_steps.specs.Step.{Act, Given, Passing, arrival_of}
 use Rattle.sip_model.specs.Run.{Link, under}
 use Rattle.sip_model.specs.Bindings.{Arrived, rows_after, after_register}
-use Rattle.sip_model.specs.Access.{IsSaidAt, decision_on, targets_given, targets_on, requests_to, answer_alone, IsServed, Serves, IsOwed, ToTarget, Answers, Forwards, Acknowledges, Cancels, InKnownDialog}
+use Rattle.sip_model.specs.Access.{IsSaidAt, decision_on, targets_given, targets_on, requests_to, answer_alone, IsServed, Serves, IsOwed, ToTarget, Answers, Forwards}
+use Rattle.sip_model.specs.Access.{Acknowledges, Cancels, InKnownDialog}
 
 -- ---- targets
 
-targets_given_same : (server : Server) (left right : List Binding) (state : ProxyState) (now : ℕ) (m : Message) (method : List ℕ) (core : CoreFields) → SameBindings now left right
+targets_given_same : (server : Server) (left right : List Binding) (state : ProxyState) (now : ℕ) (m : Message) (method : List ℕ) (core : CoreFields)
+    → SameBindings now left right
     → targets_given server left state now m method core ≡ targets_given server right state now m method core
 targets_given_same server left right state now m method core h =
     request_targets_same server left right now m (question_of server state.nonces now m method core) (decision_on server state now m method core) h
 
-targets_on_same : (server : Server) (left right : List Binding) (state : ProxyState) (now : ℕ) (m : Message) (method : List ℕ) (core : CoreFields) → SameBindings now left right
+targets_on_same : (server : Server) (left right : List Binding) (state : ProxyState) (now : ℕ) (m : Message) (method : List ℕ) (core : CoreFields)
+    → SameBindings now left right
     → targets_on server left state now m method core ≡ targets_on server right state now m method core
 targets_on_same server left right state now m method core h =
     ap (λ targets. cond (is_register method) [] (target_list targets)) (targets_given_same server left right state now m method core h)
@@ -58,7 +61,8 @@ rows_after_same now left right (Refused status extras) (Bound other) h k = cc
 rows_after_same now left right (Refused status extras) (Refused other_status other_extras) h k = h
 
 -- and so they do after a REGISTER of which the core fields may be readable
-pub register_same : (server : Server) (r : Arrived) (left right : List Binding) → SameBindings r.at left right → SameBindings r.at (after_register server r left) (after_register server r right)
+pub register_same : (server : Server) (r : Arrived) (left right : List Binding) → SameBindings r.at left right
+    → SameBindings r.at (after_register server r left) (after_register server r right)
 register_same server r left right h = by_core (result_ok (core_of r.request)) where
   by_core : (core : Option CoreFields)
       → SameBindings r.at (option_map_or (λ c. rows_after left (registration_by (under server r.config) left r.at r.request c)) core left)
@@ -68,7 +72,8 @@ register_same server r left right h = by_core (result_ok (core_of r.request)) wh
 
 -- ---- what is served and owed
 
-pub served_same : (server : Server) (left right : List Binding) (state : ProxyState) (a : Arrival) (m : Message) (method : List ℕ) (core : CoreFields) (out : StepOut) → SameBindings a.now left right
+pub served_same : (server : Server) (left right : List Binding) (state : ProxyState) (a : Arrival) (m : Message) (method : List ℕ) (core : CoreFields) (out : StepOut)
+    → SameBindings a.now left right
     → IsServed server left state a m method core out → IsServed server right state a m method core out
 served_same server left right state a m method core out h served =
     let given = targets_given_same server left right state a.now m method core h in
@@ -86,11 +91,13 @@ served_same server left right state a m method core out h served =
     }
 
 -- what is served by some rows is so by those that say the same from the state's moment on
-pub serves_same : (server : Server) (left right : List Binding) (state : ProxyState) (act : Act) (out : StepOut) → SameBindings state.moment left right → Serves server left state act out
+pub serves_same : (server : Server) (left right : List Binding) (state : ProxyState) (act : Act) (out : StepOut) → SameBindings state.moment left right
+    → Serves server left state act out
     → Serves server right state act out
 serves_same server left right state (Given (Datagram at word from bytes)) out h serves =
     λ m method core is_new.
-    served_same server left right state (arrival_of state at word from) m method core out (same_later state.moment (max state.moment at) left right (omega arith) h) (serves m method core is_new)
+    served_same server left right state (arrival_of state at word from) m method core out (same_later state.moment (max state.moment at) left right (omega arith) h)
+    (serves m method core is_new)
 serves_same server left right state (Given (Time at)) out h serves = tt
 serves_same server left right state (Given (Fault at ticket)) out h serves = tt
 serves_same server left right state (Passing at) out h serves = tt
@@ -108,7 +115,8 @@ owed_same server history state act left right h p (ToTarget a bytes m method cor
     ToTarget a bytes m method core said is_new
     (subst (λ targets. Contains (requests_to server a m targets) p) (targets_on_same server left right state a.now m method core later) there)
 owed_same server history state act left right h p (Answers number m from status extras is_open denied is) = Answers number m from status extras is_open denied is
-owed_same server history state act left right h p (Forwards r status response challenges there came along none is) = Forwards r status response challenges there came along none is
+owed_same server history state act left right h p (Forwards r status response challenges there came along none is) =
+    Forwards r status response challenges there came along none is
 owed_same server history state act left right h p (Acknowledges a bytes r b status reason response said says is_for invite failure there) =
     Acknowledges a bytes r b status reason response said says is_for invite failure there
 owed_same server history state act left right h p (Cancels r b there in_it target invite heard is) = Cancels r b there in_it target invite heard is

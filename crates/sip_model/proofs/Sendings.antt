@@ -1,5 +1,6 @@
 -- What each change of an open request sends is what a step may send for it: responses.
-use Rattle.std.proofs.Common.{◌≡◌, ◌⊎◌, inl, inr, ℕ, ◌+◌, ◌==◌, Bool, true, false, not, ◌&&◌, ◌||◌, cond, List, [], ◌∷◌, ◌++◌, map, Contains, Option, Some, None, refl, sym, ap, subst, ◌∙◌, true≢false, arith}
+use Rattle.std.proofs.Common.{◌≡◌, ◌⊎◌, inl, inr, ℕ, ◌+◌, ◌==◌, Bool, true, false, not, ◌&&◌, ◌||◌, cond, List, [], ◌∷◌, ◌++◌, map, Contains, Option, Some, None, refl}
+use Rattle.std.proofs.Common.{sym, ap, subst, ◌∙◌, true≢false, arith}
 use Rattle.std.specs.List.{AllByRecursion}
 use Rattle.std.proofs.lemmas.Bool.Decides.{nat_tests}
 use Rattle.sip_message_fields.specs.declared.field_name.FieldName.TheVariants as Name
@@ -17,12 +18,16 @@ use Rattle.model_steps.specs.state.declared.open_request.OpenRequest.{OpenReques
 use Rattle.model_steps.specs.state.declared.open_request.Upward.{Upward}
 use Rattle.model_steps.specs.state.declared.proxy_state.ProxyState.{ProxyState}
 use Rattle.model_steps.specs.state.State.{is_invite, is_final, is_answering, is_success, is_failure, is_decline, is_provisional}
-use Rattle.model_steps.specs.context_model.Branches.{all_final, best_upward, upward_list, after_upward, answered, is_cancellable, is_ready, is_unheard, is_same_branch, is_accepted, settled, relayed_from, relayed_provisional, relayed_success, further, turned, phased, with_phase, with_final, marked, marked_branch, heard, invite_heard, other_heard, linger, final_of, acks_of, told_to, with_answer, target_responded}
+use Rattle.model_steps.specs.context_model.Branches.{all_final, best_upward, upward_list, after_upward, answered, is_cancellable, is_ready, is_unheard, is_same_branch}
+use Rattle.model_steps.specs.context_model.Branches.{is_accepted, settled, relayed_from, relayed_provisional, relayed_success, further, turned, phased, with_phase}
+use Rattle.model_steps.specs.context_model.Branches.{with_final, marked, marked_branch, heard, invite_heard, other_heard, linger, final_of, acks_of, told_to, with_answer}
+use Rattle.model_steps.specs.context_model.Branches.{target_responded}
 use Rattle.model_steps.specs.context_model.Sending.{ack_packets}
 use Rattle.model_steps.specs.Effect.{change_packets, upward_packets}
 use Rattle.model_steps.specs.Step.{Act}
 use Rattle.sip_model.specs.Run.{Link}
-use Rattle.sip_model.specs.Access.{CameFor, IsHeardNow, ComesNow, IsAckNow, NoAck, Acks, IsAnswerNow, Early, Accepting, TakesSuccess, ByResponse, OthersEnded, IsMadeLater, IsCancelledNow, ByAnswer}
+use Rattle.sip_model.specs.Access.{CameFor, IsHeardNow, ComesNow, IsAckNow, NoAck, Acks, IsAnswerNow, Early, Accepting, TakesSuccess, ByResponse, OthersEnded}
+use Rattle.sip_model.specs.Access.{IsMadeLater, IsCancelledNow, ByAnswer}
 use Rattle.sip_model.proofs.Lists.{all_there}
 use Rattle.sip_model.proofs.Places.{all_weaker}
 use Rattle.sip_model.proofs.Settling.{all_append}
@@ -58,7 +63,8 @@ heard_final false now status (Done due first) = refl
 heard_final false now status Ended = refl
 
 -- a branch that is ready after it was, or nothing had been heard of it
-heard_ready : (invite : Bool) (now status : ℕ) (phase : Phase) → is_ready (cond invite (invite_heard now status phase) (other_heard phase)) ≡ true → (is_ready phase ≡ true) ⊎ (is_unheard phase ≡ true)
+heard_ready : (invite : Bool) (now status : ℕ) (phase : Phase) → is_ready (cond invite (invite_heard now status phase) (other_heard phase)) ≡ true
+    → (is_ready phase ≡ true) ⊎ (is_unheard phase ≡ true)
 heard_ready invite now status (Unheard due) e = inr refl
 heard_ready invite now status (Heard due) e = inl refl
 heard_ready true now status (Cancelled due) e = absurd (cc)
@@ -84,7 +90,8 @@ closes now u s final = by_tests (is_answering s.side) refl (is_provisional u.sta
   by_tests true is false e = refl
   by_tests false is p e = is
 
--- What is known of an open request before a step: it is open, its branches differ, it waits for one while it owes an answer, and what is kept of its branches and of their answers.
+-- What is known of an open request before a step: it is open, its branches differ, it waits for one while it owes an answer, and what is kept of its branches and of
+-- their answers.
 pub record IsKnown (server : Server) (history : List Link) (state : ProxyState) (act : Act) (at : ℕ) (r : OpenRequest) : Type 0 where
   pub there : Contains state.requests r
   pub differ : TargetsDiffer r.branches
@@ -105,42 +112,52 @@ module _ (server : Server) (history : List Link) (state : ProxyState) (act : Act
   -- ---- branches that stay
 
   -- each branch of an edit that leaves what is ready for a CANCEL
-  pub each_right : (edit : Branch → Branch) → ((x : Branch) → IsKept server history state act at r x → IsRight server history state act at r edit x) → AllByRecursion (IsRight server history state act at r edit) r.branches
+  pub each_right : (edit : Branch → Branch) → ((x : Branch) → IsKept server history state act at r x → IsRight server history state act at r edit x)
+      → AllByRecursion (IsRight server history state act at r edit) r.branches
   each_right edit right = all_weaker (IsKept server history state act at r) (IsRight server history state act at r edit) r.branches right known.kept
 
   -- an edit of one branch, after which that isn't ready
-  pub not_ready : (c : Branch) (phase : Phase) → is_ready phase ≡ false → (x : Branch) → IsKept server history state act at r x → IsRight server history state act at r (phased c phase) x
+  pub not_ready : (c : Branch) (phase : Phase) → is_ready phase ≡ false → (x : Branch) → IsKept server history state act at r x
+      → IsRight server history state act at r (phased c phase) x
   not_ready c phase never x kept = by_same (is_same_branch x c) where
     by_same : (t : Bool) → is_cancellable (cond t (turned c phase x) x) ≡ true → IsCancelledNow server history state act at r x
     by_same true passes = absurd (true≢false (sym (cancellable_parts (turned c phase x) passes).2 ∙ never))
     by_same false passes = unedited server history state act at r x kept passes
 
   -- a request that still waits for a branch after an edit that makes none final
-  pub still_waits : (edit : Branch → Branch) → ((x : Branch) → (edit x).is_cancel ≡ x.is_cancel) → ((x : Branch) → Contains r.branches x → x.is_cancel ≡ false → is_final (edit x).phase ≡ true → is_final x.phase ≡ true)
+  pub still_waits : (edit : Branch → Branch) → ((x : Branch) → (edit x).is_cancel ≡ x.is_cancel)
+      → ((x : Branch) → Contains r.branches x → x.is_cancel ≡ false → is_final (edit x).phase ≡ true → is_final x.phase ≡ true)
       → is_answering r.side ≡ true → targets_final (map edit r.branches) ≡ false
   still_waits edit keeps back owes =
       waits_still r.branches (map edit r.branches)
-      (were_final edit r.branches keeps (all_weaker (Contains r.branches) (λ (x : Branch). x.is_cancel ≡ false → is_final (edit x).phase ≡ true → is_final x.phase ≡ true) r.branches back (all_there r.branches)))
+      (were_final edit r.branches keeps (all_weaker (Contains r.branches) (λ (x : Branch). x.is_cancel ≡ false → is_final (edit x).phase ≡ true → is_final x.phase ≡ true)
+      r.branches back (all_there r.branches)))
       (known.waits owes)
 
   -- ---- nothing changes but a phase
 
   -- a branch whose phase changes, and nothing goes to the caller
-  pub phase_sends : (c : Branch) (phase : Phase) → is_ready phase ≡ false → ((x : Branch) → Contains r.branches x → x.is_cancel ≡ false → is_same_branch x c ≡ true → is_final phase ≡ true → is_final x.phase ≡ true)
+  pub phase_sends : (c : Branch) (phase : Phase) → is_ready phase ≡ false → ((x : Branch) → Contains r.branches x → x.is_cancel ≡ false → is_same_branch x c ≡ true
+      → is_final phase ≡ true → is_final x.phase ≡ true)
       → Sends (change_packets (settled server at [] None (with_phase c phase r)))
   phase_sends c phase never back =
       let edits : Edits c (phased c phase) = phased_edits c c phase (λ x. refl) in
-      for_open server history state act at r known.there [] None (with_phase c phase r) (phased c phase) (record { is_same = refl; branches = refl; goes = edits.goes; keeps = edits.keeps }) NoAck
-      (nothing_goes server history state act at r (with_phase c phase r) (still_waits (phased c phase) edits.keeps (λ x in_it target. by_same x in_it target (is_same_branch x c) refl)))
+      for_open server history state act at r known.there [] None (with_phase c phase r) (phased c phase)
+      (record { is_same = refl; branches = refl; goes = edits.goes; keeps = edits.keeps }) NoAck
+      (nothing_goes server history state act at r (with_phase c phase r) (still_waits (phased c phase) edits.keeps
+      (λ x in_it target. by_same x in_it target (is_same_branch x c) refl)))
       (each_right (phased c phase) (not_ready c phase never)) where
-        by_same : (x : Branch) → Contains r.branches x → x.is_cancel ≡ false → (t : Bool) → is_same_branch x c ≡ t → is_final (cond t (turned c phase x) x).phase ≡ true → is_final x.phase ≡ true
+        by_same : (x : Branch) → Contains r.branches x → x.is_cancel ≡ false → (t : Bool) → is_same_branch x c ≡ t → is_final (cond t (turned c phase x) x).phase ≡ true
+            → is_final x.phase ≡ true
         by_same x in_it target true same final = back x in_it target same final
         by_same x in_it target false same final = final
 
   -- nothing at all
-  pub rests : (s : OpenRequest) → bare s ≡ bare r → s.branches ≡ r.branches → (is_answering s.side ≡ true → is_answering r.side ≡ true) → Sends (change_packets (settled server at [] None s))
+  pub rests : (s : OpenRequest) → bare s ≡ bare r → s.branches ≡ r.branches → (is_answering s.side ≡ true → is_answering r.side ≡ true)
+      → Sends (change_packets (settled server at [] None s))
   rests s same branches owed =
-      for_open server history state act at r known.there [] None s (λ (x : Branch). x) (record { is_same = same; branches = branches ∙ map_same r.branches; goes = λ x. refl; keeps = λ x. refl }) NoAck
+      for_open server history state act at r known.there [] None s (λ (x : Branch). x)
+      (record { is_same = same; branches = branches ∙ map_same r.branches; goes = λ x. refl; keeps = λ x. refl }) NoAck
       (nothing_goes server history state act at r s (λ owes. ap targets_final branches ∙ known.waits (owed owes)))
       (each_right (λ (x : Branch). x) (λ x kept passes. unedited server history state act at r x kept passes))
 
@@ -152,10 +169,13 @@ module _ (server : Server) (history : List Link) (state : ProxyState) (act : Act
     one x here same = is_that_one r.branches x b known.differ here in_it comes.is_target same
 
     -- a provisional response
-    early_sends : is_provisional status ≡ true → Sends (change_packets (settled server at [] (relayed_provisional r b status m) (with_phase b (heard r at status b.phase) r)))
+    early_sends : is_provisional status ≡ true → Sends (change_packets (settled server at [] (relayed_provisional r b status m)
+        (with_phase b (heard r at status b.phase) r)))
     early_sends early =
-        for_open server history state act at r known.there [] (relayed_provisional r b status m) s (phased b phase) (record { is_same = refl; branches = refl; goes = edits.goes; keeps = edits.keeps }) NoAck
-        (by_tests (status == 100) refl (is_final b.phase) refl (is_answering r.side) refl) (each_right (phased b phase) (λ x kept. right x kept (is_same_branch x b) refl)) where
+        for_open server history state act at r known.there [] (relayed_provisional r b status m) s (phased b phase)
+        (record { is_same = refl; branches = refl; goes = edits.goes; keeps = edits.keeps }) NoAck
+        (by_tests (status == 100) refl (is_final b.phase) refl (is_answering r.side) refl)
+        (each_right (phased b phase) (λ x kept. right x kept (is_same_branch x b) refl)) where
           phase : Phase
           phase = heard r at status b.phase
 
@@ -165,7 +185,8 @@ module _ (server : Server) (history : List Link) (state : ProxyState) (act : Act
           edits : Edits b (phased b phase)
           edits = phased_edits b b phase (λ x. refl)
 
-          back : (x : Branch) → Contains r.branches x → (t : Bool) → is_same_branch x b ≡ t → is_final (cond t (turned b phase x) x).phase ≡ true → is_final x.phase ≡ true
+          back : (x : Branch) → Contains r.branches x → (t : Bool) → is_same_branch x b ≡ t → is_final (cond t (turned b phase x) x).phase ≡ true
+              → is_final x.phase ≡ true
           back x here true same final = ap (λ (y : Branch). is_final y.phase) (one x here same) ∙ sym (heard_final (is_invite r) at status b.phase) ∙ final
           back x here false same final = final
 
@@ -173,20 +194,41 @@ module _ (server : Server) (history : List Link) (state : ProxyState) (act : Act
           waits owes = still_waits (phased b phase) edits.keeps (λ x here target. back x here (is_same_branch x b) refl) owes
 
           heard_now : IsHeardNow server state act r b
-          heard_now = record { a = comes.a; bytes = comes.bytes; status = status; reason = comes.reason; response = m; is_said = comes.is_said; is_response = comes.is_response; is_before_final = early; is_for = comes.is_for }
+          heard_now = record {
+            a = comes.a;
+            bytes = comes.bytes;
+            status = status;
+            reason = comes.reason;
+            response = m;
+            is_said = comes.is_said;
+            is_response = comes.is_response;
+            is_before_final = early;
+            is_for = comes.is_for;
+          }
 
           this_right : IsKept server history state act at r b → b.wants_cancel ≡ true → is_ready phase ≡ true → IsCancelledNow server history state act at r b
           this_right kept wants ready = by_phase (heard_ready (is_invite r) at status b.phase ready) where
             by_phase : (is_ready b.phase ≡ true) ⊎ (is_unheard b.phase ≡ true) → IsCancelledNow server history state act at r b
             by_phase (inl was) =
-                record { is_target = comes.is_target; is_of_invite = kept.of_invite wants; was_heard = inl was; was_given_up = inl (kept.given_up wants (either_goes (is_unheard b.phase) (is_ready b.phase) was)) } where
+                record {
+                  is_target = comes.is_target;
+                  is_of_invite = kept.of_invite wants;
+                  was_heard = inl was;
+                  was_given_up = inl (kept.given_up wants (either_goes (is_unheard b.phase) (is_ready b.phase) was));
+                } where
                   either_goes : (t u : Bool) → u ≡ true → (t || u) ≡ true
                   either_goes true u e = refl
                   either_goes false u e = e
             by_phase (inr never) =
-                record { is_target = comes.is_target; is_of_invite = kept.of_invite wants; was_heard = inr (never, heard_now); was_given_up = inl (kept.given_up wants (ap (λ (t : Bool). t || is_ready b.phase) never)) }
+                record {
+                  is_target = comes.is_target;
+                  is_of_invite = kept.of_invite wants;
+                  was_heard = inr (never, heard_now);
+                  was_given_up = inl (kept.given_up wants (ap (λ (t : Bool). t || is_ready b.phase) never));
+                }
 
-          right : (x : Branch) → IsKept server history state act at r x → (t : Bool) → is_same_branch x b ≡ t → is_cancellable (cond t (turned b phase x) x) ≡ true → IsCancelledNow server history state act at r x
+          right : (x : Branch) → IsKept server history state act at r x → (t : Bool) → is_same_branch x b ≡ t → is_cancellable (cond t (turned b phase x) x) ≡ true
+              → IsCancelledNow server history state act at r x
           right x kept true same passes =
               let parts = cancellable_parts (turned b phase x) passes in
               let is : x ≡ b = one x kept.in_it same in
@@ -206,7 +248,8 @@ module _ (server : Server) (history : List Link) (state : ProxyState) (act : Act
     -- a further final response
     again_sends : is_final b.phase ≡ true → Sends (change_packets (settled server at [] (further r b b.phase status m) r))
     again_sends final =
-        for_open server history state act at r known.there [] (further r b b.phase status m) r (λ (x : Branch). x) (record { is_same = refl; branches = map_same r.branches; goes = λ x. refl; keeps = λ x. refl }) NoAck
+        for_open server history state act at r known.there [] (further r b b.phase status m) r (λ (x : Branch). x)
+        (record { is_same = refl; branches = map_same r.branches; goes = λ x. refl; keeps = λ x. refl }) NoAck
         (by_phase b.phase refl) (each_right (λ (x : Branch). x) (λ x kept passes. unedited server history state act at r x kept passes)) where
           Goes : Option Upward → Type 0
           Goes relayed = IsAnswerNow server state act at r (upward_packets r (upward_list relayed ++ upward_list (best_upward server (after_upward at relayed r))))
@@ -214,7 +257,8 @@ module _ (server : Server) (history : List Link) (state : ProxyState) (act : Act
           silent : Goes None
           silent = nothing_goes server history state act at r r known.waits
 
-          accepting : TakesSuccess r b.phase → (x : Bool) → is_success status ≡ x → (y : Bool) → (is_answering r.side || is_accepted r) ≡ y → Goes (cond (x && y) (Some (relayed_from b status m)) None)
+          accepting : TakesSuccess r b.phase → (x : Bool) → is_success status ≡ x → (y : Bool) → (is_answering r.side || is_accepted r) ≡ y
+              → Goes (cond (x && y) (Some (relayed_from b status m)) None)
           accepting takes true success true owes =
               one_goes server history state act at r r b status m comes (Accepting success takes owes)
               (λ owed. absurd (true≢false (sym owed ∙ closes at (relayed_from b status m) r (success_final status success))))
@@ -227,7 +271,8 @@ module _ (server : Server) (history : List Link) (state : ProxyState) (act : Act
           by_phase (Cancelled due) is = silent
           by_phase (Done due first) is = by_first (is_invite r) refl (is_success first) refl where
             by_first : (i : Bool) → is_invite r ≡ i → (f : Bool) → is_success first ≡ f → Goes (cond (i && f) (relayed_success r b status m) None)
-            by_first true invite true well = accepting (subst (TakesSuccess r) (sym is) (invite, well)) (is_success status) refl (is_answering r.side || is_accepted r) refl
+            by_first true invite true well = accepting (subst (TakesSuccess r) (sym is) (invite, well)) (is_success status) refl (is_answering r.side || is_accepted r)
+                refl
             by_first true invite false well = silent
             by_first false invite f well = silent
           by_phase Ended is = silent
@@ -244,7 +289,8 @@ module _ (server : Server) (history : List Link) (state : ProxyState) (act : Act
       abbrev between : OpenRequest
       between = with_final (final_of status m) (with_phase told phase r)
 
-      acknowledges : (i : Bool) → is_invite r ≡ i → (f : Bool) → is_failure status ≡ f → IsAckNow server state act r (cond (i && f) (ack_packets server false r b (first_value Name.To m.fields)) [])
+      acknowledges : (i : Bool) → is_invite r ≡ i → (f : Bool) → is_failure status ≡ f
+          → IsAckNow server state act r (cond (i && f) (ack_packets server false r b (first_value Name.To m.fields)) [])
       acknowledges true invite true failure = Acks b status m comes invite failure first
       acknowledges true invite false failure = NoAck
       acknowledges false invite f failure = NoAck
@@ -266,7 +312,8 @@ module _ (server : Server) (history : List Link) (state : ProxyState) (act : Act
         same true = refl
         same false = refl
 
-        branches : (u : Bool) → (cond u (marked between) between).branches ≡ map (λ (x : Branch). cond u (marked_branch (phased told phase x)) (phased told phase x)) r.branches
+        branches : (u : Bool) → (cond u (marked between) between).branches ≡ map (λ (x : Branch). cond u (marked_branch (phased told phase x)) (phased told phase x))
+            r.branches
         branches true = map_both marked_branch (phased told phase) r.branches
         branches false = refl
 
@@ -282,7 +329,8 @@ module _ (server : Server) (history : List Link) (state : ProxyState) (act : Act
         never y done true passes = true≢false (sym (cancellable_parts y passes).2 ∙ done)
         never y done false passes = true≢false (sym (cancellable_parts (record y { wants_cancel = true }) passes).2 ∙ done)
 
-        right : (x : Branch) → IsKept server history state act at r x → (u : Bool) → u ≡ t → (v : Bool) → is_cancellable (cond u (marked_branch (cond v (turned told phase x) x)) (cond v (turned told phase x) x)) ≡ true
+        right : (x : Branch) → IsKept server history state act at r x → (u : Bool) → u ≡ t → (v : Bool)
+            → is_cancellable (cond u (marked_branch (cond v (turned told phase x) x)) (cond v (turned told phase x) x)) ≡ true
             → IsCancelledNow server history state act at r x
         right x kept true e true passes = absurd (never (turned told phase x) refl (x.is_cancel || true) passes)
         right x kept true e false passes = by_mark (x.is_cancel || is_final x.phase) passes where
@@ -308,7 +356,8 @@ module _ (server : Server) (history : List Link) (state : ProxyState) (act : Act
         goes true success false closed =
             nothing_goes server history state act at r s (λ owes. absurd (true≢false (sym (ap (λ (v : Bool). v || is_accepted r) (sym (side t) ∙ owes)) ∙ closed)))
         goes false success y owes =
-            best_goes server history state act at r s b (final_of status m) (same t) in_it comes.is_target first (ByResponse status m comes late) (side t) (finals t) others
+            best_goes server history state act at r s b (final_of status m) (same t) in_it comes.is_target first (ByResponse status m comes late) (side t) (finals t)
+            others
             (λ best is. best_with (final_of status m) best (λ none. absurd (cc)) is)
 
         whole : Sends (change_packets (settled server at (acks_of server r b status m) (relayed_success r b status m) s))
@@ -331,7 +380,8 @@ module _ (server : Server) (history : List Link) (state : ProxyState) (act : Act
     target_sends came = by_tests (is_provisional status) refl (is_final b.phase) refl where
       by_tests : (t : Bool) → is_provisional status ≡ t → (u : Bool) → is_final b.phase ≡ u
           → Sends (change_packets (cond t (settled server at [] (relayed_provisional r b status m) (with_phase b (heard r at status b.phase) r))
-          (cond u (settled server at [] (further r b b.phase status m) r) (settled server at (acks_of server r b status m) (relayed_success r b status m) (with_answer r b at status m)))))
+          (cond u (settled server at [] (further r b b.phase status m) r) (settled server at (acks_of server r b status m) (relayed_success r b status m)
+          (with_answer r b at status m)))))
       by_tests true early u final = early_sends early
       by_tests false late true final = again_sends final
       by_tests false late false first = first_sends came late first

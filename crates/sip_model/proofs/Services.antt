@@ -22,7 +22,8 @@ use Rattle.sip_location.specs.Registering.{to_aor, aor_or_nobody}
 use Rattle.model_steps.specs.state.declared.proxy_state.ProxyState.{ProxyState}
 use Rattle.model_steps.specs.state.Arrival.{Arrival}
 use Rattle.model_steps.specs.verdict_model.declared.question.Question.{Question}
-use Rattle.model_steps.specs.verdict_model.Verdict.{Registered, Bound, Refused, Send, Register, is_register, question_of, answer_of, registration_by, targets_by, request_targets, let_through, decided, policy_verdict, verdict_in}
+use Rattle.model_steps.specs.verdict_model.Verdict.{Registered, Bound, Refused, Send, Register, is_register, question_of, answer_of, registration_by, targets_by}
+use Rattle.model_steps.specs.verdict_model.Verdict.{request_targets, let_through, decided, policy_verdict, verdict_in}
 use Rattle.model_steps.specs.context_model.Opening.{forking, branches_from}
 use Rattle.model_steps.specs.Effect.{Effect, registering, sending, sent_to, record_of, contact_fields, counted, asked, effect_of, datagram_effect, nothing}
 use Rattle.model_steps.specs.Step.{Act, Given, Passing, IsStep, originals, arrival_of}
@@ -33,7 +34,8 @@ use Rattle.sip_model.proofs.Forks.{of_branches, all_kept, none_cancellable, fork
 -- ---- its effect
 
 -- the effect of such a request is that of policy's verdict
-effect_is : (server : Server) (state : ProxyState) (bytes : List ℕ) (m : Message) (method : List ℕ) (core : CoreFields) → IsNewRequest server state bytes m method core → (a : Arrival)
+effect_is : (server : Server) (state : ProxyState) (bytes : List ℕ) (m : Message) (method : List ℕ) (core : CoreFields) → IsNewRequest server state bytes m method core
+    → (a : Arrival)
     → datagram_effect server state a bytes ≡ effect_of server a m (policy_verdict server state a.now m method core) (counted a state)
 effect_is server state bytes m method core h a =
     ap (λ said. option_map_or (λ x. effect_of server a x.0 x.1 (counted a state)) (verdict_in server state a said) (nothing (counted a state))) h.says
@@ -46,12 +48,14 @@ no_request : (server : Server) (a : Arrival) (m : Message) (targets : List Targe
 no_request server a m targets h = ap (requests_to server a m) h
 
 -- a challenge gives no targets
-challenge_targets : (server : Server) (rows : List Binding) (now : ℕ) (target : Aor) (uri : Option Uri) → [] ≡ target_list (targets_by server rows now target Decision.Challenge uri)
+challenge_targets : (server : Server) (rows : List Binding) (now : ℕ) (target : Aor) (uri : Option Uri)
+    → [] ≡ target_list (targets_by server rows now target Decision.Challenge uri)
 challenge_targets server rows now target None = refl
 challenge_targets server rows now target (Some uri) = refl
 
 -- nor does a denial
-denial_targets : (server : Server) (rows : List Binding) (now : ℕ) (target : Aor) (id : ℕ) (uri : Option Uri) → [] ≡ target_list (targets_by server rows now target (Decision.Deny id) uri)
+denial_targets : (server : Server) (rows : List Binding) (now : ℕ) (target : Aor) (id : ℕ) (uri : Option Uri)
+    → [] ≡ target_list (targets_by server rows now target (Decision.Deny id) uri)
 denial_targets server rows now target id None = refl
 denial_targets server rows now target id (Some uri) = refl
 
@@ -64,7 +68,8 @@ either_empty false targets h = h
 sent_reaches : (server : Server) (a : Arrival) (m : Message) (q : Question) (id : ℕ) (targets : List Target) (state : ProxyState)
     → of_branches (sent_to server a m q id targets state).originals ≡ requests_to server a m targets
 sent_reaches server a m q id targets state =
-    forked_sends server a.now (forking a m (branches_from a.now 1 targets)) (record_of server a m q (Outcome.Sent id (length targets)) ∷ []) (asked a q state) (none_cancellable a.now 1 targets)
+    forked_sends server a.now (forking a m (branches_from a.now 1 targets)) (record_of server a m q (Outcome.Sent id (length targets)) ∷ []) (asked a q state)
+    (none_cancellable a.now 1 targets)
     ∙ all_kept server (forking a m (branches_from a.now 1 targets)) a.now 1 targets (omega arith)
 
 -- a request that was let through goes to its targets; at 404 and 480 it goes nowhere
@@ -96,22 +101,28 @@ decided_reaches server old state a m method core q Decision.Challenge =
 decided_reaches server old state a m method core q (Decision.Deny id) =
     no_request server a m _ (either_empty (is_register method) _ (denial_targets server old.bindings a.now q.target id (request_uri_of server.config.own m)))
 decided_reaches server old state a m method core q (Decision.Allow id) =
-    either_reaches server a m q id (is_register method) (registration_by server old.bindings a.now m core) (request_targets server old.bindings a.now m q (Decision.Allow id)) state
+    either_reaches server a m q id (is_register method) (registration_by server old.bindings a.now m core)
+    (request_targets server old.bindings a.now m q (Decision.Allow id)) state
 decided_reaches server old state a m method core q (Decision.Via id hop) =
-    either_reaches server a m q id (is_register method) (registration_by server old.bindings a.now m core) (request_targets server old.bindings a.now m q (Decision.Via id hop)) state
+    either_reaches server a m q id (is_register method) (registration_by server old.bindings a.now m core)
+    (request_targets server old.bindings a.now m q (Decision.Via id hop)) state
 
 -- ---- what a REGISTER and a denial are answered
 
 -- the 200 of a registration lists what is bound for the one that policy was asked about
-let_through_lists : (server : Server) (old state : ProxyState) (a : Arrival) (m : Message) (method : List ℕ) (core : CoreFields) (q : Question) (id : ℕ) (after : List Binding) (decision : Decision)
+let_through_lists : (server : Server) (old state : ProxyState) (a : Arrival) (m : Message) (method : List ℕ) (core : CoreFields) (q : Question) (id : ℕ)
+    (after : List Binding) (decision : Decision)
     → is_register method ≡ true → registration_by server old.bindings a.now m core ≡ Bound after
-    → (effect_of server a m (let_through server old a.now m method core q id decision) state).originals ≡ answer_alone server a m 200 (contact_fields a.now q.target after)
+    → (effect_of server a m (let_through server old a.now m method core q id decision) state).originals
+    ≡ answer_alone server a m 200 (contact_fields a.now q.target after)
 let_through_lists server old state a m method core q id after decision r h =
-    ap (λ b. (effect_of server a m (cond b (Register q id (registration_by server old.bindings a.now m core)) (Send q id (request_targets server old.bindings a.now m q decision))) state).originals) r
+    ap (λ b. (effect_of server a m (cond b (Register q id (registration_by server old.bindings a.now m core))
+    (Send q id (request_targets server old.bindings a.now m q decision))) state).originals) r
     ∙ ap (λ outcome. (registering server a m q id outcome state).originals) h
 
 -- so does what a decision makes of a REGISTER that it lets through
-decided_lists : (server : Server) (old state : ProxyState) (a : Arrival) (m : Message) (method : List ℕ) (core : CoreFields) (q : Question) (id : ℕ) (after : List Binding) (decision : Decision)
+decided_lists : (server : Server) (old state : ProxyState) (a : Arrival) (m : Message) (method : List ℕ) (core : CoreFields) (q : Question) (id : ℕ)
+    (after : List Binding) (decision : Decision)
     → is_register method ≡ true → rule_of decision ≡ Some id → registration_by server old.bindings a.now m core ≡ Bound after
     → (effect_of server a m (decided server old a.now m method core q decision) state).originals ≡ answer_alone server a m 200 (contact_fields a.now q.target after)
 decided_lists server old state a m method core q id after Decision.Challenge r allowed h = cc
@@ -122,14 +133,17 @@ decided_lists server old state a m method core q id after (Decision.Via rule hop
     let_through_lists server old state a m method core q rule after (Decision.Via rule hop) r h
 
 -- a registration that is refused gets its status
-let_through_refuses : (server : Server) (old state : ProxyState) (a : Arrival) (m : Message) (method : List ℕ) (core : CoreFields) (q : Question) (id status : ℕ) (extras : List Field) (decision : Decision)
+let_through_refuses : (server : Server) (old state : ProxyState) (a : Arrival) (m : Message) (method : List ℕ) (core : CoreFields) (q : Question) (id status : ℕ)
+    (extras : List Field) (decision : Decision)
     → is_register method ≡ true → registration_by server old.bindings a.now m core ≡ Refused status extras
     → (effect_of server a m (let_through server old a.now m method core q id decision) state).originals ≡ answer_alone server a m status extras
 let_through_refuses server old state a m method core q id status extras decision r h =
-    ap (λ b. (effect_of server a m (cond b (Register q id (registration_by server old.bindings a.now m core)) (Send q id (request_targets server old.bindings a.now m q decision))) state).originals) r
+    ap (λ b. (effect_of server a m (cond b (Register q id (registration_by server old.bindings a.now m core))
+    (Send q id (request_targets server old.bindings a.now m q decision))) state).originals) r
     ∙ ap (λ outcome. (registering server a m q id outcome state).originals) h
 
-decided_refuses : (server : Server) (old state : ProxyState) (a : Arrival) (m : Message) (method : List ℕ) (core : CoreFields) (q : Question) (id status : ℕ) (extras : List Field) (decision : Decision)
+decided_refuses : (server : Server) (old state : ProxyState) (a : Arrival) (m : Message) (method : List ℕ) (core : CoreFields) (q : Question) (id status : ℕ)
+    (extras : List Field) (decision : Decision)
     → is_register method ≡ true → rule_of decision ≡ Some id → registration_by server old.bindings a.now m core ≡ Refused status extras
     → (effect_of server a m (decided server old a.now m method core q decision) state).originals ≡ answer_alone server a m status extras
 decided_refuses server old state a m method core q id status extras Decision.Challenge r allowed h = cc
@@ -140,15 +154,18 @@ decided_refuses server old state a m method core q id status extras (Decision.Vi
     let_through_refuses server old state a m method core q rule status extras (Decision.Via rule hop) r h
 
 -- what is sent of a request that isn't registered is what its targets call for
-let_through_sends : (server : Server) (old state : ProxyState) (a : Arrival) (m : Message) (method : List ℕ) (core : CoreFields) (q : Question) (id : ℕ) (targets : Targets) (decision : Decision)
+let_through_sends : (server : Server) (old state : ProxyState) (a : Arrival) (m : Message) (method : List ℕ) (core : CoreFields) (q : Question) (id : ℕ)
+    (targets : Targets) (decision : Decision)
     → is_register method ≡ false → request_targets server old.bindings a.now m q decision ≡ targets
     → (effect_of server a m (let_through server old a.now m method core q id decision) state).originals ≡ (sending server a m q id targets state).originals
 let_through_sends server old state a m method core q id targets decision r h =
-    ap (λ b. (effect_of server a m (cond b (Register q id (registration_by server old.bindings a.now m core)) (Send q id (request_targets server old.bindings a.now m q decision))) state).originals) r
+    ap (λ b. (effect_of server a m (cond b (Register q id (registration_by server old.bindings a.now m core))
+    (Send q id (request_targets server old.bindings a.now m q decision))) state).originals) r
     ∙ ap (λ t. (sending server a m q id t state).originals) h
 
 -- without a user it gets 404
-decided_finds_nobody : (server : Server) (old state : ProxyState) (a : Arrival) (m : Message) (method : List ℕ) (core : CoreFields) (q : Question) (id : ℕ) (decision : Decision)
+decided_finds_nobody : (server : Server) (old state : ProxyState) (a : Arrival) (m : Message) (method : List ℕ) (core : CoreFields) (q : Question) (id : ℕ)
+    (decision : Decision)
     → is_register method ≡ false → rule_of decision ≡ Some id → request_targets server old.bindings a.now m q decision ≡ Targets.NotFound
     → (effect_of server a m (decided server old a.now m method core q decision) state).originals ≡ answer_alone server a m 404 []
 decided_finds_nobody server old state a m method core q id Decision.Challenge r allowed h = cc
@@ -159,7 +176,8 @@ decided_finds_nobody server old state a m method core q id (Decision.Via rule ho
     let_through_sends server old state a m method core q rule Targets.NotFound (Decision.Via rule hop) r h
 
 -- without a live binding it gets 480
-decided_finds_no_binding : (server : Server) (old state : ProxyState) (a : Arrival) (m : Message) (method : List ℕ) (core : CoreFields) (q : Question) (id : ℕ) (decision : Decision)
+decided_finds_no_binding : (server : Server) (old state : ProxyState) (a : Arrival) (m : Message) (method : List ℕ) (core : CoreFields) (q : Question) (id : ℕ)
+    (decision : Decision)
     → is_register method ≡ false → rule_of decision ≡ Some id → request_targets server old.bindings a.now m q decision ≡ Targets.Unavailable
     → (effect_of server a m (decided server old a.now m method core q decision) state).originals ≡ answer_alone server a m 480 []
 decided_finds_no_binding server old state a m method core q id Decision.Challenge r allowed h = cc
@@ -188,13 +206,15 @@ request_served : (server : Server) (old : ProxyState) (bytes : List ℕ) (m : Me
     → IsServed server old.bindings old a m method core out
 request_served server old bytes m method core a out h sends =
     let q : Question = question_of server old.nonces a.now m method core in
-    let sent : originals out.packets ≡ (effect_of server a m (policy_verdict server old a.now m method core) (counted a old)).originals = sent_is server old bytes m method core a out.packets h sends in
+    let sent : originals out.packets ≡ (effect_of server a m (policy_verdict server old a.now m method core) (counted a old)).originals =
+    sent_is server old bytes m method core a out.packets h sends in
     record {
       reaches = ap of_branches sent ∙ decided_reaches server old (counted a old) a m method core q (answer_of server q);
       lists = λ id after r allowed bound.
           sent ∙ decided_lists server old (counted a old) a m method core q id after (answer_of server q) r allowed bound
           ∙ ap (λ aor. answer_alone server a m 200 (contact_fields a.now aor after)) (register_target server old a.now m method core r);
-      refuses = λ id status extras r allowed refused. sent ∙ decided_refuses server old (counted a old) a m method core q id status extras (answer_of server q) r allowed refused;
+      refuses = λ id status extras r allowed refused. sent ∙ decided_refuses server old (counted a old) a m method core q id status extras (answer_of server q) r allowed
+          refused;
       finds_nobody = λ id r allowed nowhere. sent ∙ decided_finds_nobody server old (counted a old) a m method core q id (answer_of server q) r allowed nowhere;
       finds_no_binding = λ id r allowed nowhere. sent ∙ decided_finds_no_binding server old (counted a old) a m method core q id (answer_of server q) r allowed nowhere;
       challenges = λ challenge. sent ∙ ap (λ decision. (effect_of server a m (decided server old a.now m method core q decision) (counted a old)).originals) challenge;
@@ -202,7 +222,8 @@ request_served server old bytes m method core a out h sends =
     }
 
 -- A step serves what it is taken for by the bindings before it
-pub serves_of_step : (server : Server) (old : ProxyState) (act : Act) (out : StepOut) (new : ProxyState) → IsStep server old act out new → Serves server old.bindings old act out
+pub serves_of_step : (server : Server) (old : ProxyState) (act : Act) (out : StepOut) (new : ProxyState) → IsStep server old act out new
+    → Serves server old.bindings old act out
 serves_of_step server old (Given (Datagram at word from bytes)) out new h =
     λ m method core is_new. request_served server old bytes m method core (arrival_of old at word from) out is_new h.does.sends
 serves_of_step server old (Given (Time at)) out new h = tt

@@ -33,7 +33,8 @@ settled_key server now acks relayed r =
     upward_key now (best_upward server told) told ∙ upward_key now relayed r
 
 -- and the number
-pub settled_number : (server : Server) (now : ℕ) (acks : List Packet) (relayed : Option Upward) (r : OpenRequest) → (settled server now acks relayed r).request.number ≡ r.number
+pub settled_number : (server : Server) (now : ℕ) (acks : List Packet) (relayed : Option Upward) (r : OpenRequest)
+    → (settled server now acks relayed r).request.number ≡ r.number
 settled_number server now acks relayed r =
     let told : OpenRequest = after_upward now relayed r in
     upward_number now (best_upward server told) told ∙ upward_number now relayed r
@@ -49,14 +50,18 @@ event_number server now r change e = ap (λ (c : Change). c.request.number) e.is
 -- ---- deadlines
 
 -- a side that closes does so later
-closing_due : (floor now : ℕ) (side : Side) (t : Bool) → floor ≤ now + 1 → DueFrom floor (side_deadline side) → DueFrom floor (side_deadline (cond t (Closing (now + 32000)) side))
+closing_due : (floor now : ℕ) (side : Side) (t : Bool) → floor ≤ now + 1 → DueFrom floor (side_deadline side)
+    → DueFrom floor (side_deadline (cond t (Closing (now + 32000)) side))
 closing_due floor now side true low h = omega arith
 closing_due floor now side false low h = h
 
 -- an answer arms nothing before
 pub upward_due : (floor now : ℕ) (o : Option Upward) (r : OpenRequest) → floor ≤ now + 1 → IsDue floor r → IsDue floor (after_upward now o r)
 upward_due floor now None r low h = h
-upward_due floor now (Some u) r low h = record { side_due = closing_due floor now r.side (is_answering r.side && not (is_provisional u.status)) low h.side_due; branches_due = h.branches_due }
+upward_due floor now (Some u) r low h = record {
+  side_due = closing_due floor now r.side (is_answering r.side && not (is_provisional u.status)) low h.side_due;
+  branches_due = h.branches_due;
+}
 
 -- what holds of two lists holds of both together
 pub all_append : {X : Type 0} (P : X → Type 0) (xs ys : List X) → AllByRecursion P xs → AllByRecursion P ys → AllByRecursion P (xs ++ ys)
@@ -77,18 +82,21 @@ cancels_due floor now r low h = record {
 }
 
 -- nor does settling
-pub settled_due : (server : Server) (floor now : ℕ) (acks : List Packet) (relayed : Option Upward) (r : OpenRequest) → floor ≤ now + 1 → IsDue floor r → IsDue floor (settled server now acks relayed r).request
+pub settled_due : (server : Server) (floor now : ℕ) (acks : List Packet) (relayed : Option Upward) (r : OpenRequest) → floor ≤ now + 1 → IsDue floor r
+    → IsDue floor (settled server now acks relayed r).request
 settled_due server floor now acks relayed r low h =
     let told : OpenRequest = after_upward now relayed r in
     let best : Option Upward = best_upward server told in
     cancels_due floor now (after_upward now best told) low (upward_due floor now best told low (upward_due floor now relayed r low h))
 
 -- no new deadline is before a moment that the event stands at, or one after it
-pub event_due : (server : Server) (floor now : ℕ) (r : OpenRequest) (change : Change) → IsEvent server now r change → floor ≤ now + 1 → IsDue floor r → IsDue floor change.request
+pub event_due : (server : Server) (floor now : ℕ) (r : OpenRequest) (change : Change) → IsEvent server now r change → floor ≤ now + 1 → IsDue floor r
+    → IsDue floor change.request
 event_due server floor now r change e low h =
     subst (λ (c : Change). IsDue floor c.request) (sym e.is_change) (settled_due server floor now e.acks e.relayed e.between low (e.due floor low h))
 
 -- nor does anything go again before it that didn't
-pub event_again : (server : Server) (floor now : ℕ) (r : OpenRequest) (change : Change) → IsEvent server now r change → floor ≤ now + 1 → IsAgain floor r → IsAgain floor change.request
+pub event_again : (server : Server) (floor now : ℕ) (r : OpenRequest) (change : Change) → IsEvent server now r change → floor ≤ now + 1 → IsAgain floor r
+    → IsAgain floor change.request
 event_again server floor now r change e low h =
     subst (λ (c : Change). IsAgain floor c.request) (sym e.is_change) (settled_again server floor now e.acks e.relayed e.between low (e.again floor h))

@@ -44,7 +44,8 @@ abbrev HasFew : List Binding → Type 0
 HasFew rows = (aor : Aor) (moment : ℕ) → length (live aor moment rows) ≤ 16
 
 -- a registration leaves such rows
-few_registered : (rows : List Binding) (outcome : Result (List Binding) LocationError) → HasFew rows → ((after : List Binding) → outcome ≡ Ok after → HasFew after) → HasFew (rows_after rows (registered_by outcome))
+few_registered : (rows : List Binding) (outcome : Result (List Binding) LocationError) → HasFew rows → ((after : List Binding) → outcome ≡ Ok after → HasFew after)
+    → HasFew (rows_after rows (registered_by outcome))
 few_registered rows (Ok after) few h = h after refl
 few_registered rows (Err NoMemory) few h = few
 few_registered rows (Err BadStar) few h = few
@@ -53,20 +54,23 @@ few_registered rows (Err OldCSeq) few h = few
 few_registered rows (Err TooMany) few h = few
 
 -- so does a REGISTER that was let through
-few_bound : (server : Server) (rows : List Binding) (now : ℕ) (m : Message) (core : CoreFields) → HasFew rows → HasFew (rows_after rows (registration_by server rows now m core))
-few_bound server rows now m core few = by_test (is_own_uri server (request_uri_of server.config.own m) && is_users_address server.config.users server.config.own.domains (to_aor core)) where
-  by_test : (t : Bool) → HasFew (rows_after rows (cond t (registered_by (registered rows (registration_of core m.fields) now)) (Refused 404 [])))
-  by_test true =
-      few_registered rows (registered rows (registration_of core m.fields) now) few
-      (λ after e. λ aor moment. few_ever rows after (registration_of core m.fields) now moment e (λ other. few other moment) aor)
-  by_test false = few
+few_bound : (server : Server) (rows : List Binding) (now : ℕ) (m : Message) (core : CoreFields) → HasFew rows
+    → HasFew (rows_after rows (registration_by server rows now m core))
+few_bound server rows now m core few = by_test (is_own_uri server (request_uri_of server.config.own m)
+    && is_users_address server.config.users server.config.own.domains (to_aor core)) where
+      by_test : (t : Bool) → HasFew (rows_after rows (cond t (registered_by (registered rows (registration_of core m.fields) now)) (Refused 404 [])))
+      by_test true =
+          few_registered rows (registered rows (registration_of core m.fields) now) few
+          (λ after e. λ aor moment. few_ever rows after (registration_of core m.fields) now moment e (λ other. few other moment) aor)
+      by_test false = few
 
 -- and all of some REGISTERs
 few_by : (server : Server) (rs : List Arrived) → HasFew (bindings_by server rs)
 few_by server [] = λ aor moment. omega arith
 few_by server (r ∷ rs) = by_core (few_by server rs) (result_ok (core_of r.request)) where
   by_core : HasFew (bindings_by server rs) → (o : Option CoreFields)
-      → HasFew (option_map_or (λ core. rows_after (bindings_by server rs) (registration_by (under server r.config) (bindings_by server rs) r.at r.request core)) o (bindings_by server rs))
+      → HasFew (option_map_or (λ core. rows_after (bindings_by server rs) (registration_by (under server r.config) (bindings_by server rs) r.at r.request core)) o
+      (bindings_by server rs))
   by_core few None = few
   by_core few (Some core) = few_bound (under server r.config) (bindings_by server rs) r.at r.request core few
 
@@ -77,7 +81,8 @@ AreFew state = (aor : Aor) (moment : ℕ) → state.moment ≤ moment → length
 -- none has over any history
 pub few_of_chain : (server : Server) (first : ℕ) (history : List Link) (last : ProxyState) → IsChain server (first_state first) history last → AreFew last
 few_of_chain server first history last h = λ aor moment after.
-    subst (λ (lives : List Binding). length lives ≤ 16) (sym (bindings_of_chain server first history last h aor moment after)) (few_by server (allowed_registers server history) aor moment)
+    subst (λ (lives : List Binding). length lives ≤ 16) (sym (bindings_of_chain server first history last h aor moment after))
+    (few_by server (allowed_registers server history) aor moment)
 
 -- ---- targets
 
@@ -101,7 +106,8 @@ pub few_targets : (server : Server) (rows : List Binding) (now : ℕ) (m : Messa
     → length (target_list (request_targets server rows now m q decision)) ≤ 16
 few_targets server rows now m q decision few = by_uri (request_uri_of server.config.own m) decision where
   by_test : (t : Bool) → length (target_list (cond t (targets_at server.config.addresses (contacts_of rows now q.target)) Targets.NotFound)) ≤ 16
-  by_test true = few_contacts server.config.addresses (contacts_of rows now q.target) (omega (arith, few q.target, length_mapped (λ (b : Binding). b.uri) (live q.target now rows)))
+  by_test true = few_contacts server.config.addresses (contacts_of rows now q.target)
+      (omega (arith, few q.target, length_mapped (λ (b : Binding). b.uri) (live q.target now rows)))
   by_test false = omega arith
 
   by_uri : (o : Option Uri) (d : Decision) → length (target_list (targets_by server rows now q.target d o)) ≤ 16

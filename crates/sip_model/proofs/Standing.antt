@@ -15,7 +15,8 @@ use Rattle.sip_model.proofs.Again.{chain_again}
 use Rattle.sip_model.proofs.Moments.{stands_later}
 
 -- after the moment of the state before
-step_stands : (server : Server) (old : ProxyState) (act : Act) (out : StepOut) (new : ProxyState) → old.moment ≤ stands_at old act out → IsStep server old act out new → StandsAt old.moment act out.at
+step_stands : (server : Server) (old : ProxyState) (act : Act) (out : StepOut) (new : ProxyState) → old.moment ≤ stands_at old act out → IsStep server old act out new
+    → StandsAt old.moment act out.at
 step_stands server old (Given (Datagram at word from bytes)) out new later h = h.does.at_moment
 step_stands server old (Given (Time at)) out new later h = h.at_moment
 step_stands server old (Given (Fault at ticket)) out new later h = h.does.at_moment
@@ -35,4 +36,5 @@ pub stands_of_chain : (server : Server) (first : ℕ) (link : Link) (history : L
 stands_of_chain server first link history last chain =
     subst (λ (moment : ℕ). StandsAt moment link.act link.out.at) (chain_moment server first history link.before chain.2)
     (step_stands (under server link.config) link.before link.act link.out link.after
-    (stands_later (under server link.config) link.before link.act link.out link.after (chain_passes_none server first history link.before chain.2) (chain_again server first history link.before chain.2) chain.1) chain.1)
+    (stands_later (under server link.config) link.before link.act link.out link.after (chain_passes_none server first history link.before chain.2)
+    (chain_again server first history link.before chain.2) chain.1) chain.1)

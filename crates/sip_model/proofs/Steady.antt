@@ -29,5 +29,7 @@ all_steady server past history (r ∷ rs) honest waits given made = (
 pub steady_in_step : (server : Server) (first : ℕ) (link : Link) (history : List Link) → IsChain server (first_state first) history link.before
     → AllByRecursion (IsSteady (under server link.config) (link ∷ history)) link.before.requests
 steady_in_step server first link history chain =
-    all_steady (under server link.config) history (link ∷ history) link.before.requests (honest_under server link.config history link.before.requests (honest_of_chain server first history link.before chain)) (chain_waits server first history link.before chain)
+    all_steady (under server link.config) history (link ∷ history) link.before.requests
+    (honest_under server link.config history link.before.requests (honest_of_chain server first history link.before chain))
+    (chain_waits server first history link.before chain)
     (given_up_in_step server first link history chain) (made_of_chain server first history link.before chain)

@@ -26,7 +26,8 @@ use Rattle.sip_model.proofs.Alike.{effects_alike}
 use Rattle.sip_model.proofs.Sameness.{dialogs_after_same}
 
 -- what does an effect does each that is the same
-does_alike : (server : Server) (left right : ProxyState) (at : ℕ) (one other : Effect) (out : StepOut) (new : ProxyState) → SameEffect one other → Does server left at one out new → Does server right at other out new
+does_alike : (server : Server) (left right : ProxyState) (at : ℕ) (one other : Effect) (out : StepOut) (new : ProxyState) → SameEffect one other
+    → Does server left at one out new → Does server right at other out new
 does_alike server left right at one other out new same does =
     record {
       at_moment = does.at_moment;
@@ -37,10 +38,12 @@ does_alike server left right at one other out new same does =
     }
 
 -- a state in which other bindings and dialogs say the same is the same
-same_others : (s : ProxyState) (rows : List Binding) (dialogs : List Dialog) → SameBindings s.moment s.bindings rows → SameDialogs s.moment s.dialogs dialogs → SameState s (with_others s rows dialogs)
+same_others : (s : ProxyState) (rows : List Binding) (dialogs : List Dialog) → SameBindings s.moment s.bindings rows → SameDialogs s.moment s.dialogs dialogs
+    → SameState s (with_others s rows dialogs)
 same_others s rows dialogs bound known = record { moment = refl; next = refl; bindings = bound; nonces = refl; requests = refl; dialogs = known }
 
-module _ (server : Server) (s : ProxyState) (rows : List Binding) (dialogs : List Dialog) (bound : SameBindings s.moment s.bindings rows) (known : SameDialogs s.moment s.dialogs dialogs) where
+module _ (server : Server) (s : ProxyState) (rows : List Binding) (dialogs : List Dialog) (bound : SameBindings s.moment s.bindings rows)
+    (known : SameDialogs s.moment s.dialogs dialogs) where
   -- the other state
   abbrev other : ProxyState
   other = with_others s rows dialogs
@@ -97,13 +100,16 @@ module _ (server : Server) (s : ProxyState) (rows : List Binding) (dialogs : Lis
       }
 
   -- a send that failed
-  failed_effect : (now : ℕ) (ticket : Ticket) → s.moment ≤ now → SameEffect (fault_effect server now ticket (record s { moment = now })) (fault_effect server now ticket (record other { moment = now }))
+  failed_effect : (now : ℕ) (ticket : Ticket) → s.moment ≤ now → SameEffect (fault_effect server now ticket (record s { moment = now }))
+      (fault_effect server now ticket (record other { moment = now }))
   failed_effect now ticket later = by_request (find (λ (r : OpenRequest). r.number == ticket.datagram) s.requests) where
-    by_branch : (r : OpenRequest) (o : Option Branch) → SameEffect (failed_branch server now (record s { moment = now }) r o) (failed_branch server now (record other { moment = now }) r o)
+    by_branch : (r : OpenRequest) (o : Option Branch) → SameEffect (failed_branch server now (record s { moment = now }) r o)
+        (failed_branch server now (record other { moment = now }) r o)
     by_branch r None = quiet_effect now later
     by_branch r (Some b) = changed_effect now (send_failed server now r b) later
 
-    by_request : (o : Option OpenRequest) → SameEffect (failed_request server now ticket (record s { moment = now }) o) (failed_request server now ticket (record other { moment = now }) o)
+    by_request : (o : Option OpenRequest) → SameEffect (failed_request server now ticket (record s { moment = now }) o)
+        (failed_request server now ticket (record other { moment = now }) o)
     by_request None = quiet_effect now later
     by_request (Some r) = by_branch r (find (is_failed ticket.branch) r.branches)
 
@@ -124,11 +130,22 @@ module _ (server : Server) (s : ProxyState) (rows : List Binding) (dialogs : Lis
       record {
         none_due = h.none_due;
         none_again = h.none_again;
-        does = does_alike server s other (moment_of s at) _ _ out new (effects_alike server s other (arrival_of s at word from) bytes (same_others s rows dialogs bound known) (omega arith)) h.does;
+        does = does_alike server s other (moment_of s at) _ _ out new (effects_alike server s other (arrival_of s at word from) bytes
+            (same_others s rows dialogs bound known) (omega arith)) h.does;
       }
-  step_alike (Given (Time at)) out new later h = record { none_due = h.none_due; none_again_due = h.none_again_due; at_moment = h.at_moment; quiet = quiet_alike at out new h.quiet }
+  step_alike (Given (Time at)) out new later h = record {
+    none_due = h.none_due;
+    none_again_due = h.none_again_due;
+    at_moment = h.at_moment;
+    quiet = quiet_alike at out new h.quiet;
+  }
   step_alike (Given (Fault at ticket)) out new later h =
-      record { none_passed = h.none_passed; none_again = h.none_again; does = does_alike server s other (moment_of s at) _ _ out new (failed_effect (moment_of s at) ticket (omega arith)) h.does }
+      record {
+        none_passed = h.none_passed;
+        none_again = h.none_again;
+        does = does_alike server s other (moment_of s at) _ _ out new
+            (failed_effect (moment_of s at) ticket (omega arith)) h.does;
+      }
   step_alike (Passing at) out new later (inl quiet) = inl (quiet_alike at out new quiet)
   step_alike (Passing at) out new later (inr (inl due)) =
       inr (inl (record {
@@ -155,6 +172,8 @@ module _ (server : Server) (s : ProxyState) (rows : List Binding) (dialogs : Lis
       }))
 
 -- What is a step from a state, and doesn't go back behind its moment, is one from each that is the same
-pub steps_alike : (server : Server) (left right : ProxyState) (act : Act) (out : StepOut) (new : ProxyState) → SameState left right → left.moment ≤ out.at → IsStep server left act out new → IsStep server right act out new
+pub steps_alike : (server : Server) (left right : ProxyState) (act : Act) (out : StepOut) (new : ProxyState) → SameState left right → left.moment ≤ out.at
+    → IsStep server left act out new → IsStep server right act out new
 steps_alike server left right act out new h later step =
-    subst (λ (s : ProxyState). IsStep server s act out new) (sym (others_alone left right h)) (step_alike server left right.bindings right.dialogs h.bindings h.dialogs act out new later step)
+    subst (λ (s : ProxyState). IsStep server s act out new) (sym (others_alone left right h))
+    (step_alike server left right.bindings right.dialogs h.bindings h.dialogs act out new later step)

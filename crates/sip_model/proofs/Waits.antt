@@ -1,5 +1,6 @@
 -- Every open request has a deadline: one that owes an answer waits for a branch, since the best answer goes up with the last branch's.
-use Rattle.std.proofs.Common.{◌≡◌, ℕ, ◌+◌, Bool, true, false, not, ◌&&◌, ◌||◌, cond, ◌==◌, List, [], ◌∷◌, ◌++◌, filter, Option, Some, None, refl, sym, ap, subst, ◌∙◌, arith, option_map, count_by, IsSome as IsSomeOption, flat_map}
+use Rattle.std.proofs.Common.{◌≡◌, ℕ, ◌+◌, Bool, true, false, not, ◌&&◌, ◌||◌, cond, ◌==◌, List, [], ◌∷◌, ◌++◌, filter, Option, Some, None, refl, sym, ap, subst, ◌∙◌}
+use Rattle.std.proofs.Common.{arith, option_map, count_by, IsSome as IsSomeOption, flat_map}
 use Rattle.std.specs.List.{AllByRecursion, list_any, list_all}
 use Rattle.sip_best.specs.declared.final_answer.Final.{Final}
 use Rattle.sip_best.specs.Best.{best_of, picked, chosen_of, going_up, is_unbeaten, is_challenge_status, challenging}
@@ -14,7 +15,8 @@ use Rattle.model_steps.specs.state.declared.open_request.Side.{Side}
 use Rattle.model_steps.specs.state.declared.open_request.Side.TheVariants.{Closing}
 use Rattle.model_steps.specs.state.State.{is_final, is_answering, has_left, is_provisional}
 use Rattle.model_steps.specs.state.declared.open_request.Upward.{Upward}
-use Rattle.model_steps.specs.context_model.Branches.{Change, upward_of, all_final, best_upward, is_ready, is_cancellable, cancel_branch, with_cancels, after_upward, upward_list, settled, held_branch, with_cancel}
+use Rattle.model_steps.specs.context_model.Branches.{Change, upward_of, all_final, best_upward, is_ready, is_cancellable, cancel_branch, with_cancels, after_upward}
+use Rattle.model_steps.specs.context_model.Branches.{upward_list, settled, held_branch, with_cancel}
 use Rattle.sip_model.specs.Order.{is_final_answer}
 use Rattle.sip_model.proofs.Cancels.{all_with_cancels}
 use Rattle.sip_model.proofs.Places.{count_cons, one_at}
@@ -33,7 +35,8 @@ pub record IsSound (r : OpenRequest) : Type 0 where
 picked_final : (test : Final → Bool) (fs : List Final) → AllByRecursion IsFinalStatus fs → (x : Final × List Final) → picked test fs ≡ Some x → IsFinalStatus x.0
 picked_final test [] all x e = absurd (cc)
 picked_final test (f ∷ fs) all x e = by_test (test f) (picked test fs) (λ y there. picked_final test fs all.1 y there) e where
-  by_test : (t : Bool) → (later : Option (Final × List Final)) → ((y : Final × List Final) → later ≡ Some y → IsFinalStatus y.0) → cond t (Some (f, fs)) (option_map (λ y. (y.0, f ∷ y.1)) later) ≡ Some x → IsFinalStatus x.0
+  by_test : (t : Bool) → (later : Option (Final × List Final)) → ((y : Final × List Final) → later ≡ Some y → IsFinalStatus y.0)
+      → cond t (Some (f, fs)) (option_map (λ y. (y.0, f ∷ y.1)) later) ≡ Some x → IsFinalStatus x.0
   by_test true later rest is = let same : (f, fs) ≡ x = cc in subst (λ (y : Final × List Final). IsFinalStatus y.0) same all.0
   by_test false None rest is = absurd (cc)
   by_test false (Some y) rest is = let same : (y.0, f ∷ y.1) ≡ x = cc in subst (λ (z : Final × List Final). IsFinalStatus z.0) same (rest y refl)
@@ -56,7 +59,8 @@ best_final fs f all e = by_choice (chosen_of fs) refl e where
 -- ---- what settling keeps
 
 -- an answer is owed after one that goes up only if it was, and that isn't final
-still_owed : (owes early : Bool) (side : Side) (due : ℕ) → is_answering side ≡ owes → is_answering (cond (owes && not early) (Closing due) side) ≡ true → (owes ≡ true) × (early ≡ true)
+still_owed : (owes early : Bool) (side : Side) (due : ℕ) → is_answering side ≡ owes → is_answering (cond (owes && not early) (Closing due) side) ≡ true
+    → (owes ≡ true) × (early ≡ true)
 still_owed true true side due is e = (refl, refl)
 still_owed true false side due is e = absurd (cc)
 still_owed false early side due is e = absurd (cc)
@@ -76,9 +80,11 @@ upward_counted now (Some u) r h = record {
   final = final_either (is_provisional u.status) r.finals [] h.final tt;
   has_target = λ owes. h.has_target (still_owed (is_answering r.side) (is_provisional u.status) r.side (now + 32000) refl owes).0;
 } where
-  by_status : (t : Bool) → is_provisional u.status ≡ t → is_answering (cond (is_answering r.side && not (is_provisional u.status)) (Closing (now + 32000)) r.side) ≡ false → cond t r.finals [] ≡ []
+  by_status : (t : Bool) → is_provisional u.status ≡ t → is_answering (cond (is_answering r.side && not (is_provisional u.status)) (Closing (now + 32000)) r.side) ≡ false
+      → cond t r.finals [] ≡ []
   by_status true is had =
-      h.none_kept (sym (ap (λ (t : Bool). is_answering (cond (is_answering r.side && not t) (Closing (now + 32000)) r.side)) is ∙ unless_final (is_answering r.side) r.side (now + 32000)) ∙ had)
+      h.none_kept (sym (ap (λ (t : Bool). is_answering (cond (is_answering r.side && not t) (Closing (now + 32000)) r.side)) is
+      ∙ unless_final (is_answering r.side) r.side (now + 32000)) ∙ had)
   by_status false is had = refl
 
 -- a branch that is ready for a CANCEL has no final answer
@@ -101,7 +107,8 @@ any_with_cancels now (b ∷ bs) = by_test (is_cancellable b) (any_with_cancels n
 -- CANCELs leave final answers all there
 cancels_counted : (now : ℕ) (r : OpenRequest) → IsCounted r → IsCounted (with_cancels now r)
 cancels_counted now r h = record {
-  seen = λ owes. all_with_cancels (IsSeen r.finals) (IsSeen r.finals) now r.branches (λ x before. before) (λ x before target final. absurd (cc)) (λ x before target final. absurd (cc)) (h.seen owes);
+  seen = λ owes. all_with_cancels (IsSeen r.finals) (IsSeen r.finals) now r.branches (λ x before. before) (λ x before target final. absurd (cc))
+      (λ x before target final. absurd (cc)) (h.seen owes);
   none_kept = h.none_kept;
   final = h.final;
   has_target = λ answering. any_with_cancels now r.branches ∙ h.has_target answering;
@@ -125,7 +132,8 @@ one_final_more now x rest others true is same = by_cancel x.is_cancel refl where
     ready false false c e = absurd (cc)
 
   by_cancel : (t : Bool) → x.is_cancel ≡ t
-      → list_all (λ (b : Branch). is_final b.phase) (cond (not t) (record x { phase = Cancelled (now + 32000) } ∷ filter (λ (b : Branch). not b.is_cancel) rest) (filter (λ (b : Branch). not b.is_cancel) rest))
+      → list_all (λ (b : Branch). is_final b.phase) (cond (not t) (record x { phase = Cancelled (now + 32000) } ∷ filter (λ (b : Branch). not b.is_cancel) rest)
+      (filter (λ (b : Branch). not b.is_cancel) rest))
       ≡ list_all (λ (b : Branch). is_final b.phase) (cond (not t) (x ∷ filter (λ (b : Branch). not b.is_cancel) others) (filter (λ (b : Branch). not b.is_cancel) others))
   by_cancel true e = same
   by_cancel false e = sym (ap (λ (v : Bool). v && targets_final others) open_phase)
@@ -152,7 +160,8 @@ one_seen : (finals : List Final) (bs : List Branch) → AllByRecursion (IsSeen f
 one_seen finals [] all some e = absurd (cc)
 one_seen finals (b ∷ bs) all some e = by_cancel b.is_cancel refl (λ there final. one_seen finals bs all.1 there final) some e where
   by_cancel : (t : Bool) → b.is_cancel ≡ t → (list_any is_target bs ≡ true → targets_final bs ≡ true → IsSome finals) → (not t || list_any is_target bs) ≡ true
-      → list_all (λ (x : Branch). is_final x.phase) (cond (not t) (b ∷ filter (λ (x : Branch). not x.is_cancel) bs) (filter (λ (x : Branch). not x.is_cancel) bs)) ≡ true → IsSome finals
+      → list_all (λ (x : Branch). is_final x.phase) (cond (not t) (b ∷ filter (λ (x : Branch). not x.is_cancel) bs) (filter (λ (x : Branch). not x.is_cancel) bs)) ≡ true
+      → IsSome finals
   by_cancel true is rest some e = rest some e
   by_cancel false is rest some e = all.0 is (first (is_final b.phase) e) where
     first : (t : Bool) → (t && targets_final bs) ≡ true → t ≡ true
@@ -173,17 +182,20 @@ upward_branches now None r = refl
 upward_branches now (Some u) r = refl
 
 -- the best answer that goes up closes the side
-best_closes : (server : Server) (now : ℕ) (r : OpenRequest) (f : Final) → best_upward server r ≡ Some (upward_of server r f) → IsFinalStatus f → is_answering r.side ≡ true
+best_closes : (server : Server) (now : ℕ) (r : OpenRequest) (f : Final) → best_upward server r ≡ Some (upward_of server r f) → IsFinalStatus f
+    → is_answering r.side ≡ true
     → is_answering (after_upward now (best_upward server r) r).side ≡ false
 best_closes server now r f is final owes = by_told (best_upward server r) is (tells now (best_upward server r) r owes) where
   by_told : (o : Option Upward) → o ≡ Some (upward_of server r f) → Tells o r (after_upward now o r) → is_answering (after_upward now o r).side ≡ false
   by_told o e (NoneFinal none waits) =
-      let counted : count_by is_final_answer (upward_list (Some (upward_of server r f))) ≡ 0 = subst (λ (v : Option Upward). count_by is_final_answer (upward_list v) ≡ 0) e none in
+      let counted : count_by is_final_answer (upward_list (Some (upward_of server r f))) ≡ 0 =
+      subst (λ (v : Option Upward). count_by is_final_answer (upward_list v) ≡ 0) e none in
       absurd (omega (arith, counted, count_cons is_final_answer (upward_of server r f) [], one_at (is_final_answer (upward_of server r f)) (ap not final)))
   by_told o e (OneFinal u there passes closes answer) = closes
 
 -- the best one goes up where all are final and one is owed
-best_goes : (server : Server) (r : OpenRequest) (f : Final) → is_answering r.side ≡ true → all_final r ≡ true → best_of r.finals ≡ Some f → best_upward server r ≡ Some (upward_of server r f)
+best_goes : (server : Server) (r : OpenRequest) (f : Final) → is_answering r.side ≡ true → all_final r ≡ true → best_of r.finals ≡ Some f
+    → best_upward server r ≡ Some (upward_of server r f)
 best_goes server r f owes all best = by_tests (is_answering r.side) (all_final r) (best_of r.finals) owes all best where
   by_tests : (x y : Bool) (o : Option Final) → x ≡ true → y ≡ true → o ≡ Some f → cond (x && y) (option_map (upward_of server r) o) None ≡ Some (upward_of server r f)
   by_tests true true o e d is = ap (option_map (upward_of server r)) is
@@ -191,7 +203,8 @@ best_goes server r f owes all best = by_tests (is_answering r.side) (all_final r
   by_tests false y o e d is = absurd (cc)
 
 -- a request that owes an answer once the best answer had its time waits for a branch
-waits_after : (server : Server) (now : ℕ) (told : OpenRequest) → IsCounted told → is_answering (after_upward now (best_upward server told) told).side ≡ true → all_final told ≡ false
+waits_after : (server : Server) (now : ℕ) (told : OpenRequest) → IsCounted told → is_answering (after_upward now (best_upward server told) told).side ≡ true
+    → all_final told ≡ false
 waits_after server now told h owes = by_final (all_final told) refl where
   owed : is_answering told.side ≡ true
   owed = by_side (is_answering told.side) refl where
@@ -207,13 +220,15 @@ waits_after server now told h owes = by_final (all_final told) refl where
       absurd (cc (owes, best_closes server now told best.0 (best_goes server told best.0 owed e best.1) final owed))
 
 -- settling leaves final answers all there
-pub settled_counted : (server : Server) (now : ℕ) (acks : List Packet) (relayed : Option Upward) (r : OpenRequest) → IsCounted r → IsCounted (settled server now acks relayed r).request
+pub settled_counted : (server : Server) (now : ℕ) (acks : List Packet) (relayed : Option Upward) (r : OpenRequest) → IsCounted r
+    → IsCounted (settled server now acks relayed r).request
 settled_counted server now acks relayed r h =
     let told : OpenRequest = after_upward now relayed r in
     cancels_counted now (after_upward now (best_upward server told) told) (upward_counted now (best_upward server told) told (upward_counted now relayed r h))
 
 -- and a request that owes an answer waits for a branch
-pub settled_waits : (server : Server) (now : ℕ) (acks : List Packet) (relayed : Option Upward) (r : OpenRequest) → IsCounted r → is_answering (settled server now acks relayed r).request.side ≡ true
+pub settled_waits : (server : Server) (now : ℕ) (acks : List Packet) (relayed : Option Upward) (r : OpenRequest) → IsCounted r
+    → is_answering (settled server now acks relayed r).request.side ≡ true
     → all_final (settled server now acks relayed r).request ≡ false
 settled_waits server now acks relayed r h owes =
     let told : OpenRequest = after_upward now relayed r in
@@ -222,9 +237,12 @@ settled_waits server now acks relayed r h owes =
     ∙ waits_after server now told (upward_counted now relayed r h) owes
 
 -- an event of a request that stays open
-pub event_sound : (server : Server) (now : ℕ) (r : OpenRequest) (change : Change) → IsEvent server now r change → IsSound r → has_left change.request ≡ false → IsSound change.request
+pub event_sound : (server : Server) (now : ℕ) (r : OpenRequest) (change : Change) → IsEvent server now r change → IsSound r → has_left change.request ≡ false
+    → IsSound change.request
 event_sound server now r change event h stays = record {
-  counted = subst (λ (c : Change). IsCounted c.request) (sym event.is_change) (settled_counted server now event.acks event.relayed event.between (event.counted h.counted));
-  waits = subst (λ (c : Change). is_answering c.request.side ≡ true → all_final c.request ≡ false) (sym event.is_change) (settled_waits server now event.acks event.relayed event.between (event.counted h.counted));
+  counted = subst (λ (c : Change). IsCounted c.request) (sym event.is_change) (settled_counted server now event.acks event.relayed event.between
+      (event.counted h.counted));
+  waits = subst (λ (c : Change). is_answering c.request.side ≡ true → all_final c.request ≡ false) (sym event.is_change)
+      (settled_waits server now event.acks event.relayed event.between (event.counted h.counted));
   stays = stays;
 }

@@ -1,5 +1,6 @@
 -- What goes again went out before, as an original.
-use Rattle.std.proofs.Common.{◌≡◌, ◌∙◌, inl, inr, ℕ, ◌+◌, Bool, true, false, not, ◌&&◌, ◌||◌, ◌==◌, cond, List, [], ◌∷◌, ◌++◌, map, filter, flat_map, find, codes, bytes_eq, Contains, Option, Some, None, refl, sym, subst, is_some, true≢false}
+use Rattle.std.proofs.Common.{◌≡◌, ◌∙◌, inl, inr, ℕ, ◌+◌, Bool, true, false, not, ◌&&◌, ◌||◌, ◌==◌, cond, List, [], ◌∷◌, ◌++◌, map, filter, flat_map, find, codes}
+use Rattle.std.proofs.Common.{bytes_eq, Contains, Option, Some, None, refl, sym, subst, is_some, true≢false}
 use Rattle.std.specs.List.{AllByRecursion}
 use Rattle.std.specs.Option.{option_map_or}
 use Rattle.std.proofs.lemmas.List.Elements.{Contains-append_right, Contains-append_left}
@@ -31,14 +32,22 @@ use Rattle.model_steps.specs.state.declared.open_request.Upward.{Upward}
 use Rattle.model_steps.specs.state.declared.proxy_state.ProxyState.{ProxyState}
 use Rattle.model_steps.specs.state.State.{first_state, is_invite, is_final, is_success, is_failure, is_decline, is_provisional}
 use Rattle.model_steps.specs.context_model.Sending.{answer_to, to_branch, request_of, branch_packets, ack_packets}
-use Rattle.model_steps.specs.context_model.Branches.{Change, is_same_branch, turned, with_phase, with_final, marked, given_up, best_upward, is_cancellable, cancel_branch, new_cancels, held_branch, with_cancel, with_cancels, after_upward, upward_list, settled, heard, invite_heard, other_heard, relayed_provisional, relayed_success, final_of, linger, told_to, with_answer, acks_of, further, target_responded, cancel_responded, responded, target_overdue, branch_overdue, send_failed, cancelled, acknowledged_side, was_refused, acknowledged}
-use Rattle.model_steps.specs.context_model.Retransmission.{is_lasting, answers_again, goes_again, acks_again, branch_next, IsResent, OfAnswer, OfRequest, branch_again, retransmissions_of, IsRetransmission}
+use Rattle.model_steps.specs.context_model.Branches.{Change, is_same_branch, turned, with_phase, with_final, marked, given_up, best_upward, is_cancellable, cancel_branch}
+use Rattle.model_steps.specs.context_model.Branches.{new_cancels, held_branch, with_cancel, with_cancels, after_upward, upward_list, settled, heard, invite_heard}
+use Rattle.model_steps.specs.context_model.Branches.{other_heard, relayed_provisional, relayed_success, final_of, linger, told_to, with_answer, acks_of, further}
+use Rattle.model_steps.specs.context_model.Branches.{target_responded, cancel_responded, responded, target_overdue, branch_overdue, send_failed, cancelled}
+use Rattle.model_steps.specs.context_model.Branches.{acknowledged_side, was_refused, acknowledged}
+use Rattle.model_steps.specs.context_model.Retransmission.{is_lasting, answers_again, goes_again, acks_again, branch_next, IsResent, OfAnswer, OfRequest, branch_again}
+use Rattle.model_steps.specs.context_model.Retransmission.{retransmissions_of, IsRetransmission}
 use Rattle.model_steps.specs.state.Arrival.{Arrival}
 use Rattle.model_steps.specs.verdict_model.declared.question.Question.{Question}
-use Rattle.model_steps.specs.verdict_model.Verdict.{Registered, Bound, Refused, Verdict, Drop, Respond, Copy, AckOn, Cancel, Answer, InDialog, Challenge, Deny, Send, Register, is_full, message_verdict, message_in, verdict_in}
+use Rattle.model_steps.specs.verdict_model.Verdict.{Registered, Bound, Refused, Verdict, Drop, Respond, Copy, AckOn, Cancel, Answer, InDialog, Challenge, Deny, Send}
+use Rattle.model_steps.specs.verdict_model.Verdict.{Register, is_full, message_verdict, message_in, verdict_in}
 use Rattle.model_steps.specs.context_model.Opening.{branches_from, forking, is_tried, trying, tried, dialog_branch}
-use Rattle.model_steps.specs.Effect.{upward_packets, change_packets, Effect, replaced, changed, nothing, opened, replied, asked, issuing, registering, forked, sending, renewing, counted, method_of, effect_of}
-use Rattle.model_steps.specs.Step.{Act, Given, Passing, Does, IsOverdue, OfSide, OfBranch, IsStep, originals, retransmissions, moment_of, arrival_of, is_failed, failed_branch, failed_request}
+use Rattle.model_steps.specs.Effect.{upward_packets, change_packets, Effect, replaced, changed, nothing, opened, replied, asked, issuing, registering, forked, sending}
+use Rattle.model_steps.specs.Effect.{renewing, counted, method_of, effect_of}
+use Rattle.model_steps.specs.Step.{Act, Given, Passing, Does, IsOverdue, OfSide, OfBranch, IsStep, originals, retransmissions, moment_of, arrival_of, is_failed}
+use Rattle.model_steps.specs.Step.{failed_branch, failed_request}
 use Rattle.sip_model.specs.Run.{Link, under, IsChain}
 use Rattle.sip_model.specs.Lives.{first_sending, sent_first}
 use Rattle.sip_model.proofs.Lists.{all_append, all_flat_map, all_weaker, all_contains, all_there}
@@ -100,10 +109,17 @@ module _ (server : Server) (sent : List Packet) where
   -- ---- what goes again
 
   -- a message to a branch
-  to_branch_before : (r : OpenRequest) (b : Branch) (target : ℕ) (m : Message) → AllByRecursion WasSent (to_branch r b target false m) → AllByRecursion WentBefore (to_branch r b target true m)
+  to_branch_before : (r : OpenRequest) (b : Branch) (target : ℕ) (m : Message) → AllByRecursion WasSent (to_branch r b target false m)
+      → AllByRecursion WentBefore (to_branch r b target true m)
   to_branch_before r b target m h = by_address b.address h where
-    by_address : (o : Option Addr) → AllByRecursion WasSent (option_map_or (λ to. record { to = to; bytes = text_of m; ticket = record { datagram = r.number; branch = target }; again = false } ∷ []) o [])
-        → AllByRecursion WentBefore (option_map_or (λ to. record { to = to; bytes = text_of m; ticket = record { datagram = r.number; branch = target }; again = true } ∷ []) o [])
+    by_address : (o : Option Addr) → AllByRecursion WasSent (option_map_or (λ to. record {
+      to = to;
+      bytes = text_of m;
+      ticket = record { datagram = r.number; branch = target };
+      again = false;
+    } ∷ []) o [])
+        → AllByRecursion WentBefore (option_map_or (λ to. record { to = to; bytes = text_of m; ticket = record { datagram = r.number; branch = target }; again = true }
+        ∷ []) o [])
     by_address None h = tt
     by_address (Some to) h = (h.0, tt)
 
@@ -133,19 +149,23 @@ module _ (server : Server) (sent : List Packet) where
   -- ---- changes of branches
 
   -- a change of each branch
-  branches_edited : (r : OpenRequest) (edit : Branch → Branch) (bs : List Branch) → ((x : Branch) → IsIn x bs → IsBranchOut r x → IsBranchOut r (edit x)) → AllByRecursion (IsBranchOut r) bs
+  branches_edited : (r : OpenRequest) (edit : Branch → Branch) (bs : List Branch) → ((x : Branch) → IsIn x bs → IsBranchOut r x → IsBranchOut r (edit x))
+      → AllByRecursion (IsBranchOut r) bs
       → AllByRecursion (IsBranchOut r) (map edit bs)
   branches_edited r edit [] keeps h = tt
   branches_edited r edit (x ∷ xs) keeps h = (keeps x (inl refl) h.0, branches_edited r edit xs (λ y there. keeps y (inr there)) h.1)
 
   -- a branch in another phase
   phase_out : (told : Branch) (phase : Phase) (r : OpenRequest)
-      → ((x : Branch) → IsIn x r.branches → is_same_branch x told ≡ true → AllByRecursion WentBefore (acks_again server r (turned told phase x) phase)) → IsOut r → IsOut (with_phase told phase r)
+      → ((x : Branch) → IsIn x r.branches → is_same_branch x told ≡ true → AllByRecursion WentBefore (acks_again server r (turned told phase x) phase)) → IsOut r
+      → IsOut (with_phase told phase r)
   phase_out told phase r acks h = record {
     answer = h.answer;
-    branches = branches_edited r (λ x. cond (is_same_branch x told) (turned told phase x) x) r.branches (λ x there own. by_test x own (is_same_branch x told) refl (acks x there)) h.branches;
+    branches = branches_edited r (λ x. cond (is_same_branch x told) (turned told phase x) x) r.branches
+        (λ x there own. by_test x own (is_same_branch x told) refl (acks x there)) h.branches;
   } where
-    by_test : (x : Branch) → IsBranchOut r x → (t : Bool) → is_same_branch x told ≡ t → (is_same_branch x told ≡ true → AllByRecursion WentBefore (acks_again server r (turned told phase x) phase))
+    by_test : (x : Branch) → IsBranchOut r x → (t : Bool) → is_same_branch x told ≡ t
+        → (is_same_branch x told ≡ true → AllByRecursion WentBefore (acks_again server r (turned told phase x) phase))
         → IsBranchOut r (cond t (turned told phase x) x)
     by_test x own true is ack = (own.0, ack is)
     by_test x own false is ack = own
@@ -179,7 +199,8 @@ module _ (server : Server) (sent : List Packet) where
   -- ---- what follows every event
 
   -- an answer goes to the caller
-  upward_out : (now : ℕ) (o : Option Upward) (s : OpenRequest) → AllByRecursion (λ (u : Upward). WasSent (answer_to false s (text_of u.message))) (upward_list o) → IsOut s → IsOut (after_upward now o s)
+  upward_out : (now : ℕ) (o : Option Upward) (s : OpenRequest) → AllByRecursion (λ (u : Upward). WasSent (answer_to false s (text_of u.message))) (upward_list o)
+      → IsOut s → IsOut (after_upward now o s)
   upward_out now None s up h = h
   upward_out now (Some u) s up h = record { answer = λ e. by_test (is_invite s && is_success u.status) e; branches = h.branches } where
     by_test : (t : Bool) → t ≡ false → WasSent (answer_to false s (cond t [] (text_of u.message)))
@@ -194,7 +215,8 @@ module _ (server : Server) (sent : List Packet) where
   -- its branches are sent their CANCELs
   cancels_out : (now : ℕ) (s : OpenRequest) → AllByRecursion WasSent (flat_map (branch_packets server false s) (new_cancels now s)) → IsOut s → IsOut (with_cancels now s)
   cancels_out now s cancels h = record { answer = h.answer; branches = by_branch s.branches cancels h.branches } where
-    by_branch : (bs : List Branch) → AllByRecursion WasSent (flat_map (branch_packets server false s) (map (cancel_branch now) (filter is_cancellable bs))) → AllByRecursion (IsBranchOut s) bs
+    by_branch : (bs : List Branch) → AllByRecursion WasSent (flat_map (branch_packets server false s) (map (cancel_branch now) (filter is_cancellable bs)))
+        → AllByRecursion (IsBranchOut s) bs
         → AllByRecursion (IsBranchOut s) (flat_map (with_cancel now) bs)
     by_branch [] sent_now own = tt
     by_branch (b ∷ bs) sent_now own = by_test (is_cancellable b) (λ later. by_branch bs later own.1) sent_now where
@@ -204,12 +226,18 @@ module _ (server : Server) (sent : List Packet) where
       by_test : (t : Bool) → (AllByRecursion WasSent others → AllByRecursion (IsBranchOut s) (flat_map (with_cancel now) bs))
           → AllByRecursion WasSent (flat_map (branch_packets server false s) (map (cancel_branch now) (cond t (b ∷ filter is_cancellable bs) (filter is_cancellable bs))))
           → AllByRecursion (IsBranchOut s) (cond t (held_branch now b ∷ cancel_branch now b ∷ []) (b ∷ []) ++ flat_map (with_cancel now) bs)
-      by_test true rest now_sent =
-          ((own.0.0, tt), ((all_left WasSent (branch_packets server false s (cancel_branch now b)) _ now_sent, tt), rest (all_right WasSent (branch_packets server false s (cancel_branch now b)) _ now_sent)))
+      by_test true rest now_sent = (
+        (own.0.0, tt),
+        (
+          (all_left WasSent (branch_packets server false s (cancel_branch now b)) _ now_sent, tt),
+          rest (all_right WasSent (branch_packets server false s (cancel_branch now b)) _ now_sent),
+        ),
+      )
       by_test false rest now_sent = (own.0, rest now_sent)
 
   -- the whole of it
-  settled_out : (now : ℕ) (acks : List Packet) (relayed : Option Upward) (s : OpenRequest) → IsOut s → AllByRecursion WasSent (change_packets (settled server now acks relayed s)) → IsOut (settled server now acks relayed s).request
+  settled_out : (now : ℕ) (acks : List Packet) (relayed : Option Upward) (s : OpenRequest) → IsOut s
+      → AllByRecursion WasSent (change_packets (settled server now acks relayed s)) → IsOut (settled server now acks relayed s).request
   settled_out now acks relayed s h packets =
       let told : OpenRequest = after_upward now relayed s in
       let best : Option Upward = best_upward server told in
@@ -217,7 +245,8 @@ module _ (server : Server) (sent : List Packet) where
       let change : Change = settled server now acks relayed s in
       let ups : AllByRecursion (λ (u : Upward). WasSent (answer_to false after (text_of u.message))) (upward_list relayed ++ upward_list best) =
       all_mapped WasSent (λ (u : Upward). answer_to false after (text_of u.message)) (upward_list relayed ++ upward_list best)
-      (all_right WasSent acks (upward_packets change.request change.upward) (all_left WasSent (acks ++ upward_packets change.request change.upward) change.cancels packets)) in
+      (all_right WasSent acks (upward_packets change.request change.upward) (all_left WasSent (acks ++ upward_packets change.request change.upward) change.cancels
+      packets)) in
       let first : AllByRecursion (λ (u : Upward). WasSent (answer_to false s (text_of u.message))) (upward_list relayed) =
       all_weaker (λ (u : Upward). WasSent (answer_to false after (text_of u.message))) (λ (u : Upward). WasSent (answer_to false s (text_of u.message)))
       (λ u h. subst WasSent (upward_answer now best told (text_of u.message) ∙ upward_answer now relayed s (text_of u.message)) h) (upward_list relayed)
@@ -230,7 +259,8 @@ module _ (server : Server) (sent : List Packet) where
       (upward_out now best told second (upward_out now relayed s first h))
 
   -- its ACKs were sent
-  settled_acks : (now : ℕ) (acks : List Packet) (relayed : Option Upward) (s : OpenRequest) → AllByRecursion WasSent (change_packets (settled server now acks relayed s)) → AllByRecursion WasSent acks
+  settled_acks : (now : ℕ) (acks : List Packet) (relayed : Option Upward) (s : OpenRequest) → AllByRecursion WasSent (change_packets (settled server now acks relayed s))
+      → AllByRecursion WasSent acks
   settled_acks now acks relayed s packets =
       let change : Change = settled server now acks relayed s in
       all_left WasSent acks (upward_packets change.request change.upward) (all_left WasSent (acks ++ upward_packets change.request change.upward) change.cancels packets)
@@ -238,13 +268,15 @@ module _ (server : Server) (sent : List Packet) where
   -- ---- a response
 
   -- a branch that was heard has the ACK that it had
-  heard_acks : (r : OpenRequest) (b : Branch) (now status : ℕ) (phase : Phase) → AllByRecursion WentBefore (acks_again server r b phase) → AllByRecursion WentBefore (acks_again server r b (heard r now status phase))
+  heard_acks : (r : OpenRequest) (b : Branch) (now status : ℕ) (phase : Phase) → AllByRecursion WentBefore (acks_again server r b phase)
+      → AllByRecursion WentBefore (acks_again server r b (heard r now status phase))
   heard_acks r b now status phase h = by_invite (is_invite r) phase h where
     by_code : (t : Bool) (left right : ℕ) → AllByRecursion WentBefore (acks_again server r b (cond t (Heard left) (Heard right)))
     by_code true left right = tt
     by_code false left right = tt
 
-    by_invite : (t : Bool) (p : Phase) → AllByRecursion WentBefore (acks_again server r b p) → AllByRecursion WentBefore (acks_again server r b (cond t (invite_heard now status p) (other_heard p)))
+    by_invite : (t : Bool) (p : Phase) → AllByRecursion WentBefore (acks_again server r b p)
+        → AllByRecursion WentBefore (acks_again server r b (cond t (invite_heard now status p) (other_heard p)))
     by_invite true (Unheard due) h = by_code (status == 100) (due + 153000) (now + 185000)
     by_invite true (Heard due) h = by_code (status == 100) due (now + 185000)
     by_invite true (Cancelled due) h = tt
@@ -295,7 +327,8 @@ module _ (server : Server) (sent : List Packet) where
     after_heard : IsOut (with_phase b (heard r now status b.phase) r)
     after_heard =
         phase_out b (heard r now status b.phase) r
-        (λ x there same. subst (λ (y : Branch). AllByRecursion WentBefore (acks_again server r (turned b (heard r now status b.phase) y) (heard r now status b.phase))) (this_one r b x differ in_it target there same)
+        (λ x there same. subst (λ (y : Branch). AllByRecursion WentBefore (acks_again server r (turned b (heard r now status b.phase) y) (heard r now status b.phase)))
+        (this_one r b x differ in_it target there same)
         (heard_acks r b now status b.phase own.1)) h
 
     after_answer : AllByRecursion WasSent (acks_of server r b status m) → IsOut (with_answer r b now status m)
@@ -307,14 +340,17 @@ module _ (server : Server) (sent : List Packet) where
         (phase_out told done r
         (λ x there same. subst (λ (y : Branch). AllByRecursion WentBefore (acks_again server r (turned told done y) done)) (this_one r b x differ in_it target there same)
         (told_acks r b (now + linger r) status m acks)) h) in
-        out_either (is_invite r && (is_success status || is_decline status)) (marked (with_final (final_of status m) (with_phase told done r))) (with_final (final_of status m) (with_phase told done r))
+        out_either (is_invite r && (is_success status || is_decline status)) (marked (with_final (final_of status m) (with_phase told done r)))
+        (with_final (final_of status m) (with_phase told done r))
         (marked_out (with_final (final_of status m) (with_phase told done r)) last) last
 
     by_tests : (t u : Bool)
         → AllByRecursion WasSent (change_packets (cond t (settled server now [] (relayed_provisional r b status m) (with_phase b (heard r now status b.phase) r))
-        (cond u (settled server now [] (further r b b.phase status m) r) (settled server now (acks_of server r b status m) (relayed_success r b status m) (with_answer r b now status m)))))
+        (cond u (settled server now [] (further r b b.phase status m) r) (settled server now (acks_of server r b status m) (relayed_success r b status m)
+        (with_answer r b now status m)))))
         → IsOut (cond t (settled server now [] (relayed_provisional r b status m) (with_phase b (heard r now status b.phase) r))
-        (cond u (settled server now [] (further r b b.phase status m) r) (settled server now (acks_of server r b status m) (relayed_success r b status m) (with_answer r b now status m)))).request
+        (cond u (settled server now [] (further r b b.phase status m) r) (settled server now (acks_of server r b status m) (relayed_success r b status m)
+        (with_answer r b now status m)))).request
     by_tests true u packets = settled_out now [] (relayed_provisional r b status m) (with_phase b (heard r now status b.phase) r) after_heard packets
     by_tests false true packets = settled_out now [] (further r b b.phase status m) r h packets
     by_tests false false packets =
@@ -322,7 +358,8 @@ module _ (server : Server) (sent : List Packet) where
         (after_answer (settled_acks now (acks_of server r b status m) (relayed_success r b status m) (with_answer r b now status m) packets)) packets
 
   -- a response to a CANCEL
-  cancel_out : (now : ℕ) (r : OpenRequest) (b : Branch) (status : ℕ) (m : Message) → b.is_cancel ≡ true → IsOut r → AllByRecursion WasSent (change_packets (cancel_responded server now r b status m))
+  cancel_out : (now : ℕ) (r : OpenRequest) (b : Branch) (status : ℕ) (m : Message) → b.is_cancel ≡ true → IsOut r
+      → AllByRecursion WasSent (change_packets (cancel_responded server now r b status m))
       → IsOut (cancel_responded server now r b status m).request
   cancel_out now r b status m is_one h packets = by_tests (is_provisional status) (is_final b.phase) packets where
     in_phase : (phase : Phase) → IsOut (with_phase b phase r)
@@ -331,17 +368,21 @@ module _ (server : Server) (sent : List Packet) where
         (λ x there same. cancel_acks r (turned b phase x) phase ((same_parts (x.number == b.number) x.is_cancel b.is_cancel same).1 ∙ is_one)) h
 
     by_tests : (t u : Bool)
-        → AllByRecursion WasSent (change_packets (cond t (settled server now [] None (with_phase b (other_heard b.phase) r)) (cond u (settled server now [] None r) (settled server now [] None (with_phase b (Done (now + 5000) status) r)))))
-        → IsOut (cond t (settled server now [] None (with_phase b (other_heard b.phase) r)) (cond u (settled server now [] None r) (settled server now [] None (with_phase b (Done (now + 5000) status) r)))).request
+        → AllByRecursion WasSent (change_packets (cond t (settled server now [] None (with_phase b (other_heard b.phase) r))
+        (cond u (settled server now [] None r) (settled server now [] None (with_phase b (Done (now + 5000) status) r)))))
+        → IsOut (cond t (settled server now [] None (with_phase b (other_heard b.phase) r))
+        (cond u (settled server now [] None r) (settled server now [] None (with_phase b (Done (now + 5000) status) r)))).request
     by_tests true u packets = settled_out now [] None (with_phase b (other_heard b.phase) r) (in_phase (other_heard b.phase)) packets
     by_tests false true packets = settled_out now [] None r h packets
     by_tests false false packets = settled_out now [] None (with_phase b (Done (now + 5000) status) r) (in_phase (Done (now + 5000) status)) packets
 
   -- either
-  responded_out : (now : ℕ) (r : OpenRequest) (b : Branch) (status : ℕ) (m : Message) → TargetsDiffer r.branches → IsIn b r.branches → IsOut r → AllByRecursion WasSent (change_packets (responded server now r b status m))
+  responded_out : (now : ℕ) (r : OpenRequest) (b : Branch) (status : ℕ) (m : Message) → TargetsDiffer r.branches → IsIn b r.branches → IsOut r
+      → AllByRecursion WasSent (change_packets (responded server now r b status m))
       → IsOut (responded server now r b status m).request
   responded_out now r b status m differ in_it h packets = by_test b.is_cancel refl packets where
-    by_test : (t : Bool) → b.is_cancel ≡ t → AllByRecursion WasSent (change_packets (cond t (cancel_responded server now r b status m) (target_responded server now r b status m)))
+    by_test : (t : Bool) → b.is_cancel ≡ t → AllByRecursion WasSent (change_packets (cond t (cancel_responded server now r b status m)
+        (target_responded server now r b status m)))
         → IsOut (cond t (cancel_responded server now r b status m) (target_responded server now r b status m)).request
     by_test true is packets = cancel_out now r b status m is h packets
     by_test false is packets = target_out now r b status m differ in_it is h packets
@@ -350,29 +391,34 @@ module _ (server : Server) (sent : List Packet) where
 
   -- past the deadline of a branch
   branch_overdue_out : (r : OpenRequest) (b : Branch) → IsOut r → IsOut (branch_overdue r b)
-  branch_overdue_out r b h = out_either b.is_cancel (with_phase b Ended r) (target_overdue r b b.phase) (phase_out b Ended r (λ x there same. tt) h) (by_phase b.phase) where
-    wanting_out : IsOut (record r { branches = map (λ (x : Branch). cond (is_same_branch x b) (record x { wants_cancel = true }) x) r.branches })
-    wanting_out = record {
-      answer = h.answer;
-      branches = branches_edited r (λ x. cond (is_same_branch x b) (record x { wants_cancel = true }) x) r.branches (λ x there own. branch_either r (is_same_branch x b) (record x { wants_cancel = true }) x own own) h.branches;
-    }
+  branch_overdue_out r b h = out_either b.is_cancel (with_phase b Ended r) (target_overdue r b b.phase) (phase_out b Ended r (λ x there same. tt) h)
+      (by_phase b.phase) where
+        wanting_out : IsOut (record r { branches = map (λ (x : Branch). cond (is_same_branch x b) (record x { wants_cancel = true }) x) r.branches })
+        wanting_out = record {
+          answer = h.answer;
+          branches = branches_edited r (λ x. cond (is_same_branch x b) (record x { wants_cancel = true }) x) r.branches
+              (λ x there own. branch_either r (is_same_branch x b) (record x { wants_cancel = true }) x own own) h.branches;
+        }
 
-    by_phase : (phase : Phase) → IsOut (target_overdue r b phase)
-    by_phase (Unheard due) = given_up_out b 408 r h
-    by_phase (Heard due) =
-        out_either (is_invite r) (record r { branches = map (λ (x : Branch). cond (is_same_branch x b) (record x { wants_cancel = true }) x) r.branches }) (given_up b 408 r) wanting_out (given_up_out b 408 r h)
-    by_phase (Cancelled due) = given_up_out b 487 r h
-    by_phase (Done due status) = phase_out b Ended r (λ x there same. tt) h
-    by_phase Ended = h
+        by_phase : (phase : Phase) → IsOut (target_overdue r b phase)
+        by_phase (Unheard due) = given_up_out b 408 r h
+        by_phase (Heard due) =
+            out_either (is_invite r) (record r { branches = map (λ (x : Branch). cond (is_same_branch x b) (record x { wants_cancel = true }) x) r.branches })
+            (given_up b 408 r) wanting_out (given_up_out b 408 r h)
+        by_phase (Cancelled due) = given_up_out b 487 r h
+        by_phase (Done due status) = phase_out b Ended r (λ x there same. tt) h
+        by_phase Ended = h
 
   -- past any deadline
-  overdue_out : (due : ℕ) (r : OpenRequest) (change : Change) → IsOverdue server due r change → IsOut r → AllByRecursion WasSent (change_packets change) → IsOut change.request
+  overdue_out : (due : ℕ) (r : OpenRequest) (change : Change) → IsOverdue server due r change → IsOut r → AllByRecursion WasSent (change_packets change)
+      → IsOut change.request
   overdue_out due r _ (OfSide is) h packets = settled_out due [] None (record r { side = Closed }) (record { answer = h.answer; branches = h.branches }) packets
   overdue_out due r _ (OfBranch b there is) h packets = settled_out due [] None (branch_overdue r b) (branch_overdue_out r b h) packets
 
   -- once its answer was acknowledged
   acknowledged_out : (now : ℕ) (r : OpenRequest) → IsOut r → IsOut (acknowledged now r)
-  acknowledged_out now r h = out_either (is_invite r && was_refused r.answer) (record r { side = acknowledged_side now r.side }) r (record { answer = h.answer; branches = h.branches }) h
+  acknowledged_out now r h = out_either (is_invite r && was_refused r.answer) (record r { side = acknowledged_side now r.side }) r
+      (record { answer = h.answer; branches = h.branches }) h
 
   -- cancelled by the caller
   cancelled_out : (now : ℕ) (r : OpenRequest) → IsOut r → AllByRecursion WasSent (change_packets (cancelled server now r)) → IsOut (cancelled server now r).request
@@ -383,7 +429,8 @@ module _ (server : Server) (sent : List Packet) where
   resent_out due r _ _ (OfAnswer is) h = record { answer = h.answer; branches = h.branches }
   resent_out due r _ _ (OfRequest b there is) h = record {
     answer = h.answer;
-    branches = branches_edited r (λ x. cond (is_same_branch x b) (record x { again = branch_next r b }) x) r.branches (λ x there own. branch_either r (is_same_branch x b) (record x { again = branch_next r b }) x own own) h.branches;
+    branches = branches_edited r (λ x. cond (is_same_branch x b) (record x { again = branch_next r b }) x) r.branches
+        (λ x there own. branch_either r (is_same_branch x b) (record x { again = branch_next r b }) x own own) h.branches;
   }
 
   -- ---- effects
@@ -400,15 +447,21 @@ module _ (server : Server) (sent : List Packet) where
     by_test false = all_push IsOut s.requests r h own
 
   -- a request that is answered at once
-  replied_out : (a : Arrival) (m : Message) (status : ℕ) (extras : List Field) (records : List Record) (s : ProxyState) → AllByRecursion WasSent (replied server a m status extras records s).originals → AreOut s.requests
+  replied_out : (a : Arrival) (m : Message) (status : ℕ) (extras : List Field) (records : List Record) (s : ProxyState)
+      → AllByRecursion WasSent (replied server a m status extras records s).originals → AreOut s.requests
       → AreOut (replied server a m status extras records s).state.requests
   replied_out a m status extras records s packets h = opened_out _ s (record { answer = λ e. packets.0; branches = tt }) h
 
   -- branches that were just sent
-  started_out : (now : ℕ) (r : OpenRequest) (bs : List Branch) → AllByRecursion (IsStarted now) bs → AllByRecursion WasSent (flat_map (branch_packets server false r) bs) → AllByRecursion (IsBranchOut r) bs
+  started_out : (now : ℕ) (r : OpenRequest) (bs : List Branch) → AllByRecursion (IsStarted now) bs → AllByRecursion WasSent (flat_map (branch_packets server false r) bs)
+      → AllByRecursion (IsBranchOut r) bs
   started_out now r [] started packets = tt
   started_out now r (b ∷ bs) started packets = (
-    (all_left WasSent (branch_packets server false r b) _ packets, subst (λ (p : Phase). AllByRecursion WentBefore (acks_again server r b p)) (sym started.0.is_due) (by_test (is_some b.address))),
+    (
+      all_left WasSent (branch_packets server false r b) _ packets,
+      subst (λ (p : Phase). AllByRecursion WentBefore (acks_again server r b p)) (sym started.0.is_due)
+          (by_test (is_some b.address)),
+    ),
     started_out now r bs started.1 (all_right WasSent (branch_packets server false r b) _ packets),
   ) where
     by_test : (t : Bool) → AllByRecursion WentBefore (acks_again server r b (cond t (Unheard (now + 32000)) Ended))
@@ -417,7 +470,8 @@ module _ (server : Server) (sent : List Packet) where
 
   -- a request that is sent to branches
   forked_out : (a : Arrival) (m : Message) (branches : List Branch) (records : List Record) (s : ProxyState) → AllByRecursion (IsStarted a.now) branches
-      → AllByRecursion WasSent (forked server a.now (forking a m branches) records s).originals → AreOut s.requests → AreOut (forked server a.now (forking a m branches) records s).state.requests
+      → AllByRecursion WasSent (forked server a.now (forking a m branches) records s).originals → AreOut s.requests
+      → AreOut (forked server a.now (forking a m branches) records s).state.requests
   forked_out a m branches records s started packets h =
       let r : OpenRequest = forking a m branches in
       let begun : OpenRequest = tried a.now (trying server r) r in
@@ -425,10 +479,15 @@ module _ (server : Server) (sent : List Packet) where
       let front : AllByRecursion WasSent (upward_packets r (trying server r) ++ change_packets change) =
       all_left WasSent (upward_packets r (trying server r) ++ change_packets change) (flat_map (branch_packets server false r) branches) packets in
       let fresh : IsOut r =
-      record { answer = tt; branches = started_out a.now r branches started (all_right WasSent (upward_packets r (trying server r) ++ change_packets change) (flat_map (branch_packets server false r) branches) packets) } in
+      record {
+        answer = tt;
+        branches = started_out a.now r branches started (all_right WasSent (upward_packets r (trying server r) ++ change_packets change)
+            (flat_map (branch_packets server false r) branches) packets);
+      } in
       let first : IsOut begun = tried_out r (is_tried r) _ (all_left WasSent (upward_packets r (trying server r)) (change_packets change) front) fresh in
       opened_out change.request s (settled_out a.now [] None begun first (all_right WasSent (upward_packets r (trying server r)) (change_packets change) front)) h where
-        tried_out : (r : OpenRequest) (t : Bool) (u : Upward) → AllByRecursion WasSent (upward_packets r (cond t (u ∷ []) [])) → IsOut r → IsOut (tried a.now (cond t (u ∷ []) []) r)
+        tried_out : (r : OpenRequest) (t : Bool) (u : Upward) → AllByRecursion WasSent (upward_packets r (cond t (u ∷ []) [])) → IsOut r
+            → IsOut (tried a.now (cond t (u ∷ []) []) r)
         tried_out r true u packets h = upward_out a.now (Some u) r packets h
         tried_out r false u packets h = h
 
@@ -438,16 +497,20 @@ module _ (server : Server) (sent : List Packet) where
   targets_started now number (t ∷ ts) = (record { is_target = refl; is_due = refl; goes_next = refl }, targets_started now (number + 1) ts)
 
   -- a request that was let through
-  sending_out : (a : Arrival) (m : Message) (q : Question) (id : ℕ) (targets : Targets) (s : ProxyState) → AllByRecursion WasSent (sending server a m q id targets s).originals → AreOut s.requests
+  sending_out : (a : Arrival) (m : Message) (q : Question) (id : ℕ) (targets : Targets) (s : ProxyState)
+      → AllByRecursion WasSent (sending server a m q id targets s).originals → AreOut s.requests
       → AreOut (sending server a m q id targets s).state.requests
   sending_out a m q id Targets.NotFound s packets h = replied_out a m 404 [] [] (asked a q s) packets h
   sending_out a m q id Targets.Unavailable s packets h = replied_out a m 480 [] [] (asked a q s) packets h
-  sending_out a m q id (Targets.Bindings targets) s packets h = forked_out a m (branches_from a.now 1 targets) [] (asked a q s) (targets_started a.now 1 targets) packets h
+  sending_out a m q id (Targets.Bindings targets) s packets h = forked_out a m (branches_from a.now 1 targets) [] (asked a q s) (targets_started a.now 1 targets) packets
+      h
   sending_out a m q id (Targets.Hop uri address) s packets h =
-      forked_out a m (branches_from a.now 1 (record { uri = uri; address = Some address } ∷ [])) [] (asked a q s) (targets_started a.now 1 (record { uri = uri; address = Some address } ∷ [])) packets h
+      forked_out a m (branches_from a.now 1 (record { uri = uri; address = Some address } ∷ [])) [] (asked a q s)
+      (targets_started a.now 1 (record { uri = uri; address = Some address } ∷ [])) packets h
 
   -- a REGISTER
-  registering_out : (a : Arrival) (m : Message) (q : Question) (id : ℕ) (outcome : Registered) (s : ProxyState) → AllByRecursion WasSent (registering server a m q id outcome s).originals → AreOut s.requests
+  registering_out : (a : Arrival) (m : Message) (q : Question) (id : ℕ) (outcome : Registered) (s : ProxyState)
+      → AllByRecursion WasSent (registering server a m q id outcome s).originals → AreOut s.requests
       → AreOut (registering server a m q id outcome s).state.requests
   registering_out a m q id (Bound rows) s packets h = replied_out a m 200 _ [] (asked a q (record s { bindings = rows })) packets h
   registering_out a m q id (Refused status extras) s packets h = replied_out a m status extras [] (asked a q s) packets h
@@ -458,11 +521,13 @@ module _ (server : Server) (sent : List Packet) where
 
   -- a verdict
   effect_out : (history : List Link) (state : ProxyState) (a : Arrival) (m : Message) (v : Verdict) → Fits state.requests m v → AreHonest server history state.requests
-      → AllByRecursion WasSent (effect_of server a m v (counted a state)).originals → AreOut state.requests → AreOut (effect_of server a m v (counted a state)).state.requests
+      → AllByRecursion WasSent (effect_of server a m v (counted a state)).originals → AreOut state.requests
+      → AreOut (effect_of server a m v (counted a state)).state.requests
   effect_out history state a m Drop fits honest packets h = h
   effect_out history state a m (Respond r b status) fits honest packets h =
       changed_out a.now (counted a state) (responded server a.now r b status m)
-      (responded_out a.now r b status m (all_in (IsHonestRequest server history) state.requests r honest fits.0).differ fits.1 (all_in IsOut state.requests r h fits.0) packets) h
+      (responded_out a.now r b status m (all_in (IsHonestRequest server history) state.requests r honest fits.0).differ fits.1 (all_in IsOut state.requests r h fits.0)
+      packets) h
   effect_out history state a m (Copy r) fits honest packets h = by_test (bytes_eq (method_of m.start) (codes "ACK")) where
     by_test : (t : Bool) → AreOut (cond t (record (counted a state) { requests = replaced (acknowledged a.now r) state.requests }) (counted a state)).requests
     by_test true = all_replaced IsOut (acknowledged a.now r) state.requests h (λ stays. acknowledged_out a.now r (all_in IsOut state.requests r h fits))
@@ -476,7 +541,8 @@ module _ (server : Server) (sent : List Packet) where
       (replied_out a m 200 [] [] (counted a state) (all_left WasSent answer.originals (change_packets (cancelled server a.now r)) packets) h)
   effect_out history state a m (Answer status extras) fits honest packets h = replied_out a m status extras [] (counted a state) packets h
   effect_out history state a m (InDialog address id) fits honest packets h =
-      forked_out a m (dialog_branch server a.now m address ∷ []) [] (renewing server a m id (counted a state)) (record { is_target = refl; is_due = refl; goes_next = refl }, tt) packets h
+      forked_out a m (dialog_branch server a.now m address ∷ []) [] (renewing server a m id (counted a state))
+      (record { is_target = refl; is_due = refl; goes_next = refl }, tt) packets h
   effect_out history state a m (Challenge q) fits honest packets h = replied_out a m _ _ [] (issuing a (asked a q (counted a state))) packets h
   effect_out history state a m (Deny q id) fits honest packets h = replied_out a m 403 _ [] (asked a q (counted a state)) packets h
   effect_out history state a m (Send q id targets) fits honest packets h = sending_out a m q id targets (counted a state) packets h
@@ -484,10 +550,12 @@ module _ (server : Server) (sent : List Packet) where
 
   -- a datagram
   datagram_out : (history : List Link) (state : ProxyState) (a : Arrival) (o : Option (Message × Bool)) → AreHonest server history state.requests
-      → AllByRecursion WasSent (option_map_or (λ x. effect_of server a x.0 x.1 (counted a state)) (verdict_in server state a o) (nothing (counted a state))).originals → AreOut state.requests
+      → AllByRecursion WasSent (option_map_or (λ x. effect_of server a x.0 x.1 (counted a state)) (verdict_in server state a o) (nothing (counted a state))).originals
+      → AreOut state.requests
       → AreOut (option_map_or (λ x. effect_of server a x.0 x.1 (counted a state)) (verdict_in server state a o) (nothing (counted a state))).state.requests
   datagram_out history state a None honest packets h = h
-  datagram_out history state a (Some x) honest packets h = effect_out history state a x.0 (message_verdict server state a x.0 x.1) (verdict_fits server state a x.0 x.1) honest packets h
+  datagram_out history state a (Some x) honest packets h = effect_out history state a x.0 (message_verdict server state a x.0 x.1) (verdict_fits server state a x.0 x.1)
+      honest packets h
 
   -- a send that failed
   fault_out : (now : ℕ) (ticket : Ticket) (state : ProxyState) (o : Option OpenRequest) → ((r : OpenRequest) → o ≡ Some r → IsIn r state.requests)
@@ -495,20 +563,24 @@ module _ (server : Server) (sent : List Packet) where
       → AreOut (failed_request server now ticket (record state { moment = now }) o).state.requests
   fault_out now ticket state None there packets h = h
   fault_out now ticket state (Some r) there packets h = by_branch (find (is_failed ticket.branch) r.branches) packets where
-    by_branch : (o : Option Branch) → AllByRecursion WasSent (failed_branch server now (record state { moment = now }) r o).originals → AreOut (failed_branch server now (record state { moment = now }) r o).state.requests
+    by_branch : (o : Option Branch) → AllByRecursion WasSent (failed_branch server now (record state { moment = now }) r o).originals
+        → AreOut (failed_branch server now (record state { moment = now }) r o).state.requests
     by_branch None packets = h
     by_branch (Some b) packets =
-        changed_out now (record state { moment = now }) (send_failed server now r b) (settled_out now [] None (given_up b 503 r) (given_up_out b 503 r (all_in IsOut state.requests r h (there r refl))) packets) h
+        changed_out now (record state { moment = now }) (send_failed server now r b) (settled_out now [] None (given_up b 503 r)
+        (given_up_out b 503 r (all_in IsOut state.requests r h (there r refl))) packets) h
 
   -- ---- a step
 
   -- where a step does an effect
-  does_out : (old : ProxyState) (at : ℕ) (effect : Effect) (out : StepOut) (new : ProxyState) → Does server old at effect out new → AllByRecursion WasSent (originals out.packets)
+  does_out : (old : ProxyState) (at : ℕ) (effect : Effect) (out : StepOut) (new : ProxyState) → Does server old at effect out new
+      → AllByRecursion WasSent (originals out.packets)
       → (AllByRecursion WasSent effect.originals → AreOut effect.state.requests) → AreOut new.requests
   does_out old at effect out new does packets h = subst AreOut (sym does.leaves.requests) (h (subst (AllByRecursion WasSent) does.sends packets))
 
   -- what may go again after a step was sent, if what might before it was, and what it sent
-  step_out : (history : List Link) (old : ProxyState) (act : Act) (out : StepOut) (new : ProxyState) → IsStep server old act out new → AreHonest server history old.requests
+  step_out : (history : List Link) (old : ProxyState) (act : Act) (out : StepOut) (new : ProxyState) → IsStep server old act out new
+      → AreHonest server history old.requests
       → AllByRecursion WasSent (originals out.packets) → AreOut old.requests → AreOut new.requests
   step_out history old (Given (Datagram at word from bytes)) out new step honest packets h =
       does_out old _ _ out new step.does packets (λ sent_now. datagram_out history old (arrival_of old at word from) (message_in (reading_of bytes)) honest sent_now h)
@@ -525,7 +597,8 @@ module _ (server : Server) (sent : List Packet) where
   step_out history old (Passing at) out new (inr (inr goes)) honest packets h =
       does_out old _ _ out new goes.does packets
       (λ sent_now. all_replaced IsOut goes.next old.requests h
-      (λ stays. resent_out out.at goes.request goes.packets goes.next goes.goes (all_in IsOut old.requests goes.request h (in_from_contains old.requests goes.request goes.is_open))))
+      (λ stays. resent_out out.at goes.request goes.packets goes.next goes.goes (all_in IsOut old.requests goes.request h
+      (in_from_contains old.requests goes.request goes.is_open))))
 
 -- ---- a history
 
@@ -536,7 +609,8 @@ out_more server more sent r h = record {
   branches = all_weaker (IsBranchOut server sent r) (IsBranchOut server (more ++ sent) r)
       (λ b own. (
         all_weaker (WasSent server sent) (WasSent server (more ++ sent)) (λ p there. Contains-append_right more sent p there) (branch_packets server false r b) own.0,
-        all_weaker (WentBefore server sent) (WentBefore server (more ++ sent)) (λ p there. Contains-append_right more sent (first_sending p) there) (acks_again server r b b.phase) own.1,
+        all_weaker (WentBefore server sent) (WentBefore server (more ++ sent)) (λ p there. Contains-append_right more sent (first_sending p) there)
+            (acks_again server r b b.phase) own.1,
       )) r.branches h.branches;
 } where
   by_answer : (o : Option LastAnswer) → IsAnswerOut server sent r o → IsAnswerOut server (more ++ sent) r o
@@ -544,26 +618,32 @@ out_more server more sent r h = record {
   by_answer (Some a) h = λ e. Contains-append_right more sent (answer_to false r a.text) (h e)
 
 -- which configuration is in force changes nothing of that
-out_under : (server : Server) (config : Config) (sent : List Packet) (requests : List OpenRequest) → AreOut server sent requests → AreOut (under server config) sent requests
-out_under server config sent requests h = all_weaker (IsOut server sent) (IsOut (under server config) sent) (λ r own. record { answer = by_answer r r.answer own.answer; branches = own.branches }) requests h where
-  by_answer : (r : OpenRequest) (o : Option LastAnswer) → IsAnswerOut server sent r o → IsAnswerOut (under server config) sent r o
-  by_answer r None h = tt
-  by_answer r (Some a) h = h
+out_under : (server : Server) (config : Config) (sent : List Packet) (requests : List OpenRequest) → AreOut server sent requests
+    → AreOut (under server config) sent requests
+out_under server config sent requests h = all_weaker (IsOut server sent) (IsOut (under server config) sent)
+    (λ r own. record { answer = by_answer r r.answer own.answer; branches = own.branches }) requests h where
+      by_answer : (r : OpenRequest) (o : Option LastAnswer) → IsAnswerOut server sent r o → IsAnswerOut (under server config) sent r o
+      by_answer r None h = tt
+      by_answer r (Some a) h = h
 
-out_back : (server : Server) (config : Config) (sent : List Packet) (requests : List OpenRequest) → AreOut (under server config) sent requests → AreOut server sent requests
-out_back server config sent requests h = all_weaker (IsOut (under server config) sent) (IsOut server sent) (λ r own. record { answer = by_answer r r.answer own.answer; branches = own.branches }) requests h where
-  by_answer : (r : OpenRequest) (o : Option LastAnswer) → IsAnswerOut (under server config) sent r o → IsAnswerOut server sent r o
-  by_answer r None h = tt
-  by_answer r (Some a) h = h
+out_back : (server : Server) (config : Config) (sent : List Packet) (requests : List OpenRequest) → AreOut (under server config) sent requests
+    → AreOut server sent requests
+out_back server config sent requests h = all_weaker (IsOut (under server config) sent) (IsOut server sent)
+    (λ r own. record { answer = by_answer r r.answer own.answer; branches = own.branches }) requests h where
+      by_answer : (r : OpenRequest) (o : Option LastAnswer) → IsAnswerOut (under server config) sent r o → IsAnswerOut server sent r o
+      by_answer r None h = tt
+      by_answer r (Some a) h = h
 
 -- what may go again of the requests that are open after a history was sent in it
-out_of_chain : (server : Server) (first : ℕ) (history : List Link) (last : ProxyState) → IsChain server (first_state first) history last → AreOut server (sent_first history) last.requests
+out_of_chain : (server : Server) (first : ℕ) (history : List Link) (last : ProxyState) → IsChain server (first_state first) history last
+    → AreOut server (sent_first history) last.requests
 out_of_chain server first [] last chain = subst (λ (s : ProxyState). AreOut server [] s.requests) (sym chain) tt
 out_of_chain server first (link ∷ history) last chain =
     let now : List Packet = originals link.out.packets in
     subst (λ (s : ProxyState). AreOut server (now ++ sent_first history) s.requests) (sym chain.0)
     (out_back server link.config (now ++ sent_first history) link.after.requests
-    (step_out (under server link.config) (now ++ sent_first history) history link.before link.act link.out link.after chain.1 (honest_under server link.config history link.before.requests (honest_of_chain server first history link.before chain.2))
+    (step_out (under server link.config) (now ++ sent_first history) history link.before link.act link.out link.after chain.1
+    (honest_under server link.config history link.before.requests (honest_of_chain server first history link.before chain.2))
     (all_weaker (Contains now) (Contains (now ++ sent_first history)) (λ p there. Contains-append_left now (sent_first history) p there) now (all_there now))
     (out_under server link.config (now ++ sent_first history) link.before.requests
     (all_weaker (IsOut server (sent_first history)) (IsOut server (now ++ sent_first history)) (λ r. out_more server now (sent_first history) r) link.before.requests

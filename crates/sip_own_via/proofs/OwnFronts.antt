@@ -50,7 +50,8 @@ front_is own place begun text at of_place token whole before =
           ∙ ap (λ (w : List ℕ). Some w) (sym (ap (drop (length place)) (append_assoc place begun rest) ∙ drop-append_seam place (begun ++ rest)));
     })
 
-pub ends_in : (front : OwnFront) (value rest branch : List ℕ) → value ≡ front.text ++ rest → is_token_text rest ≡ true → branch ≡ drop front.before_branch value → EndsIn front value branch
+pub ends_in : (front : OwnFront) (value rest branch : List ℕ) → value ≡ front.text ++ rest → is_token_text rest ≡ true → branch ≡ drop front.before_branch value
+    → EndsIn front value branch
 ends_in front value rest branch whole token is = record { rest = rest; whole = whole; token = token; is_branch = is }
 
 pub branch_is : (own : Own) (front : OwnFront) (value branch : List ℕ) → IsOwnFront own front → EndsIn front value branch → Some branch ≡ branch_said own value

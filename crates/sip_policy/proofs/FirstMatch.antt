@@ -16,7 +16,8 @@ and_both true b e = (refl, e)
 and_both false b e = absurd cc
 
 -- it is what `find` finds
-pub find_first : (test : Rule → Bool) (before after : List Rule) (rule : Rule) → list_any test before ≡ false → test rule ≡ true → find test (before ++ rule ∷ after) ≡ Some rule
+pub find_first : (test : Rule → Bool) (before after : List Rule) (rule : Rule) → list_any test before ≡ false → test rule ≡ true
+    → find test (before ++ rule ∷ after) ≡ Some rule
 find_first test [] after rule none passes = rw passes refl
 find_first test (r ∷ before) after rule none passes =
     let both = or_neither (test r) (list_any test before) none in
@@ -30,10 +31,19 @@ find_none test (r ∷ rules) none =
 
 later : (test : Rule → Bool) (r : Rule) (rules : List Rule) → test r ≡ false → (rule : Rule) × IsFirst test rules rule → (rule : Rule) × IsFirst test (r ∷ rules) rule
 later test r rules fails found =
-    let f = found.1 in
-    (found.0, record { before = r ∷ f.before; after = f.after; split = ap (λ (rest : List Rule). r ∷ rest) f.split; none_before = rw fails f.none_before; passes = f.passes })
+    let f = found.1 in (
+      found.0,
+      record {
+        before = r ∷ f.before;
+        after = f.after;
+        split = ap (λ (rest : List Rule). r ∷ rest) f.split;
+        none_before = rw fails f.none_before;
+        passes = f.passes;
+      },
+    )
 
-first_by : (test : Rule → Bool) (r : Rule) (rules : List Rule) (passes : Bool) → test r ≡ passes → (list_any test rules ≡ true → (rule : Rule) × IsFirst test rules rule) → list_any test (r ∷ rules) ≡ true → (rule : Rule) × IsFirst test (r ∷ rules) rule
+first_by : (test : Rule → Bool) (r : Rule) (rules : List Rule) (passes : Bool) → test r ≡ passes → (list_any test rules ≡ true → (rule : Rule) × IsFirst test rules rule)
+    → list_any test (r ∷ rules) ≡ true → (rule : Rule) × IsFirst test (r ∷ rules) rule
 first_by test r rules true is on some = (r, record { before = []; after = rules; split = refl; none_before = refl; passes = is })
 first_by test r rules false is on some =
     let rest : list_any test rules ≡ true = sym (rw is refl) ∙ some in
@@ -58,7 +68,8 @@ for_never_zero id RuleVerdict.Deny numbered e =
     cc
 for_never_zero id (RuleVerdict.Via hop) numbered e = cc
 
-nobody_never_zero : (rule : Rule) (needs_none : Bool) → is_numbered rule ≡ true → (if needs_none then decision_for rule.id rule.verdict else Decision.Challenge) ≡ Decision.Deny 0 → ⊥
+nobody_never_zero : (rule : Rule) (needs_none : Bool) → is_numbered rule ≡ true → (if needs_none then decision_for rule.id rule.verdict else Decision.Challenge)
+    ≡ Decision.Deny 0 → ⊥
 nobody_never_zero rule true numbered e = for_never_zero rule.id rule.verdict numbered e
 nobody_never_zero rule false numbered e = cc
 

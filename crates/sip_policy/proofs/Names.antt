@@ -1,5 +1,6 @@
 -- Users and the places that their names lead to.
-use Rattle.std.proofs.Common.{◌≡◌, ℕ, Bool, true, false, ◌&&◌, ◌||◌, not, cond, nat_lt, ◌+◌, ◌<◌, take, drop, get_or, List, [], ◌∷◌, ◌++◌, length, position, slice_get, find, Option, Some, None, is_some, Vec, Global, Bor, refl, sym, ap, ap₂, ◌∙◌, subst, arith}
+use Rattle.std.proofs.Common.{◌≡◌, ℕ, Bool, true, false, ◌&&◌, ◌||◌, not, cond, nat_lt, ◌+◌, ◌<◌, take, drop, get_or, List, [], ◌∷◌, ◌++◌, length, position, slice_get}
+use Rattle.std.proofs.Common.{find, Option, Some, None, is_some, Vec, Global, Bor, refl, sym, ap, ap₂, ◌∙◌, subst, arith}
 use Rattle.std.specs.List.{list_any, position_or_len, position_from}
 use Rattle.std.specs.Option.{option_copied, option_or}
 use Rattle.std.specs.Str.{bytes_eq}
@@ -97,15 +98,18 @@ twice (v ∷ us) u rest there = by (is_named u.name v) refl there (twice us u re
   where
     by : (b : Bool) → is_named u.name v ≡ b → (b || is_users_name us u.name) ≡ true → (is_users_name us u.name ≡ true → have_own_names (us ++ u ∷ rest) ≡ false)
         → (not (is_users_name (us ++ u ∷ rest) v.name) && have_own_names (us ++ u ∷ rest)) ≡ false
-    by true e there rest-of = ap (λ (c : Bool). not c && have_own_names (us ++ u ∷ rest)) (any_there (is_named v.name) us u rest (nat_list_eq_equiv.symm u.name v.name ∙ e))
-    by false e there rest-of = ap (λ (c : Bool). not (is_users_name (us ++ u ∷ rest) v.name) && c) (rest-of there) ∙ and_false (not (is_users_name (us ++ u ∷ rest) v.name))
+    by true e there rest-of = ap (λ (c : Bool). not c && have_own_names (us ++ u ∷ rest))
+        (any_there (is_named v.name) us u rest (nat_list_eq_equiv.symm u.name v.name ∙ e))
+    by false e there rest-of = ap (λ (c : Bool). not (is_users_name (us ++ u ∷ rest) v.name) && c) (rest-of there)
+        ∙ and_false (not (is_users_name (us ++ u ∷ rest) v.name))
 
 -- a user of a new name goes last
 own_last : (us : List User) (u : User) → have_own_names us ≡ true → is_users_name us u.name ≡ false → have_own_names (us ++ u ∷ []) ≡ true
 own_last [] u own new = refl
 own_last (v ∷ us) u own new = by (is_named u.name v) refl (is_users_name us v.name) refl own new (own_last us u)
   where
-    by : (b : Bool) → is_named u.name v ≡ b → (again : Bool) → is_users_name us v.name ≡ again → (not again && have_own_names us) ≡ true → (b || is_users_name us u.name) ≡ false
+    by : (b : Bool) → is_named u.name v ≡ b → (again : Bool) → is_users_name us v.name ≡ again → (not again && have_own_names us) ≡ true
+        → (b || is_users_name us u.name) ≡ false
         → (have_own_names us ≡ true → is_users_name us u.name ≡ false → have_own_names (us ++ u ∷ []) ≡ true)
         → (not (is_users_name (us ++ u ∷ []) v.name) && have_own_names (us ++ u ∷ [])) ≡ true
     by b e true f own new rest = absurd cc
@@ -131,7 +135,8 @@ position_from_push : (test : User → Bool) (at : ℕ) (us : List User) (u : Use
     → position_from test at (us ++ u ∷ []) ≡ option_or (position_from test at us) (cond (test u) (Some (at + length us)) None)
 position_from_push test at [] u = ap (λ (n : ℕ). cond (test u) (Some n) None) (omega arith)
 position_from_push test at (v ∷ us) u =
-    push_by test at (at + 1 + length us) _ (test v) (position_from test (at + 1) us) (position_from test (at + 1) (us ++ u ∷ [])) (test u) (omega arith) (position_from_push test (at + 1) us u)
+    push_by test at (at + 1 + length us) _ (test v) (position_from test (at + 1) us) (position_from test (at + 1) (us ++ u ∷ [])) (test u) (omega arith)
+    (position_from_push test (at + 1) us u)
 
 position_push : (test : User → Bool) (us : List User) (u : User) → position test (us ++ u ∷ []) ≡ option_or (position test us) (cond (test u) (Some (length us)) None)
 position_push test us u =
@@ -155,11 +160,13 @@ leads : (place : List ℕ → Option ℕ) (users : List User) (name : List ℕ) 
 leads place users name h = ap (λ (o : Option ℕ). is_some o) (h.placed name) ∙ position_some (is_named name) users
 
 -- one more user of a new name, which leads to its place
-pub named_more : (old new : List ℕ → Option ℕ) (name : List ℕ) (users : List User) (i : ℕ) (u : User) → AreNamed old (take i users) → i < length users → u ≡ get_or users i u
+pub named_more : (old new : List ℕ → Option ℕ) (name : List ℕ) (users : List User) (i : ℕ) (u : User) → AreNamed old (take i users) → i < length users
+    → u ≡ get_or users i u
     → name ≡ u.name → ((other : List ℕ) → new other ≡ cond (bytes_eq other name) (Some i) (old other)) → old name ≡ None → AreNamed new (take (i + 1) users)
 named_more old new name users i u h within at is grew free =
     let taken : take (i + 1) users ≡ take i users ++ u ∷ [] = take_more users i u within ∙ ap (λ (x : User). take i users ++ x ∷ []) (sym at) in
-    let absent : is_users_name (take i users) u.name ≡ false = ap (is_users_name (take i users)) (sym is) ∙ sym (leads old (take i users) name h) ∙ ap (λ (o : Option ℕ). is_some o) free in
+    let absent : is_users_name (take i users) u.name ≡ false = ap (is_users_name (take i users)) (sym is) ∙ sym (leads old (take i users) name h)
+    ∙ ap (λ (o : Option ℕ). is_some o) free in
     rw taken (record {
       placed = λ other. placed other (bytes_eq other name) refl;
       distinct = own_last (take i users) u h.distinct absent;
@@ -189,7 +196,8 @@ named_more old new name users i u h within at is grew free =
         grew other ∙ rw e (sym (pushed other ∙ ap (λ (b : Bool). option_or (old other) (cond b (Some i) None)) e ∙ none_or (old other)))
 
 -- a user of a name that leads somewhere already
-pub named_twice : (place : List ℕ → Option ℕ) (name : List ℕ) (users : List User) (i : ℕ) (u : User) → AreNamed place (take i users) → i < length users → u ≡ get_or users i u
+pub named_twice : (place : List ℕ → Option ℕ) (name : List ℕ) (users : List User) (i : ℕ) (u : User) → AreNamed place (take i users) → i < length users
+    → u ≡ get_or users i u
     → name ≡ u.name → is_some (place name) ≡ true → have_own_names users ≡ false
 named_twice place name users i u h within at is there =
     let split : users ≡ take i users ++ u ∷ drop (i + 1) users =

@@ -18,16 +18,19 @@ always None minute rest e = refl
 always (Some window) minute rest e = absurd cc
 
 -- two tests that agree on the rules of a list find the same one
-find_same : (one other keep : Rule → Bool) (rules : List Rule) → ((r : Rule) → keep r ≡ true → one r ≡ other r) → list_all keep rules ≡ true → find one rules ≡ find other rules
+find_same : (one other keep : Rule → Bool) (rules : List Rule) → ((r : Rule) → keep r ≡ true → one r ≡ other r) → list_all keep rules ≡ true
+    → find one rules ≡ find other rules
 find_same one other keep [] same all = refl
 find_same one other keep (r ∷ rules) same all =
     let both = and_both (keep r) (list_all keep rules) all in
     ap₂ (λ (b : Bool) (rest : Option Rule). if b then Some r else rest) (same r both.0) (find_same one other keep rules same both.1)
 
-pub find_always : (users : List User) (domains : List (List ℕ)) (proven : Option (List ℕ)) (operation : Operation) (aor : Aor) (minute : ℕ) (rules : List Rule) → list_all has_no_window rules ≡ true
+pub find_always : (users : List User) (domains : List (List ℕ)) (proven : Option (List ℕ)) (operation : Operation) (aor : Aor) (minute : ℕ) (rules : List Rule)
+    → list_all has_no_window rules ≡ true
     → find (applies users domains proven operation aor minute) rules ≡ find (matches users domains proven operation aor) rules
 find_always users domains proven operation aor minute rules all =
-    find_same (applies users domains proven operation aor minute) (matches users domains proven operation aor) has_no_window rules (λ r e. always r.window minute (matches users domains proven operation aor r) e) all
+    find_same (applies users domains proven operation aor minute) (matches users domains proven operation aor) has_no_window rules
+    (λ r e. always r.window minute (matches users domains proven operation aor r) e) all
 
 -- no minute is recorded of a rule without a window
 map_none : (window : Option Window) (minute : ℕ) → is_none window ≡ true → option_map (λ (w : Window). minute) window ≡ None
@@ -46,7 +49,8 @@ no_rule (Decision.Allow id) minute = refl
 no_rule (Decision.Via id hop) minute = refl
 no_rule (Decision.Deny id) minute = refl
 
-either_none : (d : Decision) (minute : ℕ) (r : Rule) (rest : Option Rule) (b : Bool) → has_no_window r ≡ true → minute_for d minute rest ≡ None → minute_for d minute (if b then Some r else rest) ≡ None
+either_none : (d : Decision) (minute : ℕ) (r : Rule) (rest : Option Rule) (b : Bool) → has_no_window r ≡ true → minute_for d minute rest ≡ None
+    → minute_for d minute (if b then Some r else rest) ≡ None
 either_none d minute r rest true e f = minute_none d minute r e
 either_none d minute r rest false e f = f
 

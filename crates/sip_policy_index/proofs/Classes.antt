@@ -1,5 +1,6 @@
 -- Which classes of rules a rule that applies is of.
-use Rattle.std.proofs.Common.{◌≡◌, ℕ, Bool, true, false, ◌&&◌, ◌||◌, ◌⊎◌, inl, inr, nat_eq, ◌+◌, ◌<◌, length, take, get_or, List, [], ◌∷◌, ◌++◌, Option, Some, None, refl, sym, ap, ap₂, subst, ◌∙◌}
+use Rattle.std.proofs.Common.{◌≡◌, ℕ, Bool, true, false, ◌&&◌, ◌||◌, ◌⊎◌, inl, inr, nat_eq, ◌+◌, ◌<◌, length, take, get_or, List, [], ◌∷◌, ◌++◌, Option, Some, None, refl}
+use Rattle.std.proofs.Common.{sym, ap, ap₂, subst, ◌∙◌}
 use Rattle.std.specs.List.{list_any}
 use Rattle.std.specs.Option.{option_copied}
 use Rattle.std.specs.Str.{bytes_eq}
@@ -37,12 +38,14 @@ in_groups operation group (g ∷ gs) e = by (bytes_eq group g) refl e (in_groups
   where
     by : (b : Bool) → bytes_eq group g ≡ b → (b || list_any (bytes_eq group) gs) ≡ true
         → (list_any (bytes_eq group) gs ≡ true → list_any (λ (code : ℕ). nat_eq code (text_code (mixed operation 3) group)) (group_codes operation gs) ≡ true)
-        → (nat_eq (text_code (mixed operation 3) g) (text_code (mixed operation 3) group) || list_any (λ (code : ℕ). nat_eq code (text_code (mixed operation 3) group)) (group_codes operation gs)) ≡ true
+        → (nat_eq (text_code (mixed operation 3) g) (text_code (mixed operation 3) group)
+        || list_any (λ (code : ℕ). nat_eq code (text_code (mixed operation 3) group)) (group_codes operation gs)) ≡ true
     by true is e rest = rw (same_text group g (sym is)) (rw (same_number (text_code (mixed operation 3) g)) refl)
     by false is e rest = ap (λ (b : Bool). nat_eq (text_code (mixed operation 3) g) (text_code (mixed operation 3) group) || b) (rest e) ∙ or_true _
 
 -- a user pattern that a proven user is of is in one of the user's classes
-in_classes : (users : List User) (name : List ℕ) (groups : List (List ℕ)) → AreGroupsOf users name groups → (operation : ℕ) (who : Who) → matches_who users (Some name) who ≡ true
+in_classes : (users : List User) (name : List ℕ) (groups : List (List ℕ)) → AreGroupsOf users name groups → (operation : ℕ) (who : Who)
+    → matches_who users (Some name) who ≡ true
     → list_any (λ (code : ℕ). nat_eq code (class_code operation who)) (class_codes name groups operation) ≡ true
 in_classes users name groups h operation Anyone e = rw (same_number (mixed operation 1)) refl
 in_classes users name groups h operation Proven e = rw (same_number (mixed operation 1)) refl
@@ -63,8 +66,10 @@ or_false true = refl
 or_false false = refl
 
 -- one group more
-pub more_groups : (operation : ℕ) (groups : List (List ℕ)) (i code : ℕ) (group : List ℕ) → i < length groups → group ≡ get_or groups i group → code ≡ text_code (mixed operation 3) group
-    → (rule : Rule) → (is_of_classes (group_codes operation (take i groups)) rule || is_of_class code rule) ≡ is_of_classes (group_codes operation (take (i + 1) groups)) rule
+pub more_groups : (operation : ℕ) (groups : List (List ℕ)) (i code : ℕ) (group : List ℕ) → i < length groups → group ≡ get_or groups i group
+    → code ≡ text_code (mixed operation 3) group
+    → (rule : Rule) → (is_of_classes (group_codes operation (take i groups)) rule || is_of_class code rule)
+    ≡ is_of_classes (group_codes operation (take (i + 1) groups)) rule
 more_groups operation groups i code group within at is rule =
     let taken : take (i + 1) groups ≡ take i groups ++ group ∷ [] = take_more groups i group within ∙ ap (λ (g : List ℕ). take i groups ++ g ∷ []) (sym at) in
     let codes : group_codes operation (take (i + 1) groups) ≡ group_codes operation (take i groups) ++ text_code (mixed operation 3) group ∷ [] =
@@ -75,7 +80,8 @@ more_groups operation groups i code group within at is rule =
 
 -- the classes of a user
 pub users_classes : (operation each own : ℕ) (name : List ℕ) (groups : List (List ℕ)) → each ≡ mixed operation 1 → own ≡ text_code (mixed operation 2) name
-    → (rule : Rule) → ((is_of_class each rule || is_of_class own rule) || is_of_classes (group_codes operation groups) rule) ≡ is_of_classes (class_codes name groups operation) rule
+    → (rule : Rule) → ((is_of_class each rule || is_of_class own rule) || is_of_classes (group_codes operation groups) rule)
+    ≡ is_of_classes (class_codes name groups operation) rule
 users_classes operation each own name groups is_each is_own rule =
     or_assoc (is_of_class each rule) (is_of_class own rule) _
     ∙ ap₂ (λ (m n : ℕ). is_of_class m rule || (is_of_class n rule || is_of_classes (group_codes operation groups) rule)) is_each is_own
@@ -128,14 +134,16 @@ looked_at_own asked h rule e code is =
     (looked_at asked.users.now (option_copied asked.proven) asked.groups.now h.are rule (who_matches asked rule e))
 
 -- where all patterns of an operation have one code, each rule that applies is looked at under it
-pub looked_at_one : (asked : Asked) → AreGroupsOfProven asked.users.now (option_copied asked.proven) asked.groups.now → (operation : Operation) → asked.operation.now ≡ operation
+pub looked_at_one : (asked : Asked) → AreGroupsOfProven asked.users.now (option_copied asked.proven) asked.groups.now → (operation : Operation)
+    → asked.operation.now ≡ operation
     → (code : ℕ) → ((pattern : OperationPattern) → matches_operation operation pattern ≡ true → operation_code pattern ≡ code)
     → (rule : Rule) → applies_to asked rule ≡ true → is_looked_at (option_copied asked.proven) asked.groups.now code rule ≡ true
 looked_at_one asked h operation is code one rule e =
     looked_at_own asked h rule e code (one rule.operation (subst (λ (o : Operation). matches_operation o rule.operation ≡ true) is (operation_matches asked rule e)))
 
 -- of a method, under the code of the method or of `send *`
-pub looked_at_either : (asked : Asked) → AreGroupsOfProven asked.users.now (option_copied asked.proven) asked.groups.now → (method : List ℕ) → asked.operation.now ≡ Operation.Send method
+pub looked_at_either : (asked : Asked) → AreGroupsOfProven asked.users.now (option_copied asked.proven) asked.groups.now → (method : List ℕ)
+    → asked.operation.now ≡ Operation.Send method
     → (code : ℕ) → code ≡ text_code 4 method → (rule : Rule) → applies_to asked rule ≡ true
     → (is_looked_at (option_copied asked.proven) asked.groups.now code rule || is_looked_at (option_copied asked.proven) asked.groups.now 3 rule) ≡ true
 looked_at_either asked h method is code own rule e =

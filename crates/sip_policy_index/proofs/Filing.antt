@@ -24,7 +24,8 @@ places_more test rules r =
     places_from_more 0 test rules r ∙ ap (λ (n : ℕ). if test r then places_of test rules ++ n ∷ [] else places_of test rules) (omega arith)
 
 -- one rule more that is filed under its code, behind the others
-pub filed_more : (code_of : Rule → ℕ) (rules : List Rule) (i : ℕ) (r : Rule) (old new : List (ℕ × List ℕ)) → AreFiled (λ code rule. nat_eq code (code_of rule)) (take i rules) old
+pub filed_more : (code_of : Rule → ℕ) (rules : List Rule) (i : ℕ) (r : Rule) (old new : List (ℕ × List ℕ))
+    → AreFiled (λ code rule. nat_eq code (code_of rule)) (take i rules) old
     → i < length rules → r ≡ get_or rules i r
     → ((other : ℕ) → filed other new ≡ (if nat_eq (code_of r) other then filed other old ++ i ∷ [] else filed other old))
     → AreFiled (λ code rule. nat_eq code (code_of rule)) (take (i + 1) rules) new

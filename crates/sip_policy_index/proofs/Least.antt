@@ -1,5 +1,6 @@
 -- The least place of a rule of some class that passes a test.
-use Rattle.std.proofs.Common.{◌≡◌, ℕ, Bool, true, false, ◌&&◌, ◌||◌, not, cond, if◌then◌else◌, nat_lt, ◌+◌, ◌≤◌, ◌<◌, min, length, drop, get_or, slice_get, find, Option, List, [], ◌∷◌, refl, sym, ap, ◌∙◌, arith}
+use Rattle.std.proofs.Common.{◌≡◌, ℕ, Bool, true, false, ◌&&◌, ◌||◌, not, cond, if◌then◌else◌, nat_lt, ◌+◌, ◌≤◌, ◌<◌, min, length, drop, get_or, slice_get, find, Option}
+use Rattle.std.proofs.Common.{List, [], ◌∷◌, refl, sym, ap, ◌∙◌, arith}
 use Rattle.std.proofs.lemmas.List.{drop-drop, drop_more, drop_all}
 use Rattle.std.proofs.lemmas.List.Folds.{find_at}
 use Rattle.std.proofs.lemmas.List.Sums.{prefix_len-le-length}
@@ -18,7 +19,8 @@ first_below test rules limit [] = limit
 first_below test rules limit (at ∷ places) = cond (nat_lt at limit) (cond (begins test (drop at rules)) at (first_below test rules limit places)) limit
 
 below_if : (test : Rule → Bool) (rules : List Rule) (limit at : ℕ) (rest : List ℕ) (is : Bool)
-    → first_below test rules limit (if is then at ∷ rest else rest) ≡ cond is (cond (nat_lt at limit) (cond (begins test (drop at rules)) at (first_below test rules limit rest)) limit) (first_below test rules limit rest)
+    → first_below test rules limit (if is then at ∷ rest else rest) ≡ cond is (cond (nat_lt at limit)
+    (cond (begins test (drop at rules)) at (first_below test rules limit rest)) limit) (first_below test rules limit rest)
 below_if test rules limit at rest true = refl
 below_if test rules limit at rest false = refl
 
@@ -72,7 +74,8 @@ first_of_none test (r ∷ rs) = ap (λ (n : ℕ). 1 + n) (first_of_none test rs)
 pub first_same : (one other : Rule → Bool) (rules : List Rule) → ((rule : Rule) → one rule ≡ other rule) → first_place one rules ≡ first_place other rules
 first_same one other rules same = ap (λ (test : Rule → Bool). first_place test rules) (λ j rule. same rule j)
 
-pub least_of_none : (test : Rule → Bool) (rules : List Rule) (limit : ℕ) → limit ≤ length rules → limit ≡ min limit (first_place (λ (rule : Rule). false && test rule) rules)
+pub least_of_none : (test : Rule → Bool) (rules : List Rule) (limit : ℕ) → limit ≤ length rules
+    → limit ≡ min limit (first_place (λ (rule : Rule). false && test rule) rules)
 least_of_none test rules limit within = let none = first_of_none test rules in omega arith
 
 -- the least of a class and of another is that of both
@@ -84,7 +87,8 @@ pub least_of_more : (test one other both : Rule → Bool) (rules : List Rule) (l
 least_of_more test one other both rules limit least more e f same =
     let either = first_of_either test one other rules in
     let joined : more ≡ min limit (first_place (λ (rule : Rule). (one rule || other rule) && test rule) rules) = omega arith in
-    joined ∙ ap (min limit) (first_same (λ (rule : Rule). (one rule || other rule) && test rule) (λ (rule : Rule). both rule && test rule) rules (λ rule. ap (λ (b : Bool). b && test rule) (same rule)))
+    joined ∙ ap (min limit) (first_same (λ (rule : Rule). (one rule || other rule) && test rule) (λ (rule : Rule). both rule && test rule) rules
+    (λ rule. ap (λ (b : Bool). b && test rule) (same rule)))
 
 and_given : (class test : Bool) → (test ≡ true → class ≡ true) → (class && test) ≡ test
 and_given true test h = refl
@@ -109,7 +113,8 @@ stops test rules limit places i within past = rw (drop_more places i 0 within) (
     by at h = grind (arith, nat_tests)
 
 -- so does one whose rule passes
-pub finds : (test : Rule → Bool) (rules : List Rule) (limit : ℕ) (places : List ℕ) (i : ℕ) (rule : Rule) → i < length places → get_or places i 0 < limit → limit ≤ length rules
+pub finds : (test : Rule → Bool) (rules : List Rule) (limit : ℕ) (places : List ℕ) (i : ℕ) (rule : Rule) → i < length places → get_or places i 0 < limit
+    → limit ≤ length rules
     → rule ≡ get_or rules (get_or places i 0) rule → test rule ≡ true → first_below test rules limit (drop i places) ≡ get_or places i 0
 finds test rules limit places i rule within below most is passes = rw (drop_more places i 0 within) (by (get_or places i 0) below is)
   where
@@ -129,5 +134,6 @@ found_least test class rules limit found places rest within leads same are =
     sym leads ∙ same ∙ ap (first_below test rules limit) are ∙ least test class rules limit within
 
 -- the rule at the first place is the first
-pub rule_at : (test : Rule → Bool) (rules : List Rule) (place : ℕ) (got : Option Rule) → got ≡ slice_get rules place → place ≡ first_place test rules → got ≡ find test rules
+pub rule_at : (test : Rule → Bool) (rules : List Rule) (place : ℕ) (got : Option Rule) → got ≡ slice_get rules place → place ≡ first_place test rules
+    → got ≡ find test rules
 rule_at test rules place got at is = at ∙ ap (slice_get rules) is ∙ sym (find_at test rules)

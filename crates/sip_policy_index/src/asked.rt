@@ -1,5 +1,4 @@
-ghost use Rattle.std.specs.Prelude.{◌≡◌, ◌<◌, length};
-ghost use Rattle.std.specs.List.{slice_index_or};
+ghost use Rattle.std.specs.Prelude.{◌≡◌, ◌<◌};
 ghost use Rattle.sip_policy.specs.declared.rule.Rule.{Rule};
 ghost use Rattle.sip_policy_index.specs.Asked.{applies_to};
 

@@ -1,8 +1,8 @@
 //! The first rule that applies, looked up by operation and by who asks: only classes of rules that may apply are gone through.
-ghost use Rattle.std.specs.Prelude.{◌≡◌, ◌≤◌, ℕ, Bool, ◌&&◌, List, Some, min, length};
+ghost use Rattle.std.specs.Prelude.{◌≡◌, ◌≤◌, Bool, ◌&&◌, List, Some, min, length};
 ghost use Rattle.std.specs.Option.{option_copied};
 ghost use Rattle.sip_policy.specs.declared.rule.Rule.{Rule};
-ghost use Rattle.sip_policy_index.specs.Code.{is_of_operation, is_of_class, is_of_classes, group_codes, class_codes};
+ghost use Rattle.sip_policy_index.specs.Code.{is_of_class, is_of_classes, group_codes, class_codes};
 ghost use Rattle.sip_policy_index.specs.Places as Definitions;
 ghost use Rattle.sip_policy_index.specs.Places.{places_of, AreFiled};
 ghost use Rattle.sip_policy_index.specs.Asked.{applies_to, is_looked_at, AreGroupsOfProven};

@@ -24,6 +24,7 @@ input_to r now (BranchAgain branch) of = tt
 input_to r now AnswerAgain of = tt
 
 -- what was planned and drafted
-pub drafted_is : (rows : List HostAddress) (server : Server) (now : ℕ) (r : OpenRequest) (input : Input) (draft : Draft) (sent : Sent) → outcome draft.change sent ≡ outcome_of server now r input
+pub drafted_is : (rows : List HostAddress) (server : Server) (now : ℕ) (r : OpenRequest) (input : Input) (draft : Draft) (sent : Sent)
+    → outcome draft.change sent ≡ outcome_of server now r input
     → IsKeptAs now r draft.change → IsDraft rows server now (outcome_of server now r input) draft.drafted → IsDrafted rows server now r input draft
 drafted_is rows server now r input draft sent same kept drafted = record { request = ap (λ (o : Outcome). o.request) same; kept = kept; drafted = drafted }

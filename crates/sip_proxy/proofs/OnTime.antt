@@ -18,7 +18,8 @@ told old now reached e =
     let most : now - 1 ≤ max old (now - 1) = le-max_right old (now - 1) in
     omega (arith, e, most)
 
-pub fitting : Passes → (old now reached free : ℕ) (r : OpenRequest) → reached ≡ max old (now - 1) → Fits r → IsWithin now r → most_timers r ≤ free → IsFitting reached free r
+pub fitting : Passes → (old now reached free : ℕ) (r : OpenRequest) → reached ≡ max old (now - 1) → Fits r → IsWithin now r → most_timers r ≤ free
+    → IsFitting reached free r
 fitting passes old now reached free r e fits near room = record { fits = fits; within = passes now (reached + 1) r (told old now reached e) near; room = room }
 
 pub near : Passes → (old now moment : ℕ) (r : OpenRequest) → moment ≡ max old now → IsWithin now r → IsWithin moment r

@@ -1,6 +1,8 @@
 -- What a proxy knows while it runs (RFC 3261 16).
 use Rattle.std.specs.Prelude.{ℕ, ◌≡◌, ◌≤◌, ◌<◌, ◌+◌, ◌^◌, List}
 use Rattle.std.specs.List.{All}
+use Rattle.sip_base.specs.Keyed.{fed_first}
+use Rattle.sip_base.specs.declared.word_hasher.WordHasher.{WordHasher}
 use Rattle.sip_timers.specs.declared.timer.Timer.{Timer}
 use Rattle.sip_dialog.specs.Sameness.{SameDialogs}
 use Rattle.sip_dialog_lessons.specs.declared.lesson.Lesson.{Lesson}
@@ -12,11 +14,22 @@ use Rattle.sip_forwarding.specs.declared.arrival.Arrival.{Arrival}
 use Rattle.sip_dialog_lessons.specs.state.declared.open_request.OpenRequest.{OpenRequest}
 use Rattle.sip_dialog_lessons.specs.state.declared.proxy_state.ProxyState.{ProxyState}
 
--- the state of the proxy, the timers that stand, in the order in which they fire, and for how many more addresses of record no memory is taken
+-- the secrets under which the tables are hashed whose keys peers choose: that of the open requests, and that of the dialogs
+pub record Secrets : Type 0 where
+  pub requests : WordHasher
+  pub dialogs : WordHasher
+
+-- both of these keys
+abbrev pub secrets_of : ℕ → Secrets
+secrets_of keys = record { requests = fed_first keys; dialogs = fed_first keys }
+
+-- the state of the proxy, the timers that stand, in the order in which they fire, for how many more addresses of record no memory is taken,
+-- and the secrets of its tables
 pub record Proxy : Type 0 where
   pub state : ProxyState
   pub timers : List Timer
   pub room : ℕ
+  pub secrets : Secrets
 
 -- A moment may come: it isn't before the last one, and nothing stands before it.
 pub record MayCome (state : ProxyState) (now : ℕ) : Type 0 where

@@ -48,6 +48,7 @@ fn reserve_timers<T: Timers>(contexts: &mut Contexts<T>, timers: usize) -> Resul
     ensures moment { contexts.new.moment ≡ contexts.old.moment }
     ensures places { contexts.new.places ≡ contexts.old.places }
     ensures ok { OnOk result (timers ≤ contexts.new.room) }
+    ensures secret { contexts.new.secret ≡ contexts.old.secret }
 {
     match contexts.reserve(timers) {
         Ok(()) => Ok(()),
@@ -66,6 +67,7 @@ fn reserve_both<T: Timers>(
     ensures moment { contexts.new.moment ≡ contexts.old.moment }
     ensures places { OnOk result (1 ≤ contexts.new.places) }
     ensures room { OnOk result (most_timers opened.now + most_timers changed.now ≤ contexts.new.room) }
+    ensures secret { contexts.new.secret ≡ contexts.old.secret }
 {
     let Some(timers) = timers_of_both(opened, changed) else {
         return Err(AllocError);
@@ -106,6 +108,7 @@ fn open_and_change_at<T: Timers>(
     ensures requests { contexts.new.requests ≡ replaced change (with_one_more opened contexts.old.requests) }
     ensures queue { KeepsOrder contexts.old.pending contexts.new.pending contexts.new.requests }
     ensures moment { contexts.new.moment ≡ now }
+    ensures secret { contexts.new.secret ≡ contexts.old.secret }
 {
     fits_once_it_came();
     others_keep_their_places();
@@ -146,6 +149,7 @@ impl<T: Timers> Proxy<T> {
         ensures unchanged { OnErr result (self.new.state ≡ self.old.state) }
         ensures timers { OnErr result (self.new.timers ≡ self.old.timers) }
         ensures room { self.new.room ≡ self.old.room }
+        ensures secrets { self.new.secrets ≡ self.old.secrets }
     {
         let Draft { change, drafted } = draft;
         let Drafted { packets, lessons } = drafted;

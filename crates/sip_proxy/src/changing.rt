@@ -38,6 +38,7 @@ fn reserve_timers<T: Timers>(
     ensures moment { contexts.new.moment ≡ contexts.old.moment }
     ensures places { contexts.new.places ≡ contexts.old.places }
     ensures ok { OnOk result (most_timers request.now ≤ contexts.new.room) }
+    ensures secret { contexts.new.secret ≡ contexts.old.secret }
 {
     match contexts.prepare(request) {
         Ok(()) => Ok(()),
@@ -50,6 +51,7 @@ pub(crate) fn reserve_dialog(dialogs: &mut Dialogs, lessons: &Lessons) -> Result
     requires few { beginnings lessons.now ≤ 1 }
     ensures dialogs { dialogs.new.dialogs ≡ dialogs.old.dialogs }
     ensures ok { OnOk result (beginnings lessons.now ≤ dialogs.new.room) }
+    ensures secret { dialogs.new.secret ≡ dialogs.old.secret }
 {
     match lessons.reserve(dialogs) {
         Ok(()) => Ok(()),
@@ -79,6 +81,7 @@ fn change_at<T: Timers>(contexts: &mut Contexts<T>, now: u64, place: usize, chan
     ensures requests { contexts.new.requests ≡ replaced change contexts.old.requests }
     ensures queue { KeepsOrder contexts.old.pending contexts.new.pending contexts.new.requests }
     ensures moment { contexts.new.moment ≡ now }
+    ensures secret { contexts.new.secret ≡ contexts.old.secret }
 {
     fits_once_it_came();
     let _stood = contexts.get(place);
@@ -105,6 +108,7 @@ pub(crate) fn open_at<T: Timers>(contexts: &mut Contexts<T>, now: u64, opening: 
     ensures moment { contexts.new.moment ≡ now }
     ensures reached { contexts.new.reached ≡ max contexts.old.reached (now - 1) }
     ensures room { contexts.old.room ≤ contexts.new.room + most_timers opening }
+    ensures secret { contexts.new.secret ≡ contexts.old.secret }
 {
     fits_once_it_came();
     contexts.reach(now);
@@ -121,6 +125,7 @@ fn reserve_open<T: Timers>(
     ensures moment { contexts.new.moment ≡ contexts.old.moment }
     ensures places { OnOk result (1 ≤ contexts.new.places) }
     ensures room { OnOk result (most_timers request.now ≤ contexts.new.room) }
+    ensures secret { contexts.new.secret ≡ contexts.old.secret }
 {
     contexts.reserve_one()?;
     reserve_timers(contexts, request)
@@ -147,6 +152,7 @@ impl<T: Timers> Proxy<T> {
         ensures unchanged { OnErr result (self.new.state ≡ self.old.state) }
         ensures timers { OnErr result (self.new.timers ≡ self.old.timers) }
         ensures room { self.new.room ≡ self.old.room }
+        ensures secrets { self.new.secrets ≡ self.old.secrets }
     {
         reserve_timers(&mut self.contexts, draft.change.request())?;
         reserve_dialog(&mut self.dialogs, &draft.drafted.lessons)?;
@@ -174,6 +180,7 @@ impl<T: Timers> Proxy<T> {
         ensures unchanged { OnErr result (self.new.state ≡ self.old.state) }
         ensures timers { OnErr result (self.new.timers ≡ self.old.timers) }
         ensures room { self.new.room ≡ self.old.room }
+        ensures secrets { self.new.secrets ≡ self.old.secrets }
     {
         reserve_open(&mut self.contexts, opening.request())?;
         reserve_dialog(&mut self.dialogs, &lessons)?;
@@ -192,6 +199,7 @@ impl<T: Timers> Proxy<T> {
         ensures queue { OnOk result (KeepsOrder self.old.timers self.new.timers self.new.state.requests) }
         ensures timers { self.new.timers ≡ self.old.timers }
         ensures room { self.new.room ≡ self.old.room }
+        ensures secrets { self.new.secrets ≡ self.old.secrets }
     {
         reserve_dialog(&mut self.dialogs, &lessons)?;
         self.contexts.reach(now);

@@ -36,6 +36,7 @@ fn end_at<T: Timers>(
     ensures queue { KeepsOrder contexts.old.pending contexts.new.pending contexts.new.requests }
     ensures left { (r : OpenRequest) → slice_get contexts.old.requests place ≡ Some r → result ≡ left_invite (ended transaction r) }
     ensures moment { contexts.new.moment ≡ now }
+    ensures secret { contexts.new.secret ≡ contexts.old.secret }
 {
     fits_once_it_came();
     contexts.reach(now);
@@ -67,6 +68,7 @@ impl<T: Timers> Proxy<T> {
             self.new.state }
         ensures queue { KeepsOrder self.old.timers self.new.timers self.new.state.requests }
         ensures room { self.new.room ≡ self.old.room }
+        ensures secrets { self.new.secrets ≡ self.old.secrets }
     {
         if let Some(number) = end_at(&mut self.contexts, now, place, transaction) {
             self.dialogs.expire(number, now);

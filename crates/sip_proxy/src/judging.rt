@@ -1,4 +1,4 @@
-ghost use Rattle.std.specs.Prelude.{◌≡◌, ◌<◌, ◌^◌, ℕ, IfOk, is_some, List, Option, Some};
+ghost use Rattle.std.specs.Prelude.{◌≡◌, ◌<◌, ◌^◌, IfOk, is_some, List, Option, Some};
 ghost use Rattle.sip_core.specs.Verdict.{HasRoom, Is, IsRequestOf, goes_on};
 ghost use Rattle.sip_edit.specs.ReceivedRequest.{top_via};
 ghost use Rattle.sip_core.specs.state.Names.{AreNames};
@@ -44,6 +44,7 @@ impl<T: Timers> Proxy<T> {
         ensures made { IfOk result (λ verdict. is_some names.new ≡ goes_on verdict) }
         ensures unchanged { self.new.state ≡ self.old.state }
         ensures timers { self.new.timers ≡ self.old.timers }
+        ensures secrets { self.new.secrets ≡ self.old.secrets }
     {
         let is_full = self.contexts.is_full();
         let known = Known {

@@ -1,6 +1,6 @@
 //! What the proxy knows, as the steps look it up, and a moment or a number that passes alone.
 //! All other changes are in `changing`, `cancelling`, `ending` and `registering`.
-ghost use Rattle.std.specs.Prelude.{◌≡◌, ◌<◌, ◌≤◌, ◌==◌, ◌+◌, ◌^◌, ℕ, List, [], false, length, position, slice_get, nat_le, find, option_map};
+ghost use Rattle.std.specs.Prelude.{◌≡◌, ◌<◌, ◌≤◌, ◌==◌, ◌+◌, ◌^◌, List, [], false, length, position, slice_get, nat_le, find, option_map};
 ghost use Rattle.std.specs.Prelude.{MatchOption, Some, IfOk, IfSome};
 ghost use Rattle.std.specs.List.{AllPairs};
 ghost use Rattle.std.specs.Option.{option_and_then};
@@ -15,7 +15,8 @@ ghost use Rattle.sip_dialog_lessons.specs.state.State.{first_state, has_key};
 ghost use Rattle.sip_dialog_lessons.specs.state.declared.branch.Branch.{Branch};
 ghost use Rattle.sip_dialog_lessons.specs.state.declared.open_request.OpenRequest.{OpenRequest};
 ghost use Rattle.sip_core.specs.verdict_model.Verdict.{is_cancelled_by};
-ghost use Rattle.sip_proxy.specs.Proxy.{Becomes, IsCounted, MayCome};
+ghost use Rattle.sip_base.specs.Keyed.{fed_first};
+ghost use Rattle.sip_proxy.specs.Proxy.{Becomes, IsCounted, MayCome, secrets_of};
 
 use sip_dialog::Dialogs;
 use sip_dialog_lessons::state::{OpenRequest, Server};
@@ -67,14 +68,16 @@ impl<T: Timers> Model for Proxy<T> {
       };
       timers = p.contexts.pending;
       room = p.locations.room;
+      secrets = record { requests = p.contexts.secret; dialogs = p.dialogs.secret };
     } };
 }
 
-/// No open request. `AllocError` is the only refusal.
+/// No open request; keys are hashed under the secret `keys`. `AllocError` is the only refusal.
 fn no_requests<T: Timers>(alloc: Global, keys: u128) -> Result<Contexts<T>, AllocError>
     ensures requests { IfOk result (λ contexts. contexts.requests ≡ []) }
     ensures pending { IfOk result (λ contexts. contexts.pending ≡ []) }
     ensures moment { IfOk result (λ contexts. contexts.moment ≡ 0) }
+    ensures secret { IfOk result (λ contexts. contexts.secret ≡ fed_first keys) }
 {
     match Contexts::new(alloc, keys) {
         Ok(contexts) => Ok(contexts),
@@ -98,6 +101,7 @@ impl<T: Timers> Proxy<T> {
     pub fn new(alloc: Global, keys: u128, first: u64) -> Result<Self, AllocError>
         ensures state { IfOk result (λ proxy. proxy.state ≡ first_state first) }
         ensures timers { IfOk result (λ proxy. proxy.timers ≡ []) }
+        ensures secrets { IfOk result (λ proxy. proxy.secrets ≡ secrets_of keys) }
     {
         let contexts = no_requests(alloc, keys)?;
         let locations = no_bindings(alloc)?;
@@ -219,6 +223,7 @@ impl<T: Timers> Proxy<T> {
         ensures queue { KeepsOrder self.old.timers self.new.timers self.new.state.requests }
         ensures timers { self.new.timers ≡ self.old.timers }
         ensures room { self.new.room ≡ self.old.room }
+        ensures secrets { self.new.secrets ≡ self.old.secrets }
     {
         self.contexts.reach(now);
     }
@@ -231,6 +236,7 @@ impl<T: Timers> Proxy<T> {
         ensures queue { (old : List Timer) → KeepsOrder old self.old.timers self.old.state.requests → KeepsOrder old self.new.timers self.new.state.requests }
         ensures timers { self.new.timers ≡ self.old.timers }
         ensures room { self.new.room ≡ self.old.room }
+        ensures secrets { self.new.secrets ≡ self.old.secrets }
     {
         let number = self.next;
         self.next = number + 1;

@@ -24,6 +24,7 @@ impl<T: Timers> Proxy<T> {
         ensures timers { self.new.timers ≡ self.old.timers }
         ensures queue { (old : List Timer) → KeepsOrder old self.old.timers self.old.state.requests → KeepsOrder old self.new.timers self.new.state.requests }
         ensures room { self.new.room ≡ self.old.room }
+        ensures secrets { self.new.secrets ≡ self.old.secrets }
     {
         proof.spend(&mut self.nonces, now);
     }
@@ -34,6 +35,7 @@ impl<T: Timers> Proxy<T> {
         ensures timers { self.new.timers ≡ self.old.timers }
         ensures queue { (old : List Timer) → KeepsOrder old self.old.timers self.old.state.requests → KeepsOrder old self.new.timers self.new.state.requests }
         ensures room { self.new.room ≡ self.old.room }
+        ensures secrets { self.new.secrets ≡ self.old.secrets }
     {
         self.nonces.issue(word, now);
     }
@@ -49,6 +51,7 @@ impl<T: Timers> Proxy<T> {
         ensures rest { self.new.state ≡ with_bindings self.new.state.bindings self.old.state }
         ensures timers { self.new.timers ≡ self.old.timers }
         ensures queue { (old : List Timer) → KeepsOrder old self.old.timers self.old.state.requests → KeepsOrder old self.new.timers self.new.state.requests }
+        ensures secrets { self.new.secrets ≡ self.old.secrets }
     {
         self.locations.apply(plan);
     }

@@ -1,5 +1,6 @@
 -- What was written of a configuration says it, or is a front of what does.
-use Rattle.std.proofs.Common.{◌≡◌, ◌≢◌, ℕ, ◌+◌, ◌≤◌, ◌<◌, List, [], ◌∷◌, ◌++◌, length, take, drop, Bool, true, false, Option, Some, None, Result, Ok, Err, OnOk, refl, sym, ◌∙◌, ap, subst, arith, append-nil, append_assoc, length-append, take-append-drop}
+use Rattle.std.proofs.Common.{◌≡◌, ℕ, ◌+◌, ◌≤◌, ◌<◌, List, [], ◌∷◌, ◌++◌, length, take, drop, Bool, true, false, Option, Some, None, Result, Ok, Err, OnOk, refl, sym}
+use Rattle.std.proofs.Common.{◌∙◌, ap, subst, arith, append-nil, append_assoc, length-append, take-append-drop}
 use Rattle.std.specs.Prelude.{count_by, not, OnErr}
 use Rattle.std.specs.Result.{is_err, is_ok}
 use Rattle.std.proofs.lemmas.List.{drop-drop, drop_all, length-take, length-take-le, take-take, take_at}
@@ -27,7 +28,8 @@ err_is (Err y) e p = p
 -- ---- the first piece
 
 no_end_marked : (mark bytes : List ℕ) → count_by is_end mark ≡ 0 → count_by is_end bytes ≡ 0 → count_by is_end (mark ++ bytes) ≡ 0
-no_end_marked mark bytes none single = let sum : count_by is_end (mark ++ bytes) ≡ count_by is_end mark + count_by is_end bytes = ends_add mark bytes in omega (arith, sum, none, single)
+no_end_marked mark bytes none single = let sum : count_by is_end (mark ++ bytes) ≡ count_by is_end mark + count_by is_end bytes = ends_add mark bytes in
+    omega (arith, sum, none, single)
 
 -- how long what stands near is
 near_most : (text near : List ℕ) (most : ℕ) → near ≡ take most text → length near ≤ most
@@ -36,11 +38,9 @@ near_most text near most is = omega (arith, ap length is, length-take most text)
 near_within : (text near : List ℕ) (most : ℕ) → near ≡ take most text → length near ≤ length text
 near_within text near most is = omega (arith, ap length is, length-take most text)
 
-near_some : (text near : List ℕ) (most : ℕ) → text ≢ [] → 1 ≤ most → most ≤ length text → near ≡ take most text → 1 ≤ length near
-near_some text near most some least fits is = omega (arith, ap length is, length-take-le most text fits)
-
 -- a line that stands near
-pub ended_piece : (text near bytes : List ℕ) (most place : ℕ) → near ≡ take most text → most ≤ 131072 → EndsAt near place → bytes ≡ take place near → IsFirstPiece text (61 ∷ 32 ∷ []) bytes (place + 1)
+pub ended_piece : (text near bytes : List ℕ) (most place : ℕ) → near ≡ take most text → most ≤ 131072 → EndsAt near place → bytes ≡ take place near
+    → IsFirstPiece text (61 ∷ 32 ∷ []) bytes (place + 1)
 ended_piece text near bytes most place is few ends bytes_are = record {
   is_line = record {
     short = omega (arith, both, size, inside, near_most text near most is, few);
@@ -71,39 +71,24 @@ ended_piece text near bytes most place is few ends bytes_are = record {
 
   front_is : take (place + 1) text ≡ ended (take place near)
   front_is =
-      sym (take-take (place + 1) most text (omega (arith, inside, near_most text near most is))) ∙ ap (take (place + 1)) (sym is ∙ ends.cut ∙ sym (append_assoc (take place near) (10 ∷ []) (drop (place + 1) near)))
+      sym (take-take (place + 1) most text (omega (arith, inside, near_most text near most is)))
+      ∙ ap (take (place + 1)) (sym is ∙ ends.cut ∙ sym (append_assoc (take place near) (10 ∷ []) (drop (place + 1) near)))
       ∙ take_at (ended (take place near)) (drop (place + 1) near) (place + 1) ended_size
-
--- or no LF does
-pub open_piece : (text near : List ℕ) (most : ℕ) → text ≢ [] → near ≡ take most text → most ≤ 131072 → 1 ≤ most → most ≤ length text → count_by is_end near ≡ 0 → IsFirstPiece text (43 ∷ 32 ∷ []) near (length near)
-open_piece text near most some is few least fits single = record {
-  is_line = record {
-    short = omega (arith, both, near_most text near most is, few);
-    single = no_end_marked (43 ∷ 32 ∷ []) near refl single;
-  };
-  gives = ap (λ (l : List ℕ). Some l) (is ∙ ap (λ n. take n text) (sym (ap length is ∙ length-take-le most text fits)));
-  some = near_some text near most some least fits is;
-  within = near_within text near most is;
-  short = omega (arith, marked, near_most text near most is, few);
-} where
-  marked : length {A = ℕ} (43 ∷ 32 ∷ []) ≡ 2
-  marked = refl
-
-  both : length {A = ℕ} (43 ∷ 32 ∷ near) ≡ 2 + length near
-  both = length-append {A = ℕ} (43 ∷ 32 ∷ []) near
 
 -- ---- the lines of a text
 
 pub writes_none : (a : Option (List ℕ)) (text : List ℕ) → WritesText a a text text
 writes_none a text = record { done = []; lines = []; cut = refl; gives = gives_nothing; written = Appends-nil a }
 
-pub writes_more : (a b c : Option (List ℕ)) (text mark bytes line : List ℕ) (at count : ℕ) → WritesText a b text (drop at text) → IsFirstPiece (drop at text) mark bytes count → line ≡ mark ++ (bytes ++ 10 ∷ []) → Appends b c line
+pub writes_more : (a b c : Option (List ℕ)) (text mark bytes line : List ℕ) (at count : ℕ) → WritesText a b text (drop at text)
+    → IsFirstPiece (drop at text) mark bytes count → line ≡ mark ++ (bytes ++ 10 ∷ []) → Appends b c line
     → WritesText a c text (drop (at + count) text)
 writes_more a b c text mark bytes line at count w p is h = record {
   done = w.done ++ take count (drop at text);
   lines = w.lines ++ ended (mark ++ bytes);
   cut =
-      w.cut ∙ ap (λ (l : List ℕ). w.done ++ l) (sym (take-append-drop count (drop at text)) ∙ ap (λ (l : List ℕ). take count (drop at text) ++ l) (drop-drop count at text))
+      w.cut ∙ ap (λ (l : List ℕ). w.done ++ l) (sym (take-append-drop count (drop at text))
+      ∙ ap (λ (l : List ℕ). take count (drop at text) ++ l) (drop-drop count at text))
       ∙ sym (append_assoc w.done (take count (drop at text)) (drop (at + count) text));
   gives = gives_both w.lines (ended (mark ++ bytes)) w.done (take count (drop at text)) w.gives (gives_one (mark ++ bytes) (take count (drop at text)) p.is_line p.gives);
   written = Appends-trans a b c w.lines (ended (mark ++ bytes)) w.written (subst (λ (l : List ℕ). Appends b c l) (is ∙ sym (append_assoc mark bytes (10 ∷ []))) h);
@@ -113,7 +98,8 @@ pub writes_all : (a b : Option (List ℕ)) (text : List ℕ) (at : ℕ) → Writ
 writes_all a b text at w past = subst (λ (l : List ℕ). WritesText a b text l) (drop_all at text past) w
 
 -- a front of them
-pub front_of_text : (a b c : Option (List ℕ)) (text mark bytes line : List ℕ) (at count : ℕ) → WritesText a b text (drop at text) → IsFirstPiece (drop at text) mark bytes count → line ≡ mark ++ (bytes ++ 10 ∷ []) → WritesFront b c line
+pub front_of_text : (a b c : Option (List ℕ)) (text mark bytes line : List ℕ) (at count : ℕ) → WritesText a b text (drop at text)
+    → IsFirstPiece (drop at text) mark bytes count → line ≡ mark ++ (bytes ++ 10 ∷ []) → WritesFront b c line
     → FrontOfText a c text
 front_of_text a b c text mark bytes line at count w p is h =
     let rest = some_lines (drop count (drop at text)) in
@@ -123,8 +109,10 @@ front_of_text a b c text mark bytes line at count w p is h =
       gives =
           subst (λ (l : List ℕ). GivesText (w.lines ++ (first ++ rest.text)) l) (ap (λ (l : List ℕ). w.done ++ l) (take-append-drop count (drop at text)) ∙ sym w.cut)
           (gives_both w.lines (first ++ rest.text) w.done (take count (drop at text) ++ drop count (drop at text)) w.gives
-          (gives_both first rest.text (take count (drop at text)) (drop count (drop at text)) (gives_one (mark ++ bytes) (take count (drop at text)) p.is_line p.gives) rest.gives));
-      written = front_second a b c w.lines (first ++ rest.text) w.written (front_first b c first rest.text (subst (λ (l : List ℕ). WritesFront b c l) (is ∙ sym (append_assoc mark bytes (10 ∷ []))) h));
+          (gives_both first rest.text (take count (drop at text)) (drop count (drop at text)) (gives_one (mark ++ bytes) (take count (drop at text)) p.is_line p.gives)
+          rest.gives));
+      written = front_second a b c w.lines (first ++ rest.text) w.written (front_first b c first rest.text
+          (subst (λ (l : List ℕ). WritesFront b c l) (is ∙ sym (append_assoc mark bytes (10 ∷ []))) h));
     }
 
 -- ---- the whole
@@ -135,12 +123,14 @@ gives_done a b text w = subst (λ (l : List ℕ). GivesText w.lines l) (sym (w.c
 line_is : (line last : List ℕ) → line ≡ last ++ ([] ++ 10 ∷ []) → line ≡ ended last
 line_is line last is = is
 
-pub writes_configuration : (a b c : Option (List ℕ)) (flushed : Type 0) (configuration line last : List ℕ) → WritesText a b configuration [] → last ≡ configuration_line configuration → line ≡ last ++ ([] ++ 10 ∷ []) → Appends b c line → flushed
+pub writes_configuration : (a b c : Option (List ℕ)) (flushed : Type 0) (configuration line last : List ℕ) → WritesText a b configuration []
+    → last ≡ configuration_line configuration → line ≡ last ++ ([] ++ 10 ∷ []) → Appends b c line → flushed
     → WritesConfiguration a c flushed configuration
 writes_configuration a b c flushed configuration line last w last_is is h handed_on = record {
   text = w.lines ++ ended (configuration_line configuration);
   says = record { front = w.lines; gives = gives_done a b configuration w; text_is = refl };
-  written = Appends-trans a b c w.lines (ended (configuration_line configuration)) w.written (subst (λ (l : List ℕ). Appends b c l) (line_is line last is ∙ ap ended last_is) h);
+  written = Appends-trans a b c w.lines (ended (configuration_line configuration)) w.written
+      (subst (λ (l : List ℕ). Appends b c l) (line_is line last is ∙ ap ended last_is) h);
   handed_on = handed_on;
 }
 
@@ -151,11 +141,13 @@ front_of_lines a b configuration f = record {
   written = front_first a b f.lines (ended (configuration_line configuration)) f.written;
 }
 
-pub front_of_last : (a b c : Option (List ℕ)) (configuration line last : List ℕ) → WritesText a b configuration [] → last ≡ configuration_line configuration → line ≡ last ++ ([] ++ 10 ∷ []) → WritesFront b c line → FrontOfConfiguration a c configuration
+pub front_of_last : (a b c : Option (List ℕ)) (configuration line last : List ℕ) → WritesText a b configuration [] → last ≡ configuration_line configuration
+    → line ≡ last ++ ([] ++ 10 ∷ []) → WritesFront b c line → FrontOfConfiguration a c configuration
 front_of_last a b c configuration line last w last_is is h = record {
   text = w.lines ++ ended (configuration_line configuration);
   says = record { front = w.lines; gives = gives_done a b configuration w; text_is = refl };
-  written = front_second a b c w.lines (ended (configuration_line configuration)) w.written (subst (λ (l : List ℕ). WritesFront b c l) (line_is line last is ∙ ap ended last_is) h);
+  written = front_second a b c w.lines (ended (configuration_line configuration)) w.written
+      (subst (λ (l : List ℕ). WritesFront b c l) (line_is line last is ∙ ap ended last_is) h);
 }
 
 -- nothing was written
@@ -164,7 +156,8 @@ front_of_none a configuration = let some = some_configuration configuration in r
 
 -- ---- what a call answers
 
-known_written : (old new : Option (List ℕ)) (flushed : Type 0) (configuration : List ℕ) → WritesConfiguration old new flushed configuration → GrewKnown (λ text. SaysConfiguration text configuration) old new
+known_written : (old new : Option (List ℕ)) (flushed : Type 0) (configuration : List ℕ) → WritesConfiguration old new flushed configuration
+    → GrewKnown (λ text. SaysConfiguration text configuration) old new
 known_written None new flushed configuration w = tt
 known_written (Some front) None flushed configuration w = w.written
 known_written (Some front) (Some all) flushed configuration w = record { text = w.text; says = w.says; grown = w.written }
@@ -173,7 +166,8 @@ on_ok : {X E : Type 0} (result : Result X E) {P : Type 0} → P → OnOk result 
 on_ok (Ok x) p = p
 on_ok (Err e) p = tt
 
-pub configured_ok : {E : Type 0} (result : Result (Unit {0}) E) → (before done : Bool) (old new : Option (List ℕ)) (flushed : Type 0) (configuration : List ℕ) → before ≡ false → (done ≡ true → WritesConfiguration old new flushed configuration)
+pub configured_ok : {E : Type 0} (result : Result (Unit {0}) E) → (before done : Bool) (old new : Option (List ℕ)) (flushed : Type 0) (configuration : List ℕ)
+    → before ≡ false → (done ≡ true → WritesConfiguration old new flushed configuration)
     → OnOk result (NotesConfiguration (told before old) (told (not done) new) configuration)
 configured_ok result before true old new flushed configuration fresh writes =
     on_ok result (subst (λ b. NotesConfiguration (told b old) (Some new) configuration) (sym fresh) (known_written old new flushed configuration (writes refl)))

@@ -1,5 +1,6 @@
 -- A first line that was written is read back.
-use Rattle.std.proofs.Common.{◌≡◌, ℕ, zero, suc, ◌<◌, ◌≤◌, ◌+◌, ◌*◌, ◌^◌, true, List, [], ◌∷◌, ◌++◌, length, decimal, Option, Some, refl, sym, ap, ◌∙◌, arith, length-append, append_assoc}
+use Rattle.std.proofs.Common.{◌≡◌, ℕ, zero, suc, ◌<◌, ◌≤◌, ◌+◌, ◌*◌, ◌^◌, true, List, [], ◌∷◌, ◌++◌, length, decimal, Option, Some, refl, sym, ap, ◌∙◌, arith}
+use Rattle.std.proofs.Common.{length-append, append_assoc}
 use Rattle.std.specs.Prelude.{Ok, option_map}
 use Rattle.std.specs.Int.{byte_at, bytes_high_first, to_be_bytes, from_be_bytes, w64}
 use Rattle.std.specs.List.{list_all}
@@ -85,12 +86,15 @@ module _ (head : RecordHead) (is : HasHeadTypes head) where
         let word : length (hex_text head.word) ≡ 2 * 8 = digits_long (to_be_bytes w64 head.word) 8 refl in
         let first : length (decimal head.first) ≤ 20 = number_short head.first is.first in
         let digest : length (encode_lower head.digest) ≡ 2 * 32 = digits_long head.digest 32 is.long in
-        let whole : length (hex_text head.word ++ 32 ∷ (decimal head.first ++ 32 ∷ encode_lower head.digest)) ≡ length (hex_text head.word) + length (32 ∷ (decimal head.first ++ 32 ∷ encode_lower head.digest)) =
+        let whole : length (hex_text head.word ++ 32 ∷ (decimal head.first ++ 32 ∷ encode_lower head.digest))
+        ≡ length (hex_text head.word) + length (32 ∷ (decimal head.first ++ 32 ∷ encode_lower head.digest)) =
         length-append (hex_text head.word) (32 ∷ (decimal head.first ++ 32 ∷ encode_lower head.digest)) in
-        let rest : length (decimal head.first ++ 32 ∷ encode_lower head.digest) ≡ length (decimal head.first) + length (32 ∷ encode_lower head.digest) = length-append (decimal head.first) (32 ∷ encode_lower head.digest) in
+        let rest : length (decimal head.first ++ 32 ∷ encode_lower head.digest) ≡ length (decimal head.first) + length (32 ∷ encode_lower head.digest) =
+        length-append (decimal head.first) (32 ∷ encode_lower head.digest) in
         let front : length (mark_front head.mark) ≡ 7 = mark_long head.mark in
         let line : length (head_line head) ≡ length (mark_front head.mark) + length (hex_text head.word ++ 32 ∷ (decimal head.first ++ 32 ∷ encode_lower head.digest)) =
         length-append (mark_front head.mark) (hex_text head.word ++ 32 ∷ (decimal head.first ++ 32 ∷ encode_lower head.digest)) in
         omega (arith, word, first, digest, whole, rest, front, line);
-    single = no_end (head_line head) (all_join (is_not 10) (mark_front head.mark) (hex_text head.word ++ 32 ∷ (decimal head.first ++ 32 ∷ encode_lower head.digest)) (mark_single head.mark) line_single);
+    single = no_end (head_line head) (all_join (is_not 10) (mark_front head.mark) (hex_text head.word ++ 32 ∷ (decimal head.first ++ 32 ∷ encode_lower head.digest))
+        (mark_single head.mark) line_single);
   }

@@ -1,25 +1,18 @@
 -- What a recorder wrote of an event says it.
-use Rattle.std.proofs.Common.{◌≡◌, ◌≢◌, ◌≤◌, nat_le, length, inl, arith, ℕ, Bool, true, false, List, [], ◌∷◌, ◌++◌, Option, Some, None, Result, Ok, Err, OnOk, refl, sym, ◌∙◌, subst}
-use Rattle.std.specs.Prelude.{codes, not, ◌&&◌, ◌==◌}
+use Rattle.std.proofs.Common.{◌≡◌, ◌≤◌, nat_le, length, inl, arith, ℕ, Bool, true, false, List, [], ◌∷◌, Option, Some, None, Result, Ok, Err, OnOk, refl, sym, ◌∙◌, subst}
+use Rattle.std.specs.Prelude.{not, ◌&&◌, ◌==◌}
 use Rattle.std.proofs.lemmas.Bool.{eqb-true, leb-true}
 use Rattle.std.specs.Io.KnownBytes.{Appends}
-use Rattle.hex.specs.Hex.{encode_lower}
 use Rattle.sip_uri.specs.declared.addr.Addr.{Addr}
 use Rattle.sip_uri.proofs.Tests.{and_both}
 use Rattle.sip_event.specs.declared.event.Event.TheVariants.{Datagram}
 use Rattle.sip_event.specs.declared.event.Event.{Event}
 use Rattle.sip_replay_script.specs.Devices.{WritesFront}
 use Rattle.sip_replay_script.specs.Recorded.{SaysRecorded}
-use Rattle.sip_replay_script.specs.EventText.{event_text, datagram_text, head_before, is_moment, is_sayable, HasTypes}
+use Rattle.sip_replay_script.specs.EventText.{event_text, datagram_text, is_moment, is_sayable, HasTypes}
 use Rattle.sip_replay_script.proofs.RecordTexts.{record_one}
 use Rattle.sip_record.specs.Record.{Notes, NotesKnown}
 use Rattle.sip_record.specs.Recorder.{told, CantWrite, WritesEvent}
-
--- the text of a datagram that has bytes, as it stands in the room of a line
-pub hex_text_is : (moment word : ℕ) (source : Addr) (bytes front line : List ℕ) → bytes ≢ [] → ((rest : List ℕ) → front ++ rest ≡ codes "hex " ++ head_before moment word source (32 ∷ rest))
-    → line ≡ front ++ (encode_lower bytes ++ 10 ∷ []) → line ≡ event_text (Datagram moment word source bytes)
-hex_text_is moment word source [] front line some fronts is = absurd (some refl)
-hex_text_is moment word source (b ∷ bytes) front line some fronts is = is ∙ fronts (encode_lower (b ∷ bytes) ++ 10 ∷ [])
 
 -- that what is written of an event is read as it
 abbrev pub IsRead : Type 0
@@ -35,9 +28,11 @@ on_ok (Ok x) p = p
 on_ok (Err e) p = tt
 
 -- and so of what a call answers
-pub noted_ok : {E : Type 0} (result : Result (Unit {0}) E) → IsRead → (before done : Bool) (old new : Option (List ℕ)) (flushed : Type 0) (event : Event) → HasTypes event → before ≡ false → (done ≡ true → WritesEvent old new flushed event)
+pub noted_ok : {E : Type 0} (result : Result (Unit {0}) E) → IsRead → (before done : Bool) (old new : Option (List ℕ)) (flushed : Type 0) (event : Event) → HasTypes event
+    → before ≡ false → (done ≡ true → WritesEvent old new flushed event)
     → OnOk result (Notes (told before old) (told (not done) new) (event ∷ []))
-noted_ok result is_read before true old new flushed event types fresh writes = on_ok result (subst (λ b. Notes (told b old) (Some new) (event ∷ [])) (sym fresh) (let w = writes refl in written_known old new event (is_read event types w.sayable) w.written))
+noted_ok result is_read before true old new flushed event types fresh writes = on_ok result
+    (subst (λ b. Notes (told b old) (Some new) (event ∷ [])) (sym fresh) (let w = writes refl in written_known old new event (is_read event types w.sayable) w.written))
 noted_ok result is_read before false old new flushed event types fresh writes = on_ok result tt
 
 -- what no script says of a datagram
@@ -45,7 +40,8 @@ pub not_sayable : (gave_up : Type 0) (event : Event) (test : Bool) → test ≡ 
 not_sayable gave_up event test is fails = inl (sym is ∙ fails)
 
 -- a datagram that a script says has at most 65,508 bytes
-pub few_bytes : (moment word : ℕ) (source : Addr) (bytes : List ℕ) (test : Bool) → test ≡ is_sayable (Datagram moment word source bytes) → test ≡ true → length bytes ≤ 65508
+pub few_bytes : (moment word : ℕ) (source : Addr) (bytes : List ℕ) (test : Bool) → test ≡ is_sayable (Datagram moment word source bytes) → test ≡ true
+    → length bytes ≤ 65508
 few_bytes moment word source bytes test is passes =
     let whole = and_both (is_moment moment) (not (source.port == 0) && nat_le (length bytes) 65508) (sym is ∙ passes) in
     leb-true (length bytes) 65508 (and_both (not (source.port == 0)) (nat_le (length bytes) 65508) whole.1).1
@@ -55,13 +51,16 @@ no_bytes [] e = refl
 no_bytes (b ∷ bytes) e = let none : length (b ∷ bytes) ≡ 0 = eqb-true (length (b ∷ bytes)) 0 (sym e) in absurd (omega (arith, none))
 
 -- the text of a datagram was written, whose bytes may be told otherwise
-pub writes_datagram : (old new : Option (List ℕ)) (flushed : Type 0) (moment word : ℕ) (source : Addr) (bytes same : List ℕ) (test done : Bool) → test ≡ is_sayable (Datagram moment word source bytes) → test ≡ true → bytes ≡ same
-    → (done ≡ true → Appends old new (datagram_text moment word source same)) → (done ≡ true → flushed) → done ≡ true → WritesEvent old new flushed (Datagram moment word source bytes)
+pub writes_datagram : (old new : Option (List ℕ)) (flushed : Type 0) (moment word : ℕ) (source : Addr) (bytes same : List ℕ) (test done : Bool)
+    → test ≡ is_sayable (Datagram moment word source bytes) → test ≡ true → bytes ≡ same
+    → (done ≡ true → Appends old new (datagram_text moment word source same)) → (done ≡ true → flushed) → done ≡ true
+    → WritesEvent old new flushed (Datagram moment word source bytes)
 writes_datagram old new flushed moment word source bytes same test done is passes e text handed_on ok = record {
   sayable = sym is ∙ passes;
   written = subst (λ (l : List ℕ). Appends old new (datagram_text moment word source l)) (sym e) (text ok);
   handed_on = handed_on ok;
 }
 
-pub front_datagram : (old new : Option (List ℕ)) (moment word : ℕ) (source : Addr) (bytes same : List ℕ) → bytes ≡ same → WritesFront old new (datagram_text moment word source same) → WritesFront old new (event_text (Datagram moment word source bytes))
+pub front_datagram : (old new : Option (List ℕ)) (moment word : ℕ) (source : Addr) (bytes same : List ℕ) → bytes ≡ same
+    → WritesFront old new (datagram_text moment word source same) → WritesFront old new (event_text (Datagram moment word source bytes))
 front_datagram old new moment word source bytes same e h = subst (λ (l : List ℕ). WritesFront old new (datagram_text moment word source l)) (sym e) h

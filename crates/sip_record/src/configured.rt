@@ -1,6 +1,5 @@
-ghost use Rattle.std.specs.Prelude.{◌≡◌, ◌≢◌, ◌+◌, ◌++◌, ◌∷◌, [], true, false};
-ghost use Rattle.std.specs.Io.KnownBytes.{Appends};
-ghost use Rattle.sip_replay_script.specs.Devices.{GaveUp, WritesFront};
+ghost use Rattle.std.specs.Prelude.{◌≡◌, ◌≢◌, ◌+◌, [], true, false};
+ghost use Rattle.sip_replay_script.specs.Devices.{GaveUp};
 ghost use Rattle.sip_record.specs.Recorder.{FrontOfConfiguration, FrontOfText, IsFirstPiece, WritesConfiguration, WritesText};
 
 use crate::line_room::LineRoom;

@@ -69,8 +69,6 @@ impl<W: TellingWriter + Drop> Recorder<W> {
 }
 
 impl<W: TellingWriter + Drop> Journal for Recorder<W> {
-    ghost use Rattle.std.specs.Prelude.{Option};
-
     ghost written = { λ r. told r.has_failed (W.contents r.writer) };
 
     ghost faulted = { λ r. is_faulted r.on_fault r.has_failed };

@@ -42,7 +42,8 @@ record Begins (server : Server) (queue : List Entry) (start : ProxyState) (taken
   steps_are : steps_of history ≡ later ++ steps_of earlier
 
 -- a step more behind it
-with_link : (server : Server) (queue : List Entry) (start : ProxyState) (taken : List Event) (link : Link) (history : List Link) → Begins server queue start taken history → Begins server queue start taken (link ∷ history)
+with_link : (server : Server) (queue : List Entry) (start : ProxyState) (taken : List Event) (link : Link) (history : List Link) → Begins server queue start taken history
+    → Begins server queue start taken (link ∷ history)
 with_link server queue start taken link history h = record {
   earlier = h.earlier;
   later = link.out ∷ h.later;
@@ -61,21 +62,36 @@ none_taken [] taken e = e
 none_taken (event ∷ left) taken e = absurd (cc)
 
 -- The newest step is that of the newest event; or it came behind that.
-newest : (next : Option ℕ) (history : List Link) (left taken : List Event) (act : Act) → IsUpTo next act × IsPaced (next_moment next act) history → event_of act (events_of history) ≡ left ++ taken
-    → ((IsUpTo None act × IsPaced (next_moment None act) history) × (event_of act (events_of history) ≡ taken)) ⊎ ((more : List Event) × (events_of history ≡ more ++ taken))
+newest : (next : Option ℕ) (history : List Link) (left taken : List Event) (act : Act) → IsUpTo next act × IsPaced (next_moment next act) history
+    → event_of act (events_of history) ≡ left ++ taken
+    → ((IsUpTo None act × IsPaced (next_moment None act) history) × (event_of act (events_of history) ≡ taken))
+    ⊎ ((more : List Event) × (events_of history ≡ more ++ taken))
 newest next history left taken (Passing at) paced e = inr (left, e)
 newest next history [] taken (Given event) paced e = inl ((tt, paced.1), e)
 newest next history (first ∷ left) taken (Given event) paced e = inr (left, ap (drop 1) e)
 
-begins : (server : Server) (queue : List Entry) (start last : ProxyState) (next : Option ℕ) (left taken : List Event) (history : List Link) → IsChain server start history last → IsPaced next history → AllByRecursion (IsUnder server.config) history → AreOrderly server queue history
+begins : (server : Server) (queue : List Entry) (start last : ProxyState) (next : Option ℕ) (left taken : List Event) (history : List Link)
+    → IsChain server start history last → IsPaced next history → AllByRecursion (IsUnder server.config) history → AreOrderly server queue history
     → events_of history ≡ left ++ taken → Begins server queue start taken history
 begins server queue start last next left taken [] chain paced configured orderly e =
     record { earlier = []; later = []; middle = start; chain = refl; paced = tt; configured = tt; orderly = tt; events_are = none_taken left taken e; steps_are = refl }
 begins server queue start last next left taken (link ∷ history) chain paced configured orderly e =
-    by_newest (newest next history left taken link.act paced e) (λ more is. begins server queue start link.before (next_moment next link.act) more taken history chain.2 paced.1 configured.1 orderly.1 is) where
-      by_newest : ((IsUpTo None link.act × IsPaced (next_moment None link.act) history) × (event_of link.act (events_of history) ≡ taken)) ⊎ ((more : List Event) × (events_of history ≡ more ++ taken))
+    by_newest (newest next history left taken link.act paced e) (λ more is. begins server queue start link.before (next_moment next link.act) more taken history chain.2
+    paced.1 configured.1 orderly.1 is) where
+      by_newest : ((IsUpTo None link.act × IsPaced (next_moment None link.act) history) × (event_of link.act (events_of history) ≡ taken))
+          ⊎ ((more : List Event) × (events_of history ≡ more ++ taken))
           → ((more : List Event) → events_of history ≡ more ++ taken → Begins server queue start taken history) → Begins server queue start taken (link ∷ history)
-      by_newest (inl is) rest = record { earlier = link ∷ history; later = []; middle = last; chain = chain; paced = is.0; configured = configured; orderly = orderly; events_are = is.1; steps_are = refl }
+      by_newest (inl is) rest = record {
+        earlier = link ∷ history;
+        later = [];
+        middle = last;
+        chain = chain;
+        paced = is.0;
+        configured = configured;
+        orderly = orderly;
+        events_are = is.1;
+        steps_are = refl;
+      }
       by_newest (inr is) rest = with_link server queue start taken link history (rest is.0 is.1)
 
 -- ---- a run
@@ -87,10 +103,12 @@ pub record RunFront (server : Server) (start : Standing) (events : List Event) (
   pub runs : Runs server start middle events None
   pub cut : steps ≡ runs.steps ++ further
 
-pub run_front : (server : Server) (start : Standing) (last : ProxyState) (events more : List Event) (until : Option ℕ) (steps : List StepOut) (history : List Link) → IsRun server start.state (events ++ more) until steps history last → AreOrderly server start.queue history
+pub run_front : (server : Server) (start : Standing) (last : ProxyState) (events more : List Event) (until : Option ℕ) (steps : List StepOut) (history : List Link)
+    → IsRun server start.state (events ++ more) until steps history last → AreOrderly server start.queue history
     → RunFront server start events steps
 run_front server start last events more until steps history run orderly =
-    let newest_first : events_of history ≡ reverse more ++ reverse events = sym (reverse-reverse (events_of history)) ∙ ap reverse run.of_events ∙ reverse-append events more in
+    let newest_first : events_of history ≡ reverse more ++ reverse events = sym (reverse-reverse (events_of history)) ∙ ap reverse run.of_events
+    ∙ reverse-append events more in
     let h : Begins server start.queue start.state (reverse events) history =
     begins server start.queue start.state last until (reverse more) (reverse events) history run.chain run.paced run.configured orderly newest_first in
     record {
@@ -117,11 +135,15 @@ record PeriodsFront (server : Server) (config : Config) (events : List Event) (p
   orderly : AreOrderly server start.queue history
   queue : middle.queue ≡ queue_from start.queue history
 
-periods_front : (server : Server) (config : Config) (events : List Event) (periods : List Period) (more : List Event) (behind : List Period) (start : Standing) (last : ProxyState) (steps : List StepOut) (history : List Link)
-    → IsRunUnder server start.state (record { config = config; events = grown events periods more } ∷ periods_joined periods more behind) None steps history last → AreOrderly server start.queue history → PeriodsFront server config events periods start steps
+periods_front : (server : Server) (config : Config) (events : List Event) (periods : List Period) (more : List Event) (behind : List Period) (start : Standing)
+    (last : ProxyState) (steps : List StepOut) (history : List Link)
+    → IsRunUnder server start.state (record { config = config; events = grown events periods more } ∷ periods_joined periods more behind) None steps history last
+    → AreOrderly server start.queue history → PeriodsFront server config events periods start steps
 periods_front server config events [] more behind start last steps history h orderly =
-    let own : AreOrderly server start.queue h.earlier = queued_earlier (Orderly server) start.queue h.earlier h.later (subst (λ (links : List Link). AreOrderly server start.queue links) h.of_history orderly) in
-    let so : RunFront (under server config) start events h.own = run_front (under server config) start h.middle events more (until_of behind None) h.own h.earlier h.is_run own in
+    let own : AreOrderly server start.queue h.earlier = queued_earlier (Orderly server) start.queue h.earlier h.later
+    (subst (λ (links : List Link). AreOrderly server start.queue links) h.of_history orderly) in
+    let so : RunFront (under server config) start events h.own = run_front (under server config) start h.middle events more (until_of behind None) h.own h.earlier
+    h.is_run own in
     record {
       front = so.runs.steps;
       further = so.further ++ h.further;
@@ -146,7 +168,8 @@ periods_front server config events (period ∷ periods) more behind start last s
     let all : AreOrderly server start.queue (h.later ++ h.earlier) = subst (λ (links : List Link). AreOrderly server start.queue links) h.of_history orderly in
     let then : Standing = record { state = h.middle; queue = queue_from start.queue h.earlier } in
     let so : PeriodsFront server period.config period.events periods then h.further =
-    periods_front server period.config period.events periods more behind then last h.further h.later h.behind (queued_later (Orderly server) start.queue h.earlier h.later all) in
+    periods_front server period.config period.events periods more behind then last h.further h.later h.behind
+    (queued_later (Orderly server) start.queue h.earlier h.later all) in
     record {
       front = h.own ++ so.front;
       further = so.further;
@@ -178,7 +201,8 @@ record StatedFront (server : Server) (segments : List Segment) (more : List Even
   stated : AreStated segments front
   frames : AllByRecursion (KeepsFrame server) front
 
-stated_front : (server : Server) (segments : List Segment) (more : List Event) (others : List Segment) (periods : List Period) → AreStated (joined segments more others) periods → AllByRecursion (KeepsFrame server) periods → StatedFront server segments more periods
+stated_front : (server : Server) (segments : List Segment) (more : List Event) (others : List Segment) (periods : List Period)
+    → AreStated (joined segments more others) periods → AllByRecursion (KeepsFrame server) periods → StatedFront server segments more periods
 stated_front server [] more others periods h frames = record { front = []; behind = periods; periods_are = refl; stated = tt; frames = tt }
 stated_front server (segment ∷ segments) more others [] h frames = absurd h
 stated_front server (segment ∷ segments) more others (period ∷ periods) h frames =
@@ -187,22 +211,29 @@ stated_front server (segment ∷ segments) more others (period ∷ periods) h fr
       front = record { config = period.config; events = segment.events } ∷ so.front;
       behind = so.behind;
       periods_are = ap₂ (λ (p : Period) (ps : List Period). p ∷ ps)
-          (period_is period (record { config = period.config; events = grown segment.events so.front more }) refl (h.0.same ∙ sym (grown_same segments so.front segment.events segment.events more so.stated refl))) so.periods_are;
+          (period_is period (record { config = period.config; events = grown segment.events so.front more }) refl
+          (h.0.same ∙ sym (grown_same segments so.front segment.events segment.events more so.stated refl))) so.periods_are;
       stated = (record { states = h.0.states; same = refl }, so.stated);
       frames = (frames.0, so.frames);
     }
 
 -- a record of which the first part says events and segments
-pub front_recorded : Readings → (server now : Server) (first : ℕ) (text further : List ℕ) (steps : List StepOut) (last : Standing) (events : List Event) (segments : List Segment) → IsRecordedUnder server now first (text ++ further) steps last → SaysWhole events segments text
+pub front_recorded : Readings → (server now : Server) (first : ℕ) (text further : List ℕ) (steps : List StepOut) (last : Standing) (events : List Event)
+    (segments : List Segment) → IsRecordedUnder server now first (text ++ further) steps last → SaysWhole events segments text
     → RecordsFront server first text steps
 front_recorded r server now first text further steps last events segments h says =
     let on : GoesOn events segments h.events h.segments further = says_on r events h.events segments h.segments text further says h.says in
-    let so : StatedFront server segments on.more h.periods = stated_front server segments on.more on.others h.periods (subst (λ (ss : List Segment). AreStated ss h.periods) on.segments_are h.stated) h.frames in
+    let so : StatedFront server segments on.more h.periods = stated_front server segments on.more on.others h.periods
+    (subst (λ (ss : List Segment). AreStated ss h.periods) on.segments_are h.stated) h.frames in
     let own : h.events ≡ grown events so.front on.more = on.events_are ∙ sym (grown_same segments so.front events events on.more so.stated refl) in
-    let run : IsRunUnder server (first_state first) (record { config = server.config; events = grown events so.front on.more } ∷ periods_joined so.front on.more so.behind) None steps h.history last.state =
-    subst (λ (es : List Event). IsRunUnder server (first_state first) (record { config = server.config; events = es } ∷ periods_joined so.front on.more so.behind) None steps h.history last.state) own
-    (subst (λ (ps : List Period). IsRunUnder server (first_state first) (record { config = server.config; events = h.events } ∷ ps) None steps h.history last.state) so.periods_are h.is_run) in
-    let front : PeriodsFront server server.config events so.front (first_standing first) steps = periods_front server server.config events so.front on.more so.behind (first_standing first) last.state steps h.history run h.orderly in
+    let run : IsRunUnder server (first_state first) (record { config = server.config; events = grown events so.front on.more }
+    ∷ periods_joined so.front on.more so.behind) None steps h.history last.state =
+    subst (λ (es : List Event). IsRunUnder server (first_state first) (record { config = server.config; events = es } ∷ periods_joined so.front on.more so.behind) None
+    steps h.history last.state) own
+    (subst (λ (ps : List Period). IsRunUnder server (first_state first) (record { config = server.config; events = h.events } ∷ ps) None steps h.history last.state)
+    so.periods_are h.is_run) in
+    let front : PeriodsFront server server.config events so.front (first_standing first) steps =
+    periods_front server server.config events so.front on.more so.behind (first_standing first) last.state steps h.history run h.orderly in
     record {
       front = front.front;
       further = front.further;
@@ -225,7 +256,8 @@ front_recorded r server now first text further steps last events segments h says
     }
 
 -- of serving that was refused, up to the last event that the journal was told
-pub unserved_on : RunsJoin → (server now : Server) (first : ℕ) (text : List ℕ) (steps : List StepOut) (turns : ℕ) (old new : Standing) (before after : Told) (e : ServeError) (front more : List ℕ) → IsRecordedUnder server now first text steps old
+pub unserved_on : RunsJoin → (server now : Server) (first : ℕ) (text : List ℕ) (steps : List StepOut) (turns : ℕ) (old new : Standing) (before after : Told)
+    (e : ServeError) (front more : List ℕ) → IsRecordedUnder server now first text steps old
     → (unserved : IsUnserved turns now old new before after e) → before.journal.bytes ≡ Some (Some front) → after.journal.bytes ≡ Some (Some (front ++ more))
     → RecordsFront server first (text ++ more) (steps ++ gathered steps_taken unserved.done)
 unserved_on join server now first text steps turns old new before after e front more h unserved was is =
@@ -233,7 +265,8 @@ unserved_on join server now first text steps turns old new before after e front 
     let told : List Event = gathered event_told done in
     let says : SaysRecord told more = noted_text before.journal.bytes after.journal.bytes front more told was is unserved.serves.told.noted in
     let run : IsRun now old.state (told ++ untold_in unserved.point.stage) (ahead done) (gathered steps_taken done) unserved.serves.history new.state =
-    subst (λ (es : List Event). IsRun now old.state es (ahead done) (gathered steps_taken done) unserved.serves.history new.state) unserved.told_but_last unserved.serves.is_run in
+    subst (λ (es : List Event). IsRun now old.state es (ahead done) (gathered steps_taken done) unserved.serves.history new.state) unserved.told_but_last
+    unserved.serves.is_run in
     let so : RunFront now old told (gathered steps_taken done) =
     run_front now old new.state told (untold_in unserved.point.stage) (ahead done) (gathered steps_taken done) unserved.serves.history run
     (orderly_turns now old.queue unserved.serves.history unserved.serves.is_run.configured unserved.serves.turns) in

@@ -27,7 +27,8 @@ use Rattle.sip_recorded.proofs.OfEvents.{OneIsARun}
 
 no_next : (longest : ℕ) (rest : Option (List ℕ)) (configuration : List ℕ) → BeginsNoConfiguration longest rest → IsNext rest configuration → ⊥
 no_next longest rest configuration h next =
-    let begins : (further : List ℕ) × (h.bytes ≡ next.text ++ further) = subst (λ (r : Option (List ℕ)). IfSome r (λ bytes. (further : List ℕ) × (bytes ≡ next.text ++ further))) h.known next.begins in
+    let begins : (further : List ℕ) × (h.bytes ≡ next.text ++ further) = subst (λ (r : Option (List ℕ)).
+    IfSome r (λ bytes. (further : List ℕ) × (bytes ≡ next.text ++ further))) h.known next.begins in
     h.none next.text begins.0 configuration begins.1 next.says
 
 not_long : (longest : ℕ) (rest : Option (List ℕ)) → BeginsNoConfiguration longest rest → IfSome rest (IsLongConfiguration longest) → ⊥
@@ -39,23 +40,31 @@ damaged_so (Some bytes) h = h.no_event
 
 -- ---- why nothing more is taken of it
 
-record StopsSo (server server_then : Server) (old new : Standing) (spent : Type 0) (rest : Option (List ℕ)) (lines : ℕ) (outs outs_then : Outputs) (e : RecordError) : Type 0 where
+record StopsSo (server server_then : Server) (old new : Standing) (spent : Type 0) (rest : Option (List ℕ)) (lines : ℕ) (outs outs_then : Outputs)
+    (e : RecordError) : Type 0 where
   refusal : ResumeError
   is_refusal : e ≡ record_error_of refusal
   why : ResumeStops server old new spent rest lines outs outs_then refusal
   same : server_then ≡ server
 
-stops_so : (server server_then : Server) (old new : Standing) (longest : ℕ) (spent : Type 0) (rest : Option (List ℕ)) (lines : ℕ) (outs outs_then : Outputs) (e : RecordError) → BeginsNoConfiguration longest rest
+stops_so : (server server_then : Server) (old new : Standing) (longest : ℕ) (spent : Type 0) (rest : Option (List ℕ)) (lines : ℕ) (outs outs_then : Outputs)
+    (e : RecordError) → BeginsNoConfiguration longest rest
     → RecordStops server server_then old new longest spent rest lines outs outs_then e → StopsSo server server_then old new spent rest lines outs outs_then e
-stops_so server server_then old new longest spent rest lines outs outs_then NoMemory begins h = record { refusal = refusals.NoMemory; is_refusal = refl; why = h.1; same = h.0 }
-stops_so server server_then old new longest spent rest lines outs outs_then (Damaged line) begins h = record { refusal = refusals.Damaged line; is_refusal = refl; why = (h.state, damaged_so rest h.why, h.at, h.shown); same = h.in_force }
-stops_so server server_then old new longest spent rest lines outs outs_then Read begins h = record { refusal = refusals.Read; is_refusal = refl; why = (h.1, h.2, h.3); same = h.0 }
+stops_so server server_then old new longest spent rest lines outs outs_then NoMemory begins h =
+    record { refusal = refusals.NoMemory; is_refusal = refl; why = h.1; same = h.0 }
+stops_so server server_then old new longest spent rest lines outs outs_then (Damaged line) begins h =
+    record { refusal = refusals.Damaged line; is_refusal = refl; why = (h.state, damaged_so rest h.why, h.at, h.shown); same = h.in_force }
+stops_so server server_then old new longest spent rest lines outs outs_then Read begins h =
+    record { refusal = refusals.Read; is_refusal = refl; why = (h.1, h.2, h.3); same = h.0 }
 stops_so server server_then old new longest spent rest lines outs outs_then Step begins h = record { refusal = refusals.Step; is_refusal = refl; why = h.1; same = h.0 }
-stops_so server server_then old new longest spent rest lines outs outs_then Journal begins (inl h) = record { refusal = refusals.Journal; is_refusal = refl; why = h.1; same = h.0 }
+stops_so server server_then old new longest spent rest lines outs outs_then Journal begins (inl h) =
+    record { refusal = refusals.Journal; is_refusal = refl; why = h.1; same = h.0 }
 stops_so server server_then old new longest spent rest lines outs outs_then Journal begins (inr h) = absurd (no_next longest rest h.next.configuration begins h.next.next)
 stops_so server server_then old new longest spent rest lines outs outs_then (TooLong line) begins h = absurd (not_long longest rest begins h.why)
-stops_so server server_then old new longest spent rest lines outs outs_then (NoConfiguration line e) begins h = absurd (no_next longest rest h.why.configuration begins h.why.next)
-stops_so server server_then old new longest spent rest lines outs outs_then (OtherFrame line key) begins h = absurd (no_next longest rest h.why.configuration begins h.why.next)
+stops_so server server_then old new longest spent rest lines outs outs_then (NoConfiguration line e) begins h =
+    absurd (no_next longest rest h.why.configuration begins h.why.next)
+stops_so server server_then old new longest spent rest lines outs outs_then (OtherFrame line key) begins h =
+    absurd (no_next longest rest h.why.configuration begins h.why.next)
 stops_so server server_then old new longest spent rest lines outs outs_then Write begins h = record { refusal = refusals.Write; is_refusal = refl; why = h.1; same = h.0 }
 
 -- ---- what was taken of it by then
@@ -66,7 +75,8 @@ says_so events text h = subst (λ (t : List ℕ). SaysRecord events t) (sym (h.c
 same_text : (text all front : List ℕ) → text ≡ [] → all ≡ front ++ text → all ≡ front
 same_text text all front none grown = grown ∙ ap (λ (t : List ℕ). front ++ t) none ∙ append-nil front
 
-known_so : (events : List Event) (old mid new : Option (List ℕ)) → GrewKnown (SaysRecord events) old mid → GrewKnown (λ text. text ≡ []) mid new → GrewKnown (SaysRecord events) old new
+known_so : (events : List Event) (old mid new : Option (List ℕ)) → GrewKnown (SaysRecord events) old mid → GrewKnown (λ text. text ≡ []) mid new
+    → GrewKnown (SaysRecord events) old new
 known_so events None mid new h k = tt
 known_so events (Some front) None new h k = absurd h
 known_so events (Some front) (Some half) None h k = absurd k
@@ -83,11 +93,20 @@ record RunsAlone (server in_force : Server) (old reached : Standing) (events : L
   all : Shows shown shown_then runs.steps
   same : in_force ≡ server
 
-runs_alone : OneIsARun → (server in_force : Server) (old reached : Standing) (events : List Event) (shown shown_then : Option (List ℕ)) (periods : List Period) → AreStated [] periods
-    → (runs : RunsUnder server old reached (record { config = server.config; events = events } ∷ periods)) → Shows shown shown_then runs.steps → in_force ≡ record { config = config_behind server.config periods; word = server.word }
+runs_alone : OneIsARun → (server in_force : Server) (old reached : Standing) (events : List Event) (shown shown_then : Option (List ℕ)) (periods : List Period)
+    → AreStated [] periods
+    → (runs : RunsUnder server old reached (record { config = server.config; events = events } ∷ periods)) → Shows shown shown_then runs.steps
+    → in_force ≡ record { config = config_behind server.config periods; word = server.word }
     → RunsAlone server in_force old reached events shown shown_then
 runs_alone one server in_force old reached events shown shown_then [] stated runs all same = record {
-  runs = record { steps = runs.steps; history = runs.history; is_run = (one server old.state server.config events None runs.steps runs.history reached.state).0 runs.is_run; orderly = runs.orderly; queue = runs.queue };
+  runs = record {
+    steps = runs.steps;
+    history = runs.history;
+    is_run = (one server old.state server.config events None runs.steps runs.history reached.state).0
+        runs.is_run;
+    orderly = runs.orderly;
+    queue = runs.queue;
+  };
   all = all;
   same = same;
 }
@@ -95,7 +114,8 @@ runs_alone one server in_force old reached events shown shown_then (period ∷ p
 
 -- ---- both
 
-record Refused (server server_then : Server) (old new : Standing) (longest : ℕ) (spent : Type 0) (events : List Event) (segments : List Segment) (text : List ℕ) (rest : Option (List ℕ)) (outs outs_then : Outputs) (e : RecordError) : Type 0 where
+record Refused (server server_then : Server) (old new : Standing) (longest : ℕ) (spent : Type 0) (events : List Event) (segments : List Segment) (text : List ℕ)
+    (rest : Option (List ℕ)) (outs outs_then : Outputs) (e : RecordError) : Type 0 where
   reached : Standing
   in_force : Server
   half : Outputs
@@ -105,8 +125,10 @@ record Refused (server server_then : Server) (old new : Standing) (longest : ℕ
   noted : NotesWhole outs.written outs_then.written events segments
   why : RecordStops in_force server_then reached new longest spent rest (0 + count_by is_end text) half outs_then e
 
-refused_so : OneIsARun → (server server_then : Server) (old new : Standing) (longest : ℕ) (spent : Type 0) (bytes : Option (List ℕ)) (events : List Event) (text : List ℕ) (rest : Option (List ℕ)) (outs outs_then : Outputs) (e : RecordError)
-    → Refused server server_then old new longest spent events [] text rest outs outs_then e → IfSome bytes (λ all. (further : List ℕ) × (rest ≡ Some further) × (all ≡ text ++ further)) → BeginsNoConfiguration longest rest
+refused_so : OneIsARun → (server server_then : Server) (old new : Standing) (longest : ℕ) (spent : Type 0) (bytes : Option (List ℕ)) (events : List Event) (text : List ℕ)
+    (rest : Option (List ℕ)) (outs outs_then : Outputs) (e : RecordError)
+    → Refused server server_then old new longest spent events [] text rest outs outs_then e
+    → IfSome bytes (λ all. (further : List ℕ) × (rest ≡ Some further) × (all ≡ text ++ further)) → BeginsNoConfiguration longest rest
     → IsUnresumed server old new spent bytes outs outs_then e × (server_then ≡ server)
 refused_so one server server_then old new longest spent bytes events text rest outs outs_then e h whole begins =
     let alone : RunsAlone server h.in_force old h.reached events outs.shown h.half.shown =
@@ -134,7 +156,8 @@ refused_so one server server_then old new longest spent bytes events text rest o
       stops.same,
     )
 
-pub events_unresumed : OneIsARun → (server server_then : Server) (old new : Standing) (longest : ℕ) (spent : Type 0) (bytes : Option (List ℕ)) (outs outs_then : Outputs) (e : RecordError)
+pub events_unresumed : OneIsARun → (server server_then : Server) (old new : Standing) (longest : ℕ) (spent : Type 0) (bytes : Option (List ℕ)) (outs outs_then : Outputs)
+    (e : RecordError)
     → (h : IsRecordUnresumed server server_then old new longest spent bytes 0 outs outs_then e) → h.segments ≡ [] → BeginsNoConfiguration longest h.rest
     → IsUnresumed server old new spent bytes outs outs_then e × (server_then ≡ server)
 events_unresumed one server server_then old new longest spent bytes outs outs_then e h none begins =

@@ -11,7 +11,8 @@ front_is : (front xs : List ℕ) → front ++ xs ≡ [] → front ≡ []
 front_is [] xs e = refl
 front_is (b ∷ front) xs e = absurd (omega (arith, ap length e))
 
-module _ (one : (text other more further : List ℕ) (event second : Event) → SaysEvent text event → SaysEvent other second → text ++ more ≡ other ++ further → (text ≡ other) × (event ≡ second))
+module _ (one : (text other more further : List ℕ) (event second : Event) → SaysEvent text event → SaysEvent other second → text ++ more ≡ other ++ further
+    → (text ≡ other) × (event ≡ second))
     (something : (text : List ℕ) (event : Event) → SaysEvent text event → text ≢ []) where
   pub one_list : (events others : List Event) (text : List ℕ) → SaysEvents events text → SaysEvents others text → events ≡ others
   one_list [] [] text a b = refl
@@ -22,7 +23,8 @@ module _ (one : (text other more further : List ℕ) (event second : Event) → 
       let rest : b.rest ≡ a.rest = rest_is b.first b.rest a.rest (sym b.cut ∙ a.cut ∙ ap (λ (l : List ℕ). l ++ a.rest) same.0) in
       ap₂ (λ (x : Event) (xs : List Event). x ∷ xs) same.1 (one_list events others a.rest a.others (subst (SaysEvents others) rest b.others))
 
-  module _ (refused : (text more : List ℕ) (event : Event) → SaysEvent text event → IsNoEvent (text ++ more) → ⊥) (refuses : (rest : List ℕ) → IsNoEvent rest → rest ≢ []) where
+  module _ (refused : (text more : List ℕ) (event : Event) → SaysEvent text event → IsNoEvent (text ++ more) → ⊥) (refuses : (rest : List ℕ) → IsNoEvent rest
+      → rest ≢ []) where
     pub no_list : (events others : List Event) (text rest : List ℕ) → SaysEvents events text → IsNoEvent rest → SaysEvents others (text ++ rest) → ⊥
     no_list [] [] text rest a none b = refuses rest none (ap (λ (l : List ℕ). l ++ rest) (sym a) ∙ b)
     no_list [] (f ∷ others) text rest a none b =

@@ -1,5 +1,6 @@
 -- What holds where a replay is refused.
-use Rattle.std.proofs.Common.{◌≡◌, ◌≢◌, ℕ, ◌+◌, inl, inr, List, [], ◌∷◌, ◌++◌, Option, None, Some, IfSome, Result, Ok, Err, OnOk, IfErr, refl, sym, ◌∙◌, ap, subst, arith, append-nil, append_assoc}
+use Rattle.std.proofs.Common.{◌≡◌, ◌≢◌, ℕ, ◌+◌, inl, inr, List, [], ◌∷◌, ◌++◌, Option, None, Some, IfSome, Result, Ok, Err, OnOk, IfErr, refl, sym, ◌∙◌, ap, subst, arith}
+use Rattle.std.proofs.Common.{append-nil, append_assoc}
 use Rattle.std.specs.Prelude.{count_by, cond}
 use Rattle.std.specs.Io.KnownBytes.{Appends, Consumes, Keeps, prepend_known}
 use Rattle.std.proofs.KnownBytes.{Appends-nil, Appends-trans}
@@ -67,7 +68,8 @@ abbrev pub CutIsNone : Type 0
 CutIsNone = (event : Event) (front rest : List ℕ) → SaysEvent (front ++ rest) event → front ≢ [] → rest ≢ [] → IsNoEvent front
 
 -- no event was read
-no_event_stops : (server : Server) (state : Standing) (number first : ℕ) (script w : Option (List ℕ)) → first ≡ number + 1 → IfSome script IsNoEvent → Refuses server state number script w w (errors.Script first)
+no_event_stops : (server : Server) (state : Standing) (number first : ℕ) (script w : Option (List ℕ)) → first ≡ number + 1 → IfSome script IsNoEvent
+    → Refuses server state number script w w (errors.Script first)
 unfolding comes_nothing
 no_event_stops server state number first script w is h = record {
   steps = [];
@@ -77,14 +79,25 @@ no_event_stops server state number first script w is h = record {
   written = Appends-nil w;
 }
 
-pub event_refused : CutIsNone → (F : Type 0) (server : Server) (state : Standing) (number first : ℕ) (script w : Option (List ℕ)) (stop : ReadStop) → first ≡ number + 1 → ReadStops F script stop → Refuses server state number script w w (unread_error stop first)
+pub event_refused : CutIsNone → (F : Type 0) (server : Server) (state : Standing) (number first : ℕ) (script w : Option (List ℕ)) (stop : ReadStop) → first ≡ number + 1
+    → ReadStops F script stop → Refuses server state number script w w (unread_error stop first)
 unfolding comes_nothing
-event_refused none F server state number first script w read_stops.NoMemory is h = record { steps = []; comes = comes_nothing server state script; writes = front_none w [] }
+event_refused none F server state number first script w read_stops.NoMemory is h = record {
+  steps = [];
+  comes = comes_nothing server state script;
+  writes = front_none w [];
+}
 event_refused none F server state number first None w read_stops.Damaged is h = no_event_stops server state number first None w is tt
 event_refused none F server state number first (Some rest) w read_stops.Damaged is h = no_event_stops server state number first (Some rest) w is h.none
 event_refused none F server state number first None w read_stops.Cut is h = no_event_stops server state number first None w is tt
-event_refused none F server state number first (Some rest) w read_stops.Cut is h = no_event_stops server state number first (Some rest) w is (none h.event rest h.more h.says h.begun h.cut)
-event_refused none F server state number first script w read_stops.Read is h = record { steps = []; comes = comes_nothing server state script; none_ahead = refl; written = Appends-nil w }
+event_refused none F server state number first (Some rest) w read_stops.Cut is h = no_event_stops server state number first (Some rest) w is
+    (none h.event rest h.more h.says h.begun h.cut)
+event_refused none F server state number first script w read_stops.Read is h = record {
+  steps = [];
+  comes = comes_nothing server state script;
+  none_ahead = refl;
+  written = Appends-nil w;
+}
 
 pub event_faulted : (F G : Type 0) (first : ℕ) (script : Option (List ℕ)) (stop : ReadStop) → ReadStops F script stop → IsFaulted F G (unread_error stop first)
 event_faulted F G first script read_stops.NoMemory h = tt
@@ -99,7 +112,8 @@ begins_text None b text h = tt
 begins_text (Some xs) None text h = absurd h
 begins_text (Some xs) (Some ys) text h = (ys, h)
 
-within_event : (server : Server) (old : Standing) (part rest : Reading) (m r : Option (List ℕ)) (event : Event) (a b : Option (List ℕ)) → GivesEvent part rest m r event → PlaysSome server old event a b
+within_event : (server : Server) (old : Standing) (part rest : Reading) (m r : Option (List ℕ)) (event : Event) (a b : Option (List ℕ)) → GivesEvent part rest m r event
+    → PlaysSome server old event a b
     → StopsWithin server old (pending part m) a b
 within_event server old part rest m r event a b given (inl h) = record {
   steps = h.steps;
@@ -136,7 +150,8 @@ within_event server old part rest m r event a b given (inr h) = record {
   writes = h.writes;
 }
 
-pub taking_refuses : (G : Type 0) (server : Server) (old : Standing) (first : ℕ) (part rest : Reading) (m r : Option (List ℕ)) (event : Event) (a b : Option (List ℕ)) (stop : Stop) → first ≡ part.number + 1 → GivesEvent part rest m r event
+pub taking_refuses : (G : Type 0) (server : Server) (old : Standing) (first : ℕ) (part rest : Reading) (m r : Option (List ℕ)) (event : Event) (a b : Option (List ℕ))
+    (stop : Stop) → first ≡ part.number + 1 → GivesEvent part rest m r event
     → TakingStops server old event a b G stop → Refuses server old part.number (pending part m) a b (error_at stop first)
 taking_refuses G server old first part rest m r event a b stops.NoMemory is given h = within_event server old part rest m r event a b given h
 taking_refuses G server old first part rest m r event a b stops.Script is given h = record {
@@ -160,7 +175,8 @@ taking_refuses G server old first part rest m r event a b stops.Script is given 
 }
 taking_refuses G server old first part rest m r event a b stops.Write is given h = within_event server old part rest m r event a b given h.0
 
-pub taking_faulted : (F G : Type 0) (server : Server) (old : Standing) (first : ℕ) (event : Event) (a b : Option (List ℕ)) (stop : Stop) → TakingStops server old event a b G stop → IsFaulted F G (error_at stop first)
+pub taking_faulted : (F G : Type 0) (server : Server) (old : Standing) (first : ℕ) (event : Event) (a b : Option (List ℕ)) (stop : Stop)
+    → TakingStops server old event a b G stop → IsFaulted F G (error_at stop first)
 taking_faulted F G server old first event a b stops.NoMemory h = tt
 taking_faulted F G server old first event a b stops.Script h = tt
 taking_faulted F G server old first event a b stops.Write h = h.1
@@ -172,7 +188,8 @@ begins_on None b text more h begins = tt
 begins_on (Some xs) None text more h begins = absurd h
 begins_on (Some xs) (Some ys) text more h begins = (begins.0, h ∙ ap (λ l. text ++ l) begins.1 ∙ sym (append_assoc text more begins.0))
 
-comes_on : RunsJoin → (server : Server) (first mid : Standing) (old part : Reading) (before middle start half : Option (List ℕ)) (more : List StepOut) (h : Replays server first mid old part before middle start half)
+comes_on : RunsJoin → (server : Server) (first mid : Standing) (old part : Reading) (before middle start half : Option (List ℕ)) (more : List StepOut)
+    (h : Replays server first mid old part before middle start half)
     → ComesTo server mid (pending part middle) more → ComesTo server first (pending old before) (h.plays.steps ++ more)
 comes_on join server first mid old part before middle start half more h c = record {
   events = h.events ++ c.events;
@@ -183,7 +200,8 @@ comes_on join server first mid old part before middle start half more h c = reco
   last = c.last;
   says = says_all h.events c.events h.text c.text h.says c.says;
   says_ahead = c.says_ahead;
-  begins = subst (λ l. IfSome (pending old before) (BeginsWith l)) (sym (append_assoc h.text c.text c.further)) (begins_on (pending old before) (pending part middle) h.text (c.text ++ c.further) h.consumes c.begins);
+  begins = subst (λ l. IfSome (pending old before) (BeginsWith l)) (sym (append_assoc h.text c.text c.further))
+      (begins_on (pending old before) (pending part middle) h.text (c.text ++ c.further) h.consumes c.begins);
   is_run = join server first.state mid.state c.last h.events c.events (moment_ahead c.ahead) h.plays.steps more h.plays.history c.history
       (run_on server first.state mid.state h.events (first_moment c.events (moment_ahead c.ahead)) h.plays.steps h.plays.history h.plays.is_run) c.is_run;
   orderly = orderly_joined server first mid h.plays.history c.history h.plays.queue h.plays.orderly c.orderly;
@@ -194,20 +212,25 @@ none_behind_both None b text more h none = tt
 none_behind_both (Some xs) None text more h none = absurd h
 none_behind_both (Some xs) (Some ys) text more h none = (none.0, h ∙ ap (λ l. text ++ l) none.1 ∙ sym (append_assoc text more none.0), none.2)
 
-cant_on : (a b : Option (List ℕ)) (text more : List ℕ) (last : ProxyState) (ahead : Option Event) → Consumes a b text → CantGoOn b more last ahead → CantGoOn a (text ++ more) last ahead
+cant_on : (a b : Option (List ℕ)) (text more : List ℕ) (last : ProxyState) (ahead : Option Event) → Consumes a b text → CantGoOn b more last ahead
+    → CantGoOn a (text ++ more) last ahead
 cant_on a b text more last None h why = none_behind_both a b text more h why
 cant_on a b text more last (Some event) h why = why
 
 writes_on : (a b c : Option (List ℕ)) (steps more : List StepOut) → Appends a b (printed steps) → Appends b c (printed more) → Appends a c (printed (steps ++ more))
 writes_on a b c steps more h next = subst (λ l. Appends a c l) (sym (flat_map-append step_text steps more)) (Appends-trans a b c (printed steps) (printed more) h next)
 
-front_on : (a b c : Option (List ℕ)) (steps more : List StepOut) → Appends a b (printed steps) → WritesFront b c (printed more) → WritesFront a c (printed (steps ++ more))
+front_on : (a b c : Option (List ℕ)) (steps more : List StepOut) → Appends a b (printed steps) → WritesFront b c (printed more)
+    → WritesFront a c (printed (steps ++ more))
 front_on a b c steps more h next = subst (λ l. WritesFront a c l) (sym (flat_map-append step_text steps more)) (front_second a b c (printed steps) (printed more) h next)
 
-line_on : (line number part : ℕ) (text more : List ℕ) → part ≡ number + count_by is_end text → line ≡ part + count_by is_end more + 1 → line ≡ number + count_by is_end (text ++ more) + 1
-line_on line number part text more h is = let sum : count_by is_end (text ++ more) ≡ count_by is_end text + count_by is_end more = sum_by-append (λ b. cond (is_end b) 1 0) text more in omega (arith, h, is, sum)
+line_on : (line number part : ℕ) (text more : List ℕ) → part ≡ number + count_by is_end text → line ≡ part + count_by is_end more + 1
+    → line ≡ number + count_by is_end (text ++ more) + 1
+line_on line number part text more h is = let sum : count_by is_end (text ++ more) ≡ count_by is_end text + count_by is_end more =
+    sum_by-append (λ b. cond (is_end b) 1 0) text more in omega (arith, h, is, sum)
 
-within_on : RunsJoin → (server : Server) (first mid : Standing) (old part : Reading) (before middle start half written : Option (List ℕ)) → Replays server first mid old part before middle start half
+within_on : RunsJoin → (server : Server) (first mid : Standing) (old part : Reading) (before middle start half written : Option (List ℕ))
+    → Replays server first mid old part before middle start half
     → StopsWithin server mid (pending part middle) half written → StopsWithin server first (pending old before) start written
 within_on join server first mid old part before middle start half written h r = record {
   steps = h.plays.steps ++ r.steps;
@@ -215,10 +238,12 @@ within_on join server first mid old part before middle start half written h r = 
   writes = front_on start half written h.plays.steps r.steps h.plays.written r.writes;
 }
 
-pub refuses_on : RunsJoin → (server : Server) (first mid : Standing) (old part : Reading) (before middle start half written : Option (List ℕ)) (e : ReplayError) → Replays server first mid old part before middle start half
+pub refuses_on : RunsJoin → (server : Server) (first mid : Standing) (old part : Reading) (before middle start half written : Option (List ℕ)) (e : ReplayError)
+    → Replays server first mid old part before middle start half
     → Refuses server mid part.number (pending part middle) half written e → Refuses server first old.number (pending old before) start written e
 unfolding comes_on
-refuses_on join server first mid old part before middle start half written errors.NoMemory h r = within_on join server first mid old part before middle start half written h r
+refuses_on join server first mid old part before middle start half written errors.NoMemory h r =
+    within_on join server first mid old part before middle start half written h r
 refuses_on join server first mid old part before middle start half written (errors.Script line) h r = record {
   steps = h.plays.steps ++ r.steps;
   comes = comes_on join server first mid old part before middle start half r.steps h r.comes;
@@ -232,7 +257,8 @@ refuses_on join server first mid old part before middle start half written error
   none_ahead = r.none_ahead;
   written = writes_on start half written h.plays.steps r.steps h.plays.written r.written;
 }
-refuses_on join server first mid old part before middle start half written errors.Write h r = within_on join server first mid old part before middle start half written h r
+refuses_on join server first mid old part before middle start half written errors.Write h r =
+    within_on join server first mid old part before middle start half written h r
 
 -- ---- a whole replay
 
@@ -240,23 +266,39 @@ pending_none : (unread : List ℕ) (script : Option (List ℕ)) → unread ≡ [
 pending_none unread None none = refl
 pending_none unread (Some xs) none = ap (λ l. Some (l ++ xs)) none
 
-pub play_refused : RunsJoin → (config : Config) (word first : ℕ) (then_server : Server) (state : Standing) (old part : Reading) (before middle start half written : Option (List ℕ)) (e : ReplayError) → then_server ≡ server_with config word
+pub play_refused : RunsJoin → (config : Config) (word first : ℕ) (then_server : Server) (state : Standing) (old part : Reading)
+    (before middle start half written : Option (List ℕ)) (e : ReplayError) → then_server ≡ server_with config word
     → old ≡ record { unread = []; asks = 4294967295; number = 0 } → Replays (server_with config word) (first_standing first) state old part before middle start half
     → Refuses then_server state part.number (pending part middle) half written e → Refuses (server_with config word) (first_standing first) 0 before start written e
 play_refused join config word first then_server state old part before middle start half written e same is h r =
     let on : Refuses (server_with config word) (first_standing first) old.number (pending old before) start written e =
-    refuses_on join (server_with config word) (first_standing first) state old part before middle start half written e h (subst (λ s. Refuses s state part.number (pending part middle) half written e) same r) in
+    refuses_on join (server_with config word) (first_standing first) state old part before middle start half written e h
+    (subst (λ s. Refuses s state part.number (pending part middle) half written e) same r) in
     subst (λ n. Refuses (server_with config word) (first_standing first) n before start written e) (ap (λ (x : Reading). x.number) is)
-    (subst (λ s. Refuses (server_with config word) (first_standing first) old.number s start written e) (pending_none old.unread before (ap (λ (x : Reading). x.unread) is)) on)
+    (subst (λ s. Refuses (server_with config word) (first_standing first) old.number s start written e)
+    (pending_none old.unread before (ap (λ (x : Reading). x.unread) is)) on)
 
 -- what was written stays when the writer is flushed
-within_kept : (server : Server) (first : Standing) (script a b c : Option (List ℕ)) → StopsWithin server first script a b → Keeps b c → StopsWithin server first script a c
+within_kept : (server : Server) (first : Standing) (script a b c : Option (List ℕ)) → StopsWithin server first script a b → Keeps b c
+    → StopsWithin server first script a c
 within_kept server first script a b c h k = record { steps = h.steps; comes = h.comes; writes = front_still a b c (printed h.steps) h.writes k }
 
-refused_kept : (config : Config) (word first : ℕ) (script a b c : Option (List ℕ)) (e : ReplayError) → Refuses (server_with config word) (first_standing first) 0 script a b e → Keeps b c → Refuses (server_with config word) (first_standing first) 0 script a c e
+refused_kept : (config : Config) (word first : ℕ) (script a b c : Option (List ℕ)) (e : ReplayError)
+    → Refuses (server_with config word) (first_standing first) 0 script a b e → Keeps b c → Refuses (server_with config word) (first_standing first) 0 script a c e
 refused_kept config word first script a b c errors.NoMemory h k = within_kept (server_with config word) (first_standing first) script a b c h k
-refused_kept config word first script a b c (errors.Script line) h k = record { steps = h.steps; comes = h.comes; why = h.why; line_is = h.line_is; written = appends_kept a b c (printed h.steps) h.written k }
-refused_kept config word first script a b c errors.Read h k = record { steps = h.steps; comes = h.comes; none_ahead = h.none_ahead; written = appends_kept a b c (printed h.steps) h.written k }
+refused_kept config word first script a b c (errors.Script line) h k = record {
+  steps = h.steps;
+  comes = h.comes;
+  why = h.why;
+  line_is = h.line_is;
+  written = appends_kept a b c (printed h.steps) h.written k;
+}
+refused_kept config word first script a b c errors.Read h k = record {
+  steps = h.steps;
+  comes = h.comes;
+  none_ahead = h.none_ahead;
+  written = appends_kept a b c (printed h.steps) h.written k;
+}
 refused_kept config word first script a b c errors.Write h k = within_kept (server_with config word) (first_standing first) script a b c h k
 
 pub faulted_still : (F G H : Type 0) (e : ReplayError) → (G → H) → IsFaulted F G e → IsFaulted F H e
@@ -270,13 +312,15 @@ begins_whole : (script : Option (List ℕ)) (text : List ℕ) → IfSome script 
 begins_whole None text h = tt
 begins_whole (Some xs) text h = ([], h ∙ sym (append-nil (text ++ []) ∙ append-nil text))
 
-within_refused : (config : Config) (word first : ℕ) (script a b : Option (List ℕ)) (e : ReplayError) → Refuses (server_with config word) (first_standing first) 0 script a b e → StopsWithin (server_with config word) (first_standing first) script a b
+within_refused : (config : Config) (word first : ℕ) (script a b : Option (List ℕ)) (e : ReplayError)
+    → Refuses (server_with config word) (first_standing first) 0 script a b e → StopsWithin (server_with config word) (first_standing first) script a b
 within_refused config word first script a b errors.NoMemory h = h
 within_refused config word first script a b (errors.Script line) h = record { steps = h.steps; comes = h.comes; writes = front_all a b (printed h.steps) h.written }
 within_refused config word first script a b errors.Read h = record { steps = h.steps; comes = h.comes; writes = front_all a b (printed h.steps) h.written }
 within_refused config word first script a b errors.Write h = h
 
-within_whole : (config : Config) (word first : ℕ) (script a b : Option (List ℕ)) → IsReplay config word first script a b → StopsWithin (server_with config word) (first_standing first) script a b
+within_whole : (config : Config) (word first : ℕ) (script a b : Option (List ℕ)) → IsReplay config word first script a b
+    → StopsWithin (server_with config word) (first_standing first) script a b
 within_whole config word first script a b h = record {
   steps = h.steps;
   comes = record {
@@ -295,30 +339,41 @@ within_whole config word first script a b h = record {
   writes = front_all a b (printed h.steps) h.written;
 }
 
-unflushed : {T : Type 0} (r : Result T ReplayError) (config : Config) (word first : ℕ) (script a b c : Option (List ℕ)) → OnOk r (IsReplay config word first script a b) → IfErr r (λ e. Refuses (server_with config word) (first_standing first) 0 script a b e) → Keeps b c
+unflushed : {T : Type 0} (r : Result T ReplayError) (config : Config) (word first : ℕ) (script a b c : Option (List ℕ)) → OnOk r (IsReplay config word first script a b)
+    → IfErr r (λ e. Refuses (server_with config word) (first_standing first) 0 script a b e) → Keeps b c
     → Refuses (server_with config word) (first_standing first) 0 script a c errors.Write
-unflushed (Ok x) config word first script a b c whole refused k = within_kept (server_with config word) (first_standing first) script a b c (within_whole config word first script a b whole) k
-unflushed (Err e) config word first script a b c whole refused k = within_kept (server_with config word) (first_standing first) script a b c (within_refused config word first script a b e refused) k
+unflushed (Ok x) config word first script a b c whole refused k = within_kept (server_with config word) (first_standing first) script a b c
+    (within_whole config word first script a b whole) k
+unflushed (Err e) config word first script a b c whole refused k = within_kept (server_with config word) (first_standing first) script a b c
+    (within_refused config word first script a b e refused) k
 
 -- ---- what was done is lawful
 
-comes_lawfully : AllAreLawful → (server : Server) (first : ℕ) (script : Option (List ℕ)) (steps : List StepOut) (comes : ComesTo server (first_standing first) script steps) → Access server comes.history × IsBounded server comes.history
+comes_lawfully : AllAreLawful → (server : Server) (first : ℕ) (script : Option (List ℕ)) (steps : List StepOut)
+    (comes : ComesTo server (first_standing first) script steps) → Access server comes.history × IsBounded server comes.history
 comes_lawfully law server first script steps comes = law server first comes.events (moment_ahead comes.ahead) steps comes.history comes.last comes.is_run
 
-refused_lawfully : AllAreLawful → (server : Server) (first : ℕ) (script a b : Option (List ℕ)) (e : ReplayError) (refusal : Refuses server (first_standing first) 0 script a b e) → Access server (history_before server (first_standing first) 0 script a b e refusal) × IsBounded server (history_before server (first_standing first) 0 script a b e refusal)
+refused_lawfully : AllAreLawful → (server : Server) (first : ℕ) (script a b : Option (List ℕ)) (e : ReplayError)
+    (refusal : Refuses server (first_standing first) 0 script a b e) → Access server (history_before server (first_standing first) 0 script a b e refusal)
+    × IsBounded server (history_before server (first_standing first) 0 script a b e refusal)
 refused_lawfully law server first script a b errors.NoMemory refusal = comes_lawfully law server first script refusal.steps refusal.comes
 refused_lawfully law server first script a b (errors.Script line) refusal = comes_lawfully law server first script refusal.steps refusal.comes
 refused_lawfully law server first script a b errors.Read refusal = comes_lawfully law server first script refusal.steps refusal.comes
 refused_lawfully law server first script a b errors.Write refusal = comes_lawfully law server first script refusal.steps refusal.comes
 
-is_refused : AllAreLawful → (config : Config) (word first : ℕ) (script a b : Option (List ℕ)) (e : ReplayError) → Refuses (server_with config word) (first_standing first) 0 script a b e → IsRefused config word first script a b e
-is_refused law config word first script a b e refusal = let both = refused_lawfully law (server_with config word) first script a b e refusal in record { refusal = refusal; access = both.0; bounded = both.1 }
+is_refused : AllAreLawful → (config : Config) (word first : ℕ) (script a b : Option (List ℕ)) (e : ReplayError)
+    → Refuses (server_with config word) (first_standing first) 0 script a b e → IsRefused config word first script a b e
+is_refused law config word first script a b e refusal = let both = refused_lawfully law (server_with config word) first script a b e refusal in
+    record { refusal = refusal; access = both.0; bounded = both.1 }
 
 -- behind a flush
-pub refused_flushed : AllAreLawful → (config : Config) (word first : ℕ) (script a b c : Option (List ℕ)) (e : ReplayError) → Refuses (server_with config word) (first_standing first) 0 script a b e → Keeps b c → IsRefused config word first script a c e
+pub refused_flushed : AllAreLawful → (config : Config) (word first : ℕ) (script a b c : Option (List ℕ)) (e : ReplayError)
+    → Refuses (server_with config word) (first_standing first) 0 script a b e → Keeps b c → IsRefused config word first script a c e
 refused_flushed law config word first script a b c e h k = is_refused law config word first script a c e (refused_kept config word first script a b c e h k)
 
 -- and where that fails
-pub refused_unflushed : AllAreLawful → {T : Type 0} (r : Result T ReplayError) (config : Config) (word first : ℕ) (script a b c : Option (List ℕ)) → OnOk r (IsReplay config word first script a b)
+pub refused_unflushed : AllAreLawful → {T : Type 0} (r : Result T ReplayError) (config : Config) (word first : ℕ) (script a b c : Option (List ℕ))
+    → OnOk r (IsReplay config word first script a b)
     → IfErr r (λ e. Refuses (server_with config word) (first_standing first) 0 script a b e) → Keeps b c → IsRefused config word first script a c errors.Write
-refused_unflushed law r config word first script a b c whole refused k = is_refused law config word first script a c errors.Write (unflushed r config word first script a b c whole refused k)
+refused_unflushed law r config word first script a b c whole refused k = is_refused law config word first script a c errors.Write
+    (unflushed r config word first script a b c whole refused k)

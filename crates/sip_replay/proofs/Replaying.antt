@@ -22,7 +22,8 @@ use Rattle.sip_replay_script.proofs.Fronts.{appends_kept}
 use Rattle.sip_replay.proofs.Running.{RunsJoin, plays_nothing, plays_both}
 
 -- a text that says one event more
-pub says_more : (events : List Event) (event : Event) (text more : List ℕ) → SaysEvents events text → SaysEvent more event → SaysEvents (events ++ event ∷ []) (text ++ more)
+pub says_more : (events : List Event) (event : Event) (text more : List ℕ) → SaysEvents events text → SaysEvent more event
+    → SaysEvents (events ++ event ∷ []) (text ++ more)
 says_more [] event text more h says = record {
   first = more;
   rest = [];
@@ -58,10 +59,12 @@ replays_nothing server first r before start = record {
 }
 
 numbers_add : (old mid new : ℕ) (text more : List ℕ) → mid ≡ old + count_by is_end text → new ≡ mid + count_by is_end more → new ≡ old + count_by is_end (text ++ more)
-numbers_add old mid new text more h1 h2 = let sum : count_by is_end (text ++ more) ≡ count_by is_end text + count_by is_end more = sum_by-append (λ b. cond (is_end b) 1 0) text more in omega (arith, h1, h2, sum)
+numbers_add old mid new text more h1 h2 = let sum : count_by is_end (text ++ more) ≡ count_by is_end text + count_by is_end more =
+    sum_by-append (λ b. cond (is_end b) 1 0) text more in omega (arith, h1, h2, sum)
 
 pub replays_more : RunsJoin → (server : Server) (first mid new : Standing) (old part rest : Reading) (before middle after start half written : Option (List ℕ))
-    → Replays server first mid old part before middle start half → PlaysNext server mid new part rest middle after half written → Replays server first new old rest before after start written
+    → Replays server first mid old part before middle start half → PlaysNext server mid new part rest middle after half written
+    → Replays server first new old rest before after start written
 replays_more join server first mid new old part rest before middle after start half written h next = record {
   events = h.events ++ next.event ∷ [];
   text = h.text ++ next.gives.text;
@@ -72,20 +75,25 @@ replays_more join server first mid new old part rest before middle after start h
 }
 
 -- the same of the server as it is then
-pub replays_next : RunsJoin → (server then_server : Server) (first mid new : Standing) (old part rest : Reading) (before middle after start half written : Option (List ℕ)) → then_server ≡ server
-    → Replays server first mid old part before middle start half → PlaysNext then_server mid new part rest middle after half written → Replays server first new old rest before after start written
+pub replays_next : RunsJoin → (server then_server : Server) (first mid new : Standing) (old part rest : Reading)
+    (before middle after start half written : Option (List ℕ)) → then_server ≡ server
+    → Replays server first mid old part before middle start half → PlaysNext then_server mid new part rest middle after half written
+    → Replays server first new old rest before after start written
 replays_next join server then_server first mid new old part rest before middle after start half written same h next =
-    replays_more join server first mid new old part rest before middle after start half written h (subst (λ s. PlaysNext s mid new part rest middle after half written) same next)
+    replays_more join server first mid new old part rest before middle after start half written h
+    (subst (λ s. PlaysNext s mid new part rest middle after half written) same next)
 
 -- at the script's end
-whole_of : (unread : List ℕ) (a b c : Option (List ℕ)) (text : List ℕ) → unread ≡ [] → Consumes (prepend_known unread a) b text → Keeps b c → IsAtEnd c → IfSome a (λ bytes. bytes ≡ text)
+whole_of : (unread : List ℕ) (a b c : Option (List ℕ)) (text : List ℕ) → unread ≡ [] → Consumes (prepend_known unread a) b text → Keeps b c → IsAtEnd c
+    → IfSome a (λ bytes. bytes ≡ text)
 whole_of unread None b c text none h k e = tt
 whole_of unread (Some xs) None c text none h k e = absurd h
 whole_of unread (Some xs) (Some ys) None text none h k e = absurd k
 whole_of unread (Some xs) (Some ys) (Some zs) text none h k e = sym (ap (λ l. l ++ xs) none) ∙ h ∙ ap (λ l. text ++ l) (sym k ∙ e) ∙ append-nil text
 
 pub replays_over : (config : Config) (word first : ℕ) (state : Standing) (old new rest : Reading) (before middle after start written : Option (List ℕ)) → old.unread ≡ []
-    → Replays (server_with config word) (first_standing first) state old new before middle start written → IsOver new rest middle after → IsReplay config word first before start written
+    → Replays (server_with config word) (first_standing first) state old new before middle start written → IsOver new rest middle after
+    → IsReplay config word first before start written
 replays_over config word first state old new rest before middle after start written none h over = record {
   text = h.text;
   events = h.events;
@@ -100,7 +108,8 @@ replays_over config word first state old new rest before middle after start writ
 }
 
 -- what is written stays when the writer is flushed
-pub replay_kept : (config : Config) (word first : ℕ) (script a b c : Option (List ℕ)) → IsReplay config word first script a b → Keeps b c → IsReplay config word first script a c
+pub replay_kept : (config : Config) (word first : ℕ) (script a b c : Option (List ℕ)) → IsReplay config word first script a b → Keeps b c
+    → IsReplay config word first script a c
 replay_kept config word first script a b c h k = record {
   text = h.text;
   events = h.events;
@@ -121,11 +130,17 @@ AllAreLawful =
     → IsRun server (first_state first) events until steps history last → Access server history × IsBounded server history
 
 -- by the two laws
-pub by_laws : ((server : Server) (first : ℕ) (events : List Event) (until : Option ℕ) (steps : List StepOut) (history : List Link) (last : ProxyState) → IsRun server (first_state first) events until steps history last → Access server history)
-    → ((server : Server) (first : ℕ) (history : List Link) (last : ProxyState) → IsChain server (first_state first) history last → IsBounded server history) → AllAreLawful
-by_laws access bounded = λ server first events until steps history last run. (access server first events until steps history last run, bounded server first history last run.chain)
+pub by_laws : ((server : Server) (first : ℕ) (events : List Event) (until : Option ℕ) (steps : List StepOut) (history : List Link) (last : ProxyState)
+    → IsRun server (first_state first) events until steps history last → Access server history)
+    → ((server : Server) (first : ℕ) (history : List Link) (last : ProxyState) → IsChain server (first_state first) history last → IsBounded server history)
+    → AllAreLawful
+by_laws access bounded = λ server first events until steps history last run. (
+  access server first events until steps history last run,
+  bounded server first history last run.chain,
+)
 
-pub lawful : AllAreLawful → (config : Config) (word first : ℕ) (script a b c : Option (List ℕ)) → IsReplay config word first script a b → Keeps b c → IsLawfulReplay config word first script a c
+pub lawful : AllAreLawful → (config : Config) (word first : ℕ) (script a b c : Option (List ℕ)) → IsReplay config word first script a b → Keeps b c
+    → IsLawfulReplay config word first script a c
 unfolding replay_kept
 lawful law config word first script a b c h k =
     let both = law (server_with config word) first h.events None h.steps h.history h.last h.is_run in

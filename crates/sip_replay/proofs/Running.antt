@@ -22,7 +22,8 @@ use Rattle.sip_run.proofs.RunOn.{run_on}
 use Rattle.sip_replay.specs.Replays.{Plays}
 
 -- an event that comes once nothing is due by its moment waited for all that was
-pub prompt_event : (server : Server) (mid new : ProxyState) (event : Event) (out : StepOut) → NothingDueBy (moment_of mid (event_moment event)) mid → IsPrompt server mid (Given event) out new
+pub prompt_event : (server : Server) (mid new : ProxyState) (event : Event) (out : StepOut) → NothingDueBy (moment_of mid (event_moment event)) mid
+    → IsPrompt server mid (Given event) out new
 prompt_event server mid new (Datagram at word from bytes) out none = tt
 prompt_event server mid new (Time at) out none = tt
 prompt_event server mid new (Fault at ticket) out none = (none.none, none.none_again)
@@ -43,7 +44,8 @@ pub printed_more : (steps : List StepOut) (out : StepOut) → printed (steps ++ 
 printed_more steps out = flat_map-append step_text steps (out ∷ []) ∙ ap (λ l. printed steps ++ l) (append-nil (step_text out))
 
 -- time passes
-passing_step : (server : Server) (old mid new : Standing) (at : ℕ) (out : StepOut) (a b c : Option (List ℕ)) → Plays server old mid [] (Some at) a b → IsFirstOf server mid.queue mid.state at out new.state → IsQueueAfter mid new
+passing_step : (server : Server) (old mid new : Standing) (at : ℕ) (out : StepOut) (a b c : Option (List ℕ)) → Plays server old mid [] (Some at) a b
+    → IsFirstOf server mid.queue mid.state at out new.state → IsQueueAfter mid new
     → Appends b c (step_text out) → Plays server old new [] (Some at) a c
 passing_step server old mid new at out a b c h happens queue written = record {
   steps = h.steps ++ out ∷ [];
@@ -61,14 +63,17 @@ passing_step server old mid new at out a b c h happens queue written = record {
 }
 
 -- what is due happens, of the server as it is then
-pub plays_firing : (server then_server : Server) (old mid new : Standing) (at : ℕ) (out : StepOut) (a b c : Option (List ℕ)) → then_server ≡ server → Plays server old mid [] (Some at) a b
+pub plays_firing : (server then_server : Server) (old mid new : Standing) (at : ℕ) (out : StepOut) (a b c : Option (List ℕ)) → then_server ≡ server
+    → Plays server old mid [] (Some at) a b
     → Fires then_server mid at out new → Appends b c (step_text out) → Plays server old new [] (Some at) a c
 plays_firing server then_server old mid new at out a b c same h fires written =
     passing_step server old mid new at out a b c h (subst (λ s. IsFirstOf s mid.queue mid.state at out new.state) same fires.happens) fires.queue written
 
 -- the event's own step comes
-event_step : (server : Server) (old mid new : Standing) (event : Event) (out : StepOut) (a b c : Option (List ℕ)) → Plays server old mid [] (Some (event_moment event)) a b
-    → NothingDueBy (moment_of mid.state (event_moment event)) mid.state → IsStep server mid.state (Given event) out new.state → IsQueueAfter mid new → Appends b c (step_text out) → Plays server old new (event ∷ []) None a c
+event_step : (server : Server) (old mid new : Standing) (event : Event) (out : StepOut) (a b c : Option (List ℕ))
+    → Plays server old mid [] (Some (event_moment event)) a b
+    → NothingDueBy (moment_of mid.state (event_moment event)) mid.state → IsStep server mid.state (Given event) out new.state → IsQueueAfter mid new
+    → Appends b c (step_text out) → Plays server old new (event ∷ []) None a c
 event_step server old mid new event out a b c h none step queue written = record {
   steps = h.steps ++ out ∷ [];
   history = record { config = server.config; before = mid.state; act = Given event; out = out; after = new.state } ∷ h.history;
@@ -85,10 +90,13 @@ event_step server old mid new event out a b c h none step queue written = record
 }
 
 -- the same of the server as it is then
-pub plays_event : (server then_server : Server) (old mid new : Standing) (at : ℕ) (event : Event) (out : StepOut) (a b c : Option (List ℕ)) → then_server ≡ server → at ≡ event_moment event
-    → Plays server old mid [] (Some at) a b → NothingDueBy (moment_of mid.state at) mid.state → IsStep then_server mid.state (Given event) out new.state → IsQueueAfter mid new → Appends b c (step_text out) → Plays server old new (event ∷ []) None a c
+pub plays_event : (server then_server : Server) (old mid new : Standing) (at : ℕ) (event : Event) (out : StepOut) (a b c : Option (List ℕ)) → then_server ≡ server
+    → at ≡ event_moment event
+    → Plays server old mid [] (Some at) a b → NothingDueBy (moment_of mid.state at) mid.state → IsStep then_server mid.state (Given event) out new.state
+    → IsQueueAfter mid new → Appends b c (step_text out) → Plays server old new (event ∷ []) None a c
 plays_event server then_server old mid new at event out a b c same is h none step queue written =
-    event_step server old mid new event out a b c (subst (λ (m : ℕ). Plays server old mid [] (Some m) a b) is h) (subst (λ (m : ℕ). NothingDueBy (moment_of mid.state m) mid.state) is none) (subst (λ s. IsStep s mid.state (Given event) out new.state) same step) queue written
+    event_step server old mid new event out a b c (subst (λ (m : ℕ). Plays server old mid [] (Some m) a b) is h)
+    (subst (λ (m : ℕ). NothingDueBy (moment_of mid.state m) mid.state) is none) (subst (λ s. IsStep s mid.state (Given event) out new.state) same step) queue written
 
 -- two runs, one behind the other, are one
 abbrev pub RunsJoin : Type 0
@@ -98,7 +106,8 @@ RunsJoin =
     → IsRun server first (events ++ more) until (steps ++ further) (later ++ history) last
 
 -- an event more
-pub plays_both : RunsJoin → (server : Server) (old mid new : Standing) (events : List Event) (event : Event) (a b c : Option (List ℕ)) → Plays server old mid events None a b → Plays server mid new (event ∷ []) None b c
+pub plays_both : RunsJoin → (server : Server) (old mid new : Standing) (events : List Event) (event : Event) (a b c : Option (List ℕ))
+    → Plays server old mid events None a b → Plays server mid new (event ∷ []) None b c
     → Plays server old new (events ++ event ∷ []) None a c
 plays_both join server old mid new events event a b c h next = record {
   steps = h.steps ++ next.steps;
@@ -107,5 +116,6 @@ plays_both join server old mid new events event a b c h next = record {
       (run_on server old.state mid.state events (Some (event_moment event)) h.steps h.history h.is_run) next.is_run;
   orderly = orderly_joined server old mid h.history next.history h.queue h.orderly next.orderly;
   queue = queue_behind old mid new h.history next.history h.queue next.queue;
-  written = subst (λ l. Appends a c l) (sym (flat_map-append step_text h.steps next.steps)) (Appends-trans a b c (printed h.steps) (printed next.steps) h.written next.written);
+  written = subst (λ l. Appends a c l) (sym (flat_map-append step_text h.steps next.steps))
+      (Appends-trans a b c (printed h.steps) (printed next.steps) h.written next.written);
 }

@@ -21,7 +21,8 @@ abbrev pub server_with : Config → ℕ → Server
 server_with config word = record { config = config; word = word }
 
 -- The script says events, for which the steps of the server, from its first number on, are a run, in which time passes only where
--- the first of what is due happens, in the order in which timers stand, and all that is due by the moment of an event happens before it; and what is printed of these steps was written.
+-- the first of what is due happens, in the order in which timers stand, and all that is due by the moment of an event happens before it; and what is printed of these
+-- steps was written.
 pub record IsReplay (config : Config) (word first : ℕ) (script old new : Option (List ℕ)) : Type 0 where
   pub text : List ℕ
   pub events : List Event

@@ -1,5 +1,6 @@
 -- Text that says an event, cut before its end, says none.
-use Rattle.std.proofs.Common.{◌≡◌, ◌≢◌, ℕ, suc, ◌+◌, List, [], ◌∷◌, ◌++◌, length, take, drop, get_or, false, refl, sym, ◌∙◌, ap, arith, inl, inr, append_assoc, take-append-drop}
+use Rattle.std.proofs.Common.{◌≡◌, ◌≢◌, ℕ, suc, ◌+◌, List, [], ◌∷◌, ◌++◌, length, take, drop, get_or, false, refl, sym, ◌∙◌, ap, arith, inl, inr, append_assoc}
+use Rattle.std.proofs.Common.{take-append-drop}
 use Rattle.std.specs.Prelude.{◌⊎◌, count_by, All}
 use Rattle.std.specs.List.{flat_map, list_any}
 use Rattle.std.proofs.lemmas.Bool.{or_parts}
@@ -68,7 +69,8 @@ cut_line (a ∷ line) (b ∷ front) rest single e some =
 
 pub no_line : (text : List ℕ) → count_by is_end text ≡ 0 → HasNoLine text
 no_line text none =
-    let sum : count_by is_end (take 200001 text ++ drop 200001 text) ≡ count_by is_end (take 200001 text) + count_by is_end (drop 200001 text) = ends_add (take 200001 text) (drop 200001 text) in
+    let sum : count_by is_end (take 200001 text ++ drop 200001 text) ≡ count_by is_end (take 200001 text) + count_by is_end (drop 200001 text) =
+    ends_add (take 200001 text) (drop 200001 text) in
     let same : count_by is_end (take 200001 text ++ drop 200001 text) ≡ count_by is_end text = ap (count_by is_end) (take-append-drop 200001 text) in
     omega (arith, none, sum, same)
 
@@ -91,7 +93,8 @@ one_more line front more is_line no_dot e d = record {
 later_lines : (line : List ℕ) (lines : List (List ℕ)) → All IsLine (line ∷ lines) → All IsLine lines
 later_lines line lines are k d lt = are (suc k) d (omega (arith, lt))
 
-cut_lines : (lines : List (List ℕ)) (front rest : List ℕ) → All IsLine lines → list_any is_dot lines ≡ false → flat_map ended lines ++ 46 ∷ 10 ∷ [] ≡ front ++ rest → rest ≢ [] → IsNoDatagram front
+cut_lines : (lines : List (List ℕ)) (front rest : List ℕ) → All IsLine lines → list_any is_dot lines ≡ false → flat_map ended lines ++ 46 ∷ 10 ∷ [] ≡ front ++ rest
+    → rest ≢ [] → IsNoDatagram front
 cut_lines [] front rest are no_dot e some = unended front (cut_line (46 ∷ []) front rest refl e some)
 cut_lines (line ∷ lines) front rest are no_dot e some =
     let first : IsLine line = are 0 [] (omega arith) in
@@ -112,5 +115,13 @@ cut_event event front rest (inl w) begun some = inl (begun, no_line front (cut_l
 cut_event event front rest (inr h) begun some =
     elim (cut_at (ended h.line) h.rest front rest (sym h.text_is)) [
       | inl c ↦ inl (begun, no_line front (cut_line h.line front c.more h.is_line.single c.is c.some))
-      | inr c ↦ inr (inr (record { line = h.line; head = h.head; more = c.more; is_line = h.is_line; cut = c.is; says = h.says; lines = cut_datagram h.rest h.bytes c.more rest h.lines c.left some }))
+      | inr c ↦ inr (inr (record {
+        line = h.line;
+        head = h.head;
+        more = c.more;
+        is_line = h.is_line;
+        cut = c.is;
+        says = h.says;
+        lines = cut_datagram h.rest h.bytes c.more rest h.lines c.left some;
+      }))
     ]

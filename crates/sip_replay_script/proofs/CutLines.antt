@@ -1,5 +1,6 @@
 -- The first lines of events, field by field, and where such a line was cut.
-use Rattle.std.proofs.Common.{◌≡◌, ℕ, ◌^◌, ◌<◌, ◌≤◌, Bool, true, false, List, [], ◌∷◌, ◌++◌, length, decimal, Option, Some, None, refl, sym, ap, ap₂, subst, ◌∙◌, arith, inl, inr, append_assoc, if◌then◌else◌}
+use Rattle.std.proofs.Common.{◌≡◌, ℕ, ◌^◌, ◌<◌, ◌≤◌, Bool, true, false, List, [], ◌∷◌, ◌++◌, length, decimal, Option, Some, None, refl, sym, ap, ap₂, subst, ◌∙◌, arith}
+use Rattle.std.proofs.Common.{inl, inr, append_assoc, if◌then◌else◌}
 use Rattle.std.specs.Prelude.{◌⊎◌, ◌==◌, ◌&&◌, not, nat_le, nat_lt, codes}
 use Rattle.std.specs.List.{list_all}
 use Rattle.std.specs.Option.{option_and_then, option_map}
@@ -26,7 +27,8 @@ use Rattle.sip_event.specs.declared.event.Event.TheVariants.{Datagram, Time, Fau
 use Rattle.sip_replay_script.specs.declared.script.DatagramHead.{DatagramHead}
 use Rattle.sip_replay_script.specs.declared.script.Line.{Line}
 use Rattle.sip_replay_script.specs.declared.script.Line.TheVariants.{Head, Whole}
-use Rattle.sip_replay_script.specs.Script.{line_of, line_of_kind, datagram_line, hex_line, hex_parts, time_line, fault_line, head_of, at_of, ticket_of, datagram_at, ◌>>=◌}
+use Rattle.sip_replay_script.specs.Script.{line_of, line_of_kind, datagram_line, hex_line, hex_parts, time_line, fault_line, head_of, at_of, ticket_of, datagram_at}
+use Rattle.sip_replay_script.specs.Script.{◌>>=◌}
 use Rattle.sip_replay_script.proofs.WrittenEvents.{IsSource, below_again, source_again, number_others, source_others, word_others}
 use Rattle.sip_replay_script.proofs.Samples.{HasSample, IsWhole, IsNumber, IsPairs, IsWord, Parts, both_sample, number_sample, pairs_sample, word_sample, noughts_sample}
 
@@ -139,11 +141,13 @@ small_numbers [] ns e = let same : [] ≡ ns = cc in ap (list_all (λ n. nat_le 
 small_numbers (piece ∷ pieces) ns e =
     let first = then_some (λ n. option_map (λ ns. n ∷ ns) (ip_numbers pieces)) (ip_number piece) ns e in
     let rest = map_some (λ (ns : List ℕ). first.0 ∷ ns) (ip_numbers pieces) ns first.2 in
-    ap (list_all (λ n. nat_le n 255)) (sym rest.2) ∙ and_is (nat_le first.0 255) (list_all (λ n. nat_le n 255) rest.0) (small_number piece first.0 first.1) (small_numbers pieces rest.0 rest.1)
+    ap (list_all (λ n. nat_le n 255)) (sym rest.2) ∙ and_is (nat_le first.0 255) (list_all (λ n. nat_le n 255) rest.0) (small_number piece first.0 first.1)
+    (small_numbers pieces rest.0 rest.1)
 
 read_from : (text : List ℕ) (a : Addr) → addr_of text ≡ Some a → IsFrom text
 read_from text a e =
-    let parts = then_some (λ parts. option_and_then (λ ip. option_map (λ port. record { ip = ip; port = port }) (plain_port_of parts.1)) (ip_of parts.0)) (split_at_byte 58 text) a e in
+    let parts = then_some (λ parts. option_and_then (λ ip. option_map (λ port. record { ip = ip; port = port }) (plain_port_of parts.1)) (ip_of parts.0))
+    (split_at_byte 58 text) a e in
     let front : List ℕ = parts.0.0 in
     let back : List ℕ = parts.0.1 in
     let ip = then_some (λ ip. option_map (λ port. record { ip = ip; port = port }) (plain_port_of back)) (ip_of front) a parts.2 in
@@ -181,7 +185,8 @@ four_is a b c d e = simp append_assoc refl
 octet : (n : ℕ) → nat_le n 255 ≡ true → Octet (decimal n)
 octet n e = let le : n ≤ 255 = leb-true n 255 e in record { number = n; written = refl; some = omega arith; below = omega (arith, le) }
 
-by_four : (ip : List ℕ) (port : ℕ) → length ip ≡ 4 → list_all (λ n. nat_le n 255) ip ≡ true → 0 < port → port < 65536 → Dotted (addr_text (record { ip = ip; port = port }))
+by_four : (ip : List ℕ) (port : ℕ) → length ip ≡ 4 → list_all (λ n. nat_le n 255) ip ≡ true → 0 < port → port < 65536
+    → Dotted (addr_text (record { ip = ip; port = port }))
 by_four [] port four octets some small = absurd (omega (arith, four))
 by_four (a ∷ []) port four octets some small = absurd (omega (arith, four))
 by_four (a ∷ b ∷ []) port four octets some small = absurd (omega (arith, four))
@@ -237,7 +242,8 @@ dotted_from text p =
       source = record { ip = a ∷ b ∷ c ∷ d ∷ []; port = port };
       is = record {
         four = refl;
-        octets = and_is _ _ (le-leb a 255 (omega (arith, la))) (and_is _ _ (le-leb b 255 (omega (arith, lb))) (and_is _ _ (le-leb c 255 (omega (arith, lc))) (and_is _ _ (le-leb d 255 (omega (arith, ld))) refl)));
+        octets = and_is _ _ (le-leb a 255 (omega (arith, la))) (and_is _ _ (le-leb b 255 (omega (arith, lb)))
+            (and_is _ _ (le-leb c 255 (omega (arith, lc))) (and_is _ _ (le-leb d 255 (omega (arith, ld))) refl)));
         some = omega (arith, some);
         small = s.is_second.below;
       };
@@ -262,7 +268,8 @@ port_sample = number_sample 1 65536 49 one_digit (omega arith) (omega arith) (om
 from_sample : HasSample IsFrom (codes "0.0.0.0:1")
 from_sample =
     same_sample Dotted IsFrom (codes "0.0.0.0:1") dotted_from from_dotted
-    (both_sample _ _ 46 (48 ∷ []) _ octet_sample (both_sample _ _ 46 (48 ∷ []) _ octet_sample (both_sample _ _ 46 (48 ∷ []) _ octet_sample (both_sample _ _ 58 (48 ∷ []) _ octet_sample port_sample))))
+    (both_sample _ _ 46 (48 ∷ []) _ octet_sample (both_sample _ _ 46 (48 ∷ []) _ octet_sample
+    (both_sample _ _ 46 (48 ∷ []) _ octet_sample (both_sample _ _ 58 (48 ∷ []) _ octet_sample port_sample))))
 
 from_others : (text : List ℕ) → IsFrom text → list_all (is_not 32) text ≡ true
 from_others text f = ap (list_all (is_not 32)) f.written ∙ source_others 32 refl refl refl f.source f.is
@@ -293,7 +300,8 @@ pub record Says (line : List ℕ) : Type 0 where
   pub said : Line
   pub says : line_of line ≡ Some said
 
-split_so : (mark : ℕ) (text first second : List ℕ) → (mark == mark) ≡ true → text ≡ first ++ mark ∷ second → list_all (is_not mark) first ≡ true → split_at_byte mark text ≡ Some (first, second)
+split_so : (mark : ℕ) (text first second : List ℕ) → (mark == mark) ≡ true → text ≡ first ++ mark ∷ second → list_all (is_not mark) first ≡ true
+    → split_at_byte mark text ≡ Some (first, second)
 split_so mark text first second same cut none = ap (split_at_byte mark) cut ∙ split_again mark first second none same
 
 behind_kind : (kind text first second : List ℕ) → text ≡ first ++ 32 ∷ second → first ≡ kind → text ≡ kind ++ 32 ∷ second
@@ -305,22 +313,27 @@ word_alone text w = ap (list_all (is_not 32)) ((names_word text w.word).0 w.says
 time_of : (second : List ℕ) (n : ℕ) → at_of second ≡ Some n → line_of (codes "time" ++ 32 ∷ second) ≡ Some (Whole (Time n))
 time_of second n e = rw e refl
 
-fault_of : (second moment rest number branch : List ℕ) (m n k : ℕ) → split_at_byte 32 second ≡ Some (moment, rest) → at_of moment ≡ Some m → split_at_byte 47 rest ≡ Some (number, branch) → plain_decimal_of number ≡ Some n
+fault_of : (second moment rest number branch : List ℕ) (m n k : ℕ) → split_at_byte 32 second ≡ Some (moment, rest) → at_of moment ≡ Some m
+    → split_at_byte 47 rest ≡ Some (number, branch) → plain_decimal_of number ≡ Some n
     → plain_decimal_below (2 ^ 32) branch ≡ Some k → line_of (codes "fault" ++ 32 ∷ second) ≡ Some (Whole (Fault m (record { «datagram» = n; branch = k })))
 fault_of second moment rest number branch m n k e f g h i = rw (e, f, g, h, i) refl
 
-datagram_of : (second moment rest source word : List ℕ) (m w : ℕ) (a : Addr) → split_at_byte 32 second ≡ Some (moment, rest) → split_at_byte 32 rest ≡ Some (source, word) → at_of moment ≡ Some m → addr_of source ≡ Some a
+datagram_of : (second moment rest source word : List ℕ) (m w : ℕ) (a : Addr) → split_at_byte 32 second ≡ Some (moment, rest) → split_at_byte 32 rest ≡ Some (source, word)
+    → at_of moment ≡ Some m → addr_of source ≡ Some a
     → word_of word ≡ Some w → line_of (codes "datagram" ++ 32 ∷ second) ≡ Some (Head (record { at = m; word = w; from = a }))
 datagram_of second moment rest source word m w a e f g h i = rw (e, f, g, h, i) refl
 
-hex_of : (second moment rest source more word digits bytes : List ℕ) (m w : ℕ) (a : Addr) → split_at_byte 32 second ≡ Some (moment, rest) → split_at_byte 32 rest ≡ Some (source, more) → split_at_byte 32 more ≡ Some (word, digits)
-    → at_of moment ≡ Some m → addr_of source ≡ Some a → word_of word ≡ Some w → hex_bytes_of digits ≡ Some bytes → line_of (codes "hex" ++ 32 ∷ second) ≡ Some (Whole (Datagram m w a bytes))
+hex_of : (second moment rest source more word digits bytes : List ℕ) (m w : ℕ) (a : Addr) → split_at_byte 32 second ≡ Some (moment, rest)
+    → split_at_byte 32 rest ≡ Some (source, more) → split_at_byte 32 more ≡ Some (word, digits)
+    → at_of moment ≡ Some m → addr_of source ≡ Some a → word_of word ≡ Some w → hex_bytes_of digits ≡ Some bytes
+    → line_of (codes "hex" ++ 32 ∷ second) ≡ Some (Whole (Datagram m w a bytes))
 hex_of second moment rest source more word digits bytes m w a e f g h i j k = rw (e, f, g, h, i, j, k) refl
 
 pub time_says_some : (text : List ℕ) → TimeLine text → Says text
 time_says_some text p = record {
   said = Whole (Time p.is_second.number);
-  says = ap line_of (behind_kind (codes "time") text p.first p.second p.cut p.is_first) ∙ time_of p.second p.is_second.number (read_again (2 ^ 62) p.second (omega arith) p.is_second);
+  says = ap line_of (behind_kind (codes "time") text p.first p.second p.cut p.is_first)
+      ∙ time_of p.second p.is_second.number (read_again (2 ^ 62) p.second (omega arith) p.is_second);
 }
 
 pub fault_says_some : (text : List ℕ) → FaultLine text → Says text
@@ -376,7 +389,8 @@ hex_says_some text p =
 
 -- ---- a line that says something is one
 
-kind_cases : (d h t f : Bool) (one two three four : Option Line) (said : Line) → (if d then one else if h then two else if t then three else if f then four else None) ≡ Some said
+kind_cases : (d h t f : Bool) (one two three four : Option Line) (said : Line) → (if d then one else if h then two else if t then three else if f then four else None)
+    ≡ Some said
     → ((d ≡ true) × (one ≡ Some said)) ⊎ (((h ≡ true) × (two ≡ Some said)) ⊎ (((t ≡ true) × (three ≡ Some said)) ⊎ ((f ≡ true) × (four ≡ Some said))))
 kind_cases true h t f one two three four said e = inl (refl, e)
 kind_cases false true t f one two three four said e = inr (inl (refl, e))
@@ -396,19 +410,22 @@ head_is moment source word head e =
     let w = bind_some (word_of word) (λ w. Some (record { at = m.0; word = w; from = a.0 })) head a.2 in
     record { is_moment = limited (2 ^ 62) moment m.0 m.1; is_from = read_from source a.0 a.1; is_word = record { word = w.0; says = w.1 } }
 
-time_parts : (text first second : List ℕ) (said : Line) → text ≡ first ++ 32 ∷ second → bytes_eq first (codes "time") ≡ true → time_line second ≡ Some said → TimeLine text
+time_parts : (text first second : List ℕ) (said : Line) → text ≡ first ++ 32 ∷ second → bytes_eq first (codes "time") ≡ true → time_line second ≡ Some said
+    → TimeLine text
 time_parts text first second said cut kind e =
     let m = bind_some (at_of second) (λ m. Some (Whole (Time m))) said e in
     record { first = first; second = second; cut = cut; is_first = (bytes_eq-Decides first (codes "time")).0 kind; is_second = limited (2 ^ 62) second m.0 m.1 }
 
 ticket_parts : (text : List ℕ) (t : Ticket) → ticket_of text ≡ Some t → Parts (IsNumber 0 (2 ^ 64)) (IsNumber 0 (2 ^ 32)) 47 text
 ticket_parts text t e =
-    let p = bind_some (split_at_byte 47 text) (λ p. plain_decimal_of p.0 >>= λ n. plain_decimal_below (2 ^ 32) p.1 >>= λ k. Some (record { «datagram» = n; branch = k })) t e in
+    let p = bind_some (split_at_byte 47 text) (λ p. plain_decimal_of p.0 >>= λ n. plain_decimal_below (2 ^ 32) p.1 >>= λ k. Some (record { «datagram» = n; branch = k }))
+    t e in
     let n = bind_some (plain_decimal_of p.0.0) (λ n. plain_decimal_below (2 ^ 32) p.0.1 >>= λ k. Some (record { «datagram» = n; branch = k })) t p.2 in
     let k = bind_some (plain_decimal_below (2 ^ 32) p.0.1) (λ k. Some (record { «datagram» = n.0; branch = k })) t n.2 in
     record { first = p.0.0; second = p.0.1; cut = split_is 47 text p.0.0 p.0.1 p.1; is_first = plain_number p.0.0 n.0 n.1; is_second = limited (2 ^ 32) p.0.1 k.0 k.1 }
 
-fault_parts : (text first second : List ℕ) (said : Line) → text ≡ first ++ 32 ∷ second → bytes_eq first (codes "fault") ≡ true → fault_line second ≡ Some said → FaultLine text
+fault_parts : (text first second : List ℕ) (said : Line) → text ≡ first ++ 32 ∷ second → bytes_eq first (codes "fault") ≡ true → fault_line second ≡ Some said
+    → FaultLine text
 fault_parts text first second said cut kind e =
     let a = bind_some (split_at_byte 32 second) (λ a. at_of a.0 >>= λ m. ticket_of a.1 >>= λ t. Some (Whole (Fault m t))) said e in
     let m = bind_some (at_of a.0.0) (λ m. ticket_of a.0.1 >>= λ t. Some (Whole (Fault m t))) said a.2 in
@@ -418,10 +435,17 @@ fault_parts text first second said cut kind e =
       second = second;
       cut = cut;
       is_first = (bytes_eq-Decides first (codes "fault")).0 kind;
-      is_second = record { first = a.0.0; second = a.0.1; cut = split_is 32 second a.0.0 a.0.1 a.1; is_first = limited (2 ^ 62) a.0.0 m.0 m.1; is_second = ticket_parts a.0.1 t.0 t.1 };
+      is_second = record {
+        first = a.0.0;
+        second = a.0.1;
+        cut = split_is 32 second a.0.0 a.0.1 a.1;
+        is_first = limited (2 ^ 62) a.0.0 m.0 m.1;
+        is_second = ticket_parts a.0.1 t.0 t.1;
+      };
     }
 
-datagram_parts : (text first second : List ℕ) (said : Line) → text ≡ first ++ 32 ∷ second → bytes_eq first (codes "datagram") ≡ true → datagram_line second ≡ Some said → DatagramLine text
+datagram_parts : (text first second : List ℕ) (said : Line) → text ≡ first ++ 32 ∷ second → bytes_eq first (codes "datagram") ≡ true → datagram_line second ≡ Some said
+    → DatagramLine text
 datagram_parts text first second said cut kind e =
     let a = bind_some (split_at_byte 32 second) (λ a. split_at_byte 32 a.1 >>= λ b. head_of a.0 b.0 b.1 >>= λ head. Some (Head head)) said e in
     let b = bind_some (split_at_byte 32 a.0.1) (λ b. head_of a.0.0 b.0 b.1 >>= λ head. Some (Head head)) said a.2 in
@@ -444,9 +468,11 @@ datagram_parts text first second said cut kind e =
 so_pairs : (text digits : List ℕ) → text ≡ digits → IsPairs digits → IsPairs text
 so_pairs text digits e is = subst IsPairs (sym e) is
 
-hex_parts_are : (text : List ℕ) (head : DatagramHead) (digits : List ℕ) → hex_parts text ≡ Some (head, digits) → IsPairs digits → Parts Moment (Parts IsFrom (Parts IsWord IsPairs 32) 32) 32 text
+hex_parts_are : (text : List ℕ) (head : DatagramHead) (digits : List ℕ) → hex_parts text ≡ Some (head, digits) → IsPairs digits
+    → Parts Moment (Parts IsFrom (Parts IsWord IsPairs 32) 32) 32 text
 hex_parts_are text head digits e pairs =
-    let a = bind_some (split_at_byte 32 text) (λ a. split_at_byte 32 a.1 >>= λ b. split_at_byte 32 b.1 >>= λ c. head_of a.0 b.0 c.0 >>= λ head. Some (head, c.1)) (head, digits) e in
+    let a = bind_some (split_at_byte 32 text) (λ a. split_at_byte 32 a.1 >>= λ b. split_at_byte 32 b.1 >>= λ c. head_of a.0 b.0 c.0 >>= λ head. Some (head, c.1))
+    (head, digits) e in
     let b = bind_some (split_at_byte 32 a.0.1) (λ b. split_at_byte 32 b.1 >>= λ c. head_of a.0.0 b.0 c.0 >>= λ head. Some (head, c.1)) (head, digits) a.2 in
     let c = bind_some (split_at_byte 32 b.0.1) (λ c. head_of a.0.0 b.0.0 c.0 >>= λ head. Some (head, c.1)) (head, digits) b.2 in
     let h = bind_some (head_of a.0.0 b.0.0 c.0.0) (λ head. Some (head, c.0.1)) (head, digits) c.2 in
@@ -462,11 +488,18 @@ hex_parts_are text head digits e pairs =
         second = b.0.1;
         cut = split_is 32 a.0.1 b.0.0 b.0.1 b.1;
         is_first = is.is_from;
-        is_second = record { first = c.0.0; second = c.0.1; cut = split_is 32 b.0.1 c.0.0 c.0.1 c.1; is_first = is.is_word; is_second = so_pairs c.0.1 digits last pairs };
+        is_second = record {
+          first = c.0.0;
+          second = c.0.1;
+          cut = split_is 32 b.0.1 c.0.0 c.0.1 c.1;
+          is_first = is.is_word;
+          is_second = so_pairs c.0.1 digits last pairs;
+        };
       };
     }
 
-hex_line_parts : (text first second : List ℕ) (said : Line) → text ≡ first ++ 32 ∷ second → bytes_eq first (codes "hex") ≡ true → hex_line second ≡ Some said → HexLine text
+hex_line_parts : (text first second : List ℕ) (said : Line) → text ≡ first ++ 32 ∷ second → bytes_eq first (codes "hex") ≡ true → hex_line second ≡ Some said
+    → HexLine text
 hex_line_parts text first second said cut kind e =
     let p = bind_some (hex_parts second) (λ p. hex_bytes_of p.1 >>= λ bytes. Some (Whole (datagram_at p.0 bytes))) said e in
     let b = bind_some (hex_bytes_of p.0.1) (λ bytes. Some (Whole (datagram_at p.0.0 bytes))) said p.2 in
@@ -484,7 +517,8 @@ line_cases text said e =
     let kind : List ℕ = p.0.0 in
     let rest : List ℕ = p.0.1 in
     let cut : text ≡ kind ++ 32 ∷ rest = split_is 32 text kind rest p.1 in
-    elim (kind_cases (bytes_eq kind (codes "datagram")) (bytes_eq kind (codes "hex")) (bytes_eq kind (codes "time")) (bytes_eq kind (codes "fault")) (datagram_line rest) (hex_line rest) (time_line rest) (fault_line rest) said p.2) [
+    elim (kind_cases (bytes_eq kind (codes "datagram")) (bytes_eq kind (codes "hex")) (bytes_eq kind (codes "time")) (bytes_eq kind (codes "fault")) (datagram_line rest)
+    (hex_line rest) (time_line rest) (fault_line rest) said p.2) [
       | inl d ↦ inl (datagram_parts text kind rest said cut d.0 d.1)
       | inr other ↦ elim other [
         | inl h ↦ inr (inl (hex_line_parts text kind rest said cut h.0 h.1))

@@ -1,5 +1,6 @@
 -- Text that begins with no event: the front of an event's text, or damaged.
-use Rattle.std.proofs.Common.{◌≡◌, ◌≢◌, ℕ, ◌+◌, ◌-◌, ◌<◌, ◌≤◌, Bool, true, false, List, [], ◌∷◌, ◌++◌, length, take, drop, take-append-drop, Option, Some, None, refl, sym, ap, subst, ◌∙◌, arith, inl, inr, append_assoc, append-nil, length-append, length-drop}
+use Rattle.std.proofs.Common.{◌≡◌, ◌≢◌, ℕ, ◌+◌, ◌-◌, ◌<◌, ◌≤◌, Bool, true, false, List, [], ◌∷◌, ◌++◌, length, take, drop, take-append-drop, Option, Some, None, refl}
+use Rattle.std.proofs.Common.{sym, ap, subst, ◌∙◌, arith, inl, inr, append_assoc, append-nil, length-append, length-drop}
 use Rattle.std.specs.Prelude.{◌⊎◌, ◌↔◌, count_by, codes, is_some, IfSome, IsSome, IsTrue}
 use Rattle.std.specs.List.{list_all}
 use Rattle.std.proofs.lemmas.Bool.{cases_Bool}
@@ -12,7 +13,8 @@ use Rattle.sip_replay_script.specs.declared.read_stop.ReadStop.{ReadStop}
 use Rattle.sip_replay_script.specs.declared.read_stop.ReadStop.TheVariants as stops
 use Rattle.sip_replay_script.specs.Script.{line_of, datagram_at}
 use Rattle.sip_replay_script.specs.Lines.{Reading, IsLine, IsLong, IsUnfinished, HasNoLine, LineStops, is_end, pending}
-use Rattle.sip_replay_script.specs.Events.{ended, is_dot, said, BeginsEvent, BeginsLine, EndsAs, StopsAt, StopsIn, SaysDatagram, SaysEvent, IsCutDatagram, IsCutEvent, IsCutLine, IsCutShort, IsDamaged, IsLongDatagram, IsNoEvent, IsOtherLine, GivesSaid, DatagramStops, FirstStops, ReadStops}
+use Rattle.sip_replay_script.specs.Events.{ended, is_dot, said, BeginsEvent, BeginsLine, EndsAs, StopsAt, StopsIn, SaysDatagram, SaysEvent, IsCutDatagram, IsCutEvent}
+use Rattle.sip_replay_script.specs.Events.{IsCutLine, IsCutShort, IsDamaged, IsLongDatagram, IsNoEvent, IsOtherLine, GivesSaid, DatagramStops, FirstStops, ReadStops}
 use Rattle.sip_replay_script.specs.Recorded.{IsCutRecord}
 use Rattle.sip_uri.specs.Host.{is_not}
 use Rattle.sip_uri.proofs.Tests.{and_both, drop_front}
@@ -22,14 +24,16 @@ use Rattle.sip_replay_script.proofs.CutEvents.{cut_at, head_is, no_line, not_nil
 use Rattle.sip_replay_script.proofs.OneReading.{no_refusal}
 use Rattle.sip_replay_script.proofs.WrittenEvents.{no_end, recorded_says}
 use Rattle.sip_replay_script.proofs.Samples.{HasSample}
-use Rattle.sip_replay_script.proofs.CutLines.{DatagramLine, FaultLine, HexLine, Says, TimeLine, datagram_says_some, datagram_sample, fault_says_some, fault_sample, hex_says_some, hex_sample, line_cases, time_says_some, time_sample}
+use Rattle.sip_replay_script.proofs.CutLines.{DatagramLine, FaultLine, HexLine, Says, TimeLine, datagram_says_some, datagram_sample, fault_says_some, fault_sample}
+use Rattle.sip_replay_script.proofs.CutLines.{hex_says_some, hex_sample, line_cases, time_says_some, time_sample}
 
 -- ---- the front of a line that begins an event
 
 -- it ends as one of the shortest lines does
 pub EndsSo : List ℕ → Type 0
 EndsSo text =
-    EndsAs text (codes "datagram 0 0.0.0.0:1 00000000000000000000000000000000") ⊎ (EndsAs text (codes "hex 0 0.0.0.0:1 00000000000000000000000000000000 00") ⊎ (EndsAs text (codes "time 0") ⊎ EndsAs text (codes "fault 0 0/0")))
+    EndsAs text (codes "datagram 0 0.0.0.0:1 00000000000000000000000000000000") ⊎ (EndsAs text (codes "hex 0 0.0.0.0:1 00000000000000000000000000000000 00")
+    ⊎ (EndsAs text (codes "time 0") ⊎ EndsAs text (codes "fault 0 0/0")))
 
 says_some : (line : List ℕ) → IsSome (line_of line) → Says line
 says_some line e = by_said (line_of line) refl e
@@ -38,7 +42,8 @@ says_some line e = by_said (line_of line) refl e
     by_said None is e = absurd cc
     by_said (Some said) is e = record { said = said; says = is }
 
-ends_by : (A : List ℕ → Type 0) (sample text more : List ℕ) → HasSample A sample → ((line : List ℕ) → A line → Says line) → length (text ++ more) ≤ 200000 → A (text ++ more) → EndsAs text sample
+ends_by : (A : List ℕ → Type 0) (sample text more : List ℕ) → HasSample A sample → ((line : List ℕ) → A line → Says line) → length (text ++ more) ≤ 200000
+    → A (text ++ more) → EndsAs text sample
 ends_by A sample text more h says short is =
     let f = h.finishes text more is in
     let said : Says (text ++ f.tail) = says (text ++ f.tail) f.accepts in
@@ -192,12 +197,19 @@ long_damaged rest l = record {
 }
 
 other_more : (rest more : List ℕ) → IsOtherLine rest → IsOtherLine (rest ++ more)
-other_more rest more o = record { line = o.line; more = o.more ++ more; is_line = o.is_line; cut = ap (λ (l : List ℕ). l ++ more) o.cut ∙ append_assoc (ended o.line) o.more more; says = o.says }
+other_more rest more o = record {
+  line = o.line;
+  more = o.more ++ more;
+  is_line = o.is_line;
+  cut = ap (λ (l : List ℕ). l ++ more) o.cut ∙ append_assoc (ended o.line) o.more more;
+  says = o.says;
+}
 
 other_damaged : (rest : List ℕ) → IsOtherLine rest → IsDamaged rest
 other_damaged rest o = record { none = inr (inl o); no_front = never rest (λ more. inr (inl (other_more rest more o))) }
 
-head_long : (line : List ℕ) (head : DatagramHead) (rest behind more : List ℕ) → IsLine line → line_of line ≡ Some (Head head) → rest ≡ ended line ++ behind → (l : IsLongDatagram behind) → IsCutShort (rest ++ more)
+head_long : (line : List ℕ) (head : DatagramHead) (rest behind more : List ℕ) → IsLine line → line_of line ≡ Some (Head head) → rest ≡ ended line ++ behind
+    → (l : IsLongDatagram behind) → IsCutShort (rest ++ more)
 head_long line head rest behind more is_line says cut l = record {
   line = line;
   head = head;
@@ -215,7 +227,8 @@ head_long line head rest behind more is_line says cut l = record {
   };
 }
 
-head_damaged : (line : List ℕ) (head : DatagramHead) (rest behind : List ℕ) → IsLine line → line_of line ≡ Some (Head head) → rest ≡ ended line ++ behind → IsLongDatagram behind → IsDamaged rest
+head_damaged : (line : List ℕ) (head : DatagramHead) (rest behind : List ℕ) → IsLine line → line_of line ≡ Some (Head head) → rest ≡ ended line ++ behind
+    → IsLongDatagram behind → IsDamaged rest
 head_damaged line head rest behind is_line says cut l = record {
   none = inr (inr (record {
     line = line;
@@ -247,7 +260,8 @@ dot_ends behind c dot = record {
     before = c.front;
     whole = c.bytes;
     says = c.says;
-    text_is = ap (λ (l : List ℕ). l ++ 10 ∷ []) (c.cut ∙ ap (λ (l : List ℕ). c.front ++ l) ((bytes_eq-Decides c.more (46 ∷ [])).0 dot)) ∙ append_assoc c.front (46 ∷ []) (10 ∷ []);
+    text_is = ap (λ (l : List ℕ). l ++ 10 ∷ []) (c.cut ∙ ap (λ (l : List ℕ). c.front ++ l) ((bytes_eq-Decides c.more (46 ∷ [])).0 dot))
+        ∙ append_assoc c.front (46 ∷ []) (10 ∷ []);
     kept = refl;
   };
 }
@@ -275,7 +289,8 @@ ending behind c = elim (cases_Bool (is_dot c.more)) [ inl dot ↦ dot_ends behin
 pub line_begun : (line behind rest : List ℕ) → rest ≡ ended line ++ behind → rest ≢ []
 line_begun line behind rest cut e = absurd (omega (arith, ap length (sym e ∙ cut), length-append (ended line) behind, length-append line (10 ∷ [])))
 
-head_cut : (line : List ℕ) (head : DatagramHead) (rest behind : List ℕ) → IsLine line → line_of line ≡ Some (Head head) → rest ≡ ended line ++ behind → IsCutDatagram behind → IsCutEvent rest
+head_cut : (line : List ℕ) (head : DatagramHead) (rest behind : List ℕ) → IsLine line → line_of line ≡ Some (Head head) → rest ≡ ended line ++ behind
+    → IsCutDatagram behind → IsCutEvent rest
 head_cut line head rest behind is_line says cut c =
     let e : Ending behind = ending behind c in
     record {
@@ -303,13 +318,16 @@ said_other old new before after s =
     behind_any (pending old before) (pending new after) (ended s.line) {Q = IsDamaged} s.given.consumes
     (λ xs ys cut. other_damaged xs (record { line = s.line; more = ys; is_line = s.given.is_line; cut = cut; says = s.says }))
 
-pub said_head_stops : (F : Type 0) (old mid : Reading) (before middle : Option (List ℕ)) (head : DatagramHead) (stop : ReadStop) → GivesSaid old mid before middle (Some (Head head)) → DatagramStops F (pending mid middle) stop
+pub said_head_stops : (F : Type 0) (old mid : Reading) (before middle : Option (List ℕ)) (head : DatagramHead) (stop : ReadStop)
+    → GivesSaid old mid before middle (Some (Head head)) → DatagramStops F (pending mid middle) stop
     → ReadStops F (pending old before) stop
 said_head_stops F old mid before middle head stops.NoMemory s h = tt
 said_head_stops F old mid before middle head stops.Damaged s h =
-    behind (pending old before) (pending mid middle) (ended s.line) {P = IsLongDatagram} {Q = IsDamaged} s.given.consumes h (λ xs ys cut p. head_damaged s.line head xs ys s.given.is_line s.says cut p)
+    behind (pending old before) (pending mid middle) (ended s.line) {P = IsLongDatagram} {Q = IsDamaged} s.given.consumes h
+    (λ xs ys cut p. head_damaged s.line head xs ys s.given.is_line s.says cut p)
 said_head_stops F old mid before middle head stops.Cut s h =
-    behind (pending old before) (pending mid middle) (ended s.line) {P = IsCutDatagram} {Q = IsCutEvent} s.given.consumes h (λ xs ys cut p. head_cut s.line head xs ys s.given.is_line s.says cut p)
+    behind (pending old before) (pending mid middle) (ended s.line) {P = IsCutDatagram} {Q = IsCutEvent} s.given.consumes h
+    (λ xs ys cut p. head_cut s.line head xs ys s.given.is_line s.says cut p)
 said_head_stops F old mid before middle head stops.Read s h = h
 
 -- a line cut
@@ -329,7 +347,8 @@ not_known F seen stops.Cut h = tt
 not_known F seen stops.Read h = absurd h
 
 -- no line at all
-pub no_line_stops : (F : Type 0) (script : Option (List ℕ)) (seen : List ℕ) (old new : ReadStop) → LineStops F script seen old → StopsAt seen old new → FirstStops F script new
+pub no_line_stops : (F : Type 0) (script : Option (List ℕ)) (seen : List ℕ) (old new : ReadStop) → LineStops F script seen old → StopsAt seen old new
+    → FirstStops F script new
 no_line_stops F script seen stops.NoMemory new h s = subst (λ (stop : ReadStop). FirstStops F script stop) (sym s) tt
 no_line_stops F None seen stops.Damaged new h s = subst (λ (stop : ReadStop). FirstStops F None stop) (sym s) tt
 no_line_stops F (Some rest) seen stops.Damaged new h s = subst (λ (stop : ReadStop). FirstStops F (Some rest) stop) (sym s) (long_damaged rest h)
@@ -369,18 +388,26 @@ tail_is sample place = take_all (length sample - place) (drop place sample) (ome
 
 pub ends_at : (text sample : List ℕ) (place : ℕ) → BeginsEvent (text ++ take (length sample - place) (drop place sample)) → EndsAs text sample
 ends_at text sample place b =
-    record { front = take place sample; tail = drop place sample; cut = sym (take-append-drop place sample); begins = subst (λ (l : List ℕ). BeginsEvent (text ++ l)) (tail_is sample place) b }
+    record {
+      front = take place sample;
+      tail = drop place sample;
+      cut = sym (take-append-drop place sample);
+      begins = subst (λ (l : List ℕ). BeginsEvent (text ++ l)) (tail_is sample place) b;
+    }
 
-pub ends_elsewhere : (text sample : List ℕ) (place : ℕ) (b : Bool) → b ≡ false → IsTrue b ↔ BeginsEvent (text ++ take (length sample - place) (drop place sample)) → BeginsEvent (text ++ drop place sample) → ⊥
+pub ends_elsewhere : (text sample : List ℕ) (place : ℕ) (b : Bool) → b ≡ false → IsTrue b ↔ BeginsEvent (text ++ take (length sample - place) (drop place sample))
+    → BeginsEvent (text ++ drop place sample) → ⊥
 ends_elsewhere text sample place b is told begins = fails b is told (subst (λ (l : List ℕ). BeginsEvent (text ++ l)) (sym (tail_is sample place)) begins)
 
-pub ends_nowhere : (text sample : List ℕ) (count : ℕ) → count ≡ length sample + 1 → ((place : ℕ) → place < count → BeginsEvent (text ++ drop place sample) → ⊥) → EndsAs text sample → ⊥
+pub ends_nowhere : (text sample : List ℕ) (count : ℕ) → count ≡ length sample + 1 → ((place : ℕ) → place < count → BeginsEvent (text ++ drop place sample) → ⊥)
+    → EndsAs text sample → ⊥
 ends_nowhere text sample count all none e =
     let size : length (e.front ++ e.tail) ≡ length e.front + length e.tail = length-append e.front e.tail in
     let tail : e.tail ≡ drop (length e.front) sample = sym (drop_front e.front e.tail) ∙ ap (drop (length e.front)) (sym e.cut) in
     none (length e.front) (omega (arith, all, size, ap length e.cut)) (subst (λ (l : List ℕ). BeginsEvent (text ++ l)) tail e.begins)
 
-pub last_begins : (text : List ℕ) → (EndsAs text (codes "time 0") → ⊥) → (EndsAs text (codes "fault 0 0/0") → ⊥) → (EndsAs text (codes "datagram 0 0.0.0.0:1 00000000000000000000000000000000") → ⊥)
+pub last_begins : (text : List ℕ) → (EndsAs text (codes "time 0") → ⊥) → (EndsAs text (codes "fault 0 0/0") → ⊥)
+    → (EndsAs text (codes "datagram 0 0.0.0.0:1 00000000000000000000000000000000") → ⊥)
     → (b : Bool) → IsTrue b ↔ EndsAs text (codes "hex 0 0.0.0.0:1 00000000000000000000000000000000 00") → IsTrue b ↔ BeginsLine text
 unfolding EndsSo
 last_begins text time fault plain b hex = (
@@ -396,6 +423,3 @@ last_begins text time fault plain b hex = (
     ]
   ],
 )
-
-pub some_begins : (text sample : List ℕ) → EndsAs text sample → IsTrue true ↔ BeginsLine text
-some_begins text sample e = (λ t. begins_so text sample e, λ b. refl)

@@ -1,5 +1,6 @@
 -- The lines of a datagram, one after the other.
-use Rattle.std.proofs.Common.{◌≡◌, ℕ, zero, suc, ◌+◌, ◌≤◌, ◌<◌, List, [], ◌∷◌, ◌++◌, length, take, drop, Bool, true, false, Option, Some, None, inl, inr, refl, sym, subst, ◌∙◌, ap, ap₂, arith, append_assoc, append-nil, length-append, take-append-drop}
+use Rattle.std.proofs.Common.{◌≡◌, ℕ, zero, suc, ◌+◌, ◌≤◌, ◌<◌, List, [], ◌∷◌, ◌++◌, length, take, drop, Bool, true, false, Option, Some, None, inl, inr, refl, sym}
+use Rattle.std.proofs.Common.{subst, ◌∙◌, ap, ap₂, arith, append_assoc, append-nil, length-append, take-append-drop}
 use Rattle.std.specs.List.{flat_map, list_any}
 use Rattle.std.specs.Str.{bytes_eq}
 use Rattle.std.specs.Prelude.{◌||◌, ◌&&◌, ◌==◌, nat_lt, slice_index, count_by, IfSome, if◌then◌else◌}
@@ -21,7 +22,8 @@ use Rattle.sip_replay_script.specs.Gathered.{AddsLines}
 use Rattle.std.proofs.lemmas.List.{take_all, drop_all, drop-append-le}
 use Rattle.sip_replay_script.proofs.Keeping.{front_of_both}
 use Rattle.sip_replay_script.proofs.LineEnds.{ends_add, one_end}
-use Rattle.sip_replay_script.specs.Events.{BeginsOther, ended, is_dot, said, SaysBytes, KeepsAll, KeepsLine, KeepsLines, GivesDatagram, GivesEvent, GivesSaid, IsCutDatagram, IsLongDatagram, DatagramStops}
+use Rattle.sip_replay_script.specs.Events.{BeginsOther, ended, is_dot, said, SaysBytes, KeepsAll, KeepsLine, KeepsLines, GivesDatagram, GivesEvent, GivesSaid}
+use Rattle.sip_replay_script.specs.Events.{IsCutDatagram, IsLongDatagram, DatagramStops}
 
 -- the lines so far, and the bytes that are kept of what they say
 pub record Gathers (old new : Reading) (before after : Option (List ℕ)) (bytes : List ℕ) : Type 0 where
@@ -60,14 +62,17 @@ none_of_both p xs x none fails = list_any-append p xs (x ∷ []) ∙ or_false (l
 pub says_more : (text whole line : List ℕ) → SaysBytes text whole → IsLine line → is_dot line ≡ false → SaysBytes (text ++ ended line) (whole ++ said line)
 says_more text whole line says is_line fails = record {
   lines = says.lines ++ line ∷ [];
-  text_is = ap (λ l. l ++ ended line) says.text_is ∙ sym (flat_map-append ended says.lines (line ∷ []) ∙ ap (λ l. flat_map ended says.lines ++ l) (append-nil (ended line)));
+  text_is = ap (λ l. l ++ ended line) says.text_is ∙ sym (flat_map-append ended says.lines (line ∷ [])
+      ∙ ap (λ l. flat_map ended says.lines ++ l) (append-nil (ended line)));
   are_lines = All-push IsLine says.lines line says.are_lines is_line;
   no_dot = none_of_both is_dot says.lines line says.no_dot fails;
-  bytes_are = ap (λ l. l ++ said line) says.bytes_are ∙ sym (flat_map-append said says.lines (line ∷ []) ∙ ap (λ l. flat_map said says.lines ++ l) (append-nil (said line)));
+  bytes_are = ap (λ l. l ++ said line) says.bytes_are ∙ sym (flat_map-append said says.lines (line ∷ [])
+      ∙ ap (λ l. flat_map said says.lines ++ l) (append-nil (said line)));
 }
 
 -- how many lines were given
-more_lines : (old mid new : Reading) (before after : Option (List ℕ)) (text line : List ℕ) → mid.number ≡ old.number + count_by is_end text → GivesLine mid new before after line → new.number ≡ old.number + count_by is_end (text ++ ended line)
+more_lines : (old mid new : Reading) (before after : Option (List ℕ)) (text line : List ℕ) → mid.number ≡ old.number + count_by is_end text
+    → GivesLine mid new before after line → new.number ≡ old.number + count_by is_end (text ++ ended line)
 more_lines old mid new before after text line number given =
     let one : count_by is_end (ended line) ≡ 1 = one_end line given.is_line in
     let sum : count_by is_end (text ++ ended line) ≡ count_by is_end text + count_by is_end (ended line) = ends_add text (ended line) in
@@ -79,7 +84,8 @@ kept_more : (whole more bytes after : List ℕ) → bytes ≡ take 65508 whole �
 kept_more whole more bytes after is0 is = is ∙ ap (λ l. take 65508 (l ++ more)) is0 ∙ front_of_both 65508 whole more
 
 -- one line more
-pub gathers_more : (old mid new : Reading) (before middle after : Option (List ℕ)) (bytes line kept : List ℕ) → Gathers old mid before middle bytes → GivesLine mid new middle after line → is_dot line ≡ false
+pub gathers_more : (old mid new : Reading) (before middle after : Option (List ℕ)) (bytes line kept : List ℕ) → Gathers old mid before middle bytes
+    → GivesLine mid new middle after line → is_dot line ≡ false
     → kept ≡ take 65508 (bytes ++ said line) → Gathers old new before after kept
 gathers_more old mid new before middle after bytes line kept g given fails is = record {
   text = g.text ++ ended line;
@@ -92,26 +98,19 @@ gathers_more old mid new before middle after bytes line kept g given fails is = 
 
 -- ---- lines that stand whole among what was read
 
-pub keeps_none : (r : Reading) (bytes : List ℕ) → length bytes ≤ 65508 → KeepsLines r r bytes bytes
-keeps_none r bytes le = record {
-  text = [];
-  whole = [];
-  says = no_lines;
-  unread = refl;
-  number = omega arith;
-  kept = sym (take_all 65508 bytes le) ∙ ap (take 65508) (sym (append-nil bytes));
-}
-
 -- the next line, passed
-pub passes_line : (old new : Reading) (line : List ℕ) → BeginsWith old.unread line → new.unread ≡ drop (length line + 1) old.unread → new.number ≡ old.number + 1 → new.asks ≡ old.asks → PassesLine old new line
+pub passes_line : (old new : Reading) (line : List ℕ) → BeginsWith old.unread line → new.unread ≡ drop (length line + 1) old.unread → new.number ≡ old.number + 1
+    → new.asks ≡ old.asks → PassesLine old new line
 passes_line old new line begins unread number asks =
     let cut : old.unread ≡ ended line ++ begins.rest = begins.cut ∙ sym (append_assoc line (10 ∷ []) begins.rest) in
     let size : length (ended line) ≡ length line + 1 = length-append line (10 ∷ []) in
     let rest : new.unread ≡ begins.rest =
-    unread ∙ ap (drop (length line + 1)) cut ∙ drop-append-le (length line + 1) (ended line) begins.rest (omega (arith, size)) ∙ ap (λ l. l ++ begins.rest) (drop_all (length line + 1) (ended line) (omega (arith, size))) in
+    unread ∙ ap (drop (length line + 1)) cut ∙ drop-append-le (length line + 1) (ended line) begins.rest (omega (arith, size))
+    ∙ ap (λ l. l ++ begins.rest) (drop_all (length line + 1) (ended line) (omega (arith, size))) in
     record { is_line = begins.is_line; unread = begins.cut ∙ ap (λ l. line ++ 10 ∷ l) (sym rest); number = number; asks = asks }
 
-pub keeps_next : (old new : Reading) (line before after : List ℕ) → PassesLine old new line → is_dot line ≡ false → after ≡ take 65508 (before ++ said line) → KeepsLine old new before after
+pub keeps_next : (old new : Reading) (line before after : List ℕ) → PassesLine old new line → is_dot line ≡ false → after ≡ take 65508 (before ++ said line)
+    → KeepsLine old new before after
 keeps_next old new line before after passes fails kept = record {
   line = line;
   is_line = passes.is_line;
@@ -128,7 +127,8 @@ keeps_less old new before after one =
     omega (arith, ap length one.unread, both, size)
 
 -- one of them more
-pub keeps_more : (old mid new : Reading) (before middle after : List ℕ) → KeepsLines old mid before middle → KeepsLine mid new middle after → KeepsLines old new before after
+pub keeps_more : (old mid new : Reading) (before middle after : List ℕ) → KeepsLines old mid before middle → KeepsLine mid new middle after
+    → KeepsLines old new before after
 keeps_more old mid new before middle after all one = record {
   text = all.text ++ ended one.line;
   whole = all.whole ++ said one.line;
@@ -153,7 +153,8 @@ says_both text whole more further a b = record {
 }
 
 -- and others behind them
-pub keeps_both : (old mid new : Reading) (before middle after : List ℕ) → KeepsLines old mid before middle → KeepsLines mid new middle after → KeepsLines old new before after
+pub keeps_both : (old mid new : Reading) (before middle after : List ℕ) → KeepsLines old mid before middle → KeepsLines mid new middle after
+    → KeepsLines old new before after
 keeps_both old mid new before middle after all more = record {
   text = all.text ++ more.text;
   whole = all.whole ++ more.whole;
@@ -172,12 +173,14 @@ unread_passed old new None text is = tt
 unread_passed old new (Some xs) text is = ap (λ l. l ++ xs) is ∙ append_assoc text new.unread xs
 
 -- and all of them, behind the lines so far
-pub gathers_lines : (old mid new : Reading) (before middle : Option (List ℕ)) (bytes kept : List ℕ) → Gathers old mid before middle bytes → KeepsLines mid new bytes kept → Gathers old new before middle kept
+pub gathers_lines : (old mid new : Reading) (before middle : Option (List ℕ)) (bytes kept : List ℕ) → Gathers old mid before middle bytes → KeepsLines mid new bytes kept
+    → Gathers old new before middle kept
 gathers_lines old mid new before middle bytes kept g more = record {
   text = g.text ++ more.text;
   whole = g.whole ++ more.whole;
   says = says_both g.text g.whole more.text more.whole g.says more.says;
-  consumes = Consumes-trans (pending old before) (pending mid middle) (pending new middle) g.text more.text g.consumes (unread_passed mid new middle more.text more.unread);
+  consumes = Consumes-trans (pending old before) (pending mid middle) (pending new middle) g.text more.text g.consumes
+      (unread_passed mid new middle more.text more.unread);
   number =
       let first : mid.number ≡ old.number + count_by is_end g.text = g.number in
       let next : new.number ≡ mid.number + count_by is_end more.text = more.number in
@@ -204,7 +207,8 @@ pub dot_is : (line : List ℕ) → is_dot line ≡ true → line ≡ 46 ∷ []
 dot_is line is = (bytes_eq-Decides line (46 ∷ [])).0 is
 
 -- the dot behind them
-pub gathers_all : (old mid new : Reading) (before middle after : Option (List ℕ)) (bytes line : List ℕ) → Gathers old mid before middle bytes → GivesLine mid new middle after line → is_dot line ≡ true → GivesDatagram old new before after bytes
+pub gathers_all : (old mid new : Reading) (before middle after : Option (List ℕ)) (bytes line : List ℕ) → Gathers old mid before middle bytes
+    → GivesLine mid new middle after line → is_dot line ≡ true → GivesDatagram old new before after bytes
 gathers_all old mid new before middle after bytes line g given is = record {
   text = g.text ++ ended line;
   says = record { before = g.text; whole = g.whole; says = g.says; text_is = ap (λ l. g.text ++ ended l) (dot_is line is); kept = g.kept };
@@ -213,11 +217,14 @@ gathers_all old mid new before middle after bytes line g given is = record {
 }
 
 -- lines and the dot that stood whole among what was read
-pub gathers_dot : (old mid new : Reading) (before middle : Option (List ℕ)) (bytes kept : List ℕ) → Gathers old mid before middle bytes → KeepsAll mid new bytes kept → GivesDatagram old new before middle kept
+pub gathers_dot : (old mid new : Reading) (before middle : Option (List ℕ)) (bytes kept : List ℕ) → Gathers old mid before middle bytes → KeepsAll mid new bytes kept
+    → GivesDatagram old new before middle kept
 gathers_dot old mid new before middle bytes kept g all =
-    gathers_all old all.mid new before middle middle kept (46 ∷ []) (gathers_lines old mid all.mid before middle bytes kept g all.lines) (given_passed all.mid new middle (46 ∷ []) all.dot) refl
+    gathers_all old all.mid new before middle middle kept (46 ∷ []) (gathers_lines old mid all.mid before middle bytes kept g all.lines)
+    (given_passed all.mid new middle (46 ∷ []) all.dot) refl
 
-pub head_lines : (old mid new : Reading) (before middle : Option (List ℕ)) (line text : List ℕ) → GivesLine old mid before middle line → new.number ≡ mid.number + count_by is_end text → new.number ≡ old.number + count_by is_end (ended line ++ text)
+pub head_lines : (old mid new : Reading) (before middle : Option (List ℕ)) (line text : List ℕ) → GivesLine old mid before middle line
+    → new.number ≡ mid.number + count_by is_end text → new.number ≡ old.number + count_by is_end (ended line ++ text)
 head_lines old mid new before middle line text given number =
     let one : count_by is_end (ended line) ≡ 1 = one_end line given.is_line in
     let sum : count_by is_end (ended line ++ text) ≡ count_by is_end (ended line) + count_by is_end text = ends_add (ended line) text in
@@ -225,7 +232,8 @@ head_lines old mid new before middle line text given number =
     omega (arith, number, first, one, sum)
 
 -- a line that begins a datagram, and its lines
-unfoldable pub gives_head : (old mid new : Reading) (before middle after : Option (List ℕ)) (line bytes : List ℕ) (head : DatagramHead) (event : Event) → GivesLine old mid before middle line → line_of line ≡ Some (Head head)
+unfoldable pub gives_head : (old mid new : Reading) (before middle after : Option (List ℕ)) (line bytes : List ℕ) (head : DatagramHead) (event : Event)
+    → GivesLine old mid before middle line → line_of line ≡ Some (Head head)
     → GivesDatagram mid new middle after bytes → left new ≤ left mid → event ≡ datagram_at head bytes → GivesEvent old new before after event
 gives_head old mid new before middle after line bytes head event given says d le is = record {
   text = ended line ++ d.text;
@@ -236,7 +244,8 @@ gives_head old mid new before middle after line bytes head event given says d le
 }
 
 -- a line that says an event by itself
-unfoldable pub gives_whole : (old new : Reading) (before after : Option (List ℕ)) (line : List ℕ) (event : Event) → GivesLine old new before after line → line_of line ≡ Some (Whole event) → GivesEvent old new before after event
+unfoldable pub gives_whole : (old new : Reading) (before after : Option (List ℕ)) (line : List ℕ) (event : Event) → GivesLine old new before after line
+    → line_of line ≡ Some (Whole event) → GivesEvent old new before after event
 gives_whole old new before after line event given says = record {
   text = ended line;
   says = inl (record { line = line; is_line = given.is_line; text_is = refl; says = says });
@@ -248,7 +257,8 @@ gives_whole old new before after line event given says = record {
 -- ---- where no event stands
 
 -- what is left behind a text that was read
-pub behind : (a b : Option (List ℕ)) (text : List ℕ) {P Q : List ℕ → Type 0} → Consumes a b text → IfSome b P → ((xs ys : List ℕ) → xs ≡ text ++ ys → P ys → Q xs) → IfSome a Q
+pub behind : (a b : Option (List ℕ)) (text : List ℕ) {P Q : List ℕ → Type 0} → Consumes a b text → IfSome b P → ((xs ys : List ℕ) → xs ≡ text ++ ys → P ys → Q xs)
+    → IfSome a Q
 behind None b text h p f = tt
 behind (Some xs) None text h p f = absurd h
 behind (Some xs) (Some ys) text h p f = f xs ys h p
@@ -264,11 +274,13 @@ nothing_left (Some ys) None k e = absurd k
 nothing_left (Some ys) (Some zs) k e = sym k ∙ e
 
 -- the lines of a datagram stop
-pub datagram_stops : (F : Type 0) (old mid : Reading) (before middle : Option (List ℕ)) (bytes seen : List ℕ) (stop : ReadStop) → Gathers old mid before middle bytes → LineStops F (pending mid middle) seen stop
+pub datagram_stops : (F : Type 0) (old mid : Reading) (before middle : Option (List ℕ)) (bytes seen : List ℕ) (stop : ReadStop) → Gathers old mid before middle bytes
+    → LineStops F (pending mid middle) seen stop
     → DatagramStops F (pending old before) stop
 datagram_stops F old mid before middle bytes seen stops.NoMemory g h = tt
 datagram_stops F old mid before middle bytes seen stops.Damaged g h =
-    behind (pending old before) (pending mid middle) g.text {P = IsLong} {Q = IsLongDatagram} g.consumes h (λ xs ys cut p. record { front = g.text; bytes = g.whole; more = ys; cut = cut; says = g.says; long = p })
+    behind (pending old before) (pending mid middle) g.text {P = IsLong} {Q = IsLongDatagram} g.consumes h
+    (λ xs ys cut p. record { front = g.text; bytes = g.whole; more = ys; cut = cut; says = g.says; long = p })
 datagram_stops F old mid before middle bytes seen stops.Cut g h =
     behind (pending old before) (pending mid middle) g.text {P = IsUnfinished seen} {Q = IsCutDatagram} g.consumes h
     (λ xs ys cut p. record { front = g.text; bytes = g.whole; more = ys; cut = cut; says = g.says; is_line = subst IsLine (sym p.all) p.is_line })
@@ -278,14 +290,17 @@ no_line_yet : IsLine []
 no_line_yet = record { short = omega arith; single = refl }
 
 -- the script ends inside one
-pub datagram_over : (old mid new : Reading) (before middle after : Option (List ℕ)) (bytes : List ℕ) → Gathers old mid before middle bytes → IsOver mid new middle after → IfSome (pending old before) IsCutDatagram
+pub datagram_over : (old mid new : Reading) (before middle after : Option (List ℕ)) (bytes : List ℕ) → Gathers old mid before middle bytes → IsOver mid new middle after
+    → IfSome (pending old before) IsCutDatagram
 datagram_over old mid new before middle after bytes g over =
-    behind (pending old before) (pending mid middle) g.text {P = λ ys. ys ≡ []} {Q = IsCutDatagram} g.consumes (nothing_left (pending mid middle) (pending new after) over.kept over.at_end)
+    behind (pending old before) (pending mid middle) g.text {P = λ ys. ys ≡ []} {Q = IsCutDatagram} g.consumes
+    (nothing_left (pending mid middle) (pending new after) over.kept over.at_end)
     (λ xs ys cut p. record { front = g.text; bytes = g.whole; more = ys; cut = cut; says = g.says; is_line = subst IsLine (sym p) no_line_yet })
 
 -- ---- what the first line of an event says
 
-pub said_passed : (old new : Reading) (rest : Option (List ℕ)) (line : List ℕ) (said : Option Line) → PassesLine old new line → line_of line ≡ said → GivesSaid old new rest rest said
+pub said_passed : (old new : Reading) (rest : Option (List ℕ)) (line : List ℕ) (said : Option Line) → PassesLine old new line → line_of line ≡ said
+    → GivesSaid old new rest rest said
 said_passed old new rest line said passes says = record { line = line; given = given_passed old new rest line passes; says = says }
 
 -- a line that is read at once
@@ -295,16 +310,20 @@ at_once_fits unread seen said count found same =
     let size : length found.line ≡ count = found.size in
     omega (arith, ap length (sym same ∙ found.begins.cut), length-append found.line (10 ∷ found.begins.rest), size)
 
-pub at_once_passed : (old new : Reading) (rest : Option (List ℕ)) (seen : List ℕ) (said : Line) (count : ℕ) → SaysAtOnce seen said count → seen ≡ old.unread → new.unread ≡ drop (count + 1) old.unread
+pub at_once_passed : (old new : Reading) (rest : Option (List ℕ)) (seen : List ℕ) (said : Line) (count : ℕ) → SaysAtOnce seen said count → seen ≡ old.unread
+    → new.unread ≡ drop (count + 1) old.unread
     → new.number ≡ old.number + 1 → new.asks ≡ old.asks → GivesSaid old new rest rest (Some said)
 at_once_passed old new rest seen said count found same unread number asks =
     said_passed old new rest found.line (Some said)
-    (passes_line old new found.line (subst (λ l. BeginsWith l found.line) same found.begins) (unread ∙ ap (λ n. drop (n + 1) old.unread) (sym found.size)) number asks) found.says
+    (passes_line old new found.line (subst (λ l. BeginsWith l found.line) same found.begins) (unread ∙ ap (λ n. drop (n + 1) old.unread) (sym found.size)) number asks)
+    found.says
 
-pub said_whole : (old new : Reading) (before after : Option (List ℕ)) (event : Event) → GivesSaid old new before after (Some (Whole event)) → GivesEvent old new before after event
+pub said_whole : (old new : Reading) (before after : Option (List ℕ)) (event : Event) → GivesSaid old new before after (Some (Whole event))
+    → GivesEvent old new before after event
 said_whole old new before after event s = gives_whole old new before after s.line event s.given s.says
 
-pub said_head : (old mid new : Reading) (before middle after : Option (List ℕ)) (bytes : List ℕ) (head : DatagramHead) (event : Event) → GivesSaid old mid before middle (Some (Head head)) → GivesDatagram mid new middle after bytes
+pub said_head : (old mid new : Reading) (before middle after : Option (List ℕ)) (bytes : List ℕ) (head : DatagramHead) (event : Event)
+    → GivesSaid old mid before middle (Some (Head head)) → GivesDatagram mid new middle after bytes
     → left new ≤ left mid → event ≡ datagram_at head bytes → GivesEvent old new before after event
 said_head old mid new before middle after bytes head event s d le is = gives_head old mid new before middle after s.line bytes head event s.given s.says d le is
 
@@ -328,7 +347,8 @@ not_stuffed (x ∷ xs) (suc n) e =
 
 -- ---- the dot, and a line that isn't it
 
-pub passes_dot : (old new : Reading) → take 2 old.unread ≡ 46 ∷ 10 ∷ [] → new.unread ≡ drop 2 old.unread → new.number ≡ old.number + 1 → new.asks ≡ old.asks → PassesLine old new (46 ∷ [])
+pub passes_dot : (old new : Reading) → take 2 old.unread ≡ 46 ∷ 10 ∷ [] → new.unread ≡ drop 2 old.unread → new.number ≡ old.number + 1 → new.asks ≡ old.asks
+    → PassesLine old new (46 ∷ [])
 passes_dot old new front unread number asks = record {
   is_line = record { short = omega arith; single = refl };
   unread = sym (take-append-drop 2 old.unread) ∙ ap (λ l. l ++ drop 2 old.unread) front ∙ ap (λ l. 46 ∷ 10 ∷ l) (sym unread);
@@ -348,7 +368,8 @@ too_short (x ∷ y ∷ more) lt = absurd (omega (arith, lt))
 
 -- ---- lines that were copied where they were found
 
-pub keeps_added : (old new : Reading) (before after : List ℕ) (count lines : ℕ) → AddsLines old.unread before after count lines → new.unread ≡ drop count old.unread → new.number ≡ old.number + lines → KeepsLines old new before after
+pub keeps_added : (old new : Reading) (before after : List ℕ) (count lines : ℕ) → AddsLines old.unread before after count lines → new.unread ≡ drop count old.unread
+    → new.number ≡ old.number + lines → KeepsLines old new before after
 keeps_added old new before after count lines adds unread number =
     let short : length (before ++ adds.whole) ≤ 65508 = subst (λ (l : List ℕ). length l ≤ 65508) adds.added adds.short in
     record {

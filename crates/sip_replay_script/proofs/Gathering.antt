@@ -1,5 +1,6 @@
 -- Lines that are copied where they are looked for.
-use Rattle.std.proofs.Common.{◌≡◌, ℕ, zero, suc, ◌+◌, ◌-◌, ◌%◌, ◌^◌, ◌<◌, ◌≤◌, Bool, true, false, List, map, w16, [], ◌∷◌, ◌++◌, length, take, drop, get_or, refl, sym, ap, subst, ◌∙◌, arith, inl, inr, append-nil, take-add, length-drop, length-append}
+use Rattle.std.proofs.Common.{◌≡◌, ℕ, zero, suc, ◌+◌, ◌-◌, ◌%◌, ◌^◌, ◌<◌, ◌≤◌, Bool, true, false, List, map, w16, [], ◌∷◌, ◌++◌, length, take, drop, get_or, refl, sym}
+use Rattle.std.proofs.Common.{ap, subst, ◌∙◌, arith, inl, inr, append-nil, take-add, length-drop, length-append}
 use Rattle.std.specs.Prelude.{◌==◌, ◌≢◌, not, count_by, slice_index, slice_set}
 use Rattle.std.proofs.lemmas.Bool.{cases_lt, eqb-true, ne_eqb}
 use Rattle.std.proofs.lemmas.Simd.{mask_l-lt, mask_l-mod, trailing_mask_l}
@@ -11,12 +12,13 @@ use Rattle.std.proofs.Math.Seq.{take-append-add}
 use Rattle.httparse.specs.Pieces.{AllPassBetween, IsRunIn, first_set}
 use Rattle.sip_replay_script.specs.Lines.{is_end, EndsAt, IsLine}
 use Rattle.sip_replay_script.specs.Events.{ended, said, SaysBytes}
-use Rattle.sip_replay_script.specs.Gathered.{is_inside, AddsLines, CopiesLine, CopiesLines}
-use Rattle.sip_replay_script.proofs.Datagrams.{no_lines, not_dot, not_stuffed, says_more}
+use Rattle.sip_replay_script.specs.Gathered.{is_inside, CopiesLine, CopiesLines}
+use Rattle.sip_replay_script.proofs.Datagrams.{not_dot, not_stuffed, says_more}
 use Rattle.sip_replay_script.proofs.LineEnds.{ends_add, ends_at, one_end}
 
 -- what is kept of what stands at a place
-pub cut_back : (new old run : List ℕ) (at k n : ℕ) → n ≤ k → at ≤ length old → take (at + k) new ≡ take at old ++ take k run → take (at + n) new ≡ take at old ++ take n run
+pub cut_back : (new old run : List ℕ) (at k n : ℕ) → n ≤ k → at ≤ length old → take (at + k) new ≡ take at old ++ take k run
+    → take (at + n) new ≡ take at old ++ take n run
 cut_back new old run at k n le within e =
     let long = length-take-le at old within in
     sym (take-take (at + n) (at + k) new (omega arith)) ∙ ap (take (at + n)) e ∙ ap (λ j. take (j + n) (take at old ++ take k run)) (sym long)
@@ -49,7 +51,8 @@ pub no_end_in : (text : List ℕ) (at mask : ℕ) → IsRunIn is_inside text at 
 no_end_in text at mask run none = (subst (λ (m : ℕ). IsRunIn is_inside text at 16 (first_set m 16)) none run).0.1
 
 -- or the place of the first
-pub end_in : (text : List ℕ) (at : ℕ) (lanes : List ℕ) → length lanes ≡ 16 → IsRunIn is_inside text at 16 (first_set (mask_l (map (top 7) lanes) % 2 ^ 64) 16) → mask_l (map (top 7) lanes) % 2 ^ 64 ≢ 0
+pub end_in : (text : List ℕ) (at : ℕ) (lanes : List ℕ) → length lanes ≡ 16 → IsRunIn is_inside text at 16 (first_set (mask_l (map (top 7) lanes) % 2 ^ 64) 16)
+    → mask_l (map (top 7) lanes) % 2 ^ 64 ≢ 0
     → IsRunIn is_inside text at 16 (count_trailing_zeros 64 (mask_l (map (top 7) lanes) % 2 ^ 64)) × (count_trailing_zeros 64 (mask_l (map (top 7) lanes) % 2 ^ 64) < 16)
 end_in text at lanes long run some =
     let mask : ℕ = mask_l (map (top 7) lanes) in
@@ -65,11 +68,13 @@ end_in text at lanes long run some =
     positive (suc n) e = omega arith
 
 -- a run further
-pub passed_more : (text : List ℕ) (from at run : ℕ) → AllPassBetween is_inside text from at → IsRunIn is_inside text at 16 run → AllPassBetween is_inside text from (at + run)
+pub passed_more : (text : List ℕ) (from at run : ℕ) → AllPassBetween is_inside text from at → IsRunIn is_inside text at 16 run
+    → AllPassBetween is_inside text from (at + run)
 passed_more text from at run so_far more k low high = elim (cases_lt k at) [ inl early ↦ so_far k low early | inr late ↦ more.0.1 k late high ]
 
 -- the first LF of what follows a place
-pub line_ends : (text : List ℕ) (from done run : ℕ) → AllPassBetween is_inside text from (from + done) → IsRunIn is_inside text (from + done) 16 run → run < 16 → from + done + 16 ≤ length text
+pub line_ends : (text : List ℕ) (from done run : ℕ) → AllPassBetween is_inside text from (from + done) → IsRunIn is_inside text (from + done) 16 run → run < 16
+    → from + done + 16 ≤ length text
     → EndsAt (drop from text) (done + run)
 line_ends text from done run so_far more lt fits =
     let long : length (drop from text) ≡ length text - from = length-drop from text in
@@ -81,7 +86,8 @@ line_ends text from done run so_far more lt fits =
     (an_end (get_or (drop from text) (done + run) 0) (ap is_inside (get_or-drop from text (done + run) 0 ∙ ap (λ n. get_or text n 0) sum) ∙ more.1 lt))
 
 -- sixteen bytes further
-pub copied_more : (text old mid new : List ℕ) (at done : ℕ) → take (at + done) mid ≡ take at old ++ take done text → take (at + done + 16) new ≡ take (at + done) mid ++ take 16 (drop done text)
+pub copied_more : (text old mid new : List ℕ) (at done : ℕ) → take (at + done) mid ≡ take at old ++ take done text
+    → take (at + done + 16) new ≡ take (at + done) mid ++ take 16 (drop done text)
     → take (at + (done + 16)) new ≡ take at old ++ take (done + 16) text
 copied_more text old mid new at done so_far more =
     let same : at + (done + 16) ≡ at + done + 16 = omega arith in
@@ -89,12 +95,14 @@ copied_more text old mid new at done so_far more =
     ∙ ap (λ l. take at old ++ l) (sym (take-add done 16 text))
 
 -- the same of what follows a place
-pub copied_behind : (text old mid new : List ℕ) (from at done : ℕ) → take (at + done) mid ≡ take at old ++ take done (drop from text) → take (at + done + 16) new ≡ take (at + done) mid ++ take 16 (drop (from + done) text)
+pub copied_behind : (text old mid new : List ℕ) (from at done : ℕ) → take (at + done) mid ≡ take at old ++ take done (drop from text)
+    → take (at + done + 16) new ≡ take (at + done) mid ++ take 16 (drop (from + done) text)
     → take (at + (done + 16)) new ≡ take at old ++ take (done + 16) (drop from text)
 copied_behind text old mid new from at done so_far more =
     copied_more (drop from text) old mid new at done so_far (more ∙ ap (λ l. take (at + done) mid ++ take 16 l) (sym (drop-drop done from text)))
 
-pub all_passed : (text : List ℕ) (from at : ℕ) → AllPassBetween is_inside text from at → AllPassBetween is_inside text at (at + 16) → AllPassBetween is_inside text from (at + 16)
+pub all_passed : (text : List ℕ) (from at : ℕ) → AllPassBetween is_inside text from at → AllPassBetween is_inside text at (at + 16)
+    → AllPassBetween is_inside text from (at + 16)
 all_passed text from at so_far more k low high = elim (cases_lt k at) [ inl early ↦ so_far k low early | inr late ↦ more k late high ]
 
 -- what stood before the place stays
@@ -113,43 +121,24 @@ two_put xs at x y fits =
 
 -- ---- lines one after the other
 
-pub copies_none : (text room : List ℕ) (at : ℕ) → CopiesLines text room room at 0 0
-copies_none text room at = record {
-  whole = [];
-  within = omega arith;
-  says = no_lines;
-  counted = refl;
-  size = refl;
-  fewer = omega arith;
-  copied = let none : at + (0 + 0) ≡ at = omega arith in ap (λ n. take n room) none ∙ sym (append-nil (take at room));
-}
-
--- what changes behind them
-pub copies_still : (text old mid new : List ℕ) (at count lines : ℕ) → CopiesLines text old mid at count lines → take (at + count + lines) new ≡ take (at + count + lines) mid → CopiesLines text old new at count lines
-copies_still text old mid new at count lines c same = record {
-  whole = c.whole;
-  within = c.within;
-  says = c.says;
-  counted = c.counted;
-  size = c.size;
-  fewer = c.fewer;
-  copied = let sum : at + (count + lines) ≡ at + count + lines = omega arith in ap (λ n. take n new) sum ∙ same ∙ ap (λ n. take n mid) (sym sum) ∙ c.copied;
-}
-
 -- a line with its LF
 line_and_end : (rest : List ℕ) (size : ℕ) → EndsAt rest size → take (size + 1) rest ≡ ended (take size rest)
 line_and_end rest size ends =
     let inside : size < length rest = ends.inside in
     let long : length (take size rest) ≡ size = length-take-le size rest (omega (arith, inside)) in
-    ap (take (size + 1)) ends.cut ∙ ap (λ n. take (n + 1) (take size rest ++ 10 ∷ drop (size + 1) rest)) (sym long) ∙ take-append-add (take size rest) (10 ∷ drop (size + 1) rest) 1
+    ap (take (size + 1)) ends.cut ∙ ap (λ n. take (n + 1) (take size rest ++ 10 ∷ drop (size + 1) rest)) (sym long)
+    ∙ take-append-add (take size rest) (10 ∷ drop (size + 1) rest) 1
 
-more_copied : (old mid copied new whole line : List ℕ) (at k size : ℕ) → take (at + k) mid ≡ take at old ++ whole → take (at + k + size) copied ≡ take (at + k) mid ++ line
+more_copied : (old mid copied new whole line : List ℕ) (at k size : ℕ) → take (at + k) mid ≡ take at old ++ whole
+    → take (at + k + size) copied ≡ take (at + k) mid ++ line
     → take (at + k + size + 2) new ≡ take (at + k + size) copied ++ 13 ∷ 10 ∷ [] → take (at + k + size + 2) new ≡ take at old ++ (whole ++ (line ++ 13 ∷ 10 ∷ []))
 more_copied old mid copied new whole line at k size so_far one put =
-    put ∙ ap (λ l. l ++ 13 ∷ 10 ∷ []) (one ∙ ap (λ l. l ++ line) so_far) ∙ append_assoc (take at old ++ whole) line (13 ∷ 10 ∷ []) ∙ append_assoc (take at old) whole (line ++ 13 ∷ 10 ∷ [])
+    put ∙ ap (λ l. l ++ 13 ∷ 10 ∷ []) (one ∙ ap (λ l. l ++ line) so_far) ∙ append_assoc (take at old ++ whole) line (13 ∷ 10 ∷ [])
+    ∙ append_assoc (take at old) whole (line ++ 13 ∷ 10 ∷ [])
 
 -- a line more
-pub copies_more : (text old mid copied new : List ℕ) (at count lines size : ℕ) → CopiesLines text old mid at count lines → CopiesLine (drop count text) mid copied (at + count + lines) size
+pub copies_more : (text old mid copied new : List ℕ) (at count lines size : ℕ) → CopiesLines text old mid at count lines
+    → CopiesLine (drop count text) mid copied (at + count + lines) size
     → take (at + count + lines + size + 2) new ≡ take (at + count + lines + size) copied ++ 13 ∷ 10 ∷ [] → (slice_index text count == 46) ≡ false → length text ≤ 8192
     → CopiesLines text old new at (count + (size + 1)) (lines + 1)
 copies_more text old mid copied new at count lines size c one put undotted few =
@@ -164,9 +153,11 @@ copies_more text old mid copied new at count lines size c one put undotted few =
     let undot : (slice_index rest 0 == 46) ≡ false = ap (λ b. b == 46) first ∙ undotted in
     let is_line : IsLine line = record { short = omega (arith, long, inside, sizes, few); single = ends.single } in
     let plain : said line ≡ line ++ 13 ∷ 10 ∷ [] = ap (λ l. l ++ 13 ∷ 10 ∷ []) (not_stuffed rest size undot) in
-    let more : take (count + (size + 1)) text ≡ take count text ++ ended line = take-add count (size + 1) text ∙ ap (λ l. take count text ++ l) (line_and_end rest size ends) in
+    let more : take (count + (size + 1)) text ≡ take count text ++ ended line = take-add count (size + 1) text
+    ∙ ap (λ l. take count text ++ l) (line_and_end rest size ends) in
     let single : count_by is_end (ended line) ≡ 1 = one_end line is_line in
-    let sum : count_by is_end (take count text ++ ended line) ≡ count_by is_end (take count text) + count_by is_end (ended line) = ends_add (take count text) (ended line) in
+    let sum : count_by is_end (take count text ++ ended line) ≡ count_by is_end (take count text) + count_by is_end (ended line) = ends_add (take count text) (ended line)
+    in
     let counted : count_by is_end (take count text) ≡ lines = c.counted in
     let size_so_far : length c.whole ≡ count + lines = c.size in
     let both : length (c.whole ++ said line) ≡ length c.whole + length (said line) = length-append c.whole (said line) in
@@ -174,8 +165,10 @@ copies_more text old mid copied new at count lines size c one put undotted few =
     let fewer : lines ≤ count = c.fewer in
     let k : at + count + lines ≡ at + (count + lines) = omega arith in
     let end : at + (count + (size + 1) + (lines + 1)) ≡ at + (count + lines) + size + 2 = omega arith in
-    let one_at : take (at + (count + lines) + size) copied ≡ take (at + (count + lines)) mid ++ line = subst (λ (n : ℕ). take (n + size) copied ≡ take n mid ++ line) k one.copied in
-    let put_at : take (at + (count + lines) + size + 2) new ≡ take (at + (count + lines) + size) copied ++ 13 ∷ 10 ∷ [] = subst (λ (n : ℕ). take (n + size + 2) new ≡ take (n + size) copied ++ 13 ∷ 10 ∷ []) k put in
+    let one_at : take (at + (count + lines) + size) copied ≡ take (at + (count + lines)) mid ++ line =
+    subst (λ (n : ℕ). take (n + size) copied ≡ take n mid ++ line) k one.copied in
+    let put_at : take (at + (count + lines) + size + 2) new ≡ take (at + (count + lines) + size) copied ++ 13 ∷ 10 ∷ [] =
+    subst (λ (n : ℕ). take (n + size + 2) new ≡ take (n + size) copied ++ 13 ∷ 10 ∷ []) k put in
     record {
       whole = c.whole ++ said line;
       within = omega (arith, inside, sizes);
@@ -183,21 +176,6 @@ copies_more text old mid copied new at count lines size c one put undotted few =
       counted = ap (count_by is_end) more ∙ omega (arith, sum, single, counted);
       size = omega (arith, both, said_long, size_so_far);
       fewer = omega (arith, fewer);
-      copied = ap (λ n. take n new) end ∙ more_copied old mid copied new c.whole line at (count + lines) size c.copied one_at put_at ∙ ap (λ l. take at old ++ (c.whole ++ l)) (sym plain);
-    }
-
--- the same of bytes at whose end they stand
-pub adds_lines : (text old new : List ℕ) (at count lines : ℕ) → CopiesLines text old new at count lines → length new ≡ length old → length old ≤ 65508 → at + count + lines ≤ length old
-    → AddsLines text (take at old) (take (at + (count + lines)) new) count lines
-adds_lines text old new at count lines c same most fits =
-    let fewer : lines ≤ count = c.fewer in
-    let size : length (take (at + (count + lines)) new) ≡ at + (count + lines) = length-take-le (at + (count + lines)) new (omega (arith, fits, same)) in
-    record {
-      whole = c.whole;
-      within = c.within;
-      says = c.says;
-      counted = c.counted;
-      fewer = fewer;
-      added = c.copied;
-      short = omega (arith, size, fits, same, most);
+      copied = ap (λ n. take n new) end ∙ more_copied old mid copied new c.whole line at (count + lines) size c.copied one_at put_at
+          ∙ ap (λ l. take at old ++ (c.whole ++ l)) (sym plain);
     }

@@ -1,5 +1,6 @@
 -- The head of a datagram, read from one end of its line to the other.
-use Rattle.std.proofs.Common.{◌≡◌, ℕ, ◌+◌, ◌*◌, ◌-◌, ◌^◌, ◌<◌, ◌≤◌, true, List, [], ◌∷◌, ◌++◌, length, take, drop, get_or, decimal, refl, sym, ap, ◌∙◌, arith, suc, add-one, Some, pow-add, take-append-drop, append_assoc, length-append, length-drop}
+use Rattle.std.proofs.Common.{◌≡◌, ℕ, ◌+◌, ◌*◌, ◌-◌, ◌^◌, ◌<◌, ◌≤◌, true, List, [], ◌∷◌, ◌++◌, length, take, drop, get_or, decimal, refl, sym, ap, ◌∙◌, arith, suc}
+use Rattle.std.proofs.Common.{add-one, Some, pow-add, take-append-drop, append_assoc, length-append, length-drop}
 use Rattle.std.specs.Prelude.{slice_index, codes}
 use Rattle.std.specs.Char.{is_ascii_digit, digit_value}
 use Rattle.std.specs.Str.{all_ascii_digits}
@@ -45,7 +46,8 @@ value_behind n (x ∷ xs) d = value_behind (n * 10 + digit_value x) xs d
 pub is_digit : (c : ℕ) → is_ascii_digit c ≡ true → (digit_value c ≡ c - 48) × (c - 48 ≤ 9)
 is_digit c is = (grind (arith, nat_tests), grind (arith, nat_tests))
 
-pub one_more : (text : List ℕ) (from count number : ℕ) → AreDigits text from count number → from + count < length text → is_ascii_digit (slice_index text (from + count)) ≡ true
+pub one_more : (text : List ℕ) (from count number : ℕ) → AreDigits text from count number → from + count < length text
+    → is_ascii_digit (slice_index text (from + count)) ≡ true
     → AreDigits text from (count + 1) (number * 10 + (slice_index text (from + count) - 48))
 one_more text from count number so_far lt is =
     let d : ℕ = slice_index text (from + count) in
@@ -53,7 +55,8 @@ one_more text from count number so_far lt is =
     let rest : List ℕ = drop from text in
     let long : length rest ≡ length text - from = length-drop from text in
     let at : get_or rest count 0 ≡ slice_index text (from + count) = get_or-drop from text count 0 in
-    let more : take (count + 1) rest ≡ take count rest ++ slice_index text (from + count) ∷ [] = take_more rest count 0 (omega (arith, long, lt)) ∙ ap (λ d. take count rest ++ d ∷ []) at in
+    let more : take (count + 1) rest ≡ take count rest ++ slice_index text (from + count) ∷ [] = take_more rest count 0 (omega (arith, long, lt))
+    ∙ ap (λ d. take count rest ++ d ∷ []) at in
     let step : 10 ^ (count + 1) ≡ 10 ^ count * 10 = pow-add 10 count 1 in
     record {
       digits = ap all_ascii_digits more ∙ digits_behind (take count rest) (slice_index text (from + count)) so_far.digits is;
@@ -75,7 +78,8 @@ one_more_fits number count most digit lt inside few nine =
     omega (arith, all)
 
 -- without a leading zero they are how the number is written
-pub number_is : (text : List ℕ) (from count number : ℕ) → AreDigits text from count number → 0 < count → count ≤ 19 → (slice_index text from ≡ 48 → count ≡ 1) → IsNumberAt text from number (from + count)
+pub number_is : (text : List ℕ) (from count number : ℕ) → AreDigits text from count number → 0 < count → count ≤ 19 → (slice_index text from ≡ 48 → count ≡ 1)
+    → IsNumberAt text from number (from + count)
 number_is text from count number so_far some few front =
     let rest : List ℕ = drop from text in
     let within : from + count ≤ length text = so_far.within in
@@ -94,22 +98,26 @@ number_is text from count number so_far some few front =
       within = within;
     }
 
-pub number_before : (text : List ℕ) (from mark number end : ℕ) → IsNumberAt text from number end → end < length text → slice_index text end ≡ mark → IsNumberBefore text from mark number (end + 1)
+pub number_before : (text : List ℕ) (from mark number end : ℕ) → IsNumberAt text from number end → end < length text → slice_index text end ≡ mark
+    → IsNumberBefore text from mark number (end + 1)
 number_before text from mark number end is lt at = record {
   digits = is.digits ∙ ap (λ l. decimal number ++ l) (drop-cons text end 0 lt ∙ ap (λ b. b ∷ drop (suc end) text) at ∙ ap (λ n. mark ∷ drop n text) (sym (add-one end)));
   within = omega (arith, lt);
 }
 
 -- four numbers, and a port
-pub source_before : (text : List ℕ) (from a b c d port i j k l next : ℕ) → IsNumberBefore text from 46 a i → IsNumberBefore text i 46 b j → IsNumberBefore text j 46 c k → IsNumberBefore text k 58 d l → IsNumberBefore text l 32 port next
+pub source_before : (text : List ℕ) (from a b c d port i j k l next : ℕ) → IsNumberBefore text from 46 a i → IsNumberBefore text i 46 b j → IsNumberBefore text j 46 c k
+    → IsNumberBefore text k 58 d l → IsNumberBefore text l 32 port next
     → a < 256 → b < 256 → c < 256 → d < 256 → 0 < port → port < 65536 → IsSourceBefore text from (record { ip = a ∷ b ∷ c ∷ d ∷ []; port = port }) next
 source_before text from a b c d port i j k l next one two three four last la lb lc ld some small = record {
   digits =
-      one.digits ∙ ap (λ r. decimal a ++ 46 ∷ r) (two.digits ∙ ap (λ r. decimal b ++ 46 ∷ r) (three.digits ∙ ap (λ r. decimal c ++ 46 ∷ r) (four.digits ∙ ap (λ r. decimal d ++ 58 ∷ r) last.digits)))
+      one.digits ∙ ap (λ r. decimal a ++ 46 ∷ r) (two.digits ∙ ap (λ r. decimal b ++ 46 ∷ r)
+      (three.digits ∙ ap (λ r. decimal c ++ 46 ∷ r) (four.digits ∙ ap (λ r. decimal d ++ 58 ∷ r) last.digits)))
       ∙ sym (joined (decimal a) (decimal b) (decimal c) (decimal d) (decimal port) (32 ∷ drop next text));
   within = last.within;
   four = refl;
-  octets = and_is _ _ (le-leb a 255 (omega (arith, la))) (and_is _ _ (le-leb b 255 (omega (arith, lb))) (and_is _ _ (le-leb c 255 (omega (arith, lc))) (and_is _ _ (le-leb d 255 (omega (arith, ld))) refl)));
+  octets = and_is _ _ (le-leb a 255 (omega (arith, la))) (and_is _ _ (le-leb b 255 (omega (arith, lb)))
+      (and_is _ _ (le-leb c 255 (omega (arith, lc))) (and_is _ _ (le-leb d 255 (omega (arith, ld))) refl)));
   some = some;
   small = small;
 }
@@ -117,13 +125,15 @@ source_before text from a b c d port i j k l next one two three four last la lb 
     between : (front back : List ℕ) (mark : ℕ) (rest : List ℕ) → ((front ++ mark ∷ []) ++ back) ++ rest ≡ front ++ mark ∷ (back ++ rest)
     between front back mark rest = append_assoc (front ++ mark ∷ []) back rest ∙ append_assoc front (mark ∷ []) (back ++ rest)
 
-    joined : (a b c d e rest : List ℕ) → (a ++ codes "." ++ b ++ codes "." ++ c ++ codes "." ++ d ++ codes ":" ++ e) ++ rest ≡ a ++ 46 ∷ (b ++ 46 ∷ (c ++ 46 ∷ (d ++ 58 ∷ (e ++ rest))))
+    joined : (a b c d e rest : List ℕ) → (a ++ codes "." ++ b ++ codes "." ++ c ++ codes "." ++ d ++ codes ":" ++ e) ++ rest ≡ a
+        ++ 46 ∷ (b ++ 46 ∷ (c ++ 46 ∷ (d ++ 58 ∷ (e ++ rest))))
     joined a b c d e rest =
         between (a ++ codes "." ++ b ++ codes "." ++ c ++ codes "." ++ d) e 58 rest ∙ between (a ++ codes "." ++ b ++ codes "." ++ c) d 46 (58 ∷ (e ++ rest))
         ∙ between (a ++ codes "." ++ b) c 46 (46 ∷ (d ++ 58 ∷ (e ++ rest))) ∙ between a b 46 (46 ∷ (c ++ 46 ∷ (d ++ 58 ∷ (e ++ rest))))
 
 -- a word, and LF
-pub word_before : (text : List ℕ) (from word : ℕ) → word_of (take (from + 32 - from) (drop from text)) ≡ Some word → from + 32 < length text → slice_index text (from + 32) ≡ 10 → IsWordBefore text from word (from + 32)
+pub word_before : (text : List ℕ) (from word : ℕ) → word_of (take (from + 32 - from) (drop from text)) ≡ Some word → from + 32 < length text
+    → slice_index text (from + 32) ≡ 10 → IsWordBefore text from word (from + 32)
 word_before text from word says lt at = record {
   says = let size : from + 32 - from ≡ 32 = omega arith in ap (λ n. word_of (take n (drop from text))) (sym size) ∙ says;
   rest = drop (suc (from + 32)) text;
@@ -134,7 +144,8 @@ word_before text from word says lt at = record {
 }
 
 -- a text that begins with a line that says a head so
-pub head_is : (text : List ℕ) (moment next behind word count : ℕ) (source : Addr) → take 9 text ≡ codes "datagram " → IsNumberBefore text 9 32 moment next → IsSourceBefore text next source behind → IsWordBefore text behind word count
+pub head_is : (text : List ℕ) (moment next behind word count : ℕ) (source : Addr) → take 9 text ≡ codes "datagram " → IsNumberBefore text 9 32 moment next
+    → IsSourceBefore text next source behind → IsWordBefore text behind word count
     → moment < 2 ^ 62 → SaysAtOnce text (Head (record { at = moment; word = word; from = source })) count
 head_is text moment next behind word count source front at from seed small =
     let named = (names_word (take 32 (drop behind text)) word).0 seed.says in
@@ -157,11 +168,22 @@ head_is text moment next behind word count source front at from seed small =
         cut = cut;
       };
       says = head_says moment word source small named.0 is_source;
-      size = omega (arith, ap length cut, length-append line (10 ∷ seed.rest), ap length tail, length-append (nonce_text word) (10 ∷ seed.rest), length-drop behind text, long, within, place);
+      size = omega (
+        arith,
+        ap length cut,
+        length-append line (10 ∷ seed.rest),
+        ap length tail,
+        length-append (nonce_text word) (10 ∷ seed.rest),
+        length-drop behind text,
+        long,
+        within,
+        place,
+      );
     }
 
 -- a text that begins with a line that says a moment
-pub time_is : (text : List ℕ) (moment next : ℕ) → take 5 text ≡ codes "time " → IsNumberBefore text 5 10 moment next → moment < 2 ^ 62 → SaysAtOnce text (Whole (Time moment)) (next - 1)
+pub time_is : (text : List ℕ) (moment next : ℕ) → take 5 text ≡ codes "time " → IsNumberBefore text 5 10 moment next → moment < 2 ^ 62
+    → SaysAtOnce text (Whole (Time moment)) (next - 1)
 time_is text moment next front at small =
     let line : List ℕ = codes "time " ++ decimal moment in
     let cut : text ≡ line ++ 10 ∷ drop next text = sym (take-append-drop 5 text) ∙ ap (λ l. l ++ drop 5 text) front ∙ ap (λ l. codes "time " ++ l) at.digits in

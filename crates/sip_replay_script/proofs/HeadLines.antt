@@ -1,5 +1,6 @@
 -- A number whose digits are put in front, the last one first.
-use Rattle.std.proofs.Common.{◌≡◌, ℕ, ◌+◌, ◌/◌, ◌%◌, ◌^◌, ◌<◌, ◌≤◌, List, [], ◌∷◌, ◌++◌, length, decimal, ◌*◌, ◌==◌, get_or, true, refl, eqb-true, sym, ap, ◌∙◌, arith, append_assoc, length-append}
+use Rattle.std.proofs.Common.{◌≡◌, ℕ, ◌+◌, ◌/◌, ◌%◌, ◌^◌, ◌<◌, ◌≤◌, List, [], ◌∷◌, ◌++◌, length, decimal, ◌*◌, ◌==◌, get_or, true, refl, eqb-true, sym, ap, ◌∙◌, arith}
+use Rattle.std.proofs.Common.{append_assoc, length-append}
 use Rattle.std.proofs.lemmas.Bool.{agree_below_at}
 use Rattle.sip_replay_script.specs.declared.front.TheConstants.{PAIRS}
 use Rattle.std.proofs.lemmas.Fmt.{decimal_digit, decimal_step, decimal_by_steps, length-decimal-le}
@@ -14,7 +15,8 @@ pub digit_only : (n : ℕ) (behind all : List ℕ) → n < 10 → decimal n ++ b
 digit_only n behind all lt is = ap (λ l. l ++ behind) (sym (decimal_digit n lt)) ∙ is
 
 -- the last two digits of more than two
-pub pair_more : (n : ℕ) (behind all : List ℕ) → 100 ≤ n → n < 2 ^ 64 → decimal n ++ behind ≡ all → decimal (n / 100) ++ (48 + n % 100 / 10) ∷ (48 + n % 100 % 10) ∷ behind ≡ all
+pub pair_more : (n : ℕ) (behind all : List ℕ) → 100 ≤ n → n < 2 ^ 64 → decimal n ++ behind ≡ all
+    → decimal (n / 100) ++ (48 + n % 100 / 10) ∷ (48 + n % 100 % 10) ∷ behind ≡ all
 pair_more n behind all some lt is =
     let last : n % 10 ≡ n % 100 % 10 = omega arith in
     let next : n / 10 % 10 ≡ n % 100 / 10 = omega arith in
@@ -44,7 +46,8 @@ pub behind_front : (front part behind mid all : List ℕ) → mid ≡ part ++ be
 behind_front front part behind mid all is h = h ∙ ap (λ l. front ++ l) is ∙ sym (append_assoc front part behind)
 
 -- four numbers joined by dots, and a port, put in front one after the other
-pub address_first : (a b c d e t t1 t2 t3 t4 t5 t6 t7 t8 t9 : List ℕ) → t1 ≡ e ++ t → t2 ≡ 58 ∷ t1 → t3 ≡ d ++ t2 → t4 ≡ 46 ∷ t3 → t5 ≡ c ++ t4 → t6 ≡ 46 ∷ t5 → t7 ≡ b ++ t6 → t8 ≡ 46 ∷ t7 → t9 ≡ a ++ t8
+pub address_first : (a b c d e t t1 t2 t3 t4 t5 t6 t7 t8 t9 : List ℕ) → t1 ≡ e ++ t → t2 ≡ 58 ∷ t1 → t3 ≡ d ++ t2 → t4 ≡ 46 ∷ t3 → t5 ≡ c ++ t4 → t6 ≡ 46 ∷ t5
+    → t7 ≡ b ++ t6 → t8 ≡ 46 ∷ t7 → t9 ≡ a ++ t8
     → t9 ≡ (((((((((a ++ (46 ∷ [])) ++ b) ++ (46 ∷ [])) ++ c) ++ (46 ∷ [])) ++ d) ++ (58 ∷ [])) ++ e) ++ t)
 address_first a b c d e t t1 t2 t3 t4 t5 t6 t7 t8 t9 is1 is2 is3 is4 is5 is6 is7 is8 is9 =
     let dot : List ℕ = 46 ∷ [] in
@@ -54,7 +57,8 @@ address_first a b c d e t t1 t2 t3 t4 t5 t6 t7 t8 t9 is1 is2 is3 is4 is5 is6 is7
     let s5 : t9 ≡ ((((a ++ dot) ++ b) ++ dot) ++ c) ++ t4 = behind_front (((a ++ dot) ++ b) ++ dot) c t4 t5 t9 is5 s6 in
     let s4 : t9 ≡ (((((a ++ dot) ++ b) ++ dot) ++ c) ++ dot) ++ t3 = behind_front ((((a ++ dot) ++ b) ++ dot) ++ c) dot t3 t4 t9 is4 s5 in
     let s3 : t9 ≡ ((((((a ++ dot) ++ b) ++ dot) ++ c) ++ dot) ++ d) ++ t2 = behind_front (((((a ++ dot) ++ b) ++ dot) ++ c) ++ dot) d t2 t3 t9 is3 s4 in
-    let s2 : t9 ≡ (((((((a ++ dot) ++ b) ++ dot) ++ c) ++ dot) ++ d) ++ (58 ∷ [])) ++ t1 = behind_front ((((((a ++ dot) ++ b) ++ dot) ++ c) ++ dot) ++ d) (58 ∷ []) t1 t2 t9 is2 s3 in
+    let s2 : t9 ≡ (((((((a ++ dot) ++ b) ++ dot) ++ c) ++ dot) ++ d) ++ (58 ∷ [])) ++ t1 =
+    behind_front ((((((a ++ dot) ++ b) ++ dot) ++ c) ++ dot) ++ d) (58 ∷ []) t1 t2 t9 is2 s3 in
     behind_front (((((((a ++ dot) ++ b) ++ dot) ++ c) ++ dot) ++ d) ++ (58 ∷ [])) e t t1 t9 is1 s2
 
 -- a number has few digits, and fewer without its last

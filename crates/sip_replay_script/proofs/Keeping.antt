@@ -18,6 +18,8 @@ front_of_both (suc most) [] ys = refl
 front_of_both (suc most) (x ∷ xs) ys = ap (λ l. x ∷ l) (front_of_both most xs ys)
 
 -- two parts, each as far as it is kept
-pub kept_two : (most : ℕ) (old part more seen first new : List ℕ) → seen ≡ part → first ≡ take most (old ++ seen) → new ≡ take most (first ++ more) → new ≡ take most (old ++ (part ++ more))
+pub kept_two : (most : ℕ) (old part more seen first new : List ℕ) → seen ≡ part → first ≡ take most (old ++ seen) → new ≡ take most (first ++ more)
+    → new ≡ take most (old ++ (part ++ more))
 kept_two most old part more seen first new same is1 is2 =
-    is2 ∙ ap (λ l. take most (l ++ more)) is1 ∙ front_of_both most (old ++ seen) more ∙ ap (take most) (append_assoc old seen more) ∙ ap (λ l. take most (old ++ (l ++ more))) same
+    is2 ∙ ap (λ l. take most (l ++ more)) is1 ∙ front_of_both most (old ++ seen) more ∙ ap (take most) (append_assoc old seen more)
+    ∙ ap (λ l. take most (old ++ (l ++ more))) same

@@ -1,5 +1,6 @@
 -- The first LF of some bytes, and lines read in parts.
-use Rattle.std.proofs.Common.{◌≡◌, ℕ, zero, suc, ◌+◌, ◌-◌, ◌<◌, ◌≤◌, List, ◌∷◌, ◌++◌, length, take, drop, get_or, Bool, true, false, Option, None, Some, MatchOption, refl, sym, ◌∙◌, ap, subst, arith, append-nil, append_assoc, length-append, [], add-one, take-append-drop, slice_range, inl, inr, ⊎_elim}
+use Rattle.std.proofs.Common.{◌≡◌, ℕ, zero, suc, ◌+◌, ◌-◌, ◌<◌, ◌≤◌, List, ◌∷◌, ◌++◌, length, take, drop, get_or, Bool, true, false, Option, None, Some, MatchOption}
+use Rattle.std.proofs.Common.{refl, sym, ◌∙◌, ap, subst, arith, append-nil, append_assoc, length-append, [], add-one, take-append-drop, slice_range, inl, inr, ⊎_elim}
 use Rattle.std.specs.Prelude.{count_by, cond, ◌≢◌, IfSome, IfErr, Result, Ok, Err}
 use Rattle.std.specs.Io.KnownBytes.{Consumes, Keeps, IsAtEnd}
 use Rattle.std.proofs.lemmas.Bool.{cases_Bool, cases_lt, cond-true, cond-false, false≢true}
@@ -8,7 +9,7 @@ use Rattle.std.proofs.lemmas.List.{take_all, drop-take, drop-drop, length-take, 
 use Rattle.std.proofs.lemmas.List.Sums.{count_by_more_no, sum_by-append, sum_by-take-le}
 use Rattle.std.proofs.Math.Seq.{drop-cons}
 use Rattle.memchr.specs.Find.{IsFirstByte, NoneBefore, Nowhere, Passes, TakesFirst, is_byte, places, places_from}
-use Rattle.sip_replay_script.specs.Lines.{Reading, is_end, pending, EndsAt, EndsLine, IsLine, IsLong, IsUnfinished, IsTooLong, LineStops, PartStops, PutStops}
+use Rattle.sip_replay_script.specs.Lines.{Reading, is_end, pending, EndsAt, EndsLine, IsLine, IsLong, IsUnfinished, IsTooLong, LineStops, PartStops}
 use Rattle.sip_replay_script.specs.declared.read_stop.ReadStop.{ReadStop}
 use Rattle.sip_replay_script.specs.declared.read_stop.ReadStop.TheVariants as stops
 
@@ -30,12 +31,14 @@ pub ends_at : (text : List ℕ) (place : ℕ) → place < length text → ((k : 
 ends_at text place lt before is = record {
   inside = lt;
   single = none_before text place (omega arith) before;
-  cut = sym (take-append-drop place text) ∙ ap (λ l. take place text ++ l) (drop-cons text place 0 lt ∙ ap (λ b. b ∷ drop (suc place) text) is ∙ ap (λ n. 10 ∷ drop n text) (sym (add-one place)));
+  cut = sym (take-append-drop place text) ∙ ap (λ l. take place text ++ l) (drop-cons text place 0 lt ∙ ap (λ b. b ∷ drop (suc place) text) is
+      ∙ ap (λ n. 10 ∷ drop n text) (sym (add-one place)));
 }
 
 pub first_end : (text : List ℕ) (place : Option ℕ) → IsFirstByte (is_byte 10) text place → MatchOption place (count_by is_end text ≡ 0) (λ i. EndsAt text i)
 first_end text None h =
-    subst (λ l. count_by is_end l ≡ 0) (take_all (length text) text (omega arith)) (none_before text (length text) (omega arith) (λ k b. not_true (is_end (get_or text k 0)) (h k (omega arith) b)))
+    subst (λ l. count_by is_end l ≡ 0) (take_all (length text) text (omega arith)) (none_before text (length text) (omega arith)
+    (λ k b. not_true (is_end (get_or text k 0)) (h k (omega arith) b)))
 first_end text (Some i) h =
     let first = h.0 in
     let is : get_or text i 0 ≡ 10 = grind (arith, nat_tests, h.1) in
@@ -48,7 +51,8 @@ abbrev HeadIs : ℕ → List ℕ → ℕ → ℕ → List ℕ → Type 0
 HeadIs mark text i n [] = Nowhere (Passes (is_byte mark) text) i (i + n)
 HeadIs mark text i n (k ∷ ks) = NoneBefore (Passes (is_byte mark) text) i (i + n) k × Passes (is_byte mark) text k
 
-not_here : (mark : ℕ) (text : List ℕ) (i j : ℕ) → ¬ Passes (is_byte mark) text i → Nowhere (Passes (is_byte mark) text) (i + 1) j → Nowhere (Passes (is_byte mark) text) i j
+not_here : (mark : ℕ) (text : List ℕ) (i j : ℕ) → ¬ Passes (is_byte mark) text i → Nowhere (Passes (is_byte mark) text) (i + 1) j
+    → Nowhere (Passes (is_byte mark) text) i j
 not_here mark text i j fails later k low high passes =
     elim (cases_lt i k) [
       | inl over ↦ later k (omega (arith, over)) high passes
@@ -69,11 +73,14 @@ head_is mark text i zero = λ k low high. absurd (omega (arith, low, high))
 head_is mark text i (suc n) =
     let later = places_from (is_byte mark) text (i + 1) n in
     ⊎_elim
-    (λ passes. subst (HeadIs mark text i (suc n)) (sym (cond-true _ (i ∷ later) later passes)) (record { low = omega arith; high = omega arith; before = λ k low high. absurd (omega (arith, low, high)) }, passes))
-    (λ fails. subst (HeadIs mark text i (suc n)) (sym (cond-false _ (i ∷ later) later fails)) (head_further mark text i n (λ passes. absurd (false≢true (sym fails ∙ passes))) later (head_is mark text (i + 1) n)))
+    (λ passes. subst (HeadIs mark text i (suc n)) (sym (cond-true _ (i ∷ later) later passes))
+    (record { low = omega arith; high = omega arith; before = λ k low high. absurd (omega (arith, low, high)) }, passes))
+    (λ fails. subst (HeadIs mark text i (suc n)) (sym (cond-false _ (i ∷ later) later fails))
+    (head_further mark text i n (λ passes. absurd (false≢true (sym fails ∙ passes))) later (head_is mark text (i + 1) n)))
     (cases_Bool (is_byte mark (get_or text i 0)))
 
-by_place : (mark : ℕ) (text : List ℕ) (place : Option ℕ) (all rest : List ℕ) → HeadIs mark text 0 (length text) all → TakesFirst all place rest → IsFirstByte (is_byte mark) text place
+by_place : (mark : ℕ) (text : List ℕ) (place : Option ℕ) (all rest : List ℕ) → HeadIs mark text 0 (length text) all → TakesFirst all place rest
+    → IsFirstByte (is_byte mark) text place
 by_place mark text None all rest h takes =
     let whole : 0 + length text ≡ length text = omega arith in
     subst (λ n. Nowhere (Passes (is_byte mark) text) 0 n) whole (subst (HeadIs mark text 0 (length text)) takes.0 h)
@@ -81,10 +88,12 @@ by_place mark text (Some k) all rest h takes =
     let whole : 0 + length text ≡ length text = omega arith in
     subst (λ n. NoneBefore (Passes (is_byte mark) text) 0 n k × Passes (is_byte mark) text k) whole (subst (HeadIs mark text 0 (length text)) takes h)
 
-pub first_place : (mark : ℕ) (text : List ℕ) (place : Option ℕ) (rest : List ℕ) → TakesFirst (places (is_byte mark) text) place rest → IsFirstByte (is_byte mark) text place
+pub first_place : (mark : ℕ) (text : List ℕ) (place : Option ℕ) (rest : List ℕ) → TakesFirst (places (is_byte mark) text) place rest
+    → IsFirstByte (is_byte mark) text place
 first_place mark text place rest takes =
     let whole : length text - 0 ≡ length text = omega arith in
-    by_place mark text place (places (is_byte mark) text) rest (subst (λ n. HeadIs mark text 0 (length text) (places_from (is_byte mark) text 0 n)) (sym whole) (head_is mark text 0 (length text))) takes
+    by_place mark text place (places (is_byte mark) text) rest (subst (λ n. HeadIs mark text 0 (length text) (places_from (is_byte mark) text 0 n)) (sym whole)
+    (head_is mark text 0 (length text))) takes
 
 -- what is left of a part behind its front
 pub range_rest : (xs : List ℕ) (start stop n : ℕ) → start + n ≤ stop → slice_range xs (start + n) stop ≡ drop n (slice_range xs start stop)
@@ -93,21 +102,25 @@ range_rest xs start stop n le =
     ap (take (stop - (start + n))) (sym (drop-drop n start xs)) ∙ sym (drop-take n (stop - (start + n)) (drop start xs)) ∙ ap (λ m. drop n (take m (drop start xs))) sizes
 
 -- a line is passed that stands in a part
-pub range_behind : (xs unread : List ℕ) (start stop count : ℕ) → slice_range xs start stop ≡ unread → start ≤ stop → count < length unread → slice_range xs (start + count + 1) stop ≡ drop (count + 1) unread
+pub range_behind : (xs unread : List ℕ) (start stop count : ℕ) → slice_range xs start stop ≡ unread → start ≤ stop → count < length unread
+    → slice_range xs (start + count + 1) stop ≡ drop (count + 1) unread
 range_behind xs unread start stop count is le lt =
     let most : length (slice_range xs start stop) ≤ stop - start = omega (arith, length-take (stop - start) (drop start xs)) in
     let same : start + count + 1 ≡ start + (count + 1) = omega arith in
     ap (λ n. slice_range xs n stop) same ∙ range_rest xs start stop (count + 1) (omega (arith, most, ap length is, lt, le)) ∙ ap (drop (count + 1)) is
 
 -- and so many bytes
-pub range_further : (xs unread : List ℕ) (start stop count : ℕ) → slice_range xs start stop ≡ unread → start ≤ stop → count ≤ length unread → slice_range xs (start + count) stop ≡ drop count unread
+pub range_further : (xs unread : List ℕ) (start stop count : ℕ) → slice_range xs start stop ≡ unread → start ≤ stop → count ≤ length unread
+    → slice_range xs (start + count) stop ≡ drop count unread
 range_further xs unread start stop count is le few =
     let most : length (slice_range xs start stop) ≤ stop - start = omega (arith, length-take (stop - start) (drop start xs)) in
     range_rest xs start stop count (omega (arith, most, ap length is, few, le)) ∙ ap (drop count) is
 
 -- a line ends in a part
-pub part_ends : (xs ys : List ℕ) (start stop asks number place : ℕ) (before after : List ℕ) → ys ≡ xs → EndsAt (slice_range ys start stop) place → after ≡ before ++ take place (slice_range ys start stop)
-    → EndsLine (record { unread = slice_range xs start stop; asks = asks; number = number }) (record { unread = slice_range xs (start + (place + 1)) stop; asks = asks; number = number + 1 }) before after
+pub part_ends : (xs ys : List ℕ) (start stop asks number place : ℕ) (before after : List ℕ) → ys ≡ xs → EndsAt (slice_range ys start stop) place
+    → after ≡ before ++ take place (slice_range ys start stop)
+    → EndsLine (record { unread = slice_range xs start stop; asks = asks; number = number })
+    (record { unread = slice_range xs (start + (place + 1)) stop; asks = asks; number = number + 1 }) before after
 part_ends xs ys start stop asks number place before after same ends grown =
     let most : length (slice_range ys start stop) ≤ stop - start = omega (arith, length-take (stop - start) (drop start ys)) in
     let inside : place < length (slice_range ys start stop) = ends.inside in
@@ -130,7 +143,8 @@ ends_add text more = sum_by-append (λ b. cond (is_end b) 1 0) text more
 
 -- a line with its LF has one
 pub one_end : (line : List ℕ) → IsLine line → count_by is_end (line ++ 10 ∷ []) ≡ 1
-one_end line h = let single : count_by is_end line ≡ 0 = h.single in let sum : count_by is_end (line ++ 10 ∷ []) ≡ count_by is_end line + 1 = ends_add line (10 ∷ []) in omega (arith, single, sum)
+one_end line h = let single : count_by is_end line ≡ 0 = h.single in let sum : count_by is_end (line ++ 10 ∷ []) ≡ count_by is_end line + 1 = ends_add line (10 ∷ []) in
+    omega (arith, single, sum)
 
 -- ---- where no line stands
 
@@ -149,7 +163,8 @@ unended_at_end (Some xs) (Some ys) (Some zs) line h k e begun is_line =
     record { all = h ∙ ap (λ l. line ++ l) (sym k ∙ e) ∙ append-nil line; begun = begun; is_line = is_line }
 
 -- a line is too long
-long_front : (xs line part rest : List ℕ) → xs ≡ line ++ (part ++ rest) → count_by is_end line ≡ 0 → count_by is_end part ≡ 0 → 200000 < length line + length part → IsLong xs
+long_front : (xs line part rest : List ℕ) → xs ≡ line ++ (part ++ rest) → count_by is_end line ≡ 0 → count_by is_end part ≡ 0 → 200000 < length line + length part
+    → IsLong xs
 long_front xs line part rest is none none_more long =
     let front : xs ≡ (line ++ part) ++ rest = is ∙ sym (append_assoc line part rest) in
     let size : length (line ++ part) ≡ length line + length part = length-append line part in
@@ -157,10 +172,12 @@ long_front xs line part rest is none none_more long =
     let sum : count_by is_end (line ++ part) ≡ count_by is_end line + count_by is_end part = ends_add line part in
     record {
       long = omega (arith, ap length front, size, total, long);
-      unended = ap (λ l. count_by is_end (take 200001 l)) front ∙ none_in_front 200001 (line ++ part) rest (omega (arith, size, long)) (omega (arith, sum, none, none_more));
+      unended = ap (λ l. count_by is_end (take 200001 l)) front ∙ none_in_front 200001 (line ++ part) rest (omega (arith, size, long))
+          (omega (arith, sum, none, none_more));
     }
 
-pub too_long : (a b : Option (List ℕ)) (r : Reading) (c : Option (List ℕ)) (line : List ℕ) → Consumes a b line → Keeps b (pending r c) → count_by is_end line ≡ 0 → IsTooLong r.unread line → IfSome a IsLong
+pub too_long : (a b : Option (List ℕ)) (r : Reading) (c : Option (List ℕ)) (line : List ℕ) → Consumes a b line → Keeps b (pending r c) → count_by is_end line ≡ 0
+    → IsTooLong r.unread line → IfSome a IsLong
 too_long None b r c line h k none long = tt
 too_long (Some xs) None r c line h k none long = absurd h
 too_long (Some xs) (Some ys) r None line h k none long = absurd k
@@ -168,21 +185,16 @@ too_long (Some xs) (Some ys) r (Some zs) line h k none long =
     long_front xs line long.part (long.rest ++ zs)
     (h ∙ ap (λ l. line ++ l) (sym k ∙ ap (λ l. l ++ zs) long.cut ∙ append_assoc long.part long.rest zs)) none long.single long.long
 
--- a part that isn't added
-pub part_stops : (unread before part rest : List ℕ) (stop : ReadStop) → unread ≡ part ++ rest → count_by is_end part ≡ 0 → PutStops part before stop → PartStops unread before stop
-part_stops unread before part rest stops.NoMemory cut none h = tt
-part_stops unread before part rest stops.Damaged cut none h = record { part = part; rest = rest; cut = cut; single = none; long = h }
-part_stops unread before part rest stops.Cut cut none h = h
-part_stops unread before part rest stops.Read cut none h = h
-
 -- why no line is given, at the end and where one is too long
-pub over_stops : (F : Type 0) (a b c : Option (List ℕ)) (line seen : List ℕ) (r : Result Bool ReadStop) → Consumes a b line → Keeps b c → IsAtEnd c → IsLine line → seen ≡ line
+pub over_stops : (F : Type 0) (a b c : Option (List ℕ)) (line seen : List ℕ) (r : Result Bool ReadStop) → Consumes a b line → Keeps b c → IsAtEnd c → IsLine line
+    → seen ≡ line
     → IfErr r (λ stop. (stop ≡ stops.Cut) × (seen ≢ [])) → IfErr r (LineStops F a line)
 over_stops F a b c line seen (Ok more) h k e is_line same s = tt
 over_stops F a b c line seen (Err stop) h k e is_line same s =
     subst (λ x. LineStops F a line x) (sym s.0) (unended_at_end a b c line h k e (λ is. s.1 (same ∙ is)) is_line)
 
-pub part_stops_line : (F : Type 0) (a b : Option (List ℕ)) (r : Reading) (c : Option (List ℕ)) (line seen : List ℕ) (stop : ReadStop) → Consumes a b line → Keeps b (pending r c) → IsLine line → PartStops r.unread line stop → LineStops F a seen stop
+pub part_stops_line : (F : Type 0) (a b : Option (List ℕ)) (r : Reading) (c : Option (List ℕ)) (line seen : List ℕ) (stop : ReadStop) → Consumes a b line
+    → Keeps b (pending r c) → IsLine line → PartStops r.unread line stop → LineStops F a seen stop
 part_stops_line F a b r c line seen stops.NoMemory h k is_line s = tt
 part_stops_line F a b r c line seen stops.Damaged h k is_line s = too_long a b r c line h k is_line.single s
 part_stops_line F a b r c line seen stops.Cut h k is_line s = absurd s

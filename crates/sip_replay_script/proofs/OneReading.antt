@@ -1,5 +1,6 @@
 -- A script says its events in one way, and where it says one, none is refused.
-use Rattle.std.proofs.Common.{◌≡◌, ℕ, suc, ◌+◌, ◌-◌, ◌<◌, List, [], ◌∷◌, ◌++◌, length, take, Bool, true, false, Option, Some, None, inl, inr, refl, sym, ◌∙◌, ap, ap₂, subst, arith, append-nil, append_assoc, length-append}
+use Rattle.std.proofs.Common.{◌≡◌, ℕ, suc, ◌+◌, ◌-◌, ◌<◌, List, [], ◌∷◌, ◌++◌, length, take, Bool, true, false, Option, Some, None, inl, inr, refl, sym, ◌∙◌, ap, ap₂}
+use Rattle.std.proofs.Common.{subst, arith, append-nil, append_assoc, length-append}
 use Rattle.std.specs.Prelude.{◌==◌, ◌||◌, ◌≢◌, count_by, cond, All}
 use Rattle.std.specs.List.{flat_map, list_any}
 use Rattle.std.proofs.lemmas.List.Sums.{sum_by-cons}
@@ -49,7 +50,8 @@ line_in_front n line rest is lt none =
     let sum : length (ended line) + (n - length (ended line)) ≡ n = omega (arith, size, lt) in
     let cut : take n (ended line ++ rest) ≡ ended line ++ take (n - length (ended line)) rest =
     ap (λ m. take m (ended line ++ rest)) (sym sum) ∙ take-append-add (ended line) rest (n - length (ended line)) in
-    let count : count_by is_end (ended line ++ take (n - length (ended line)) rest) ≡ count_by is_end (ended line) + count_by is_end (take (n - length (ended line)) rest) =
+    let count : count_by is_end (ended line ++ take (n - length (ended line)) rest) ≡ count_by is_end (ended line) + count_by is_end
+    (take (n - length (ended line)) rest) =
     ends_add (ended line) (take (n - length (ended line)) rest) in
     let all : count_by is_end (ended line ++ take (n - length (ended line)) rest) ≡ 0 = ap (count_by is_end) (sym cut) ∙ none in
     let one : count_by is_end (ended line) ≡ 1 = one_end line is in
@@ -87,17 +89,21 @@ not_dot line lines none is =
     true_or_false (is_dot line) holds fails
 
 -- the same lines stand in front of the dot
-same_lines : (lines others : List (List ℕ)) (more further : List ℕ) → All IsLine lines → All IsLine others → list_any is_dot lines ≡ false → list_any is_dot others ≡ false
+same_lines : (lines others : List (List ℕ)) (more further : List ℕ) → All IsLine lines → All IsLine others → list_any is_dot lines ≡ false
+    → list_any is_dot others ≡ false
     → flat_map ended lines ++ 46 ∷ 10 ∷ more ≡ flat_map ended others ++ 46 ∷ 10 ∷ further → (lines ≡ others) × (more ≡ further)
 same_lines [] [] more further are are_others no_dot none h = (refl, (same_line (46 ∷ []) (46 ∷ []) more further refl refl h).1)
 same_lines [] (m ∷ others) more further are are_others no_dot none h =
-    absurd (not_dot m others none (same_line (46 ∷ []) m more _ refl (first_line m others are_others).single (h ∙ append_assoc (ended m) (flat_map ended others) (46 ∷ 10 ∷ further))).0)
+    absurd (not_dot m others none (same_line (46 ∷ []) m more _ refl (first_line m others are_others).single
+    (h ∙ append_assoc (ended m) (flat_map ended others) (46 ∷ 10 ∷ further))).0)
 same_lines (l ∷ lines) [] more further are are_others no_dot none h =
-    absurd (not_dot l lines no_dot (same_line (46 ∷ []) l further _ refl (first_line l lines are).single (sym h ∙ append_assoc (ended l) (flat_map ended lines) (46 ∷ 10 ∷ more))).0)
+    absurd (not_dot l lines no_dot (same_line (46 ∷ []) l further _ refl (first_line l lines are).single
+    (sym h ∙ append_assoc (ended l) (flat_map ended lines) (46 ∷ 10 ∷ more))).0)
 same_lines (l ∷ lines) (m ∷ others) more further are are_others no_dot none h =
     let first = same_line l m _ _ (first_line l lines are).single (first_line m others are_others).single
     (sym (append_assoc (ended l) (flat_map ended lines) (46 ∷ 10 ∷ more)) ∙ h ∙ append_assoc (ended m) (flat_map ended others) (46 ∷ 10 ∷ further)) in
-    let rest = same_lines lines others more further (other_lines l lines are) (other_lines m others are_others) (no_dot_behind l lines no_dot) (no_dot_behind m others none) first.1 in
+    let rest = same_lines lines others more further (other_lines l lines are) (other_lines m others are_others) (no_dot_behind l lines no_dot)
+    (no_dot_behind m others none) first.1 in
     (ap₂ (λ (x : List ℕ) (xs : List (List ℕ)). x ∷ xs) first.0 rest.0, rest.1)
 
 -- a datagram's text and bytes
@@ -106,19 +112,22 @@ pub record SameDatagram (text other more further bytes second : List ℕ) : Type
   pub more_is : more ≡ further
   pub bytes_are : bytes ≡ second
 
-dotted : (before text whole bytes more : List ℕ) (says : SaysBytes before whole) → text ≡ before ++ 46 ∷ 10 ∷ [] → text ++ more ≡ flat_map ended says.lines ++ 46 ∷ 10 ∷ more
+dotted : (before text whole bytes more : List ℕ) (says : SaysBytes before whole) → text ≡ before ++ 46 ∷ 10 ∷ []
+    → text ++ more ≡ flat_map ended says.lines ++ 46 ∷ 10 ∷ more
 dotted before text whole bytes more says is =
     ap (λ (l : List ℕ). l ++ more) (is ∙ ap (λ (l : List ℕ). l ++ 46 ∷ 10 ∷ []) says.text_is) ∙ append_assoc (flat_map ended says.lines) (46 ∷ 10 ∷ []) more
 
 dotted_text : (before text whole : List ℕ) (says : SaysBytes before whole) → text ≡ before ++ 46 ∷ 10 ∷ [] → text ≡ flat_map ended says.lines ++ 46 ∷ 10 ∷ []
 dotted_text before text whole says is = is ∙ ap (λ (l : List ℕ). l ++ 46 ∷ 10 ∷ []) says.text_is
 
-same_datagram : (text other more further bytes second : List ℕ) → SaysDatagram text bytes → SaysDatagram other second → text ++ more ≡ other ++ further → SameDatagram text other more further bytes second
+same_datagram : (text other more further bytes second : List ℕ) → SaysDatagram text bytes → SaysDatagram other second → text ++ more ≡ other ++ further
+    → SameDatagram text other more further bytes second
 same_datagram text other more further bytes second a b h =
     let lines = same_lines a.says.lines b.says.lines more further a.says.are_lines b.says.are_lines a.says.no_dot b.says.no_dot
     (sym (dotted a.before text a.whole bytes more a.says a.text_is) ∙ h ∙ dotted b.before other b.whole second further b.says b.text_is) in
     record {
-      text_is = dotted_text a.before text a.whole a.says a.text_is ∙ ap (λ (xs : List (List ℕ)). flat_map ended xs ++ 46 ∷ 10 ∷ []) lines.0 ∙ sym (dotted_text b.before other b.whole b.says b.text_is);
+      text_is = dotted_text a.before text a.whole a.says a.text_is ∙ ap (λ (xs : List (List ℕ)). flat_map ended xs ++ 46 ∷ 10 ∷ []) lines.0
+          ∙ sym (dotted_text b.before other b.whole b.says b.text_is);
       more_is = lines.1;
       bytes_are = a.kept ∙ ap (take 65508) (a.says.bytes_are ∙ ap (flat_map said) lines.0 ∙ sym b.says.bytes_are) ∙ sym b.kept;
     }
@@ -126,7 +135,8 @@ same_datagram text other more further bytes second a b h =
 -- ---- one event
 
 -- where two texts begin with a line
-lines_meet : (a b text other x y more further : List ℕ) → IsLine a → IsLine b → text ≡ ended a ++ x → other ≡ ended b ++ y → text ++ more ≡ other ++ further → (a ≡ b) × (x ++ more ≡ y ++ further)
+lines_meet : (a b text other x y more further : List ℕ) → IsLine a → IsLine b → text ≡ ended a ++ x → other ≡ ended b ++ y → text ++ more ≡ other ++ further
+    → (a ≡ b) × (x ++ more ≡ y ++ further)
 lines_meet a b text other x y more further is_a is_b text_is other_is h =
     same_line a b (x ++ more) (y ++ further) is_a.single is_b.single
     (sym (ap (λ (l : List ℕ). l ++ more) text_is ∙ append_assoc (ended a) x more) ∙ h ∙ ap (λ (l : List ℕ). l ++ further) other_is ∙ append_assoc (ended b) y further)
@@ -143,7 +153,8 @@ head_is a b e = cc
 pub not_both : (a : Event) (b : DatagramHead) → Some (Whole a) ≡ Some (Head b) → ⊥
 not_both a b e = cc
 
-pub same_event : (text other more further : List ℕ) (event second : Event) → SaysEvent text event → SaysEvent other second → text ++ more ≡ other ++ further → (text ≡ other) × (event ≡ second)
+pub same_event : (text other more further : List ℕ) (event second : Event) → SaysEvent text event → SaysEvent other second → text ++ more ≡ other ++ further
+    → (text ≡ other) × (event ≡ second)
 same_event text other more further event second (inl a) (inl b) h =
     let lines = lines_meet a.line b.line text other [] [] more further a.is_line b.is_line (no_more a.line text a.text_is) (no_more b.line other b.text_is) h in
     (a.text_is ∙ ap ended lines.0 ∙ sym b.text_is, whole_is event second (sym a.says ∙ ap line_of lines.0 ∙ b.says))
@@ -166,11 +177,14 @@ none_of_lines : (lines others : List (List ℕ)) (more rest : List ℕ) → All 
     → flat_map ended lines ++ 46 ∷ 10 ∷ more ≡ flat_map ended others ++ rest → ⊥
 none_of_lines [] [] more rest are are_others none unended h = line_stands (46 ∷ []) more dot_line (subst HasNoLine (sym h) unended)
 none_of_lines (l ∷ lines) [] more rest are are_others none unended h =
-    line_stands l (flat_map ended lines ++ 46 ∷ 10 ∷ more) (first_line l lines are) (subst HasNoLine (sym h ∙ append_assoc (ended l) (flat_map ended lines) (46 ∷ 10 ∷ more)) unended)
+    line_stands l (flat_map ended lines ++ 46 ∷ 10 ∷ more) (first_line l lines are) (subst HasNoLine
+    (sym h ∙ append_assoc (ended l) (flat_map ended lines) (46 ∷ 10 ∷ more)) unended)
 none_of_lines [] (m ∷ others) more rest are are_others none unended h =
-    not_dot m others none (same_line (46 ∷ []) m more (flat_map ended others ++ rest) refl (first_line m others are_others).single (h ∙ append_assoc (ended m) (flat_map ended others) rest)).0
+    not_dot m others none (same_line (46 ∷ []) m more (flat_map ended others ++ rest) refl (first_line m others are_others).single
+    (h ∙ append_assoc (ended m) (flat_map ended others) rest)).0
 none_of_lines (l ∷ lines) (m ∷ others) more rest are are_others none unended h =
-    let first = same_line l m (flat_map ended lines ++ 46 ∷ 10 ∷ more) (flat_map ended others ++ rest) (first_line l lines are).single (first_line m others are_others).single
+    let first = same_line l m (flat_map ended lines ++ 46 ∷ 10 ∷ more) (flat_map ended others ++ rest) (first_line l lines are).single
+    (first_line m others are_others).single
     (sym (append_assoc (ended l) (flat_map ended lines) (46 ∷ 10 ∷ more)) ∙ h ∙ append_assoc (ended m) (flat_map ended others) rest) in
     none_of_lines lines others more rest (other_lines l lines are) (other_lines m others are_others) (no_dot_behind m others none) unended first.1
 

@@ -1,5 +1,6 @@
 -- Texts that say events as a record does, and what says none.
-use Rattle.std.proofs.Common.{◌≡◌, ◌≢◌, ℕ, ◌+◌, ◌<◌, Bool, true, false, List, [], ◌∷◌, ◌++◌, length, Option, Some, None, refl, sym, ap, subst, ◌∙◌, arith, inl, inr, append_assoc, append-nil, length-append}
+use Rattle.std.proofs.Common.{◌≡◌, ◌≢◌, ℕ, ◌+◌, ◌<◌, Bool, true, false, List, [], ◌∷◌, ◌++◌, length, Option, Some, None, refl, sym, ap, subst, ◌∙◌, arith, inl, inr}
+use Rattle.std.proofs.Common.{append_assoc, append-nil, length-append}
 use Rattle.std.specs.Prelude.{count_by, IfSome, if◌then◌else◌}
 use Rattle.sip_event.specs.declared.event.Event.{Event}
 use Rattle.sip_replay_script.specs.declared.script.DatagramHead.{DatagramHead}
@@ -7,12 +8,12 @@ use Rattle.sip_replay_script.specs.declared.script.Line.TheVariants.{Head, Whole
 use Rattle.sip_replay_script.specs.declared.read_stop.ReadStop.{ReadStop}
 use Rattle.sip_replay_script.specs.declared.read_stop.ReadStop.TheVariants as stops
 use Rattle.sip_replay_script.specs.Script.{line_of, datagram_at}
-use Rattle.sip_replay_script.specs.Lines.{Reading, GivesLine, IsLine, IsLong, IsOver, IsUnfinished, HasNoLine, LineStops, is_end, left, pending}
+use Rattle.sip_replay_script.specs.Lines.{Reading, GivesLine, IsLine, IsLong, IsUnfinished, HasNoLine, LineStops, is_end, left, pending}
 use Rattle.sip_replay_script.specs.Events.{ended, is_dot, FirstStops, GivesDatagram, GivesSaid, IsDamaged, SaysEvents}
 use Rattle.sip_replay_script.specs.Recorded.{dot_stop, DotStops, GivesRecorded, IsCutDot, IsCutRecord, IsDamagedRecord, IsNoDot, RecordStops, SaysRecord, SaysRecorded}
 use Rattle.sip_replay_script.proofs.CutEvents.{head_is, not_nil}
 use Rattle.sip_replay_script.proofs.Damaged.{cut_says, line_begun, line_recorded, said_other}
-use Rattle.sip_replay_script.proofs.Datagrams.{behind, behind_any, dot_is, gives_head, gives_whole, nothing_left}
+use Rattle.sip_replay_script.proofs.Datagrams.{behind, behind_any, dot_is, gives_head, gives_whole}
 use Rattle.sip_replay_script.proofs.LineEnds.{ends_add}
 use Rattle.sip_replay_script.proofs.OneReading.{dot_line, line_stands, no_refusal, not_both, refuses_something, same_line}
 use Rattle.sip_replay_script.proofs.WrittenEvents.{no_bytes, recorded_says}
@@ -21,7 +22,13 @@ use Rattle.sip_replay_script.proofs.WrittenEvents.{no_bytes, recorded_says}
 
 pub record_says : (events : List Event) (text : List ℕ) → SaysRecord events text → SaysEvents events text
 record_says [] text h = h
-record_says (event ∷ events) text h = record { first = h.first; rest = h.rest; cut = h.cut; says = recorded_says h.first event h.says; others = record_says events h.rest h.others }
+record_says (event ∷ events) text h = record {
+  first = h.first;
+  rest = h.rest;
+  cut = h.cut;
+  says = recorded_says h.first event h.says;
+  others = record_says events h.rest h.others;
+}
 
 pub record_all : (events more : List Event) (text further : List ℕ) → SaysRecord events text → SaysRecord more further → SaysRecord (events ++ more) (text ++ further)
 record_all [] more text further h says = subst (λ l. SaysRecord more (l ++ further)) (sym h) says
@@ -63,7 +70,8 @@ other_recorded old new before after s = damaged_known (pending old before) (said
 -- ---- the line `.`
 
 dot_ends : (more : List ℕ) → count_by is_end (46 ∷ 10 ∷ more) ≡ 0 → ⊥
-dot_ends more none = let sum : count_by is_end (46 ∷ 10 ∷ more) ≡ count_by is_end (46 ∷ 10 ∷ []) + count_by is_end more = ends_add (46 ∷ 10 ∷ []) more in absurd (omega (arith, none, sum))
+dot_ends more none = let sum : count_by is_end (46 ∷ 10 ∷ more) ≡ count_by is_end (46 ∷ 10 ∷ []) + count_by is_end more = ends_add (46 ∷ 10 ∷ []) more in
+    absurd (omega (arith, none, sum))
 
 true_false : (b : Bool) → b ≡ true → b ≡ false → ⊥
 true_false true e h = cc
@@ -107,19 +115,11 @@ unfinished_line seen rest u other = record {
   by_front (inl none) = u.begun (sym u.all ∙ none)
   by_front (inr dot) = not_dot seen other (sym u.all ∙ dot)
 
-pub line_no_dot : (old new : Reading) (before after : Option (List ℕ)) (line : List ℕ) → GivesLine old new before after line → is_dot line ≡ false → IfSome (pending old before) IsNoDot
+pub line_no_dot : (old new : Reading) (before after : Option (List ℕ)) (line : List ℕ) → GivesLine old new before after line → is_dot line ≡ false
+    → IfSome (pending old before) IsNoDot
 line_no_dot old new before after line given other =
-    behind_any (pending old before) (pending new after) (ended line) {Q = IsNoDot} given.consumes (λ xs ys cut. subst IsNoDot (sym cut) (other_line line ys given.is_line other))
-
-pub line_dot : (old new : Reading) (before after : Option (List ℕ)) (line : List ℕ) → GivesLine old new before after line → is_dot line ≡ true → GivesLine old new before after (46 ∷ [])
-line_dot old new before after line given dot = subst (λ (l : List ℕ). GivesLine old new before after l) (dot_is line dot) given
-
-cut_known : (script : Option (List ℕ)) → IfSome script (λ rest. rest ≡ []) → IfSome script IsCutDot
-cut_known None h = tt
-cut_known (Some rest) h = inl h
-
-pub over_dot : (old new : Reading) (before after : Option (List ℕ)) → IsOver old new before after → IfSome (pending old before) IsCutDot
-over_dot old new before after over = cut_known (pending old before) (nothing_left (pending old before) (pending new after) over.kept over.at_end)
+    behind_any (pending old before) (pending new after) (ended line) {Q = IsNoDot} given.consumes
+    (λ xs ys cut. subst IsNoDot (sym cut) (other_line line ys given.is_line other))
 
 cut_dot : (F : Type 0) (rest seen : List ℕ) (dot : Bool) → is_dot seen ≡ dot → IsUnfinished seen rest → DotStops F (Some rest) (if dot then stops.Cut else stops.Damaged)
 cut_dot F rest seen true is u = inr (u.all ∙ dot_is seen is)
@@ -139,7 +139,8 @@ no_dot_stops F script seen stops.Read h = h
 
 -- ---- behind the line that begins a datagram
 
-dot_behind : (line : List ℕ) (head : DatagramHead) (text more further : List ℕ) (event : Event) → IsLine line → line_of line ≡ Some (Head head) → SaysRecorded text event → text ++ more ≡ ended line ++ further → further ≡ 46 ∷ 10 ∷ more
+dot_behind : (line : List ℕ) (head : DatagramHead) (text more further : List ℕ) (event : Event) → IsLine line → line_of line ≡ Some (Head head) → SaysRecorded text event
+    → text ++ more ≡ ended line ++ further → further ≡ 46 ∷ 10 ∷ more
 dot_behind line head text more further event is_line says (inl w) e =
     let lines = same_line w.line line more further w.is_line.single is_line.single (ap (λ (l : List ℕ). l ++ more) (sym w.text_is) ∙ e) in
     absurd (not_both event head (sym w.says ∙ ap line_of lines.0 ∙ says))
@@ -159,7 +160,8 @@ front_of_dot (a ∷ b ∷ rest) more some e =
     no_length [] h = refl
     no_length (x ∷ xs) h = absurd (omega (arith, h))
 
-no_dot_behind : (line : List ℕ) (head : DatagramHead) (rest further : List ℕ) → IsLine line → line_of line ≡ Some (Head head) → rest ≡ ended line ++ further → IsNoDot further → IsDamagedRecord rest
+no_dot_behind : (line : List ℕ) (head : DatagramHead) (rest further : List ℕ) → IsLine line → line_of line ≡ Some (Head head) → rest ≡ ended line ++ further
+    → IsNoDot further → IsDamagedRecord rest
 no_dot_behind line head rest further is_line says cut d = record {
   some = line_begun line further rest cut;
   none = λ text more event e said. d.other more (dot_behind line head text more further event is_line says said (sym e ∙ cut));
@@ -168,7 +170,8 @@ no_dot_behind line head rest further is_line says cut d = record {
       (append-nil (rest ++ c.more) ∙ ap (λ (l : List ℕ). l ++ c.more) cut ∙ append_assoc (ended line) further c.more)));
 }
 
-cut_behind : (line : List ℕ) (head : DatagramHead) (rest further : List ℕ) → IsLine line → line_of line ≡ Some (Head head) → rest ≡ ended line ++ further → IsCutDot further → IsCutRecord rest
+cut_behind : (line : List ℕ) (head : DatagramHead) (rest further : List ℕ) → IsLine line → line_of line ≡ Some (Head head) → rest ≡ ended line ++ further
+    → IsCutDot further → IsCutRecord rest
 cut_behind line head rest further is_line says cut (inl none) = record {
   more = 46 ∷ 10 ∷ [];
   event = datagram_at head [];
@@ -198,18 +201,22 @@ cut_behind line head rest further is_line says cut (inr dot) = record {
   });
 }
 
-pub head_recorded_stops : (F : Type 0) (old mid : Reading) (before middle : Option (List ℕ)) (head : DatagramHead) (stop : ReadStop) → GivesSaid old mid before middle (Some (Head head)) → DotStops F (pending mid middle) stop
+pub head_recorded_stops : (F : Type 0) (old mid : Reading) (before middle : Option (List ℕ)) (head : DatagramHead) (stop : ReadStop)
+    → GivesSaid old mid before middle (Some (Head head)) → DotStops F (pending mid middle) stop
     → RecordStops F (pending old before) stop
 head_recorded_stops F old mid before middle head stops.NoMemory s h = tt
 head_recorded_stops F old mid before middle head stops.Damaged s h =
-    behind (pending old before) (pending mid middle) (ended s.line) {P = IsNoDot} {Q = IsDamagedRecord} s.given.consumes h (λ xs ys cut p. no_dot_behind s.line head xs ys s.given.is_line s.says cut p)
+    behind (pending old before) (pending mid middle) (ended s.line) {P = IsNoDot} {Q = IsDamagedRecord} s.given.consumes h
+    (λ xs ys cut p. no_dot_behind s.line head xs ys s.given.is_line s.says cut p)
 head_recorded_stops F old mid before middle head stops.Cut s h =
-    behind (pending old before) (pending mid middle) (ended s.line) {P = IsCutDot} {Q = IsCutRecord} s.given.consumes h (λ xs ys cut p. cut_behind s.line head xs ys s.given.is_line s.says cut p)
+    behind (pending old before) (pending mid middle) (ended s.line) {P = IsCutDot} {Q = IsCutRecord} s.given.consumes h
+    (λ xs ys cut p. cut_behind s.line head xs ys s.given.is_line s.says cut p)
 head_recorded_stops F old mid before middle head stops.Read s h = h
 
 -- ---- an event is read
 
-pub whole_recorded : (old new : Reading) (before after : Option (List ℕ)) (event : Event) → GivesSaid old new before after (Some (Whole event)) → GivesRecorded old new before after event
+pub whole_recorded : (old new : Reading) (before after : Option (List ℕ)) (event : Event) → GivesSaid old new before after (Some (Whole event))
+    → GivesRecorded old new before after event
 unfolding gives_whole
 whole_recorded old new before after event s = record {
   given = gives_whole old new before after s.line event s.given s.says;
@@ -219,10 +226,12 @@ whole_recorded old new before after event s = record {
 no_lines_but_dot : (mid new : Reading) (middle after : Option (List ℕ)) → GivesLine mid new middle after (46 ∷ []) → GivesDatagram mid new middle after []
 no_lines_but_dot mid new middle after given = record { text = 46 ∷ 10 ∷ []; says = no_bytes; consumes = given.consumes; number = given.number }
 
-pub head_recorded : (old mid new : Reading) (before middle after : Option (List ℕ)) (head : DatagramHead) (event : Event) → GivesSaid old mid before middle (Some (Head head)) → GivesLine mid new middle after (46 ∷ []) → event ≡ datagram_at head []
+pub head_recorded : (old mid new : Reading) (before middle after : Option (List ℕ)) (head : DatagramHead) (event : Event)
+    → GivesSaid old mid before middle (Some (Head head)) → GivesLine mid new middle after (46 ∷ []) → event ≡ datagram_at head []
     → GivesRecorded old new before after event
 unfolding gives_head no_lines_but_dot
 head_recorded old mid new before middle after head event s dot is = record {
-  given = gives_head old mid new before middle after s.line [] head event s.given s.says (no_lines_but_dot mid new middle after dot) (let fewer : left new < left mid = dot.fewer in omega (arith, fewer)) is;
+  given = gives_head old mid new before middle after s.line [] head event s.given s.says (no_lines_but_dot mid new middle after dot)
+      (let fewer : left new < left mid = dot.fewer in omega (arith, fewer)) is;
   recorded = inr (record { line = s.line; head = head; is_line = s.given.is_line; text_is = refl; says = s.says; event_is = is });
 }

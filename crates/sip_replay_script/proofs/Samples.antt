@@ -1,5 +1,6 @@
 -- Fields that were cut: each goes on by an end of a sample, which is as short as such a field can be.
-use Rattle.std.proofs.Common.{◌≡◌, ℕ, zero, suc, ◌+◌, ◌*◌, ◌%◌, ◌^◌, ◌<◌, ◌≤◌, Bool, true, false, List, [], ◌∷◌, ◌++◌, length, decimal, get_or, Option, Some, None, Result, Ok, Err, refl, sym, ap, subst, ◌∙◌, arith, inl, inr, append_assoc, append-nil, length-append, if◌then◌else◌}
+use Rattle.std.proofs.Common.{◌≡◌, ℕ, zero, suc, ◌+◌, ◌*◌, ◌%◌, ◌^◌, ◌<◌, ◌≤◌, Bool, true, false, List, [], ◌∷◌, ◌++◌, length, decimal, get_or, Option, Some, None}
+use Rattle.std.proofs.Common.{Result, Ok, Err, refl, sym, ap, subst, ◌∙◌, arith, inl, inr, append_assoc, append-nil, length-append, if◌then◌else◌}
 use Rattle.std.specs.Prelude.{◌==◌, codes}
 use Rattle.std.specs.List.{list_all, AllPass}
 use Rattle.std.specs.Option.{option_and_then}
@@ -76,7 +77,8 @@ module _ (A B : List ℕ → Type 0) (mark : ℕ) (s t : List ℕ) (a : HasSampl
         accepts = record { first = text ++ f.tail; second = t; cut = sym (append_assoc text f.tail (mark ∷ t)); is_first = f.accepts; is_second = b.whole };
       }
 
-  in_second : (text more first m second : List ℕ) → text ≡ first ++ mark ∷ m → second ≡ m ++ more → A first → B second → Finished (Parts A B mark) (s ++ mark ∷ t) text more
+  in_second : (text more first m second : List ℕ) → text ≡ first ++ mark ∷ m → second ≡ m ++ more → A first → B second
+      → Finished (Parts A B mark) (s ++ mark ∷ t) text more
   in_second text more first m second cut rest is_first is_second =
       let g = b.finishes m more (subst B rest is_second) in
       record {
@@ -84,13 +86,20 @@ module _ (A B : List ℕ → Type 0) (mark : ℕ) (s t : List ℕ) (a : HasSampl
         tail = g.tail;
         cut = ap (λ (l : List ℕ). s ++ mark ∷ l) g.cut ∙ sym (append_assoc s (mark ∷ g.front) g.tail);
         short = g.short;
-        accepts = record { first = first; second = m ++ g.tail; cut = ap (λ (l : List ℕ). l ++ g.tail) cut ∙ append_assoc first (mark ∷ m) g.tail; is_first = is_first; is_second = g.accepts };
+        accepts = record {
+          first = first;
+          second = m ++ g.tail;
+          cut = ap (λ (l : List ℕ). l ++ g.tail) cut ∙ append_assoc first (mark ∷ m) g.tail;
+          is_first = is_first;
+          is_second = g.accepts;
+        };
       }
 
   at_mark : (text more first m second : List ℕ) → text ≡ first ++ m → mark ∷ second ≡ m ++ more → A first → B second → Finished (Parts A B mark) (s ++ mark ∷ t) text more
   at_mark text more first [] second cut rest is_first is_second =
       let same : first ≡ text ++ [] = sym (append-nil first) ∙ sym cut ∙ sym (append-nil text) in
-      in_first text more [] second (ap (λ (l : List ℕ). text ++ l) (sym rest) ∙ ap (λ (l : List ℕ). l ++ mark ∷ second) (sym (append-nil text))) (subst A same is_first) is_second
+      in_first text more [] second (ap (λ (l : List ℕ). text ++ l) (sym rest) ∙ ap (λ (l : List ℕ). l ++ mark ∷ second) (sym (append-nil text))) (subst A same is_first)
+      is_second
   at_mark text more first (x ∷ m) second cut rest is_first is_second =
       let here : mark ≡ x = head_is mark x second (m ++ more) rest in
       in_second text more first m second (cut ∙ ap (λ (k : ℕ). first ++ k ∷ m) (sym here)) (tail_is mark x second (m ++ more) rest) is_first is_second
@@ -162,7 +171,8 @@ front_written d ds more n e lt =
     let whole : digits_value_after 10 (digits_value 10 (d ∷ ds)) more ≡ n = sym (value_on 0 (d ∷ ds) more) ∙ ap (digits_value 10) e ∙ value in
     let less : digits_value 10 (d ∷ ds) ≤ digits_value_after 10 (digits_value 10 (d ∷ ds)) more = grows (digits_value 10 (d ∷ ds)) more in
     let digit = is_digit d (and_both (is_ascii_digit d) (list_all is_ascii_digit ds) front).0 in
-    let first : digit_value d ≤ digits_value 10 (d ∷ ds) = (let on : 0 * 10 + digit_value d ≤ digits_value_after 10 (0 * 10 + digit_value d) ds = grows (0 * 10 + digit_value d) ds in omega (arith, on)) in
+    let first : digit_value d ≤ digits_value 10 (d ∷ ds) = (let on : 0 * 10 + digit_value d ≤ digits_value_after 10 (0 * 10 + digit_value d) ds =
+    grows (0 * 10 + digit_value d) ds in omega (arith, on)) in
     record {
       number = digits_value 10 (d ∷ ds);
       written = written_digits (d ∷ ds) (omega arith) front (front_zero (d ∷ ds) more zeros) (omega (arith, whole, less, lt));
@@ -344,7 +354,8 @@ pairs_whole : IsPairs (48 ∷ 48 ∷ [])
 pairs_whole = is_pairs (48 ∷ 48 ∷ []) (record { some = omega arith; even = refl; digits = two_zeros })
 
 pairs_long : (text : List ℕ) → IsPairs text → 2 ≤ length text
-pairs_long text is = let are : ArePairs text = are_pairs text is in let some : 0 < length text = are.some in let even : length text % 2 ≡ 0 = are.even in omega (arith, some, even)
+pairs_long text is = let are : ArePairs text = are_pairs text is in let some : 0 < length text = are.some in let even : length text % 2 ≡ 0 = are.even in
+    omega (arith, some, even)
 
 pairs_finish : (text more : List ℕ) → IsPairs (text ++ more) → Finished IsPairs (48 ∷ 48 ∷ []) text more
 pairs_finish [] more is = record { front = []; tail = 48 ∷ 48 ∷ []; cut = refl; short = pairs_long more is; accepts = pairs_whole }
@@ -368,7 +379,11 @@ pairs_finish (x ∷ xs) more is =
             tail = 48 ∷ [];
             cut = refl;
             short = omega (arith, all, even, odd);
-            accepts = is_pairs ((x ∷ xs) ++ 48 ∷ []) (record { some = omega (arith, long); even = omega (arith, long, odd); digits = All-append (λ (b : ℕ). is_hex_digit b ≡ true) (x ∷ xs) (48 ∷ []) digits one_zero });
+            accepts = is_pairs ((x ∷ xs) ++ 48 ∷ []) (record {
+              some = omega (arith, long);
+              even = omega (arith, long, odd);
+              digits = All-append (λ (b : ℕ). is_hex_digit b ≡ true) (x ∷ xs) (48 ∷ []) digits one_zero;
+            });
           }
     ]
 

@@ -1,5 +1,5 @@
 -- What several writes leave.
-use Rattle.std.proofs.Common.{◌≡◌, ℕ, ◌+◌, ◌<◌, List, [], ◌∷◌, ◌++◌, length, get_or, Option, None, Some, subst, take, ap, ◌∙◌, append-nil, sym, arith}
+use Rattle.std.proofs.Common.{◌≡◌, ℕ, ◌+◌, ◌<◌, List, [], ◌∷◌, ◌++◌, length, get_or, Option, None, Some, subst, take, ap, ◌∙◌, append-nil, sym}
 use Rattle.std.specs.List.{flat_map}
 use Rattle.std.proofs.lemmas.Grind.{flat_map-append}
 use Rattle.std.proofs.lemmas.List.{take_more}
@@ -12,16 +12,13 @@ appends_nothing a = Appends-nil a
 pub appends_both : (a b c : Option (List ℕ)) (first second : List ℕ) → Appends a b first → Appends b c second → Appends a c (first ++ second)
 appends_both a b c first second h1 h2 = Appends-trans a b c first second h1 h2
 
--- no parts
-pub appends_none_of : {X : Type 0} (f : X → List ℕ) (xs : List X) (a : Option (List ℕ)) → length xs ≡ 0 → Appends a a (flat_map f xs)
-appends_none_of f [] a none = Appends-nil a
-appends_none_of f (x ∷ xs) a none = absurd (omega (arith, none))
-
 -- one part more
-pub appends_part : {X : Type 0} (f : X → List ℕ) (xs : List X) (i : ℕ) (x : X) (a b c : Option (List ℕ)) → i < length xs → x ≡ get_or xs i x → Appends a b (flat_map f (take i xs)) → Appends b c (f x) → Appends a c (flat_map f (take (i + 1) xs))
+pub appends_part : {X : Type 0} (f : X → List ℕ) (xs : List X) (i : ℕ) (x : X) (a b c : Option (List ℕ)) → i < length xs → x ≡ get_or xs i x
+    → Appends a b (flat_map f (take i xs)) → Appends b c (f x) → Appends a c (flat_map f (take (i + 1) xs))
 appends_part f xs i x a b c lt is h1 h2 =
     let same : flat_map f (take (i + 1) xs) ≡ flat_map f (take i xs) ++ f x =
-    ap (flat_map f) (take_more xs i x lt) ∙ flat_map-append f (take i xs) (get_or xs i x ∷ []) ∙ ap (λ l. flat_map f (take i xs) ++ l) (append-nil (f (get_or xs i x))) ∙ ap (λ y. flat_map f (take i xs) ++ f y) (sym is) in
+    ap (flat_map f) (take_more xs i x lt) ∙ flat_map-append f (take i xs) (get_or xs i x ∷ []) ∙ ap (λ l. flat_map f (take i xs) ++ l) (append-nil (f (get_or xs i x)))
+    ∙ ap (λ y. flat_map f (take i xs) ++ f y) (sym is) in
     subst (λ l. Appends a c l) (sym same) (Appends-trans a b c _ _ h1 h2)
 
 -- reads that gave nothing, and one that gave something

@@ -1,5 +1,6 @@
 -- What is written of an event says it.
-use Rattle.std.proofs.Common.{◌≡◌, ℕ, zero, suc, ◌<◌, ◌≤◌, ◌+◌, ◌*◌, ◌/◌, ◌%◌, ◌^◌, Bool, true, false, nat_le, nat_lt, List, [], ◌∷◌, ◌++◌, length, count_by, decimal, Some, refl, sym, ap, ◌∙◌, arith, inl, inr, append_assoc, append-nil, length-append}
+use Rattle.std.proofs.Common.{◌≡◌, ℕ, zero, suc, ◌<◌, ◌≤◌, ◌+◌, ◌*◌, ◌/◌, ◌%◌, ◌^◌, Bool, true, false, nat_le, nat_lt, List, [], ◌∷◌, ◌++◌, length, count_by, decimal}
+use Rattle.std.proofs.Common.{Some, refl, sym, ap, ◌∙◌, arith, inl, inr, append_assoc, append-nil, length-append}
 use Rattle.std.specs.Prelude.{◌&&◌, ◌==◌, not, codes, slice_index}
 use Rattle.std.specs.List.{list_all}
 use Rattle.std.specs.Option.{option_and_then}
@@ -107,7 +108,8 @@ module _ (mark : ℕ) (digit : is_ascii_digit mark ≡ false) (dot : is_not mark
 
   pub source_others : (colon : is_not mark 58 ≡ true) (a : Addr) → IsSource a → list_all (is_not mark) (addr_text a) ≡ true
   source_others colon a is =
-      all_join (is_not mark) (ip_text a.ip ++ codes ":") (decimal a.port) (all_join (is_not mark) (ip_text a.ip) (codes ":") (ip_others a.ip is.octets) (and_is _ _ colon refl))
+      all_join (is_not mark) (ip_text a.ip ++ codes ":") (decimal a.port) (all_join (is_not mark) (ip_text a.ip) (codes ":") (ip_others a.ip is.octets)
+      (and_is _ _ colon refl))
       (let lt : a.port < 65536 = is.small in number_others mark digit a.port (omega (arith, lt)))
 
 -- ---- words that say what was written
@@ -176,15 +178,18 @@ module _ (moment : ℕ) (t : Ticket) (lt : moment < 2 ^ 62) (datagram : t.datagr
       let at : length (decimal moment) ≤ 20 = number_short moment (omega (arith, lt)) in
       let first : length (decimal t.datagram) ≤ 20 = number_short t.datagram datagram in
       let second : length (decimal t.branch) ≤ 20 = number_short t.branch (omega (arith, branch)) in
-      let size : length (decimal moment ++ 32 ∷ (decimal t.datagram ++ 47 ∷ decimal t.branch)) ≡ length (decimal moment) + length (32 ∷ (decimal t.datagram ++ 47 ∷ decimal t.branch)) =
+      let size : length (decimal moment ++ 32 ∷ (decimal t.datagram ++ 47 ∷ decimal t.branch))
+      ≡ length (decimal moment) + length (32 ∷ (decimal t.datagram ++ 47 ∷ decimal t.branch)) =
       length-append (decimal moment) (32 ∷ (decimal t.datagram ++ 47 ∷ decimal t.branch)) in
-      let rest : length (decimal t.datagram ++ 47 ∷ decimal t.branch) ≡ length (decimal t.datagram) + length (47 ∷ decimal t.branch) = length-append (decimal t.datagram) (47 ∷ decimal t.branch) in
+      let rest : length (decimal t.datagram ++ 47 ∷ decimal t.branch) ≡ length (decimal t.datagram) + length (47 ∷ decimal t.branch) =
+      length-append (decimal t.datagram) (47 ∷ decimal t.branch) in
       omega (arith, at, first, second, size, rest)
 
   fault_single : list_all (is_not 10) (decimal moment ++ 32 ∷ (decimal t.datagram ++ 47 ∷ decimal t.branch)) ≡ true
   fault_single =
       all_join (is_not 10) (decimal moment) (32 ∷ (decimal t.datagram ++ 47 ∷ decimal t.branch)) (number_others 10 refl moment (omega (arith, lt)))
-      (all_join (is_not 10) (decimal t.datagram) (47 ∷ decimal t.branch) (number_others 10 refl t.datagram datagram) (number_others 10 refl t.branch (omega (arith, branch))))
+      (all_join (is_not 10) (decimal t.datagram) (47 ∷ decimal t.branch) (number_others 10 refl t.datagram datagram)
+      (number_others 10 refl t.branch (omega (arith, branch))))
 
   fault_text : event_text (Fault moment t) ≡ ended (codes "fault " ++ (decimal moment ++ 32 ∷ (decimal t.datagram ++ 47 ∷ decimal t.branch)))
   fault_text =
@@ -194,7 +199,11 @@ module _ (moment : ℕ) (t : Ticket) (lt : moment < 2 ^ 62) (datagram : t.datagr
   written_fault : SaysRecorded (event_text (Fault moment t)) (Fault moment t)
   written_fault = inl (record {
     line = codes "fault " ++ (decimal moment ++ 32 ∷ (decimal t.datagram ++ 47 ∷ decimal t.branch));
-    is_line = record { short = let few = fault_short in omega (arith, few); single = no_end (codes "fault " ++ (decimal moment ++ 32 ∷ (decimal t.datagram ++ 47 ∷ decimal t.branch))) fault_single };
+    is_line = record {
+      short = let few = fault_short in omega (arith, few);
+      single = no_end
+          (codes "fault " ++ (decimal moment ++ 32 ∷ (decimal t.datagram ++ 47 ∷ decimal t.branch))) fault_single;
+    };
     text_is = fault_text;
     says = fault_says;
   })
@@ -233,10 +242,12 @@ head_more moment word source rest more =
     (append_assoc (addr_text source) (32 ∷ (nonce_text word ++ rest)) more ∙ ap (λ (l : List ℕ). addr_text source ++ 32 ∷ l) (append_assoc (nonce_text word) rest more))
 
 module _ (moment word : ℕ) (source : Addr) (lt : moment < 2 ^ 62) (fits : word < 2 ^ 128) (from : IsSource source) where
-  hex_says : (b : ℕ) (bytes : List ℕ) → IsBytes (b ∷ bytes) → line_of (codes "hex " ++ head_before moment word source (32 ∷ encode_lower (b ∷ bytes))) ≡ Some (Whole (Datagram moment word source (b ∷ bytes)))
+  hex_says : (b : ℕ) (bytes : List ℕ) → IsBytes (b ∷ bytes) → line_of (codes "hex " ++ head_before moment word source (32 ∷ encode_lower (b ∷ bytes)))
+      ≡ Some (Whole (Datagram moment word source (b ∷ bytes)))
   hex_says b bytes are =
       rw (
-        split_again 32 (decimal moment) (addr_text source ++ 32 ∷ (nonce_text word ++ 32 ∷ encode_lower (b ∷ bytes))) (number_others 32 refl moment (omega (arith, lt))) refl,
+        split_again 32 (decimal moment) (addr_text source ++ 32 ∷ (nonce_text word ++ 32 ∷ encode_lower (b ∷ bytes))) (number_others 32 refl moment (omega (arith, lt)))
+            refl,
         split_again 32 (addr_text source) (nonce_text word ++ 32 ∷ encode_lower (b ∷ bytes)) (source_others 32 refl refl refl source from) refl,
         split_again 32 (nonce_text word) (encode_lower (b ∷ bytes)) (word_others 32 refl refl word) refl,
         below_again (2 ^ 62) moment lt (omega (arith, lt)),
@@ -258,9 +269,11 @@ module _ (moment word : ℕ) (source : Addr) (lt : moment < 2 ^ 62) (fits : word
 
   source_short : length (addr_text source) ≤ 104
   source_short =
-      let octet = λ (k : ℕ). number_short (slice_index source.ip k) (octet_small (slice_index source.ip k) (all_there (λ n. nat_le n 255) source.ip k refl from.octets)) in
+      let octet = λ (k : ℕ). number_short (slice_index source.ip k) (octet_small (slice_index source.ip k) (all_there (λ n. nat_le n 255) source.ip k refl from.octets))
+      in
       let port : length (decimal source.port) ≤ 20 = number_short source.port (let small : source.port < 65536 = from.small in omega (arith, small)) in
-      joined_short (decimal (slice_index source.ip 0)) (decimal (slice_index source.ip 1)) (decimal (slice_index source.ip 2)) (decimal (slice_index source.ip 3)) (decimal source.port)
+      joined_short (decimal (slice_index source.ip 0)) (decimal (slice_index source.ip 1)) (decimal (slice_index source.ip 2)) (decimal (slice_index source.ip 3))
+      (decimal source.port)
       (octet 0) (octet 1) (octet 2) (octet 3) port
     where
       joined_short : (a b c d e : List ℕ) → length a ≤ 20 → length b ≤ 20 → length c ≤ 20 → length d ≤ 20 → length e ≤ 20
@@ -296,19 +309,23 @@ module _ (moment word : ℕ) (source : Addr) (lt : moment < 2 ^ 62) (fits : word
       let digits : length (nonce_text word) ≡ 32 = word_long word fits in
       let first : length (head_before moment word source rest) ≡ length (decimal moment) + length (32 ∷ (addr_text source ++ 32 ∷ (nonce_text word ++ rest))) =
       length-append (decimal moment) (32 ∷ (addr_text source ++ 32 ∷ (nonce_text word ++ rest))) in
-      let second : length (addr_text source ++ 32 ∷ (nonce_text word ++ rest)) ≡ length (addr_text source) + length (32 ∷ (nonce_text word ++ rest)) = length-append (addr_text source) (32 ∷ (nonce_text word ++ rest)) in
+      let second : length (addr_text source ++ 32 ∷ (nonce_text word ++ rest)) ≡ length (addr_text source) + length (32 ∷ (nonce_text word ++ rest)) =
+      length-append (addr_text source) (32 ∷ (nonce_text word ++ rest)) in
       let third : length (nonce_text word ++ rest) ≡ length (nonce_text word) + length rest = length-append (nonce_text word) rest in
       omega (arith, at, address, digits, first, second, third)
 
-  written_hex : (b : ℕ) (bytes : List ℕ) → IsBytes (b ∷ bytes) → length (b ∷ bytes) ≤ 65508 → SaysRecorded (event_text (Datagram moment word source (b ∷ bytes))) (Datagram moment word source (b ∷ bytes))
+  written_hex : (b : ℕ) (bytes : List ℕ) → IsBytes (b ∷ bytes) → length (b ∷ bytes) ≤ 65508
+      → SaysRecorded (event_text (Datagram moment word source (b ∷ bytes))) (Datagram moment word source (b ∷ bytes))
   written_hex b bytes are few = inl (record {
     line = codes "hex " ++ head_before moment word source (32 ∷ encode_lower (b ∷ bytes));
     is_line = record {
       short =
-          let head : length (head_before moment word source (32 ∷ encode_lower (b ∷ bytes))) ≤ 158 + length (32 ∷ encode_lower (b ∷ bytes)) = head_short (32 ∷ encode_lower (b ∷ bytes)) in
+          let head : length (head_before moment word source (32 ∷ encode_lower (b ∷ bytes))) ≤ 158 + length (32 ∷ encode_lower (b ∷ bytes)) =
+          head_short (32 ∷ encode_lower (b ∷ bytes)) in
           let size : length (encode_lower (b ∷ bytes)) ≡ 2 * length (b ∷ bytes) = length-encode_with lower_digits (b ∷ bytes) in
           omega (arith, few, head, size);
-      single = no_end (codes "hex " ++ head_before moment word source (32 ∷ encode_lower (b ∷ bytes))) (head_single (32 ∷ encode_lower (b ∷ bytes)) (encoded_others 10 refl refl (b ∷ bytes)));
+      single = no_end (codes "hex " ++ head_before moment word source (32 ∷ encode_lower (b ∷ bytes)))
+          (head_single (32 ∷ encode_lower (b ∷ bytes)) (encoded_others 10 refl refl (b ∷ bytes)));
     };
     text_is = ap (λ (l : List ℕ). codes "hex " ++ l) (sym (head_more moment word source (32 ∷ encode_lower (b ∷ bytes)) (10 ∷ [])));
     says = hex_says b bytes are;

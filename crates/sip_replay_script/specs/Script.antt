@@ -1,5 +1,6 @@
 -- What the lines of a script say.
-use Rattle.std.specs.Prelude.{◌≡◌, ◌<◌, ◌≤◌, ◌+◌, ℕ, ◌^◌, ◌==◌, ◌&&◌, true, nat_lt, nat_le, Option, Some, None, List, ◌∷◌, ◌++◌, length, slice_index, take, drop, decimal, codes, if◌then◌else◌}
+use Rattle.std.specs.Prelude.{◌≡◌, ◌<◌, ◌≤◌, ◌+◌, ℕ, ◌^◌, ◌==◌, ◌&&◌, true, nat_lt, nat_le, Option, Some, None, List, ◌∷◌, ◌++◌, length, slice_index, take, drop, decimal}
+use Rattle.std.specs.Prelude.{codes, if◌then◌else◌}
 use Rattle.std.specs.List.{list_all}
 use Rattle.std.specs.Str.{bytes_eq}
 use Rattle.sip_event.specs.declared.packet.Ticket.{Ticket}

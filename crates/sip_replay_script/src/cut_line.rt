@@ -1,4 +1,4 @@
-ghost use Rattle.std.specs.Prelude.{◌≡◌, ◌<◌, ◌++◌, ◌↔◌, length, IfOk, IsTrue};
+ghost use Rattle.std.specs.Prelude.{◌<◌, ◌++◌, ◌↔◌, length, IfOk, IsTrue};
 ghost use Rattle.sip_replay_script.specs.Events.{BeginsEvent, BeginsLine, EndsAs, StopsAt, StopsIn};
 
 use crate::lines::LONGEST_LINE;

@@ -1,5 +1,6 @@
 -- The timers of an open request of which a transaction ends.
-use Rattle.std.proofs.Common.{◌≡◌, ℕ, zero, suc, ◌+◌, ◌<◌, ◌≤◌, Bool, true, false, cond, not, List, [], ◌∷◌, ◌++◌, length, drop, set, get_or, refl, sym, ap, ◌∙◌, subst, arith}
+use Rattle.std.proofs.Common.{◌≡◌, ℕ, zero, suc, ◌+◌, ◌<◌, ◌≤◌, Bool, true, false, cond, not, List, [], ◌∷◌, ◌++◌, length, drop, set, get_or, refl, sym, ap, ◌∙◌, subst}
+use Rattle.std.proofs.Common.{arith}
 use Rattle.std.specs.Prelude.{◌&&◌, count_by}
 use Rattle.sip_timers.specs.declared.timer.Timer.{Timer}
 use Rattle.sip_timers.specs.declared.timer.Owner.TheVariants as Of
@@ -38,7 +39,8 @@ no_branch r b = by_test (is_invite r && not b.is_cancel) where
 
 pub ended_none : (r : OpenRequest) (b : Branch) (keys : TimerKeys) → b.phase ≡ Ended → part_timers r.number (owner_of b) keys (branch_timers r b) ≡ []
 ended_none r b keys e =
-    ap (part_timers r.number (owner_of b) keys) (ap (λ (phase : Phase). cond (is_invite r && not b.is_cancel) (invite_timers phase b.again ++ call_timers phase) (other_timers phase b.again)) e ∙ no_branch r b)
+    ap (part_timers r.number (owner_of b) keys) (ap (λ (phase : Phase). cond (is_invite r && not b.is_cancel) (invite_timers phase b.again ++ call_timers phase)
+    (other_timers phase b.again)) e ∙ no_branch r b)
 
 -- ---- requests of one number and one method name the timers of branches alike
 
@@ -47,23 +49,27 @@ alike r x [] ks number method = refl
 alike r x (b ∷ bs) [] number method = refl
 alike r x (b ∷ bs) (k ∷ ks) number method =
     ap (λ (n : ℕ). part_timers n (owner_of b) k (branch_timers x b) ++ branches_timers x bs ks) number
-    ∙ ap (λ (t : Bool). part_timers r.number (owner_of b) k (cond (t && not b.is_cancel) (invite_timers b.phase b.again ++ call_timers b.phase) (other_timers b.phase b.again)) ++ branches_timers x bs ks) method
+    ∙ ap (λ (t : Bool). part_timers r.number (owner_of b) k (cond (t && not b.is_cancel) (invite_timers b.phase b.again ++ call_timers b.phase)
+    (other_timers b.phase b.again)) ++ branches_timers x bs ks) method
     ∙ ap (λ ts. part_timers r.number (owner_of b) k (branch_timers r b) ++ ts) (alike r x bs ks number method)
 
 -- ---- the answering side
 
-pub side_stopped : (ts us standing : List Timer) (r : Request) → standing ≡ part_timers r.open_request.number Of.Server r.side (side_timers r.open_request) → Moves ts standing us []
+pub side_stopped : (ts us standing : List Timer) (r : Request) → standing ≡ part_timers r.open_request.number Of.Server r.side (side_timers r.open_request)
+    → Moves ts standing us []
     → Moves ts (named_by r) us (named_by (become (side_ended r.open_request) r))
 side_stopped ts us standing r e m =
     let back : List Timer = branches_timers r.open_request r.open_request.branches r.branches in
-    let same : branches_timers (side_ended r.open_request) r.open_request.branches r.branches ≡ back = alike r.open_request (side_ended r.open_request) r.open_request.branches r.branches refl refl in
+    let same : branches_timers (side_ended r.open_request) r.open_request.branches r.branches ≡ back =
+    alike r.open_request (side_ended r.open_request) r.open_request.branches r.branches refl refl in
     let none : [] ≡ part_timers r.open_request.number Of.Server r.side (side_timers (side_ended r.open_request)) =
     sym (ap (part_timers r.open_request.number Of.Server r.side) (no_side r.open_request)) in
     Moves-pair ts us us standing _ back [] _ _ e none m (subst (λ xs. Moves us back us xs) (sym same) (Moves-stays us back))
 
 -- ---- a branch
 
-left_count : (p : Timer → Bool) (r : OpenRequest) (bs : List Branch) (ks : List TimerKeys) (i : ℕ) → count_by p (branches_timers r (drop i bs) (drop i ks)) ≤ count_by p (branches_timers r bs ks)
+left_count : (p : Timer → Bool) (r : OpenRequest) (bs : List Branch) (ks : List TimerKeys) (i : ℕ)
+    → count_by p (branches_timers r (drop i bs) (drop i ks)) ≤ count_by p (branches_timers r bs ks)
 left_count p r bs ks zero = omega arith
 left_count p r [] ks (suc i) = omega arith
 left_count p r (b ∷ bs) [] (suc i) = omega (arith, ap (count_by p) (without_keys r (drop i bs)))
@@ -71,7 +77,8 @@ left_count p r (b ∷ bs) (k ∷ ks) (suc i) =
     omega (arith, left_count p r bs ks i, count-append p (part_timers r.number (owner_of b) k (branch_timers r b)) (branches_timers r bs ks))
 
 stopped_count : (p : Timer → Bool) (r : OpenRequest) (bs : List Branch) (ks : List TimerKeys) (i : ℕ)
-    → count_by p (branches_timers r bs ks) + count_by p (branches_timers r (drop (suc i) bs) (drop (suc i) ks)) ≡ count_by p (branches_timers r (drop i bs) (drop i ks)) + count_by p (branches_timers r (ended_at i bs) ks)
+    → count_by p (branches_timers r bs ks) + count_by p (branches_timers r (drop (suc i) bs) (drop (suc i) ks))
+    ≡ count_by p (branches_timers r (drop i bs) (drop i ks)) + count_by p (branches_timers r (ended_at i bs) ks)
 stopped_count p r [] ks zero = omega arith
 stopped_count p r [] ks (suc i) = omega arith
 stopped_count p r (b ∷ bs) [] zero = omega (arith, ap (count_by p) (without_keys r bs))
@@ -103,10 +110,12 @@ held_at ts r i h = record {
 }
 
 stopped_left : (p : Timer → Bool) (r : OpenRequest) (ks : List TimerKeys) (i : ℕ)
-    → count_by p (branches_timers r r.branches ks) + count_by p (left_timers r ks (i + 1)) ≡ count_by p (left_timers r ks i) + count_by p (branches_timers r (ended_at i r.branches) ks)
+    → count_by p (branches_timers r r.branches ks) + count_by p (left_timers r ks (i + 1))
+    ≡ count_by p (left_timers r ks i) + count_by p (branches_timers r (ended_at i r.branches) ks)
 stopped_left p r ks i =
     let next : suc i ≡ i + 1 = omega arith in
-    subst (λ (n : ℕ). count_by p (branches_timers r r.branches ks) + count_by p (left_timers r ks n) ≡ count_by p (left_timers r ks i) + count_by p (branches_timers r (ended_at i r.branches) ks)) next
+    subst (λ (n : ℕ). count_by p (branches_timers r r.branches ks) + count_by p (left_timers r ks n)
+    ≡ count_by p (left_timers r ks i) + count_by p (branches_timers r (ended_at i r.branches) ks)) next
     (stopped_count p r r.branches ks i)
 
 pub branch_stopped : (ts us : List Timer) (r : Request) (i : ℕ) → Moves ts (left_timers r.open_request r.branches i) us (left_timers r.open_request r.branches (i + 1))

@@ -1,5 +1,6 @@
 -- In which order the timers of the branches of an open request are set, and that they are new.
-use Rattle.std.proofs.Common.{◌≡◌, ◌≢◌, ℕ, zero, suc, ◌+◌, ◌<◌, ◌≤◌, Bool, true, false, cond, List, [], ◌∷◌, ◌++◌, length, take, drop, set, get_or, refl, sym, ap, ◌∙◌, subst, append_assoc, append-nil, arith}
+use Rattle.std.proofs.Common.{◌≡◌, ◌≢◌, ℕ, zero, suc, ◌+◌, ◌<◌, ◌≤◌, Bool, true, false, cond, List, [], ◌∷◌, ◌++◌, length, take, drop, set, get_or, refl, sym, ap, ◌∙◌}
+use Rattle.std.proofs.Common.{subst, append_assoc, append-nil, arith}
 use Rattle.std.specs.Prelude.{reverse, not}
 use Rattle.std.specs.List.{AllByRecursion}
 use Rattle.std.proofs.lemmas.Bool.Decides.{nat_tests}
@@ -77,18 +78,21 @@ met_there r keys place b e = by_lists (drop place r.branches) (drop place keys) 
   by_lists (w ∷ bs) (k ∷ ks) of_branches of_keys is =
       record { w = w; k = k; branch_is = next_drop place r.branches w bs of_branches; key_is = next_drop place keys k ks of_keys; same = is }
 
-pub left_there : (r : OpenRequest) (keys : List TimerKeys) (place : ℕ) (w : Branch) (k : TimerKeys) → drop place r.branches ≡ w ∷ drop (place + 1) r.branches → drop place keys ≡ k ∷ drop (place + 1) keys
+pub left_there : (r : OpenRequest) (keys : List TimerKeys) (place : ℕ) (w : Branch) (k : TimerKeys) → drop place r.branches ≡ w ∷ drop (place + 1) r.branches
+    → drop place keys ≡ k ∷ drop (place + 1) keys
     → left_branches r keys place ≡ w ∷ left_branches r keys (place + 1)
 left_there r keys place w k of_branches of_keys =
     ap (λ xs. keyed xs (drop place keys)) of_branches ∙ ap (λ ks. keyed (w ∷ drop (place + 1) r.branches) ks) of_keys
 
-pub timers_there : (r : OpenRequest) (keys : List TimerKeys) (place : ℕ) (w : Branch) (k : TimerKeys) → drop place r.branches ≡ w ∷ drop (place + 1) r.branches → drop place keys ≡ k ∷ drop (place + 1) keys
+pub timers_there : (r : OpenRequest) (keys : List TimerKeys) (place : ℕ) (w : Branch) (k : TimerKeys) → drop place r.branches ≡ w ∷ drop (place + 1) r.branches
+    → drop place keys ≡ k ∷ drop (place + 1) keys
     → left_timers r keys place ≡ part_timers r.number (owner_of w) k (branch_timers r w) ++ left_timers r keys (place + 1)
 timers_there r keys place w k of_branches of_keys =
     ap (λ xs. branches_timers r xs (drop place keys)) of_branches ∙ ap (λ ks. branches_timers r (w ∷ drop (place + 1) r.branches) ks) of_keys
 
 -- one that is met has these timers
-pub met_is : (r : OpenRequest) (keys : List TimerKeys) (place : ℕ) (w b : Branch) (k : TimerKeys) → drop place r.branches ≡ w ∷ drop (place + 1) r.branches → drop place keys ≡ k ∷ drop (place + 1) keys → is_same_branch w b ≡ true
+pub met_is : (r : OpenRequest) (keys : List TimerKeys) (place : ℕ) (w b : Branch) (k : TimerKeys) → drop place r.branches ≡ w ∷ drop (place + 1) r.branches
+    → drop place keys ≡ k ∷ drop (place + 1) keys → is_same_branch w b ≡ true
     → met_at r keys place b ≡ part_timers r.number (owner_of w) k (branch_timers r w)
 met_is r keys place w b k of_branches of_keys same =
     ap (λ xs. met_timers r xs (drop place keys) b) of_branches
@@ -115,7 +119,8 @@ past_met ws xs w b e same = ap (λ (ys : List Branch). past ys b) e ∙ ap (λ t
 pub none_without_keys : (r : OpenRequest) (keys : List TimerKeys) (place : ℕ) (b : Branch) → length keys ≤ place → is_next (left_branches r keys place) b ≡ false
 none_without_keys r keys place b h = ap (λ ws. is_next ws b) (ap (λ ks. keyed (drop place r.branches) ks) (drop_all place keys h) ∙ keyed-none (drop place r.branches))
 
-pub none_without_branches : (r : OpenRequest) (bs : List Branch) (keys : List TimerKeys) (place : ℕ) (b : Branch) → bs ≡ r.branches → length bs ≤ place → is_next (left_branches r keys place) b ≡ false
+pub none_without_branches : (r : OpenRequest) (bs : List Branch) (keys : List TimerKeys) (place : ℕ) (b : Branch) → bs ≡ r.branches → length bs ≤ place
+    → is_next (left_branches r keys place) b ≡ false
 none_without_branches r bs keys place b e h =
     ap (λ xs. is_next (keyed (drop place xs) (drop place keys)) b) (sym e) ∙ ap (λ xs. is_next (keyed xs (drop place keys)) b) (drop_all place bs h)
 
@@ -125,11 +130,13 @@ no_key = record { again = 0; last = 0; call = 0 }
 pub key_there : (keys : List TimerKeys) (place : ℕ) → place < length keys → drop place keys ≡ get_or keys place no_key ∷ drop (place + 1) keys
 key_there keys place h = drop_more keys place no_key h
 
-pub branch_there : (r : OpenRequest) (bs : List Branch) (place : ℕ) (w : Branch) → bs ≡ r.branches → place < length bs → w ≡ get_or bs place w → drop place r.branches ≡ w ∷ drop (place + 1) r.branches
+pub branch_there : (r : OpenRequest) (bs : List Branch) (place : ℕ) (w : Branch) → bs ≡ r.branches → place < length bs → w ≡ get_or bs place w
+    → drop place r.branches ≡ w ∷ drop (place + 1) r.branches
 branch_there r bs place w e within is =
     ap (λ xs. drop place xs) (sym e) ∙ (drop_more bs place w within ∙ (ap (λ x. x ∷ drop (place + 1) bs) (sym is) ∙ ap (λ xs. w ∷ drop (place + 1) xs) e))
 
-pub next_there : (r : OpenRequest) (bs : List Branch) (keys : List TimerKeys) (place : ℕ) (w b : Branch) → bs ≡ r.branches → place < length bs → place < length keys → w ≡ get_or bs place w
+pub next_there : (r : OpenRequest) (bs : List Branch) (keys : List TimerKeys) (place : ℕ) (w b : Branch) → bs ≡ r.branches → place < length bs → place < length keys
+    → w ≡ get_or bs place w
     → is_next (left_branches r keys place) b ≡ is_same_branch w b
 next_there r bs keys place w b e in_branches in_keys is =
     ap (λ ws. is_next ws b) (left_there r keys place w (get_or keys place no_key) (branch_there r bs place w e in_branches is) (key_there keys place in_keys))
@@ -140,7 +147,8 @@ not_of : (o p q : Owner) → p ≢ o → q ≡ o → p ≢ q
 not_of o p q differ is e = differ (e ∙ is)
 
 -- timers of branches none of which has this owner
-pub new_of_branches : (r : OpenRequest) (bs : List Branch) (ks : List TimerKeys) (o : Owner) (t : Timer) → t.name.owner ≡ o → IsAlone o (keyed bs ks) → IsNew (branches_timers r bs ks) t
+pub new_of_branches : (r : OpenRequest) (bs : List Branch) (ks : List TimerKeys) (o : Owner) (t : Timer) → t.name.owner ≡ o → IsAlone o (keyed bs ks)
+    → IsNew (branches_timers r bs ks) t
 new_of_branches r [] ks o t is alone = tt
 new_of_branches r (b ∷ bs) [] o t is alone = tt
 new_of_branches r (b ∷ bs) (k ∷ ks) o t is alone =
@@ -149,13 +157,15 @@ new_of_branches r (b ∷ bs) (k ∷ ks) o t is alone =
     (new_of_branches r bs ks o t is alone.1)
 
 -- what isn't met at a place is none of what is left there
-pub new_at : (r : OpenRequest) (keys : List TimerKeys) (place : ℕ) (b : Branch) (t : Timer) → t.name.owner ≡ owner_of b → IsAlone (owner_of b) (past (left_branches r keys place) b) → IsNew (met_at r keys place b) t → IsNew (left_timers r keys place) t
+pub new_at : (r : OpenRequest) (keys : List TimerKeys) (place : ℕ) (b : Branch) (t : Timer) → t.name.owner ≡ owner_of b
+    → IsAlone (owner_of b) (past (left_branches r keys place) b) → IsNew (met_at r keys place b) t → IsNew (left_timers r keys place) t
 new_at r keys place b t is alone new = by_lists (drop place r.branches) (drop place keys) alone new where
   by_lists : (bs : List Branch) (ks : List TimerKeys) → IsAlone (owner_of b) (past (keyed bs ks) b) → IsNew (met_timers r bs ks b) t → IsNew (branches_timers r bs ks) t
   by_lists [] ks none fresh = tt
   by_lists (w ∷ bs) [] none fresh = tt
   by_lists (w ∷ bs) (k ∷ ks) none fresh = by_test (is_same_branch w b) none fresh where
-    by_test : (test : Bool) → IsAlone (owner_of b) (cond test (keyed bs ks) (w ∷ keyed bs ks)) → IsNew (cond test (part_timers r.number (owner_of w) k (branch_timers r w)) []) t
+    by_test : (test : Bool) → IsAlone (owner_of b) (cond test (keyed bs ks) (w ∷ keyed bs ks))
+        → IsNew (cond test (part_timers r.number (owner_of w) k (branch_timers r w)) []) t
         → IsNew (part_timers r.number (owner_of w) k (branch_timers r w) ++ branches_timers r bs ks) t
     by_test true others met =
         new-append (part_timers r.number (owner_of w) k (branch_timers r w)) (branches_timers r bs ks) t met (new_of_branches r bs ks (owner_of b) t is others)
@@ -188,7 +198,8 @@ further_first : (r : OpenRequest) (keys : List TimerKeys) (bs : List Branch) →
 further_first r keys [] = tt
 further_first r keys (b ∷ bs) = (λ t is new. new, further_first r keys bs)
 
-pub joined_first : (was : OpenRequest) (was_keys : List TimerKeys) (ts : List Timer) (bs : List Branch) → AreMatched (keyed was.branches was_keys) bs → SetsInOrder ts (branches_timers was was.branches was_keys) ts []
+pub joined_first : (was : OpenRequest) (was_keys : List TimerKeys) (ts : List Timer) (bs : List Branch) → AreMatched (keyed was.branches was_keys) bs
+    → SetsInOrder ts (branches_timers was was.branches was_keys) ts []
     → AreJoined was was_keys 0 ts ts [] bs
 joined_first was was_keys ts bs matched sets = record { matched = matched; further = further_first was was_keys bs; sets = sets }
 
@@ -197,7 +208,9 @@ abbrev pub place_past : OpenRequest → List TimerKeys → ℕ → Branch → �
 place_past r keys place b = cond (is_next (left_branches r keys place) b) (place + 1) place
 
 -- the timers of one branch are set
-module _ (was : OpenRequest) (was_keys : List TimerKeys) (place : ℕ) (ts us vs done part : List Timer) (b : Branch) (rest : List Branch) (joined : AreJoined was was_keys place ts us done (b ∷ rest)) (are_its : AllByRecursion (λ (t : Timer). t.name.owner ≡ owner_of b) part) (sets : SetsInOrder us (met_at was was_keys place b) vs part) where
+module _ (was : OpenRequest) (was_keys : List TimerKeys) (place : ℕ) (ts us vs done part : List Timer) (b : Branch) (rest : List Branch)
+    (joined : AreJoined was was_keys place ts us done (b ∷ rest)) (are_its : AllByRecursion (λ (t : Timer). t.name.owner ≡ owner_of b) part)
+    (sets : SetsInOrder us (met_at was was_keys place b) vs part) where
   abbrev all : List Timer
   all = branches_timers was was.branches was_keys
 
@@ -212,8 +225,10 @@ module _ (was : OpenRequest) (was_keys : List TimerKeys) (place : ℕ) (ts us vs
   matched_next : (next : ℕ) → left_branches was was_keys next ≡ past (left_branches was was_keys place) b → AreMatched (left_branches was was_keys next) rest
   matched_next next e = subst (λ ws. AreMatched ws rest) (sym e) joined.matched.2
 
-  past_a_branch : (x : Branch) → Met was was_keys place b → owner_of x ≢ owner_of b → IsFurther was was_keys place (owner_of x) → IsFurther was was_keys (place + 1) (owner_of x)
-  past_a_branch x met differ further t is new = further t is (subst (λ (us : List Timer). IsNew us t) (sym (timers_there was was_keys place met.w met.k met.branch_is met.key_is))
+  past_a_branch : (x : Branch) → Met was was_keys place b → owner_of x ≢ owner_of b → IsFurther was was_keys place (owner_of x)
+      → IsFurther was was_keys (place + 1) (owner_of x)
+  past_a_branch x met differ further t is new = further t is (subst (λ (us : List Timer). IsNew us t)
+      (sym (timers_there was was_keys place met.w met.k met.branch_is met.key_is))
       (new-append (part_timers was.number (owner_of met.w) met.k (branch_timers was met.w)) (left_timers was was_keys (place + 1)) t
       (new_of_owner was.number (owner_of met.w) met.k (branch_timers was met.w) t (λ e. differ (sym is ∙ (sym e ∙ same_owner met.w b met.same))))
       new))
@@ -222,10 +237,12 @@ module _ (was : OpenRequest) (was_keys : List TimerKeys) (place : ℕ) (ts us vs
   joined_by true e =
       let met : Met was was_keys place b = met_there was was_keys place b e in
       let left : left_branches was was_keys (place + 1) ≡ past (left_branches was was_keys place) b =
-      sym (past_met (left_branches was was_keys place) (left_branches was was_keys (place + 1)) met.w b (left_there was was_keys place met.w met.k met.branch_is met.key_is) met.same) in
+      sym (past_met (left_branches was was_keys place) (left_branches was was_keys (place + 1)) met.w b
+      (left_there was was_keys place met.w met.k met.branch_is met.key_is) met.same) in
       record {
         matched = matched_next (place + 1) left;
-        further = all-both (λ (x : Branch). owner_of x ≢ owner_of b) (λ (x : Branch). IsFurther was was_keys place (owner_of x)) (λ (x : Branch). IsFurther was was_keys (place + 1) (owner_of x)) rest
+        further = all-both (λ (x : Branch). owner_of x ≢ owner_of b) (λ (x : Branch). IsFurther was was_keys place (owner_of x))
+            (λ (x : Branch). IsFurther was was_keys (place + 1) (owner_of x)) rest
             (λ x differ further. past_a_branch x met differ further) (joined.matched.1 e) joined.further.1;
         sets = sets_all;
       }
@@ -243,13 +260,16 @@ one_more r [] (y ∷ ks) b k same = absurd (cc)
 one_more r (x ∷ bs) [] b k same = absurd (cc)
 one_more r (x ∷ bs) (y ∷ ks) b k same =
     ap (λ ts. reverse (part_timers r.number (owner_of x) y (branch_timers r x)) ++ ts) (one_more r bs ks b k (omega (arith, same)))
-    ∙ sym (append_assoc (reverse (part_timers r.number (owner_of x) y (branch_timers r x))) (branches_in_order r bs ks) (reverse (part_timers r.number (owner_of b) k (branch_timers r b))))
+    ∙ sym (append_assoc (reverse (part_timers r.number (owner_of x) y (branch_timers r x))) (branches_in_order r bs ks)
+    (reverse (part_timers r.number (owner_of b) k (branch_timers r b))))
 
 same_length : (bs : List Branch) (xs : List TimerKeys) (n : ℕ) → n < length bs → length xs ≡ length bs → length (take n bs) ≡ length (take n xs)
 same_length bs xs n h e = omega (arith, length-take n bs, length-take n xs)
 
-pub order_more : (r : OpenRequest) (bs : List Branch) (ks : List TimerKeys) (i : ℕ) (b : Branch) (k : TimerKeys) → i < length bs → length ks ≡ length bs → b ≡ get_or bs i b
-    → branches_in_order r (take (i + 1) bs) (take (i + 1) (set ks i k)) ≡ branches_in_order r (take i bs) (take i ks) ++ reverse (part_timers r.number (owner_of b) k (branch_timers r b))
+pub order_more : (r : OpenRequest) (bs : List Branch) (ks : List TimerKeys) (i : ℕ) (b : Branch) (k : TimerKeys) → i < length bs → length ks ≡ length bs
+    → b ≡ get_or bs i b
+    → branches_in_order r (take (i + 1) bs) (take (i + 1) (set ks i k)) ≡ branches_in_order r (take i bs) (take i ks)
+    ++ reverse (part_timers r.number (owner_of b) k (branch_timers r b))
 order_more r bs ks i b k within long is =
     let of_branch : take (i + 1) bs ≡ take i bs ++ b ∷ [] = take_more bs i b within ∙ ap (λ x. take i bs ++ x ∷ []) (sym is) in
     let of_keys : take (i + 1) (set ks i k) ≡ take i ks ++ k ∷ [] = take_more_set ks i k (omega arith) in
@@ -257,12 +277,15 @@ order_more r bs ks i b k within long is =
     ∙ ap (λ xs. branches_in_order r (take i bs ++ b ∷ []) xs) of_keys
     ∙ one_more r (take i bs) (take i ks) b k (same_length bs ks i within long)
 
-pub order_done : (r : OpenRequest) (bs : List Branch) (ks : List TimerKeys) (i : ℕ) → bs ≡ r.branches → length bs ≤ i → length ks ≡ length bs → branches_in_order r (take i bs) (take i ks) ≡ branches_in_order r r.branches ks
+pub order_done : (r : OpenRequest) (bs : List Branch) (ks : List TimerKeys) (i : ℕ) → bs ≡ r.branches → length bs ≤ i → length ks ≡ length bs
+    → branches_in_order r (take i bs) (take i ks) ≡ branches_in_order r r.branches ks
 order_done r bs ks i e h long =
-    ap (λ xs. branches_in_order r xs (take i ks)) (take_all i bs h) ∙ ap (λ xs. branches_in_order r bs xs) (take_all i ks (omega arith)) ∙ ap (λ xs. branches_in_order r xs ks) e
+    ap (λ xs. branches_in_order r xs (take i ks)) (take_all i bs h) ∙ ap (λ xs. branches_in_order r bs xs) (take_all i ks (omega arith))
+    ∙ ap (λ xs. branches_in_order r xs ks) e
 
 -- the branches of the next step
-pub joined_at : (was : OpenRequest) (was_keys : List TimerKeys) (place : ℕ) (ts us done : List Timer) (bs : List Branch) (i : ℕ) (b : Branch) → i < length bs → b ≡ get_or bs i b
+pub joined_at : (was : OpenRequest) (was_keys : List TimerKeys) (place : ℕ) (ts us done : List Timer) (bs : List Branch) (i : ℕ) (b : Branch) → i < length bs
+    → b ≡ get_or bs i b
     → AreJoined was was_keys place ts us done (drop i bs) → AreJoined was was_keys place ts us done (b ∷ drop (i + 1) bs)
 joined_at was was_keys place ts us done bs i b within is joined =
     subst (λ (xs : List Branch). AreJoined was was_keys place ts us done xs) (drop_more bs i b within ∙ ap (λ x. x ∷ drop (i + 1) bs) (sym is)) joined
@@ -288,13 +311,15 @@ not_of_side r (b ∷ bs) (k ∷ ks) =
     all-append (λ (t : Timer). t.name.owner ≢ Of.Server) (reverse (part_timers r.number (owner_of b) k (branch_timers r b))) (branches_in_order r bs ks)
     (all-weaker (λ (t : Timer). t.name.owner ≡ owner_of b) (λ (t : Timer). t.name.owner ≢ Of.Server) (reverse (part_timers r.number (owner_of b) k (branch_timers r b)))
     (λ t is e. not_server b (sym is ∙ e))
-    (all-reverse (λ (t : Timer). t.name.owner ≡ owner_of b) (part_timers r.number (owner_of b) k (branch_timers r b)) (owned r.number (owner_of b) k (branch_timers r b))))
+    (all-reverse (λ (t : Timer). t.name.owner ≡ owner_of b) (part_timers r.number (owner_of b) k (branch_timers r b))
+    (owned r.number (owner_of b) k (branch_timers r b))))
     (not_of_side r bs ks)
 
 pub all_set : (ts us vs : List Timer) (was next : OpenRequest) (side keys_side : TimerKeys) (was_keys keys : List TimerKeys)
     → SetsInOrder ts (part_timers was.number Of.Server side (side_timers was)) us (reverse (part_timers next.number Of.Server keys_side (side_timers next)))
     → SetsInOrder us (branches_timers was was.branches was_keys) vs (branches_in_order next next.branches keys)
-    → SetsInOrder ts (part_timers was.number Of.Server side (side_timers was) ++ branches_timers was was.branches was_keys) vs (reverse (part_timers next.number Of.Server keys_side (side_timers next)) ++ branches_in_order next next.branches keys)
+    → SetsInOrder ts (part_timers was.number Of.Server side (side_timers was) ++ branches_timers was was.branches was_keys) vs
+    (reverse (part_timers next.number Of.Server keys_side (side_timers next)) ++ branches_in_order next next.branches keys)
 all_set ts us vs was next side keys_side was_keys keys of_side of_branches =
     let stood : List Timer = part_timers was.number Of.Server side (side_timers was) in
     let others : List Timer = branches_timers was was.branches was_keys in
@@ -304,7 +329,8 @@ all_set ts us vs was next side keys_side was_keys keys of_side of_branches =
     (SetsInOrder-further ts stood (stood ++ others) us first of_side
     (all-weaker (λ (t : Timer). t.name.owner ≡ Of.Server) (λ (t : Timer). IsNew stood t → IsNew (stood ++ others) t) first
     (λ t is new. new-append stood others t new (new_of_branches was was.branches was_keys Of.Server t is (none_of_side (keyed was.branches was_keys))))
-    (all-reverse (λ (t : Timer). t.name.owner ≡ Of.Server) (part_timers next.number Of.Server keys_side (side_timers next)) (owned next.number Of.Server keys_side (side_timers next)))))
+    (all-reverse (λ (t : Timer). t.name.owner ≡ Of.Server) (part_timers next.number Of.Server keys_side (side_timers next))
+    (owned next.number Of.Server keys_side (side_timers next)))))
     (SetsInOrder-further us others (stood ++ others) vs rest of_branches
     (all-weaker (λ (t : Timer). t.name.owner ≢ Of.Server) (λ (t : Timer). IsNew others t → IsNew (stood ++ others) t) rest
     (λ t differ new. new-append stood others t (new_of_owner was.number Of.Server side (side_timers was) t (λ e. differ (sym e))) new)
@@ -329,7 +355,8 @@ joined_further was was_keys place next ts us vs done named after b rest next_is 
     (joined_more was was_keys place ts us vs done (reverse named) b rest joined (all-reverse (λ (t : Timer). t.name.owner ≡ owner_of b) named are_its) sets))
 
 -- the branch at a place is met
-pub met_stood : (r : OpenRequest) (bs : List Branch) (keys : List TimerKeys) (place : ℕ) (w b : Branch) (k : TimerKeys) (standing : List Timer) → bs ≡ r.branches → place < length bs → place < length keys → w ≡ get_or bs place w → k ≡ get_or keys place k
+pub met_stood : (r : OpenRequest) (bs : List Branch) (keys : List TimerKeys) (place : ℕ) (w b : Branch) (k : TimerKeys) (standing : List Timer) → bs ≡ r.branches
+    → place < length bs → place < length keys → w ≡ get_or bs place w → k ≡ get_or keys place k
     → true ≡ is_next (left_branches r keys place) b → standing ≡ part_timers r.number (owner_of w) k (branch_timers r w) → standing ≡ met_at r keys place b
 met_stood r bs keys place w b k standing e in_branches in_keys is_branch is_key is is_part =
     let of_branch : drop place r.branches ≡ w ∷ drop (place + 1) r.branches = branch_there r bs place w e in_branches is_branch in

@@ -28,7 +28,8 @@ Moves-replaced ts us vs before after a b = record {
 held_last : (ts a b c : List Timer) → IsHeld ts (a ++ (b ++ c)) → IsHeld ts c
 held_last ts a b c h = record { stand = λ p. omega (arith, h.stand p, count-append p a (b ++ c), count-append p b c); keys_differ = h.keys_differ }
 
-pub held_call : (ts : List Timer) (keys : TimerKeys) (part : Part) → IsHeld ts (part_standing keys part) → IsHeld ts (slot_timers part.request part.owner keys.call part.timers.call)
+pub held_call : (ts : List Timer) (keys : TimerKeys) (part : Part) → IsHeld ts (part_standing keys part)
+    → IsHeld ts (slot_timers part.request part.owner keys.call part.timers.call)
 held_call ts keys part h =
     let of_slot : ℕ → Option (Letter × ℕ) → List Timer = slot_timers part.request part.owner in
     held_last ts (of_slot keys.again part.timers.again) (of_slot keys.last part.timers.last) (of_slot keys.call part.timers.call) h
@@ -46,9 +47,19 @@ held_first ts us vs a b c third second h m n = record {
 }
 
 -- the third one first
-pub Moves-three_back : (ts us vs ws a b c first second third : List Timer) → Moves ts c us third → Moves us b vs second → Moves vs a ws first → Moves ts (a ++ (b ++ c)) ws (first ++ (second ++ third))
+pub Moves-three_back : (ts us vs ws a b c first second third : List Timer) → Moves ts c us third → Moves us b vs second → Moves vs a ws first
+    → Moves ts (a ++ (b ++ c)) ws (first ++ (second ++ third))
 Moves-three_back ts us vs ws a b c first second third k m n = record {
-  same = λ p. omega (arith, k.same p, m.same p, n.same p, count-append p a (b ++ c), count-append p b c, count-append p first (second ++ third), count-append p second third);
+  same = λ p. omega (
+    arith,
+    k.same p,
+    m.same p,
+    n.same p,
+    count-append p a (b ++ c),
+    count-append p b c,
+    count-append p first (second ++ third),
+    count-append p second third,
+  );
   keys_differ = λ differ. n.keys_differ (m.keys_differ (k.keys_differ differ));
 }
 

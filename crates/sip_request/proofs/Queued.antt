@@ -24,10 +24,12 @@ entries-all_placed ts [] = refl
 entries-all_placed ts (u ∷ us) = entries-all_placed (placed u ts) us ∙ ap (λ es. all_behind es (entries us)) (entries-placed u ts)
 
 -- where two tests agree, they leave the same
-filter-agree : (stays : Timer → Bool) (q : Entry → Bool) (ts : List Timer) → AllByRecursion (λ t. stays t ≡ q (entry_of t)) ts → entries (filter stays ts) ≡ filter q (entries ts)
+filter-agree : (stays : Timer → Bool) (q : Entry → Bool) (ts : List Timer) → AllByRecursion (λ t. stays t ≡ q (entry_of t)) ts
+    → entries (filter stays ts) ≡ filter q (entries ts)
 filter-agree stays q [] all = refl
 filter-agree stays q (t ∷ ts) all = by_test (stays t) (q (entry_of t)) all.0 (filter-agree stays q ts all.1) where
-  by_test : (a b : Bool) → a ≡ b → entries (filter stays ts) ≡ filter q (entries ts) → entries (cond a (t ∷ filter stays ts) (filter stays ts)) ≡ cond b (entry_of t ∷ filter q (entries ts)) (filter q (entries ts))
+  by_test : (a b : Bool) → a ≡ b → entries (filter stays ts) ≡ filter q (entries ts) →
+      entries (cond a (t ∷ filter stays ts) (filter stays ts)) ≡ cond b (entry_of t ∷ filter q (entries ts)) (filter q (entries ts))
   by_test true true e rest = ap (λ es. entry_of t ∷ es) rest
   by_test true false e rest = absurd (cc)
   by_test false true e rest = absurd (cc)
@@ -37,7 +39,8 @@ filter-agree stays q (t ∷ ts) all = by_test (stays t) (q (entry_of t)) all.0 (
 count-behind : (p : Entry → Bool) (e : Entry) (es : List Entry) → count_by p (behind e es) ≡ cond (p e) 1 0 + count_by p es
 count-behind p e [] = entries-cons p e []
 count-behind p e (x ∷ xs) = by_test (ltb e.due x.due) (count-behind p e xs) where
-  by_test : (b : Bool) → count_by p (behind e xs) ≡ cond (p e) 1 0 + count_by p xs → count_by p (cond b (e ∷ x ∷ xs) (x ∷ behind e xs)) ≡ cond (p e) 1 0 + count_by p (x ∷ xs)
+  by_test : (b : Bool) → count_by p (behind e xs) ≡ cond (p e) 1 0 + count_by p xs → count_by p (cond b (e ∷ x ∷ xs) (x ∷ behind e xs))
+      ≡ cond (p e) 1 0 + count_by p (x ∷ xs)
   by_test true rest = entries-cons p e (x ∷ xs)
   by_test false rest = omega (arith, rest, entries-cons p x (behind e xs), entries-cons p x xs)
 
@@ -45,11 +48,13 @@ count-all_behind : (p : Entry → Bool) (es xs : List Entry) → count_by p (all
 count-all_behind p es [] = omega arith
 count-all_behind p es (x ∷ xs) = omega (arith, count-all_behind p (behind x es) xs, count-behind p x es, entries-cons p x xs)
 
-count-parted : (p : Entry → Bool) (q : Timer → Bool) (ts : List Timer) → count_by p (entries ts) ≡ count_by p (entries (filter q ts)) + count_by p (entries (filter (λ t. not (q t)) ts))
+count-parted : (p : Entry → Bool) (q : Timer → Bool) (ts : List Timer) → count_by p (entries ts)
+    ≡ count_by p (entries (filter q ts)) + count_by p (entries (filter (λ t. not (q t)) ts))
 count-parted p q [] = refl
 count-parted p q (t ∷ ts) = by_test (q t) (count-parted p q ts) where
   by_test : (b : Bool) → count_by p (entries ts) ≡ count_by p (entries (filter q ts)) + count_by p (entries (filter (λ u. not (q u)) ts))
-      → count_by p (entry_of t ∷ entries ts) ≡ count_by p (entries (cond b (t ∷ filter q ts) (filter q ts))) + count_by p (entries (cond (not b) (t ∷ filter (λ u. not (q u)) ts) (filter (λ u. not (q u)) ts)))
+      → count_by p (entry_of t ∷ entries ts) ≡ count_by p (entries (cond b (t ∷ filter q ts) (filter q ts))) + count_by p
+      (entries (cond (not b) (t ∷ filter (λ u. not (q u)) ts) (filter (λ u. not (q u)) ts)))
   by_test true rest = omega (arith, rest, entries-cons p (entry_of t) (entries ts), entries-cons p (entry_of t) (entries (filter q ts)))
   by_test false rest = omega (arith, rest, entries-cons p (entry_of t) (entries ts), entries-cons p (entry_of t) (entries (filter (λ u. not (q u)) ts)))
 
@@ -67,7 +72,12 @@ by_entries P (t ∷ ts) all = (all.0, by_entries P ts all.1)
 -- some are no more than all
 some_counts : (p : Entry → Bool) (ts us : List Timer) → AreSome ts us → count_by p (entries ts) ≤ count_by p (entries us)
 some_counts p ts us NoMore = omega arith
-some_counts p ts us (Takes t ts' us' rest) = omega (arith, some_counts p ts' us' rest, entries-cons p (entry_of t) (entries ts'), entries-cons p (entry_of t) (entries us'))
+some_counts p ts us (Takes t ts' us' rest) = omega (
+  arith,
+  some_counts p ts' us' rest,
+  entries-cons p (entry_of t) (entries ts'),
+  entries-cons p (entry_of t) (entries us'),
+)
 some_counts p ts us (LeavesOut t ts' us' rest) = omega (arith, some_counts p ts' us' rest, entries-cons p (entry_of t) (entries us'))
 
 some_all : (P : Timer → Type 0) (ts us : List Timer) → AreSome ts us → AllByRecursion P us → AllByRecursion P ts
@@ -83,30 +93,46 @@ differs e x es there once = by_test (same_entry e x) refl where
   by_test false is = is
 
 -- those of the named ones that pass a test, where they are those that were set
-some_pass : (q : Entry → Bool) (set named : List Timer) → AreSome set named → ((e : Entry) → count_by (same_entry e) (entries named) ≤ 1) → AllByRecursion (λ t. q (entry_of t) ≡ true) set
+some_pass : (q : Entry → Bool) (set named : List Timer) → AreSome set named → ((e : Entry) → count_by (same_entry e) (entries named) ≤ 1)
+    → AllByRecursion (λ t. q (entry_of t) ≡ true) set
     → AllByRecursion (λ t. q (entry_of t) ≡ true → 1 ≤ count_by (same_entry (entry_of t)) (entries set)) named → entries set ≡ filter q (entries named)
 some_pass q set named NoMore once pass there = refl
 some_pass q set named (Takes t ts us rest) once pass there =
     let fewer : (e : Entry) → count_by (same_entry e) (entries us) ≤ 1 = λ e. omega (arith, once e, entries-cons (same_entry e) (entry_of t) (entries us)) in
     let others : AllByRecursion (λ (u : Timer). q (entry_of u) ≡ true → 1 ≤ count_by (same_entry (entry_of u)) (entries ts)) us =
-    every-two us (λ u stands is passes. omega (arith, is passes, entries-cons (same_entry (entry_of u)) (entry_of t) (entries ts), ap (λ (b : Bool). cond {A = ℕ} b 1 0) (differs (entry_of u) (entry_of t) (entries us) stands (once (entry_of u)))))
+    every-two us (λ u stands is passes. omega (
+      arith,
+      is passes,
+      entries-cons (same_entry (entry_of u)) (entry_of t) (entries ts),
+      ap (λ (b : Bool). cond {A = ℕ} b 1 0) (differs (entry_of u) (entry_of t) (entries us) stands (once (entry_of u))),
+    ))
     (by_entries (λ (e : Entry). 1 ≤ count_by (same_entry e) (entries us)) us (all_there (entries us))) there.1 in
-    ap (λ es. entry_of t ∷ es) (some_pass q ts us rest fewer pass.1 others) ∙ ap (λ (b : Bool). cond b (entry_of t ∷ filter q (entries us)) (filter q (entries us))) (sym pass.0)
+    ap (λ es. entry_of t ∷ es) (some_pass q ts us rest fewer pass.1 others) ∙ ap (λ (b : Bool). cond b (entry_of t ∷ filter q (entries us)) (filter q (entries us)))
+    (sym pass.0)
 some_pass q set named (LeavesOut t ts us rest) once pass there =
     let fewer : (e : Entry) → count_by (same_entry e) (entries us) ≤ 1 = λ e. omega (arith, once e, entries-cons (same_entry e) (entry_of t) (entries us)) in
     some_pass q ts us rest fewer pass there.1
     ∙ by_test (q (entry_of t)) refl (λ passes. there.0 passes) (some_counts (same_entry (entry_of t)) ts us rest) where
-      by_test : (b : Bool) → q (entry_of t) ≡ b → (q (entry_of t) ≡ true → 1 ≤ count_by (same_entry (entry_of t)) (entries ts)) → count_by (same_entry (entry_of t)) (entries ts) ≤ count_by (same_entry (entry_of t)) (entries us)
+      by_test : (b : Bool) → q (entry_of t) ≡ b → (q (entry_of t) ≡ true → 1 ≤ count_by (same_entry (entry_of t)) (entries ts))
+          → count_by (same_entry (entry_of t)) (entries ts) ≤ count_by (same_entry (entry_of t)) (entries us)
           → filter q (entries us) ≡ cond b (entry_of t ∷ filter q (entries us)) (filter q (entries us))
       by_test true is stands fewer =
-          absurd (omega (arith, stands is, fewer, once (entry_of t), entries-cons (same_entry (entry_of t)) (entry_of t) (entries us), ap (λ (b : Bool). cond {A = ℕ} b 1 0) (entry_itself (entry_of t))))
+          absurd (omega (
+            arith,
+            stands is,
+            fewer,
+            once (entry_of t),
+            entries-cons (same_entry (entry_of t)) (entry_of t) (entries us),
+            ap (λ (b : Bool). cond {A = ℕ} b 1 0) (entry_itself (entry_of t)),
+          ))
       by_test false is stands fewer = refl
 
 -- what holds of those that pass a test
 of_filter : (P : Timer → Type 0) (q : Timer → Bool) (ts : List Timer) → AllByRecursion P (filter q ts) → AllByRecursion (λ t. q t ≡ true → P t) ts
 of_filter P q [] all = tt
 of_filter P q (t ∷ ts) all = by_test (q t) refl all (λ rest. of_filter P q ts rest) where
-  by_test : (b : Bool) → q t ≡ b → AllByRecursion P (cond b (t ∷ filter q ts) (filter q ts)) → (AllByRecursion P (filter q ts) → AllByRecursion (λ u. q u ≡ true → P u) ts) → AllByRecursion (λ u. q u ≡ true → P u) (t ∷ ts)
+  by_test : (b : Bool) → q t ≡ b → AllByRecursion P (cond b (t ∷ filter q ts) (filter q ts))
+      → (AllByRecursion P (filter q ts) → AllByRecursion (λ u. q u ≡ true → P u) ts) → AllByRecursion (λ u. q u ≡ true → P u) (t ∷ ts)
   by_test true is each rest = (λ passes. each.0, rest each.1)
   by_test false is each rest = (λ passes. absurd (cc), rest each)
 
@@ -117,10 +143,12 @@ not-true false e = refl
 -- ---- the queue
 
 -- none of some timers, all of which are none of those of a list, is one of that list
-none_among : (old set : List Timer) (t : Timer) → has (entry_of t) (entries old) ≡ true → AllByRecursion (λ s. has (entry_of s) (entries old) ≡ false) set → count_by (same_entry (entry_of t)) (entries set) ≡ 0
+none_among : (old set : List Timer) (t : Timer) → has (entry_of t) (entries old) ≡ true → AllByRecursion (λ s. has (entry_of s) (entries old) ≡ false) set
+    → count_by (same_entry (entry_of t)) (entries set) ≡ 0
 none_among old [] t stands all = refl
 none_among old (s ∷ ss) t stands all = by_test (same_entry (entry_of t) (entry_of s)) refl (none_among old ss t stands all.1) where
-  by_test : (b : Bool) → same_entry (entry_of t) (entry_of s) ≡ b → count_by (same_entry (entry_of t)) (entries ss) ≡ 0 → count_by (same_entry (entry_of t)) (entry_of s ∷ entries ss) ≡ 0
+  by_test : (b : Bool) → same_entry (entry_of t) (entry_of s) ≡ b → count_by (same_entry (entry_of t)) (entries ss) ≡ 0
+      → count_by (same_entry (entry_of t)) (entry_of s ∷ entries ss) ≡ 0
   by_test true is rest =
       let lacks : has (entry_of t) (entries old) ≡ false = subst (λ (e : Entry). has e (entries old) ≡ false) (sym (entry_is (entry_of t) (entry_of s) is)) all.0 in
       absurd (cc)
@@ -144,22 +172,26 @@ module _ (old before new named : List Timer) (standing : List Entry) (h : AreQue
 
   -- what was set didn't stand
   set_is_new : AllByRecursion (λ s. has (entry_of s) (entries old) ≡ false) set
-  set_is_new = every-two set (λ s elsewhere new. elsewhere new) (some_all (λ (t : Timer). IsNew before t → has (entry_of t) (entries old) ≡ false) set named h.sets.are_named h.elsewhere) h.sets.are_new
+  set_is_new = every-two set (λ s elsewhere new. elsewhere new) (some_all (λ (t : Timer). IsNew before t → has (entry_of t) (entries old) ≡ false) set named
+      h.sets.are_named h.elsewhere) h.sets.are_new
 
   stood : AllByRecursion (λ t. 1 ≤ count_by (same_entry (entry_of t)) (entries old)) old
   stood = by_entries (λ (e : Entry). 1 ≤ count_by (same_entry e) (entries old)) old (all_there (entries old))
 
   in_kept : AllByRecursion (λ t. h.sets.stays t ≡ true → 1 ≤ count_by (same_entry (entry_of t)) (entries kept)) old
-  in_kept = of_filter (λ (t : Timer). 1 ≤ count_by (same_entry (entry_of t)) (entries kept)) h.sets.stays old (by_entries (λ (e : Entry). 1 ≤ count_by (same_entry e) (entries kept)) kept (all_there (entries kept)))
+  in_kept = of_filter (λ (t : Timer). 1 ≤ count_by (same_entry (entry_of t)) (entries kept)) h.sets.stays old
+      (by_entries (λ (e : Entry). 1 ≤ count_by (same_entry e) (entries kept)) kept (all_there (entries kept)))
 
   in_gone : AllByRecursion (λ t. not (h.sets.stays t) ≡ true → 1 ≤ count_by (same_entry (entry_of t)) (entries gone)) old
-  in_gone = of_filter (λ (t : Timer). 1 ≤ count_by (same_entry (entry_of t)) (entries gone)) (λ t. not (h.sets.stays t)) old (by_entries (λ (e : Entry). 1 ≤ count_by (same_entry e) (entries gone)) gone (all_there (entries gone)))
+  in_gone = of_filter (λ (t : Timer). 1 ≤ count_by (same_entry (entry_of t)) (entries gone)) (λ t. not (h.sets.stays t)) old
+      (by_entries (λ (e : Entry). 1 ≤ count_by (same_entry e) (entries gone)) gone (all_there (entries gone)))
 
   none_set : (t : Timer) → 1 ≤ count_by (same_entry (entry_of t)) (entries old) → count_by (same_entry (entry_of t)) (entries set) ≡ 0
   none_set t stands = none_among old set t (has_by_count (entry_of t) (entries old) stands) set_is_new
 
   -- a timer stays exactly where it is to stand
-  stays_by : (t : Timer) (b : Bool) → h.sets.stays t ≡ b → 1 ≤ count_by (same_entry (entry_of t)) (entries old) → (h.sets.stays t ≡ true → 1 ≤ count_by (same_entry (entry_of t)) (entries kept))
+  stays_by : (t : Timer) (b : Bool) → h.sets.stays t ≡ b → 1 ≤ count_by (same_entry (entry_of t)) (entries old)
+      → (h.sets.stays t ≡ true → 1 ≤ count_by (same_entry (entry_of t)) (entries kept))
       → (not (h.sets.stays t) ≡ true → 1 ≤ count_by (same_entry (entry_of t)) (entries gone)) → b ≡ has (entry_of t) standing
   stays_by t true is stands left out = sym (has_by_count (entry_of t) standing (omega (arith, counted (same_entry (entry_of t)), left is)))
   stays_by t false is stands left out =
@@ -172,14 +204,16 @@ module _ (old before new named : List Timer) (standing : List Entry) (h : AreQue
         none_set t stands,
       )))
 
-  in_parts : AllByRecursion (λ t. (h.sets.stays t ≡ true → 1 ≤ count_by (same_entry (entry_of t)) (entries kept)) × (not (h.sets.stays t) ≡ true → 1 ≤ count_by (same_entry (entry_of t)) (entries gone))) old
+  in_parts : AllByRecursion (λ t. (h.sets.stays t ≡ true → 1 ≤ count_by (same_entry (entry_of t)) (entries kept))
+      × (not (h.sets.stays t) ≡ true → 1 ≤ count_by (same_entry (entry_of t)) (entries gone))) old
   in_parts = every-two old (λ t left out. (left, out)) in_kept in_gone
 
   agree : AllByRecursion (λ t. h.sets.stays t ≡ has (entry_of t) standing) old
   agree = every-two old (λ t stands both. stays_by t (h.sets.stays t) refl stands both.0 both.1) stood in_parts
 
   -- what is set is what didn't stand
-  is_set : (t : Timer) → 1 ≤ count_by (same_entry (entry_of t)) (entries named) → not (has (entry_of t) (entries old)) ≡ true → 1 ≤ count_by (same_entry (entry_of t)) (entries set)
+  is_set : (t : Timer) → 1 ≤ count_by (same_entry (entry_of t)) (entries named) → not (has (entry_of t) (entries old)) ≡ true
+      → 1 ≤ count_by (same_entry (entry_of t)) (entries set)
   is_set t names lacks =
       let none : count_by (same_entry (entry_of t)) (entries old) ≡ 0 = lacks_counts (entry_of t) (entries old) (not-true (has (entry_of t) (entries old)) lacks) in
       omega (arith, names, none, h.within (same_entry (entry_of t)), counted (same_entry (entry_of t)), count-parted (same_entry (entry_of t)) h.sets.stays old)

@@ -60,11 +60,13 @@ stopped_in_order ts vs before named key gone = subst (λ (xs : List Timer). Sets
 -- ---- a part: three slots
 
 -- a timer of another slot is new
-new_in_slot : (n : ℕ) (o : Owner) (key slot : ℕ) (stood : Option (Letter × ℕ)) (t : Timer) → IsInSlot slot stood → slot_of t.name.letter ≢ slot → IsNew (slot_timers n o key stood) t
+new_in_slot : (n : ℕ) (o : Owner) (key slot : ℕ) (stood : Option (Letter × ℕ)) (t : Timer) → IsInSlot slot stood → slot_of t.name.letter ≢ slot
+    → IsNew (slot_timers n o key stood) t
 new_in_slot n o key slot None t is other = tt
 new_in_slot n o key slot (Some s) t is other = (λ at same. other (sym (ap (λ (x : Name). slot_of x.letter) same) ∙ is), tt)
 
-each_in_slot : (n : ℕ) (o : Owner) (key slot : ℕ) (next : Option (Letter × ℕ)) (before all : List Timer) → IsInSlot slot next → ((t : Timer) → slot_of t.name.letter ≡ slot → IsNew before t → IsNew all t)
+each_in_slot : (n : ℕ) (o : Owner) (key slot : ℕ) (next : Option (Letter × ℕ)) (before all : List Timer) → IsInSlot slot next
+    → ((t : Timer) → slot_of t.name.letter ≡ slot → IsNew before t → IsNew all t)
     → AllByRecursion (λ t. IsNew before t → IsNew all t) (slot_timers n o key next)
 each_in_slot n o key slot None before all is each = tt
 each_in_slot n o key slot (Some s) before all is each = (each (record { key = key; due = s.1; name = record { request = n; owner = o; letter = s.0 } }) is, tt)
@@ -97,7 +99,8 @@ module _ (keys : TimerKeys) (part : Part) (slots : AreInSlots part.timers) where
   new_again : (t : Timer) → slot_of t.name.letter ≡ 0 → IsNew again t → IsNew (part_standing keys part) t
   new_again t is new = new-append again (last ++ call) t new (new-append last call t (not_last t (λ e. omega (arith, e, is))) (not_call t (λ e. omega (arith, e, is))))
 
-turned : (n : ℕ) (o : Owner) (keys : TimerKeys) (again last call : Option (Letter × ℕ)) → (slot_timers n o keys.call call ++ slot_timers n o keys.last last) ++ slot_timers n o keys.again again
+turned : (n : ℕ) (o : Owner) (keys : TimerKeys) (again last call : Option (Letter × ℕ))
+    → (slot_timers n o keys.call call ++ slot_timers n o keys.last last) ++ slot_timers n o keys.again again
     ≡ reverse (slot_timers n o keys.again again ++ (slot_timers n o keys.last last ++ slot_timers n o keys.call call))
 turned n o keys None None None = refl
 turned n o keys None None (Some c) = refl
@@ -120,11 +123,14 @@ part_synced ts us vs ws stood keys was next in_slots next_in_slots by_call by_la
     let l : List Timer = slot_timers next.request next.owner keys.last next.timers.last in
     let a : List Timer = slot_timers next.request next.owner keys.again next.timers.again in
     let first : SetsInOrder ts all us c = SetsInOrder-further ts (slot_timers was.request was.owner stood.call was.timers.call) all us c by_call
-    (each_in_slot next.request next.owner keys.call 2 next.timers.call (slot_timers was.request was.owner stood.call was.timers.call) all next_in_slots.call (new_call stood was in_slots)) in
+    (each_in_slot next.request next.owner keys.call 2 next.timers.call (slot_timers was.request was.owner stood.call was.timers.call) all next_in_slots.call
+    (new_call stood was in_slots)) in
     let second : SetsInOrder us all vs l = SetsInOrder-further us (slot_timers was.request was.owner stood.last was.timers.last) all vs l by_last
-    (each_in_slot next.request next.owner keys.last 1 next.timers.last (slot_timers was.request was.owner stood.last was.timers.last) all next_in_slots.last (new_last stood was in_slots)) in
+    (each_in_slot next.request next.owner keys.last 1 next.timers.last (slot_timers was.request was.owner stood.last was.timers.last) all next_in_slots.last
+    (new_last stood was in_slots)) in
     let third : SetsInOrder vs all ws a = SetsInOrder-further vs (slot_timers was.request was.owner stood.again was.timers.again) all ws a by_again
-    (each_in_slot next.request next.owner keys.again 0 next.timers.again (slot_timers was.request was.owner stood.again was.timers.again) all next_in_slots.again (new_again stood was in_slots)) in
+    (each_in_slot next.request next.owner keys.again 0 next.timers.again (slot_timers was.request was.owner stood.again was.timers.again) all next_in_slots.again
+    (new_again stood was in_slots)) in
     subst (λ (xs : List Timer). SetsInOrder ts all ws xs) (turned next.request next.owner keys next.timers.again next.timers.last next.timers.call)
     (SetsInOrder-both ts vs ws all (c ++ l) a (SetsInOrder-both ts us vs all c l first second) third)
 
@@ -158,16 +164,20 @@ new_of_owner n o keys (u ∷ us) t other = (λ at same. other (ap (λ (x : Name)
 
 -- ---- as they are named
 
-pub as_named : (ts us met before standing named : List Timer) → before ≡ met → standing ≡ named → SetsInOrder ts before us (reverse standing) → SetsInOrder ts met us (reverse named)
+pub as_named : (ts us met before standing named : List Timer) → before ≡ met → standing ≡ named → SetsInOrder ts before us (reverse standing)
+    → SetsInOrder ts met us (reverse named)
 as_named ts us met before standing named e f sets =
     subst (λ (xs : List Timer). SetsInOrder ts xs us (reverse named)) e (subst (λ (xs : List Timer). SetsInOrder ts before us (reverse xs)) f sets)
 
 -- the side is set, then the branches, where nothing stood
-pub begun_in_order : (ts us vs standing named others behind : List Timer) → standing ≡ named → others ≡ [] → SetsInOrder ts [] us (reverse standing) → SetsInOrder us others vs behind → SetsInOrder ts [] vs (reverse named ++ behind)
+pub begun_in_order : (ts us vs standing named others behind : List Timer) → standing ≡ named → others ≡ [] → SetsInOrder ts [] us (reverse standing)
+    → SetsInOrder us others vs behind → SetsInOrder ts [] vs (reverse named ++ behind)
 begun_in_order ts us vs standing named others behind e f side branches =
-    SetsInOrder-both ts us vs [] (reverse named) behind (subst (λ (xs : List Timer). SetsInOrder ts [] us (reverse xs)) e side) (subst (λ (xs : List Timer). SetsInOrder us xs vs behind) f branches)
+    SetsInOrder-both ts us vs [] (reverse named) behind (subst (λ (xs : List Timer). SetsInOrder ts [] us (reverse xs)) e side)
+    (subst (λ (xs : List Timer). SetsInOrder us xs vs behind) f branches)
 
 -- all are set, and what is left is stopped
 pub over_in_order : (ts us vs before done after : List Timer) → done ≡ after → SetsInOrder ts before us done → SetsInOrder us [] vs [] → SetsInOrder ts before vs after
 over_in_order ts us vs before done after e sets stops =
-    subst (λ (xs : List Timer). SetsInOrder ts before vs xs) (append-nil done ∙ e) (SetsInOrder-both ts us vs before done [] sets (SetsInOrder-beside us [] before vs stops))
+    subst (λ (xs : List Timer). SetsInOrder ts before vs xs) (append-nil done ∙ e) (SetsInOrder-both ts us vs before done [] sets
+    (SetsInOrder-beside us [] before vs stops))

@@ -13,7 +13,8 @@ use Rattle.sip_segment_config.specs.declared.stop.SegmentStop.TheVariants as sto
 use Rattle.sip_resume.specs.Stops.{ChangeStops, SegmentStops}
 
 -- the key of a refusal is the first that differs
-pub other_key : (result : Result (Unit {0}) ChangeError) (found : Option FrameKey) (key : FrameKey) → result ≡ Err (changes.OtherFrame key) → IfSome found (λ first. result ≡ Err (changes.OtherFrame first))
+pub other_key : (result : Result (Unit {0}) ChangeError) (found : Option FrameKey) (key : FrameKey) → result ≡ Err (changes.OtherFrame key)
+    → IfSome found (λ first. result ≡ Err (changes.OtherFrame first))
     → (found ≡ None → IfErr result (λ e. e ≡ changes.NoMemory)) → found ≡ Some key
 other_key result None key is h other =
     let none : changes.OtherFrame key ≡ changes.NoMemory = subst (λ (x : Result (Unit {0}) ChangeError). IfErr x (λ e. e ≡ changes.NoMemory)) is (other refl) in
@@ -22,7 +23,8 @@ other_key result (Some first) key is h other =
     let same = sym h ∙ is in cc
 
 -- what isn't read isn't taken
-pub unread_stops : (server : Server) (longest : ℕ) (F : Type 0) (script : Option (List ℕ)) (lines : ℕ) (stop : SegmentStop) → ReadStops longest F script lines stop → SegmentStops server longest F script lines stop
+pub unread_stops : (server : Server) (longest : ℕ) (F : Type 0) (script : Option (List ℕ)) (lines : ℕ) (stop : SegmentStop) → ReadStops longest F script lines stop
+    → SegmentStops server longest F script lines stop
 unread_stops server longest F script lines stops.NoMemory h = tt
 unread_stops server longest F script lines (stops.Damaged line) h = h
 unread_stops server longest F script lines (stops.Cut line) h = h
@@ -32,7 +34,8 @@ unread_stops server longest F script lines (stops.NoConfiguration line e) h = h
 unread_stops server longest F script lines (stops.OtherFrame line key) h = absurd h
 
 -- what is another server's isn't
-pub change_stops : (server : Server) (longest : ℕ) (F : Type 0) (script : Option (List ℕ)) (lines first : ℕ) (text : List ℕ) (config : Config) (stop : SegmentStop) → first ≡ lines + 1 → IsNext script text → States text config
+pub change_stops : (server : Server) (longest : ℕ) (F : Type 0) (script : Option (List ℕ)) (lines first : ℕ) (text : List ℕ) (config : Config) (stop : SegmentStop)
+    → first ≡ lines + 1 → IsNext script text → States text config
     → ChangeStops server config first stop → SegmentStops server longest F script lines stop
 change_stops server longest F script lines first text config stops.NoMemory is next states h = tt
 change_stops server longest F script lines first text config (stops.Damaged line) is next states h = absurd h

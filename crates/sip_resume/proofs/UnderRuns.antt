@@ -20,7 +20,8 @@ use Rattle.sip_resume.specs.Parts.{newest_of}
 -- ---- what time passes up to
 
 -- where others come behind periods, time passes no further
-up_to_others : (server : Server) (first last : ProxyState) (events : List Event) (periods others : List Period) (until : Option ℕ) (steps : List StepOut) (history : List Link) → IsRun server first events (until_of periods None) steps history last
+up_to_others : (server : Server) (first last : ProxyState) (events : List Event) (periods others : List Period) (until : Option ℕ) (steps : List StepOut)
+    (history : List Link) → IsRun server first events (until_of periods None) steps history last
     → IsRun server first events (until_of (periods ++ others) until) steps history last
 up_to_others server first last events [] [] until steps history h = run_on server first last events until steps history h
 up_to_others server first last events [] (period ∷ others) until steps history h = h
@@ -28,7 +29,8 @@ up_to_others server first last events (period ∷ periods) others until steps hi
 
 -- ---- one behind the other
 
-behind_none : (server : Server) (first middle last : ProxyState) (periods : List Period) (until : Option ℕ) (steps further : List StepOut) (history later : List Link) → IsNoStep first steps history middle → IsRunUnder server middle periods until further later last
+behind_none : (server : Server) (first middle last : ProxyState) (periods : List Period) (until : Option ℕ) (steps further : List StepOut) (history later : List Link)
+    → IsNoStep first steps history middle → IsRunUnder server middle periods until further later last
     → IsRunUnder server first periods until (steps ++ further) (later ++ history) last
 behind_none server first middle last periods until steps further history later none h =
     subst (λ (outs : List StepOut). IsRunUnder server first periods until (outs ++ further) (later ++ history) last) (sym none.no_steps)
@@ -36,7 +38,8 @@ behind_none server first middle last periods until steps further history later n
     (subst (λ (links : List Link). IsRunUnder server first periods until further links last) (sym (append-nil later))
     (subst (λ (state : ProxyState). IsRunUnder server state periods until further later last) none.stays h)))
 
-pub run_both : (server : Server) (first middle last : ProxyState) (periods others : List Period) (until : Option ℕ) (steps further : List StepOut) (history later : List Link) → IsRunUnder server first periods None steps history middle
+pub run_both : (server : Server) (first middle last : ProxyState) (periods others : List Period) (until : Option ℕ) (steps further : List StepOut)
+    (history later : List Link) → IsRunUnder server first periods None steps history middle
     → IsRunUnder server middle others until further later last → IsRunUnder server first (periods ++ others) until (steps ++ further) (later ++ history) last
 run_both server first middle last [] others until steps further history later h k = behind_none server first middle last others until steps further history later h k
 run_both server first middle last (period ∷ periods) others until steps further history later h k = record {
@@ -51,7 +54,8 @@ run_both server first middle last (period ∷ periods) others until steps furthe
   of_history = ap (λ (links : List Link). later ++ links) h.of_history ∙ sym (append_assoc later h.later h.earlier);
 }
 
-abbrev pub runs_both : (server : Server) (old mid new : Standing) (periods others : List Period) → RunsUnder server old mid periods → RunsUnder server mid new others → RunsUnder server old new (periods ++ others)
+abbrev pub runs_both : (server : Server) (old mid new : Standing) (periods others : List Period) → RunsUnder server old mid periods → RunsUnder server mid new others
+    → RunsUnder server old new (periods ++ others)
 runs_both server old mid new periods others h k = record {
   steps = h.steps ++ k.steps;
   history = k.history ++ h.history;
@@ -65,7 +69,8 @@ runs_both server old mid new periods others h k = record {
 abbrev pub runs_none : (server : Server) (state : Standing) → RunsUnder server state state []
 runs_none server state = record { steps = []; history = []; is_run = record { no_steps = refl; no_history = refl; stays = refl }; orderly = tt; queue = refl }
 
-abbrev pub runs_one : (server : Server) (config : Config) (old new : Standing) (events : List Event) → Runs (under server config) old new events None → RunsUnder server old new (record { config = config; events = events } ∷ [])
+abbrev pub runs_one : (server : Server) (config : Config) (old new : Standing) (events : List Event) → Runs (under server config) old new events None
+    → RunsUnder server old new (record { config = config; events = events } ∷ [])
 runs_one server config old new events h = record {
   steps = h.steps;
   history = h.history;
@@ -86,7 +91,8 @@ runs_one server config old new events h = record {
 
 -- ---- a run of the server under another configuration
 
-pub run_back : (server : Server) (config : Config) (first : ProxyState) (periods : List Period) (steps : List StepOut) (history : List Link) (last : ProxyState) → IsRunUnder (under server config) first periods None steps history last
+pub run_back : (server : Server) (config : Config) (first : ProxyState) (periods : List Period) (steps : List StepOut) (history : List Link) (last : ProxyState)
+    → IsRunUnder (under server config) first periods None steps history last
     → IsRunUnder server first periods None steps history last
 run_back server config first [] steps history last h = h
 run_back server config first (period ∷ periods) steps history last h = record {
@@ -101,21 +107,31 @@ run_back server config first (period ∷ periods) steps history last h = record 
   of_history = h.of_history;
 }
 
-abbrev pub runs_back : (server : Server) (config : Config) (old new : Standing) (periods : List Period) → RunsUnder (under server config) old new periods → RunsUnder server old new periods
-runs_back server config old new periods h = record { steps = h.steps; history = h.history; is_run = run_back server config old.state periods h.steps h.history new.state h.is_run; orderly = h.orderly; queue = h.queue }
+abbrev pub runs_back : (server : Server) (config : Config) (old new : Standing) (periods : List Period) → RunsUnder (under server config) old new periods
+    → RunsUnder server old new periods
+runs_back server config old new periods h = record {
+  steps = h.steps;
+  history = h.history;
+  is_run = run_back server config old.state periods h.steps h.history new.state h.is_run;
+  orderly = h.orderly;
+  queue = h.queue;
+}
 
 -- ---- what is said of them
 
-pub stated_both : (segments others : List Segment) (periods more : List Period) → AreStated segments periods → AreStated others more → AreStated (segments ++ others) (periods ++ more)
+pub stated_both : (segments others : List Segment) (periods more : List Period) → AreStated segments periods → AreStated others more
+    → AreStated (segments ++ others) (periods ++ more)
 stated_both [] others [] more h k = k
 stated_both [] others (period ∷ periods) more h k = absurd h
 stated_both (segment ∷ segments) others [] more h k = absurd h
 stated_both (segment ∷ segments) others (period ∷ periods) more h k = (h.0, stated_both segments others periods more h.1 k)
 
 -- of a server under another configuration, to others the same
-pub frames_of : (server mid : Server) (config : Config) (periods : List Period) → mid ≡ under server config → AllByRecursion (KeepsFrame mid) periods → AllByRecursion (KeepsFrame server) periods
+pub frames_of : (server mid : Server) (config : Config) (periods : List Period) → mid ≡ under server config → AllByRecursion (KeepsFrame mid) periods
+    → AllByRecursion (KeepsFrame server) periods
 frames_of server mid config periods is h = frames_back server config periods (subst (λ (s : Server). AllByRecursion (KeepsFrame s) periods) is h) where
-  frames_back : (server : Server) (config : Config) (periods : List Period) → AllByRecursion (KeepsFrame (under server config)) periods → AllByRecursion (KeepsFrame server) periods
+  frames_back : (server : Server) (config : Config) (periods : List Period) → AllByRecursion (KeepsFrame (under server config)) periods
+      → AllByRecursion (KeepsFrame server) periods
   frames_back server config [] h = tt
   frames_back server config (period ∷ periods) h = (h.0, frames_back server config periods h.1)
 

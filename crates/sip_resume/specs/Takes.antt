@@ -13,6 +13,7 @@ pub record ChangesTo (old new : Engine) (config : Config) : Type 0 where
   pub is_under : new.server ≡ under old.server config
   pub state : new.state ≡ old.state
   pub timers : new.timers ≡ old.timers
+  pub secrets : new.secrets ≡ old.secrets
 
 -- the configuration that these bytes state is in force
 pub record Changes (old new : Engine) (text : List ℕ) : Type 0 where

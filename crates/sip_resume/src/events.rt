@@ -40,6 +40,7 @@ fn take_next<T: Timers, R: Rules, I: TellingReader, J: Journal, S: StepSink>(
     ensures gave_up { result ≡ Err Refusal.Write → S.gave_up sink.new }
     ensures asked { later lines.new.asks (I.asked reader.new) ≡ later lines.old.asks (I.asked reader.old) }
     ensures less { lines.new.asks ≤ lines.old.asks }
+    ensures secrets { engine.new.secrets ≡ engine.old.secrets }
 {
     match look_ahead(lines, reader) {
         Ok(Upcoming::Over) => Ok(Next::End),
@@ -73,6 +74,7 @@ pub(crate) fn take_events<T: Timers, R: Rules, I: TellingReader, J: Journal, S: 
     ensures gave_up { result ≡ Err Refusal.Write → S.gave_up sink.new }
     ensures asked { later lines.new.asks (I.asked reader.new) ≡ later lines.old.asks (I.asked reader.old) }
     ensures less { lines.new.asks ≤ lines.old.asks }
+    ensures secrets { engine.new.secrets ≡ engine.old.secrets }
 {
     runs_join();
     let mut taken = lines.number();

@@ -48,6 +48,7 @@ pub(crate) fn resume_next<T: Timers, R: Rules, I: TellingReader, J: Journal, S: 
     ensures gave_up { result ≡ Err Refusal.Write → S.gave_up sink.new }
     ensures asked { later lines.new.asks (I.asked reader.new) ≡ later lines.old.asks (I.asked reader.old) }
     ensures less { lines.new.asks ≤ lines.old.asks }
+    ensures secrets { engine.new.secrets ≡ engine.old.secrets }
 {
     let Some(event) = read_next(alloc, lines, reader)? else {
         return Ok(None);
@@ -103,6 +104,7 @@ fn take_in_turn<T: Timers, R: Rules, S: StepSink>(
     ensures taken { IfOk result (TakesOwn engine.old.server (standing_of engine.old) (standing_of engine.new) event.now (S.shown sink.old) (S.shown sink.new)) }
     ensures stopped { IfErr result (TurnStops engine.old.server (standing_of engine.old) (standing_of engine.new) event.now (S.shown sink.old) (S.shown sink.new)) }
     ensures gave_up { result ≡ Err Refusal.Write → S.gave_up sink.new }
+    ensures secrets { engine.new.secrets ≡ engine.old.secrets }
 {
     let at = event_moment(event);
     fire_due(engine, at, sink)?;
@@ -122,6 +124,7 @@ fn fire_due<T: Timers, R: Rules, S: StepSink>(
     ensures none_due { OnOk result (NothingDueBy (moment_of engine.new.state at) engine.new.state) }
     ensures stopped { IfErr result (FiringStops engine.old.server (standing_of engine.old) (standing_of engine.new) at (S.shown sink.old) (S.shown sink.new)) }
     ensures gave_up { result ≡ Err Refusal.Write → S.gave_up sink.new }
+    ensures secrets { engine.new.secrets ≡ engine.old.secrets }
 {
     while let Some(out) = fire_next(engine, at)? {
         sink.show(&out)?;

@@ -61,6 +61,7 @@ fn begin_segment<T: Timers, R: Rules, I: TellingReader>(
     ensures unchanged { OnErr result (engine.new ≡ engine.old) }
     ensures asked { later lines.new.asks (I.asked reader.new) ≡ later lines.old.asks (I.asked reader.old) }
     ensures less { lines.new.asks ≤ lines.old.asks }
+    ensures secrets { engine.new.secrets ≡ engine.old.secrets }
 {
     match take_configuration(alloc, engine, lines, reader, longest) {
         Ok(found) => Ok(found),
@@ -92,6 +93,7 @@ pub(crate) fn take_segment<T: Timers, R: Rules, I: TellingReader, J: Journal, S:
     ensures gave_up { result ≡ Err Refusal.Write → S.gave_up sink.new }
     ensures asked { later lines.new.asks (I.asked reader.new) ≡ later lines.old.asks (I.asked reader.old) }
     ensures less { lines.new.asks ≤ lines.old.asks }
+    ensures secrets { engine.new.secrets ≡ engine.old.secrets }
 {
     segments_join();
     noted_segments_join();

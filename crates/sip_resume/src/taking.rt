@@ -35,6 +35,7 @@ pub fn take_configuration<T: Timers, R: Rules, I: TellingReader>(
     ensures unchanged { OnErr result (engine.new ≡ engine.old) }
     ensures asked { later lines.new.asks (I.asked reader.new) ≡ later lines.old.asks (I.asked reader.old) }
     ensures less { lines.new.asks ≤ lines.old.asks }
+    ensures secrets { engine.new.secrets ≡ engine.old.secrets }
 {
     let first = lines.number() + 1;
     let Some(held) = read_configuration(alloc, lines, reader, longest)? else {
@@ -54,6 +55,7 @@ fn change_to<T: Timers, R: Rules>(
     ensures changed { OnOk result (ChangesTo engine.old engine.new config) }
     ensures refused { IfErr result (ChangeStops engine.old.server config first) }
     ensures unchanged { OnErr result (engine.new ≡ engine.old) }
+    ensures secrets { engine.new.secrets ≡ engine.old.secrets }
 {
     match engine.change(config) {
         Ok(()) => Ok(()),

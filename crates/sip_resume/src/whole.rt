@@ -59,6 +59,7 @@ pub fn resume_record<T: Timers, R: Rules, I: TellingReader, J: Journal, S: StepS
     ensures gave_up { result ≡ Err Refusal.Write → S.gave_up sink.new }
     ensures asked { later lines.new.asks (I.asked reader.new) ≡ later lines.old.asks (I.asked reader.old) }
     ensures less { lines.new.asks ≤ lines.old.asks }
+    ensures secrets { engine.new.secrets ≡ engine.old.secrets }
 {
     segments_join();
     noted_segments_join();

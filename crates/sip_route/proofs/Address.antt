@@ -18,7 +18,8 @@ at_most n lt = grind (arith, nat_tests)
 all_at_most : (a b c d : ℕ) → a < 256 → b < 256 → c < 256 → d < 256 → list_all (λ n. nat_le n 255) (a ∷ b ∷ c ∷ d ∷ []) ≡ true
 all_at_most a b c d la lb lc ld = rw (at_most a la, at_most b lb, at_most c lc, at_most d ld) refl
 
-by_reading : (ip text written : List ℕ) → length ip ≡ 4 → list_all (λ n. nat_le n 255) ip ≡ true → Some written ≡ ip_of text → bytes_eq written ip ≡ bytes_eq (ip_text ip) text
+by_reading : (ip text written : List ℕ) → length ip ≡ 4 → list_all (λ n. nat_le n 255) ip ≡ true → Some written ≡ ip_of text
+    → bytes_eq written ip ≡ bytes_eq (ip_text ip) text
 by_reading ip text written four within is =
     same_from_decides (bytes_eq written ip) (bytes_eq (ip_text ip) text) (
       λ e. ap ip_text (sym ((bytes_eq-Decides written ip).0 e)) ∙ sym (text_written text written (sym is)),
@@ -26,7 +27,8 @@ by_reading ip text written four within is =
     )
     (bytes_eq-Decides (ip_text ip) text)
 
-pub is_text : (text written : List ℕ) (a b c d : ℕ) → a < 256 → b < 256 → c < 256 → d < 256 → Some written ≡ ip_of text → bytes_eq written (a ∷ b ∷ c ∷ d ∷ []) ≡ bytes_eq (ip_text (a ∷ b ∷ c ∷ d ∷ [])) text
+pub is_text : (text written : List ℕ) (a b c d : ℕ) → a < 256 → b < 256 → c < 256 → d < 256 → Some written ≡ ip_of text
+    → bytes_eq written (a ∷ b ∷ c ∷ d ∷ []) ≡ bytes_eq (ip_text (a ∷ b ∷ c ∷ d ∷ [])) text
 is_text text written a b c d la lb lc ld is = by_reading (a ∷ b ∷ c ∷ d ∷ []) text written refl (all_at_most a b c d la lb lc ld) is
 
 none_some : (a : List ℕ) → None ≡ Some a → ⊥

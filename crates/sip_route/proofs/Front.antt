@@ -65,10 +65,12 @@ same_joined (x ∷ xs) (y ∷ ys) end e =
     and_is (to_ascii_lowercase x == to_ascii_lowercase y) (is_same_text (xs ++ end) (ys ++ end)) parts.0 (same_joined xs ys end parts.1)
 
 -- a text begins so that begins with what is the same, and the rest stands behind that
-begins : (text begin rest front : List ℕ) → text ≡ begin ++ rest → is_same_text begin front ≡ true → (is_same_text (take (length front) text) front ≡ true) × (drop (length front) text ≡ rest)
+begins : (text begin rest front : List ℕ) → text ≡ begin ++ rest → is_same_text begin front ≡ true
+    → (is_same_text (take (length front) text) front ≡ true) × (drop (length front) text ≡ rest)
 begins text begin rest front whole is =
     let long : length front ≡ length begin = sym (same_length begin front is) in (
-      ap (λ (w : List ℕ). is_same_text (take (length front) w) front) whole ∙ ap (λ (n : ℕ). is_same_text (take n (begin ++ rest)) front) long ∙ ap (λ (w : List ℕ). is_same_text w front) (taken begin rest) ∙ is,
+      ap (λ (w : List ℕ). is_same_text (take (length front) w) front) whole ∙ ap (λ (n : ℕ). is_same_text (take n (begin ++ rest)) front) long
+          ∙ ap (λ (w : List ℕ). is_same_text w front) (taken begin rest) ∙ is,
       ap (drop (length front)) whole ∙ ap (λ (n : ℕ). drop n (begin ++ rest)) long ∙ dropped begin rest,
     )
 
@@ -90,9 +92,12 @@ record IsAtOwn (own : Own) (u : Uri) : Type 0 where
 at_own : (own : Own) (u : Uri) → same u (record_route_uri own) ≡ true → IsAtOwn own u
 at_own own u e =
     let v = record_route_uri own in
-    let headers = and_both (is_same_scheme u.scheme v.scheme && is_same_userinfo u.userinfo v.userinfo && says_same_no_case u.host v.host && both_or_none says_same_no_case u.port v.port && are_same_parameters u.parameters v.parameters) (are_same_headers u.headers v.headers) e in
-    let parameters = and_both (is_same_scheme u.scheme v.scheme && is_same_userinfo u.userinfo v.userinfo && says_same_no_case u.host v.host && both_or_none says_same_no_case u.port v.port) (are_same_parameters u.parameters v.parameters) headers.0 in
-    let port = and_both (is_same_scheme u.scheme v.scheme && is_same_userinfo u.userinfo v.userinfo && says_same_no_case u.host v.host) (both_or_none says_same_no_case u.port v.port) parameters.0 in
+    let headers = and_both (is_same_scheme u.scheme v.scheme && is_same_userinfo u.userinfo v.userinfo && says_same_no_case u.host v.host
+    && both_or_none says_same_no_case u.port v.port && are_same_parameters u.parameters v.parameters) (are_same_headers u.headers v.headers) e in
+    let parameters = and_both (is_same_scheme u.scheme v.scheme && is_same_userinfo u.userinfo v.userinfo && says_same_no_case u.host v.host
+    && both_or_none says_same_no_case u.port v.port) (are_same_parameters u.parameters v.parameters) headers.0 in
+    let port = and_both (is_same_scheme u.scheme v.scheme && is_same_userinfo u.userinfo v.userinfo && says_same_no_case u.host v.host)
+    (both_or_none says_same_no_case u.port v.port) parameters.0 in
     let host = and_both (is_same_scheme u.scheme v.scheme && is_same_userinfo u.userinfo v.userinfo) (says_same_no_case u.host v.host) port.0 in
     let user = and_both (is_same_scheme u.scheme v.scheme) (is_same_userinfo u.userinfo v.userinfo) host.0 in
     record { scheme = sip_alone u.scheme user.0; userinfo = no_user u.userinfo user.1; host = host.1 }
@@ -103,7 +108,8 @@ behind_host u = port_text u.port ++ (flat_map parameter_text u.parameters ++ hea
 rest_is : (u : Uri) → u.userinfo ≡ None → rest_text u ≡ u.host ++ behind_host u
 rest_is u none = ap (λ (w : Option UserInfo). userinfo_text w ++ (u.host ++ (port_text u.port ++ (flat_map parameter_text u.parameters ++ headers_text u.headers)))) none
 
-host_same : (own : Own) (u : Uri) → list_all (is_not 37) own.host ≡ true → is_host u.host ≡ true → says_same_no_case u.host own.host ≡ true → is_same_text u.host own.host ≡ true
+host_same : (own : Own) (u : Uri) → list_all (is_not 37) own.host ≡ true → is_host u.host ≡ true → says_same_no_case u.host own.host ≡ true
+    → is_same_text u.host own.host ≡ true
 host_same own u bare valid says =
     let read : list_all (is_not 37) u.host ≡ true = ap (list_all (is_not 37)) (sym (append-nil u.host)) ∙ place_others 37 no_percent u.host None valid refl in
     sym (plain_same u.host own.host read bare) ∙ says
@@ -111,14 +117,16 @@ host_same own u bare valid says =
 front_of : (own : Own) (uri : List ℕ) (u : Uri) → list_all (is_not 37) own.host ≡ true → IsWritten uri u → IsAtOwn own u
     → (is_same_text (take 4 uri) (codes "sip:") && is_same_text (take (length own.host) (drop 4 uri)) own.host) ≡ true
 front_of own uri u bare written at =
-    let scheme : is_same_text written.scheme (codes "sip") ≡ true = ap (λ (s : Scheme). is_same_text written.scheme (scheme_text s)) (sym at.scheme) ∙ written.in_any_case in
+    let scheme : is_same_text written.scheme (codes "sip") ≡ true = ap (λ (s : Scheme). is_same_text written.scheme (scheme_text s)) (sym at.scheme) ∙ written.in_any_case
+    in
     let whole : uri ≡ (written.scheme ++ 58 ∷ []) ++ (u.host ++ behind_host u) =
     written.whole ∙ ap (λ (w : List ℕ). written.scheme ++ 58 ∷ w) (rest_is u at.userinfo) ∙ sym (append_assoc written.scheme (58 ∷ []) (u.host ++ behind_host u)) in
     let front = begins uri (written.scheme ++ 58 ∷ []) (u.host ++ behind_host u) (codes "sip:") whole (same_joined written.scheme (codes "sip") (58 ∷ []) scheme) in
     let host = begins (drop 4 uri) u.host (behind_host u) own.host front.1 (host_same own u bare written.valid.host at.host) in
     and_is (is_same_text (take 4 uri) (codes "sip:")) (is_same_text (take (length own.host) (drop 4 uri)) own.host) front.0 host.0
 
-front_by : (own : Own) (uri : List ℕ) (r : Result Uri UriError) → list_all (is_not 37) own.host ≡ true → reading_of uri ≡ r → option_map_or (is_record_route own) (result_ok r) false ≡ true
+front_by : (own : Own) (uri : List ℕ) (r : Result Uri UriError) → list_all (is_not 37) own.host ≡ true → reading_of uri ≡ r
+    → option_map_or (is_record_route own) (result_ok r) false ≡ true
     → (is_same_text (take 4 uri) (codes "sip:") && is_same_text (take (length own.host) (drop 4 uri)) own.host) ≡ true
 front_by own uri (Err fault) bare is e = absurd cc
 front_by own uri (Ok u) bare is e = front_of own uri u bare (is_written uri u is) (at_own own u (and_both (has_lr u) (same u (record_route_uri own)) e).1)
@@ -132,7 +140,8 @@ without_mark : (mark : ℕ) (text : List ℕ) → split_at_byte mark text ≡ No
 without_mark mark [] e = refl
 without_mark mark (b ∷ bs) e = by_first (b == mark) refl e (without_mark mark bs)
   where
-    by_first : (t : Bool) → (b == mark) ≡ t → cond t (Some ([], bs)) (in_front (b ∷ []) (split_at_byte mark bs)) ≡ None → (split_at_byte mark bs ≡ None → list_all (is_not mark) bs ≡ true)
+    by_first : (t : Bool) → (b == mark) ≡ t → cond t (Some ([], bs)) (in_front (b ∷ []) (split_at_byte mark bs)) ≡ None
+        → (split_at_byte mark bs ≡ None → list_all (is_not mark) bs ≡ true)
         → list_all (is_not mark) (b ∷ bs) ≡ true
     by_first true is e more = absurd cc
     by_first false is e more = rw is (more (none_in_front (b ∷ []) (split_at_byte mark bs) e))
@@ -168,14 +177,17 @@ no_lr uri u none written = by_parameters u.parameters refl
     by_parameters : (parameters : List Parameter) → u.parameters ≡ parameters → has_lr u ≡ false
     by_parameters [] e = ap (list_any (λ p. says_same_no_case p.name (codes "lr"))) e
     by_parameters (p ∷ ps) e =
-        let rest = behind (is_not 59) (written.scheme ++ 58 ∷ []) (rest_text u) (ap (list_all (is_not 59)) (append_assoc written.scheme (58 ∷ []) (rest_text u) ∙ sym written.whole) ∙ none) in
+        let rest = behind (is_not 59) (written.scheme ++ 58 ∷ []) (rest_text u) (ap (list_all (is_not 59))
+        (append_assoc written.scheme (58 ∷ []) (rest_text u) ∙ sym written.whole) ∙ none) in
         let place = behind (is_not 59) (userinfo_text u.userinfo) (u.host ++ behind_host u) rest in
         let port = behind (is_not 59) u.host (behind_host u) place in
         let parameters = behind (is_not 59) (port_text u.port) (flat_map parameter_text u.parameters ++ headers_text u.headers) port in
-        let never : list_all (is_not 59) (flat_map parameter_text (p ∷ ps) ++ headers_text u.headers) ≡ true = ap (λ w. list_all (is_not 59) (flat_map parameter_text w ++ headers_text u.headers)) (sym e) ∙ parameters in
+        let never : list_all (is_not 59) (flat_map parameter_text (p ∷ ps) ++ headers_text u.headers) ≡ true =
+        ap (λ w. list_all (is_not 59) (flat_map parameter_text w ++ headers_text u.headers)) (sym e) ∙ parameters in
         absurd cc
 
-no_lr_by : (own : Own) (uri : List ℕ) (r : Result Uri UriError) → list_all (is_not 59) uri ≡ true → reading_of uri ≡ r → option_map_or (is_record_route own) (result_ok r) false ≡ false
+no_lr_by : (own : Own) (uri : List ℕ) (r : Result Uri UriError) → list_all (is_not 59) uri ≡ true → reading_of uri ≡ r
+    → option_map_or (is_record_route own) (result_ok r) false ≡ false
 no_lr_by own uri (Err fault) none is = refl
 no_lr_by own uri (Ok u) none is = ap (λ t. t && same u (record_route_uri own)) (no_lr uri u none (is_written uri u is))
 

@@ -80,7 +80,8 @@ first_skipped (field ∷ fields) = ap (λ (n : ℕ). kept 1 (n - 1) (field ∷ f
 -- ---- the last one
 
 -- where there is no Route none is taken off
-none_off_by : (t : Bool) (field : Field) (fields : List Field) → count_by_test t fields ≡ 0 → (routes_in fields ≡ 0 → first_off fields ≡ fields) → cond t fields (field ∷ first_off fields) ≡ field ∷ fields
+none_off_by : (t : Bool) (field : Field) (fields : List Field) → count_by_test t fields ≡ 0 → (routes_in fields ≡ 0 → first_off fields ≡ fields)
+    → cond t fields (field ∷ first_off fields) ≡ field ∷ fields
 none_off_by true field fields none rest = absurd cc
 none_off_by false field fields none rest = ap (λ (w : List Field). field ∷ w) (rest none)
 
@@ -91,7 +92,8 @@ none_off (field ∷ fields) e = none_off_by (is_route field) field fields (sym (
 -- the first of two lists: of the front if it has one, else of the back
 off_by : (t : Bool) (n : ℕ) (field : Field) (fields others : List Field) → routes_in fields ≡ n
     → first_off (fields ++ others) ≡ cond (nat_lt 0 n) (first_off fields ++ others) (fields ++ first_off others)
-    → cond t (fields ++ others) (field ∷ first_off (fields ++ others)) ≡ cond (nat_lt 0 (cond t (suc n) n)) (cond t fields (field ∷ first_off fields) ++ others) (field ∷ (fields ++ first_off others))
+    → cond t (fields ++ others) (field ∷ first_off (fields ++ others)) ≡ cond (nat_lt 0 (cond t (suc n) n)) (cond t fields (field ∷ first_off fields) ++ others)
+    (field ∷ (fields ++ first_off others))
 off_by true n field fields others is rest = rw (is_more n) refl
 off_by false zero field fields others is rest = ap (λ (w : List Field). field ∷ w) rest
 off_by false (suc n) field fields others is rest = rw (is_more n) (ap (λ (w : List Field). field ∷ w) (rw (is_more n) at rest))
@@ -103,7 +105,8 @@ off_joined (field ∷ fields) others =
     ∙ ap (λ (n : ℕ). cond (nat_lt 0 n) (first_off (field ∷ fields) ++ others) (field ∷ (fields ++ first_off others))) (sym (counted field fields))
 
 -- the last of a field and others
-last_front : (n : ℕ) (field : Field) (fields : List Field) → routes_in fields ≡ n → last_off (field ∷ fields) ≡ cond (nat_lt 0 n) (field ∷ last_off fields) (cond (is_route field) fields (field ∷ fields))
+last_front : (n : ℕ) (field : Field) (fields : List Field) → routes_in fields ≡ n → last_off (field ∷ fields)
+    ≡ cond (nat_lt 0 n) (field ∷ last_off fields) (cond (is_route field) fields (field ∷ fields))
 last_front n field fields is =
     ap (λ (w : List Field). reverse (first_off w)) (reverse-append (field ∷ []) fields)
     ∙ ap reverse (off_joined (reverse fields) (field ∷ []))
@@ -115,7 +118,8 @@ last_front n field fields is =
     by_test true = ap reverse (append-nil (reverse fields)) ∙ reverse-reverse fields
     by_test false = reverse-append (reverse fields) (field ∷ []) ∙ ap (λ (w : List Field). field ∷ w) (reverse-reverse fields)
 
-    by_number : (m : ℕ) → reverse (cond (nat_lt 0 m) (first_off (reverse fields) ++ field ∷ []) (reverse fields ++ first_off (field ∷ []))) ≡ cond (nat_lt 0 m) (field ∷ last_off fields) (cond (is_route field) fields (field ∷ fields))
+    by_number : (m : ℕ) → reverse (cond (nat_lt 0 m) (first_off (reverse fields) ++ field ∷ []) (reverse fields ++ first_off (field ∷ [])))
+        ≡ cond (nat_lt 0 m) (field ∷ last_off fields) (cond (is_route field) fields (field ∷ fields))
     by_number zero = by_test (is_route field)
     by_number (suc m) = rw (is_more m) (reverse-append (first_off (reverse fields)) (field ∷ []))
 
@@ -164,7 +168,8 @@ both_dropped (field ∷ fields) =
 -- ---- of a request
 
 by_both : (restored own_first : Bool) (fields : List Field) →
-    kept (cond own_first 1 0) ((routes_in fields - cond restored 1 0) - cond own_first 1 0) fields ≡ cond own_first (first_off (cond restored (last_off fields) fields)) (cond restored (last_off fields) fields)
+    kept (cond own_first 1 0) ((routes_in fields - cond restored 1 0) - cond own_first 1 0) fields
+    ≡ cond own_first (first_off (cond restored (last_off fields) fields)) (cond restored (last_off fields) fields)
 by_both true true fields = both_dropped fields
 by_both true false fields = rw (less_none (routes_in fields - 1)) (last_dropped fields)
 by_both false true fields = rw (less_none (routes_in fields)) (first_skipped fields)
@@ -175,4 +180,5 @@ pub kept_is : (own : Own) (uri : List ℕ) (fields : List Field) →
     fields_kept (kept_of own (is_some (restored_route own uri fields)) (values_of Name.Route fields)) fields ≡ fields_left own uri fields
 kept_is own uri fields =
     by_both (is_some (restored_route own uri fields)) (begins_with_own own (others_of (is_some (restored_route own uri fields)) (values_of Name.Route fields))) fields
-    ∙ ap (λ (w : List (List ℕ)). cond (begins_with_own own w) (first_off (without_restored own uri fields)) (without_restored own uri fields)) (sym (restored_off own uri fields))
+    ∙ ap (λ (w : List (List ℕ)). cond (begins_with_own own w) (first_off (without_restored own uri fields)) (without_restored own uri fields))
+    (sym (restored_off own uri fields))

@@ -15,10 +15,13 @@ use Rattle.sip_route.specs.Routes.{all_but_last, others_than, without_own, way_b
 
 -- ---- without the first, and without the last
 
-by_name : (t : Bool) (name : FieldName) (field : Field) (fields : List Field) → is_same_name field.name name ≡ t → values_of name (without_first name fields) ≡ drop 1 (values_of name fields)
-    → values_of name (cond t fields (field ∷ without_first name fields)) ≡ drop 1 (map (λ f. f.value) (cond t (field ∷ filter (λ f. is_same_name f.name name) fields) (filter (λ f. is_same_name f.name name) fields)))
+by_name : (t : Bool) (name : FieldName) (field : Field) (fields : List Field) → is_same_name field.name name ≡ t
+    → values_of name (without_first name fields) ≡ drop 1 (values_of name fields)
+    → values_of name (cond t fields (field ∷ without_first name fields)) ≡ drop 1 (map (λ f. f.value)
+    (cond t (field ∷ filter (λ f. is_same_name f.name name) fields) (filter (λ f. is_same_name f.name name) fields)))
 by_name true name field fields is rest = refl
-by_name false name field fields is rest = ap (λ t. map (λ (f : Field). f.value) (cond t (field ∷ filter (λ f. is_same_name f.name name) (without_first name fields)) (filter (λ f. is_same_name f.name name) (without_first name fields)))) is ∙ rest
+by_name false name field fields is rest = ap (λ t. map (λ (f : Field). f.value) (cond t (field ∷ filter (λ f. is_same_name f.name name) (without_first name fields))
+    (filter (λ f. is_same_name f.name name) (without_first name fields)))) is ∙ rest
 
 first_off : (name : FieldName) (fields : List Field) → values_of name (without_first name fields) ≡ drop 1 (values_of name fields)
 first_off name [] = refl
@@ -54,14 +57,17 @@ last_off name fields =
 own_off : (own : Own) (fields : List Field) → values_of Name.Route (without_own_route own fields) ≡ without_own own (values_of Name.Route fields)
 own_off own fields = by_test (begins_with_own own (values_of Name.Route fields))
   where
-    by_test : (t : Bool) → values_of Name.Route (cond t (without_first Name.Route fields) fields) ≡ cond t (drop 1 (values_of Name.Route fields)) (values_of Name.Route fields)
+    by_test : (t : Bool) → values_of Name.Route (cond t (without_first Name.Route fields) fields)
+        ≡ cond t (drop 1 (values_of Name.Route fields)) (values_of Name.Route fields)
     by_test true = first_off Name.Route fields
     by_test false = refl
 
-pub restored_off : (own : Own) (uri : List ℕ) (fields : List Field) → values_of Name.Route (without_restored own uri fields) ≡ others_than (restored_route own uri fields) (values_of Name.Route fields)
+pub restored_off : (own : Own) (uri : List ℕ) (fields : List Field) → values_of Name.Route (without_restored own uri fields)
+    ≡ others_than (restored_route own uri fields) (values_of Name.Route fields)
 restored_off own uri fields = by_test (is_some (restored_route own uri fields))
   where
-    by_test : (t : Bool) → values_of Name.Route (cond t (without_last Name.Route fields) fields) ≡ cond t (all_but_last (values_of Name.Route fields)) (values_of Name.Route fields)
+    by_test : (t : Bool) → values_of Name.Route (cond t (without_last Name.Route fields) fields)
+        ≡ cond t (all_but_last (values_of Name.Route fields)) (values_of Name.Route fields)
     by_test true = last_off Name.Route fields
     by_test false = refl
 

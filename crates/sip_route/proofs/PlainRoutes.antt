@@ -15,9 +15,12 @@ port_is None (Some n) e = absurd cc
 port_is (Some ds) None e = absurd cc
 port_is (Some ds) (Some n) e = cc
 
-pub own_at : (own : Own) (value host : List ℕ) (port : Option ℕ) → IsBracketedPlace value host port → (is_own_host own host && unwrap_or port 5060 == own.port) ≡ begins_with_own own (value ∷ [])
+pub own_at : (own : Own) (value host : List ℕ) (port : Option ℕ) → IsBracketedPlace value host port
+    → (is_own_host own host && unwrap_or port 5060 == own.port) ≡ begins_with_own own (value ∷ [])
 own_at own value host port is =
-    let first : begins_with_own own (value ∷ []) ≡ names_own_place own is.address.uri = ap (λ (o : Option NameAddr). option_map_or (λ route. names_own_place own route.uri) o false) is.is_route in
-    let named : names_own_place own is.address.uri ≡ (is_own_host own is.uri.host && unwrap_or (port_number is.uri.port) 5060 == own.port) = ap (names_own_place own) is.has_uri in
+    let first : begins_with_own own (value ∷ []) ≡ names_own_place own is.address.uri =
+    ap (λ (o : Option NameAddr). option_map_or (λ route. names_own_place own route.uri) o false) is.is_route in
+    let named : names_own_place own is.address.uri ≡ (is_own_host own is.uri.host && unwrap_or (port_number is.uri.port) 5060 == own.port) =
+    ap (names_own_place own) is.has_uri in
     sym (first ∙ named ∙ ap (λ (h : List ℕ). is_own_host own h && unwrap_or (port_number is.uri.port) 5060 == own.port) is.has_host
     ∙ ap (λ (p : Option ℕ). is_own_host own host && unwrap_or p 5060 == own.port) (port_is is.uri.port port is.has_port))

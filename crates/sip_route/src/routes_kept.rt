@@ -1,7 +1,6 @@
 //! Which Routes of a request are left once this server's own part of its way is taken off (RFC 3261 16.4), told by two numbers.
 //! The way itself is in `way`.
-ghost use Rattle.std.specs.Prelude.{◌≡◌, ◌≤◌, IfOk, is_some, length, map, if◌then◌else◌};
-ghost use Rattle.sip_message_form.specs.ViewStart.{start_seen};
+ghost use Rattle.std.specs.Prelude.{◌≡◌, IfOk, is_some, map};
 ghost use Rattle.sip_route.specs.Way as Ways;
 ghost use Rattle.sip_route.specs.Routes.{all_but_last};
 ghost use Rattle.sip_route.specs.RoutesKept as Kept;

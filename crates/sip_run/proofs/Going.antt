@@ -24,7 +24,8 @@ goes_nothing server standing until list = record {
   listed = sym (append-nil list);
 }
 
-happens_next : (server : Server) (old mid new : Standing) (at : ℕ) (out : StepOut) (a b c : List StepOut) → Goes server old mid [] (Some at) a b → IsFirstOf server mid.queue mid.state at out new.state → IsQueueAfter mid new
+happens_next : (server : Server) (old mid new : Standing) (at : ℕ) (out : StepOut) (a b c : List StepOut) → Goes server old mid [] (Some at) a b
+    → IsFirstOf server mid.queue mid.state at out new.state → IsQueueAfter mid new
     → c ≡ b ++ out ∷ [] → Goes server old new [] (Some at) a c
 happens_next server old mid new at out a b c h happens queue more = record {
   steps = h.steps ++ out ∷ [];
@@ -42,12 +43,14 @@ happens_next server old mid new at out a b c h happens queue more = record {
 }
 
 -- what is due happens, of the server as it is then
-pub goes_firing : (server then_server : Server) (old mid new : Standing) (at : ℕ) (out : StepOut) (a b c : List StepOut) → then_server ≡ server → Goes server old mid [] (Some at) a b
+pub goes_firing : (server then_server : Server) (old mid new : Standing) (at : ℕ) (out : StepOut) (a b c : List StepOut) → then_server ≡ server
+    → Goes server old mid [] (Some at) a b
     → Fires then_server mid at out new → c ≡ b ++ out ∷ [] → Goes server old new [] (Some at) a c
 goes_firing server then_server old mid new at out a b c same h fires more =
     happens_next server old mid new at out a b c h (subst (λ s. IsFirstOf s mid.queue mid.state at out new.state) same fires.happens) fires.queue more
 
-event_next : (server : Server) (old mid new : Standing) (event : Event) (out : StepOut) (a b c : List StepOut) → Goes server old mid [] (Some (event_moment event)) a b → IsInTurn mid.state event
+event_next : (server : Server) (old mid new : Standing) (event : Event) (out : StepOut) (a b c : List StepOut) → Goes server old mid [] (Some (event_moment event)) a b
+    → IsInTurn mid.state event
     → IsStep server mid.state (Given event) out new.state → IsQueueAfter mid new → c ≡ b ++ out ∷ [] → Goes server old new (event ∷ []) None a c
 event_next server old mid new event out a b c h turn step queue more = record {
   steps = h.steps ++ out ∷ [];
@@ -65,16 +68,20 @@ event_next server old mid new event out a b c h turn step queue more = record {
 }
 
 -- the event's own step comes, of the server as it is then
-pub goes_taking : (server then_server : Server) (old mid new : Standing) (at : ℕ) (event : Event) (out : StepOut) (a b c : List StepOut) → then_server ≡ server → at ≡ event_moment event
-    → Goes server old mid [] (Some at) a b → IsInTurn mid.state event → IsStep then_server mid.state (Given event) out new.state → IsQueueAfter mid new → c ≡ b ++ out ∷ []
+pub goes_taking : (server then_server : Server) (old mid new : Standing) (at : ℕ) (event : Event) (out : StepOut) (a b c : List StepOut) → then_server ≡ server
+    → at ≡ event_moment event
+    → Goes server old mid [] (Some at) a b → IsInTurn mid.state event → IsStep then_server mid.state (Given event) out new.state → IsQueueAfter mid new
+    → c ≡ b ++ out ∷ []
     → Goes server old new (event ∷ []) None a c
 goes_taking server then_server old mid new at event out a b c same is h turn step queue more =
-    event_next server old mid new event out a b c (subst (λ (m : ℕ). Goes server old mid [] (Some m) a b) is h) turn (subst (λ s. IsStep s mid.state (Given event) out new.state) same step) queue more
+    event_next server old mid new event out a b c (subst (λ (m : ℕ). Goes server old mid [] (Some m) a b) is h) turn
+    (subst (λ s. IsStep s mid.state (Given event) out new.state) same step) queue more
 
 -- ---- one run behind another
 
 -- a run up to its last event is one up to any moment behind it
-paced_act : (until : Option ℕ) (act : Act) (history : List Link) → (IsUpTo None act × IsPaced (next_moment None act) history) → (IsUpTo until act × IsPaced (next_moment until act) history)
+paced_act : (until : Option ℕ) (act : Act) (history : List Link) → (IsUpTo None act × IsPaced (next_moment None act) history)
+    → (IsUpTo until act × IsPaced (next_moment until act) history)
 paced_act until (Given event) history h = h
 paced_act until (Passing at) history h = absurd h.0
 
@@ -82,9 +89,16 @@ paced_on : (until : Option ℕ) (history : List Link) → IsPaced None history �
 paced_on until [] h = tt
 paced_on until (link ∷ history) h = paced_act until link.act history h
 
-run_on : (server : Server) (old new : ProxyState) (events : List Event) (until : Option ℕ) (steps : List StepOut) (history : List Link) → IsRun server old events None steps history new
+run_on : (server : Server) (old new : ProxyState) (events : List Event) (until : Option ℕ) (steps : List StepOut) (history : List Link)
+    → IsRun server old events None steps history new
     → IsRun server old events until steps history new
-run_on server old new events until steps history h = record { chain = h.chain; paced = paced_on until history h.paced; of_events = h.of_events; of_steps = h.of_steps; configured = h.configured }
+run_on server old new events until steps history h = record {
+  chain = h.chain;
+  paced = paced_on until history h.paced;
+  of_events = h.of_events;
+  of_steps = h.of_steps;
+  configured = h.configured;
+}
 
 abbrev pub RunsJoin : Type 0
 RunsJoin =
@@ -92,28 +106,33 @@ RunsJoin =
     → IsRun server first events (first_moment more until) steps history middle → IsRun server middle more until further later last
     → IsRun server first (events ++ more) until (steps ++ further) (later ++ history) last
 
-goes_both : RunsJoin → (server : Server) (old mid new : Standing) (events more : List Event) (until : Option ℕ) (a b c : List StepOut) → Goes server old mid events None a b → Goes server mid new more until b c
+goes_both : RunsJoin → (server : Server) (old mid new : Standing) (events more : List Event) (until : Option ℕ) (a b c : List StepOut)
+    → Goes server old mid events None a b → Goes server mid new more until b c
     → Goes server old new (events ++ more) until a c
 goes_both join server old mid new events more until a b c h next = record {
   steps = h.steps ++ next.steps;
   history = next.history ++ h.history;
   is_run = join server old.state mid.state new.state events more until h.steps next.steps h.history next.history
       (run_on server old.state mid.state events (first_moment more until) h.steps h.history h.is_run) next.is_run;
-  turns = queued_joined (λ (standing : List Entry) (link : Link). IsTurn server standing link.before link.act link.out link.after) old.queue h.history next.history h.turns
+  turns = queued_joined (λ (standing : List Entry) (link : Link). IsTurn server standing link.before link.act link.out link.after) old.queue h.history next.history
+      h.turns
       (subst (λ (q : List Entry). AreTurns server q next.history) h.queue next.turns);
   queue = queue_behind old mid new h.history next.history h.queue next.queue;
   listed = next.listed ∙ ap (λ l. l ++ next.steps) h.listed ∙ append_assoc a h.steps next.steps;
 }
 
 -- the same of the server as it is then
-pub goes_on : RunsJoin → (server then_server : Server) (old mid new : Standing) (events more : List Event) (until : Option ℕ) (a b c : List StepOut) → then_server ≡ server → Goes server old mid events None a b
+pub goes_on : RunsJoin → (server then_server : Server) (old mid new : Standing) (events more : List Event) (until : Option ℕ) (a b c : List StepOut)
+    → then_server ≡ server → Goes server old mid events None a b
     → Goes then_server mid new more until b c → Goes server old new (events ++ more) until a c
 goes_on join server then_server old mid new events more until a b c same h next =
     goes_both join server old mid new events more until a b c h (subst (λ s. Goes s mid new more until b c) same next)
 
 -- an event more of a list
-pub goes_more : RunsJoin → (server then_server : Server) (old mid new : Standing) (events : List Event) (i : ℕ) (event : Event) (a b c : List StepOut) → i < length events → event ≡ get_or events i event → then_server ≡ server
+pub goes_more : RunsJoin → (server then_server : Server) (old mid new : Standing) (events : List Event) (i : ℕ) (event : Event) (a b c : List StepOut) → i < length events
+    → event ≡ get_or events i event → then_server ≡ server
     → Goes server old mid (take i events) None a b → Goes then_server mid new (event ∷ []) None b c → Goes server old new (take (i + 1) events) None a c
 goes_more join server then_server old mid new events i event a b c lt is same h next =
     let one_more : take (i + 1) events ≡ take i events ++ event ∷ [] = take_more events i event lt ∙ ap (λ (e : Event). take i events ++ e ∷ []) (sym is) in
-    subst (λ (es : List Event). Goes server old new es None a c) (sym one_more) (goes_on join server then_server old mid new (take i events) (event ∷ []) None a b c same h next)
+    subst (λ (es : List Event). Goes server old new es None a c) (sym one_more) (goes_on join server then_server old mid new (take i events) (event ∷ []) None a b c same
+    h next)

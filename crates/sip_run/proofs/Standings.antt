@@ -11,5 +11,6 @@ use Rattle.sip_run.specs.Due.{standing_of}
 abbrev pub with_timers : ProxyState → List Timer → Standing
 with_timers state timers = record { state = state; queue = map entry_of timers }
 
-pub standing_is : (engine : Engine) (state : ProxyState) (timers : List Timer) → engine.state ≡ state → engine.timers ≡ timers → standing_of engine ≡ with_timers state timers
+pub standing_is : (engine : Engine) (state : ProxyState) (timers : List Timer) → engine.state ≡ state → engine.timers ≡ timers
+    → standing_of engine ≡ with_timers state timers
 standing_is engine state timers same stand = ap₂ with_timers same stand

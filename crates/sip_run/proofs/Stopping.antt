@@ -12,11 +12,10 @@ use Rattle.sip_engine.specs.model.Access.{Access}
 use Rattle.model_bounds.specs.Bounds.{IsBounded}
 use Rattle.sip_engine.specs.declared.error.StepError.{StepError}
 use Rattle.sip_engine.specs.declared.error.StepError.TheVariants.{NoMemory}
-use Rattle.sip_engine.specs.StepError.{refusal_at}
 use Rattle.model_order.specs.Order.{Standing, first_standing}
-use Rattle.sip_run.specs.Due.{Fires, IsDueBy, NothingDueBy}
+use Rattle.sip_run.specs.Due.{NothingDueBy}
 use Rattle.sip_run.specs.Refusals.{RefusesStep, refusal_of_event}
-use Rattle.sip_run.specs.Runs.{IsRunOver, Goes, FiringHalts, Halts, Stops}
+use Rattle.sip_run.specs.Runs.{IsRunOver, Goes, Halts, Stops}
 use Rattle.sip_run.proofs.Going.{RunsJoin, goes_on}
 
 -- ---- before an event
@@ -25,21 +24,9 @@ use Rattle.sip_run.proofs.Going.{RunsJoin, goes_on}
 no_memory : (refusal : Option StepError) (e : StepError) → refusal ≡ None → e ≡ NoMemory → RefusesStep refusal e
 no_memory refusal e none is = subst (λ r. RefusesStep r e) (sym none) is
 
--- what happened can't be listed
-pub firing_unlisted : (server then_server : Server) (old mid new : Standing) (at : ℕ) (out : StepOut) (a b : List StepOut) (e : StepError) → Goes server old mid [] (Some at) a b
-    → Fires then_server mid at out new → e ≡ NoMemory → FiringHalts server old at a b e
-firing_unlisted server then_server old mid new at out a b e h fires is = record { last = mid; goes = h; is_due = fires.is_due; refused = no_memory (refusal_at at) e fires.not_refused is }
-
--- what is due is refused
-pub halts_firing : (server : Server) (old : Standing) (at : ℕ) (event : Event) (a b : List StepOut) (e : StepError) → at ≡ event_moment event → FiringHalts server old at a b e → Halts server old event a b e
-halts_firing server old at event a b e is h = record {
-  last = h.last;
-  goes = subst (λ (m : ℕ). Goes server old h.last [] (Some m) a b) is h.goes;
-  refused = inl (subst (λ (m : ℕ). IsDueBy (moment_of h.last.state m) h.last.state) is h.is_due, subst (λ (m : ℕ). RefusesStep (refusal_at m) e) is h.refused);
-}
-
 -- the event's own step is refused
-pub halts_taking : (server : Server) (old mid : Standing) (at : ℕ) (event : Event) (a b : List StepOut) (e : StepError) → at ≡ event_moment event → Goes server old mid [] (Some at) a b
+pub halts_taking : (server : Server) (old mid : Standing) (at : ℕ) (event : Event) (a b : List StepOut) (e : StepError) → at ≡ event_moment event
+    → Goes server old mid [] (Some at) a b
     → NothingDueBy (moment_of mid.state (event_moment event)) mid.state → RefusesStep (refusal_of_event mid.state event) e → Halts server old event a b e
 halts_taking server old mid at event a b e is h none refused = record {
   last = mid;
@@ -47,15 +34,10 @@ halts_taking server old mid at event a b e is h none refused = record {
   refused = inr (none, refused);
 }
 
--- that can't be listed
-pub halts_unlisted : (server : Server) (old mid : Standing) (at : ℕ) (event : Event) (a b : List StepOut) (e : StepError) → at ≡ event_moment event → Goes server old mid [] (Some at) a b
-    → NothingDueBy (moment_of mid.state (event_moment event)) mid.state → refusal_of_event mid.state event ≡ None → e ≡ NoMemory → Halts server old event a b e
-unfolding halts_taking
-halts_unlisted server old mid at event a b e is h none not_refused wants = halts_taking server old mid at event a b e is h none (no_memory (refusal_of_event mid.state event) e not_refused wants)
-
 -- ---- behind events that were taken
 
-pub stops_at : RunsJoin → (server then_server : Server) (old mid : Standing) (events : List Event) (i : ℕ) (event : Event) (a b c : List StepOut) (e : StepError) → i < length events → event ≡ get_or events i event
+pub stops_at : RunsJoin → (server then_server : Server) (old mid : Standing) (events : List Event) (i : ℕ) (event : Event) (a b c : List StepOut) (e : StepError)
+    → i < length events → event ≡ get_or events i event
     → then_server ≡ server → Goes server old mid (take i events) None a b → Halts then_server mid event b c e → Stops server old events a c e
 stops_at join server then_server old mid events i event a b c e lt is same h halts = record {
   taken = take i events;
@@ -89,9 +71,13 @@ AllAreLawful =
 
 -- by the two laws
 pub by_laws : AllHaveAccess → AllAreBounded → AllAreLawful
-by_laws access bounded = λ server first events until steps history last run. (access server first events until steps history last run, bounded server first history last run.chain)
+by_laws access bounded = λ server first events until steps history last run. (
+  access server first events until steps history last run,
+  bounded server first history last run.chain,
+)
 
-run_over : AllAreLawful → (server : Server) (first : ℕ) (last : Standing) (events : List Event) (list : List StepOut) → Goes server (first_standing first) last events None [] list → IsRunOver server first events list None
+run_over : AllAreLawful → (server : Server) (first : ℕ) (last : Standing) (events : List Event) (list : List StepOut)
+    → Goes server (first_standing first) last events None [] list → IsRunOver server first events list None
 run_over law server first last events list h = record {
   taken = events;
   left = [];
@@ -105,14 +91,16 @@ run_over law server first last events list h = record {
   ended = inl tt;
 }
 
-run_stopped : AllAreLawful → (server : Server) (first : ℕ) (events : List Event) (list : List StepOut) (e : StepError) → Stops server (first_standing first) events [] list e → IsRunOver server first events list (Some e)
+run_stopped : AllAreLawful → (server : Server) (first : ℕ) (events : List Event) (list : List StepOut) (e : StepError)
+    → Stops server (first_standing first) events [] list e → IsRunOver server first events list (Some e)
 run_stopped law server first events list e h = record {
   taken = h.taken;
   left = h.event ∷ h.left;
   history = h.goes.history;
   last = h.last.state;
   cut = h.cut;
-  is_run = subst (λ (l : List StepOut). IsRun server (first_state first) h.taken (Some (event_moment h.event)) l h.goes.history h.last.state) (sym h.goes.listed) h.goes.is_run;
+  is_run = subst (λ (l : List StepOut). IsRun server (first_state first) h.taken (Some (event_moment h.event)) l h.goes.history h.last.state) (sym h.goes.listed)
+      h.goes.is_run;
   turns = h.goes.turns;
   access = (law server first h.taken (Some (event_moment h.event)) h.goes.steps h.goes.history h.last.state h.goes.is_run).0;
   bounded = (law server first h.taken (Some (event_moment h.event)) h.goes.steps h.goes.history h.last.state h.goes.is_run).1;
@@ -120,7 +108,8 @@ run_stopped law server first events list e h = record {
 }
 
 -- all events were taken by a server that was opened
-pub whole : AllAreLawful → (server then_server : Server) (first : ℕ) (start_at last : Standing) (events : List Event) (start list : List StepOut) → then_server ≡ server → start_at ≡ first_standing first → start ≡ []
+pub whole : AllAreLawful → (server then_server : Server) (first : ℕ) (start_at last : Standing) (events : List Event) (start list : List StepOut) → then_server ≡ server
+    → start_at ≡ first_standing first → start ≡ []
     → Goes then_server start_at last events None start list → IsRunOver server first events list None
 whole law server then_server first start_at last events start list same at_first none h =
     run_over law server first last events list
@@ -128,7 +117,8 @@ whole law server then_server first start_at last events start list same at_first
     (subst (λ (x : Standing). Goes server x last events None start list) at_first (subst (λ s. Goes s start_at last events None start list) same h)))
 
 -- up to a refusal
-pub stopped : AllAreLawful → (server then_server : Server) (first : ℕ) (start_at : Standing) (events : List Event) (start list : List StepOut) (e : StepError) → then_server ≡ server → start_at ≡ first_standing first
+pub stopped : AllAreLawful → (server then_server : Server) (first : ℕ) (start_at : Standing) (events : List Event) (start list : List StepOut) (e : StepError)
+    → then_server ≡ server → start_at ≡ first_standing first
     → start ≡ [] → Stops then_server start_at events start list e → IsRunOver server first events list (Some e)
 stopped law server then_server first start_at events start list e same at_first none h =
     run_stopped law server first events list e
@@ -138,7 +128,8 @@ stopped law server then_server first start_at events start list e same at_first 
 -- there was no server
 nothing_run : AllAreLawful → (server : Server) (first : ℕ) (events : List Event) → IsRunOver server first events [] (Some NoMemory)
 nothing_run law server first events =
-    let nothing : IsRun server (first_state first) [] (first_moment events None) [] [] (first_state first) = record { chain = refl; paced = tt; of_events = refl; of_steps = refl; configured = tt } in
+    let nothing : IsRun server (first_state first) [] (first_moment events None) [] [] (first_state first) =
+    record { chain = refl; paced = tt; of_events = refl; of_steps = refl; configured = tt } in
     record {
       taken = [];
       left = events;
@@ -153,4 +144,5 @@ nothing_run law server first events =
     }
 
 pub unopened : AllAreLawful → (server : Server) (first : ℕ) (events : List Event) (list : List StepOut) → list ≡ [] → IsRunOver server first events list (Some NoMemory)
-unopened law server first events list none = subst (λ (l : List StepOut). IsRunOver server first events l (Some NoMemory)) (sym none) (nothing_run law server first events)
+unopened law server first events list none = subst (λ (l : List StepOut). IsRunOver server first events l (Some NoMemory)) (sym none)
+    (nothing_run law server first events)

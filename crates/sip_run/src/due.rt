@@ -26,6 +26,7 @@ pub fn fire_next<T: Timers, R: Rules>(
     ensures due { OnErr result (IsDueBy (moment_of engine.old.state at) engine.old.state) }
     ensures refused { IfErr result (RefusesStep (refusal_at at)) }
     ensures unchanged { OnErr result (engine.new ≡ engine.old) }
+    ensures secrets { engine.new.secrets ≡ engine.old.secrets }
 {
     let Some(due) = engine.next_due() else {
         return Ok(None);

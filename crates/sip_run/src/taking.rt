@@ -39,6 +39,7 @@ pub fn take_event<T: Timers, R: Rules>(
     ensures never_refused { NeedsNoMemory engine.old.state event.now → refusal_of_event engine.old.state event.now ≡ None → IsOk result }
     ensures unchanged { OnErr result (engine.new ≡ engine.old) }
     ensures refused { IfErr result (RefusesStep (refusal_of_event engine.old.state event.now)) }
+    ensures secrets { engine.new.secrets ≡ engine.old.secrets }
 {
     match event {
         Event::Datagram {
@@ -68,6 +69,7 @@ pub fn take_datagram<T: Timers, R: Rules>(
     ensures not_refused { OnOk result (refusal_of_event engine.old.state (Datagram at word from bytes.now) ≡ None) }
     ensures unchanged { OnErr result (engine.new ≡ engine.old) }
     ensures refused { IfErr result (RefusesStep (refusal_of_event engine.old.state (Datagram at word from bytes.now))) }
+    ensures secrets { engine.new.secrets ≡ engine.old.secrets }
 {
     engine.deliver(at, word, from, bytes)
 }

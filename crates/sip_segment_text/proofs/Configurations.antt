@@ -1,5 +1,6 @@
 -- Where a configuration stands, and where none does.
-use Rattle.std.proofs.Common.{◌≡◌, ◌≢◌, ℕ, ◌+◌, ◌≤◌, ◌<◌, List, [], ◌∷◌, ◌++◌, length, take, drop, Bool, true, false, Option, Some, None, inl, inr, refl, sym, ◌∙◌, ap, ap₂, subst, arith, append-nil, append_assoc, length-append}
+use Rattle.std.proofs.Common.{◌≡◌, ◌≢◌, ℕ, ◌+◌, ◌≤◌, ◌<◌, List, [], ◌∷◌, ◌++◌, length, take, drop, Bool, true, false, Option, Some, None, inl, inr, refl, sym, ◌∙◌, ap}
+use Rattle.std.proofs.Common.{ap₂, subst, arith, append-nil, append_assoc, length-append}
 use Rattle.std.specs.Prelude.{◌⊎◌, ◌||◌, nat_eq, count_by, codes, All, IfSome, if◌then◌else◌}
 use Rattle.std.specs.List.{flat_map, starts_with}
 use Rattle.std.specs.Str.{bytes_eq}
@@ -14,13 +15,16 @@ use Rattle.sip_segment_text.specs.declared.configuration_stop.ConfigurationStop.
 use Rattle.sip_replay_script.specs.Lines.{Reading, GivesLine, HasNoLine, IsLine, IsLong, IsOver, IsUnfinished, LineStops, is_end, left, pending}
 use Rattle.sip_replay_script.specs.Events.{ended}
 use Rattle.sip_segment_text.specs.Segments.{configuration_line, piece_of, pieces_of, GivesText, SaysConfiguration}
-use Rattle.sip_segment_text.specs.Configurations.{begins_piece, begins_rest, rest_stop, ConfigurationStops, GivesConfiguration, IsCutConfiguration, IsCutRest, IsDamagedConfiguration, IsLongConfiguration, IsLongPiece, IsLongRest, IsNoRest, PieceStops, RestStops, SaysRest, TakesPiece}
+use Rattle.sip_segment_text.specs.Configurations.{begins_piece, begins_rest, rest_stop, ConfigurationStops, GivesConfiguration, IsCutConfiguration, IsCutRest}
+use Rattle.sip_segment_text.specs.Configurations.{IsDamagedConfiguration, IsLongConfiguration, IsLongPiece, IsLongRest, IsNoRest, PieceStops, RestStops, SaysRest}
+use Rattle.sip_segment_text.specs.Configurations.{TakesPiece}
 use Rattle.sip_replay_script.proofs.CutEvents.{head_is, not_nil, tail_is}
 use Rattle.sip_replay_script.proofs.Damaged.{front_of_line, no_line_yet}
 use Rattle.sip_replay_script.proofs.Datagrams.{behind_any, nothing_left}
 use Rattle.sip_replay_script.proofs.LineEnds.{ends_add, one_end}
 use Rattle.sip_replay_script.proofs.OneReading.{line_stands, same_line}
-use Rattle.sip_segment_text.proofs.Segments.{configuration_is_line, configuration_no_piece, first_is_line, gives_both, gives_no_piece, gives_nothing, gives_one, others_are_lines, parted, piece_is, IsPiece}
+use Rattle.sip_segment_text.proofs.Segments.{configuration_is_line, configuration_no_piece, first_is_line, gives_both, gives_no_piece, gives_nothing, gives_one}
+use Rattle.sip_segment_text.proofs.Segments.{others_are_lines, parted, piece_is, IsPiece}
 
 -- ---- the first line of what gives the rest of a configuration
 
@@ -35,9 +39,11 @@ some_same : {A : Type 0} (x y : A) → Some x ≡ Some y → x ≡ y
 some_same x y e = cc
 
 first_of_rest : (front text configuration : List ℕ) → SaysRest front text configuration → FirstOfRest front text
-first_of_rest front text configuration says = by_lines says.gives.lines says.gives.are_lines says.gives.gives (says.text_is ∙ ap (λ (l : List ℕ). l ++ ended (configuration_line configuration)) says.gives.text_is)
+first_of_rest front text configuration says = by_lines says.gives.lines says.gives.are_lines says.gives.gives
+    (says.text_is ∙ ap (λ (l : List ℕ). l ++ ended (configuration_line configuration)) says.gives.text_is)
   where
-    by_lines : (lines : List (List ℕ)) → All IsLine lines → pieces_of lines ≡ Some says.given → text ≡ flat_map ended lines ++ ended (configuration_line configuration) → FirstOfRest front text
+    by_lines : (lines : List (List ℕ)) → All IsLine lines → pieces_of lines ≡ Some says.given → text ≡ flat_map ended lines ++ ended (configuration_line configuration)
+        → FirstOfRest front text
     by_lines [] are gives is = record {
       line = configuration_line configuration;
       more = [];
@@ -65,16 +71,19 @@ none_piece : (line piece : List ℕ) → piece_of line ≡ Some piece → piece_
 none_piece line piece some none = absurd cc
 
 -- another line
-other_first : (front text configuration line more further : List ℕ) → SaysRest front text configuration → IsLine line → piece_of line ≡ None → bytes_eq line (configuration_line front) ≡ false → text ++ more ≡ ended line ++ further → ⊥
+other_first : (front text configuration line more further : List ℕ) → SaysRest front text configuration → IsLine line → piece_of line ≡ None
+    → bytes_eq line (configuration_line front) ≡ false → text ++ more ≡ ended line ++ further → ⊥
 other_first front text configuration line more further says is_line none other e =
     let f = first_of_rest front text configuration says in
-    let same : f.line ≡ line = (same_line f.line line (f.more ++ more) further f.is_line.single is_line.single (sym (append_assoc (ended f.line) f.more more) ∙ ap (λ (l : List ℕ). l ++ more) (sym f.cut) ∙ e)).0 in
+    let same : f.line ≡ line = (same_line f.line line (f.more ++ more) further f.is_line.single is_line.single
+    (sym (append_assoc (ended f.line) f.more more) ∙ ap (λ (l : List ℕ). l ++ more) (sym f.cut) ∙ e)).0 in
     elim f.kind [
       | inl p ↦ none_piece line p.0 (ap piece_of (sym same) ∙ p.1) none
       | inr c ↦ true_false (bytes_eq line (configuration_line front)) ((bytes_eq-Decides line (configuration_line front)).1 (sym same ∙ c)) other
     ]
 
-pub other_rest : (front rest line further : List ℕ) → IsLine line → piece_of line ≡ None → bytes_eq line (configuration_line front) ≡ false → rest ≡ ended line ++ further → IsNoRest front rest
+pub other_rest : (front rest line further : List ℕ) → IsLine line → piece_of line ≡ None → bytes_eq line (configuration_line front) ≡ false → rest ≡ ended line ++ further
+    → IsNoRest front rest
 other_rest front rest line further is_line none other cut = record {
   none = λ text more configuration e says. other_first front text configuration line more further says is_line none other (sym e ∙ cut);
   no_front = λ c. other_first front (rest ++ c.more) c.configuration line [] (further ++ c.more) c.says is_line none other
@@ -99,11 +108,18 @@ over_rest front rest none = record {
   more = ended (configuration_line front);
   configuration = front;
   cut = not_nil 99 _;
-  says = record { lines = []; given = []; gives = gives_nothing; whole = sym (append-nil front); text_is = ap (λ (l : List ℕ). l ++ ended (configuration_line front)) none };
+  says = record {
+    lines = [];
+    given = [];
+    gives = gives_nothing;
+    whole = sym (append-nil front);
+    text_is = ap (λ (l : List ℕ). l ++ ended (configuration_line front)) none;
+  };
 }
 
 -- a line that gives too much
-pub long_piece : (longest : ℕ) (front rest line further : List ℕ) → IsLine line → rest ≡ ended line ++ further → IsLongPiece longest line front → IsLongRest longest front rest
+pub long_piece : (longest : ℕ) (front rest line further : List ℕ) → IsLine line → rest ≡ ended line ++ further → IsLongPiece longest line front
+    → IsLongRest longest front rest
 long_piece longest front rest line further is_line cut p = record {
   text = ended line;
   further = further;
@@ -130,7 +146,8 @@ mark_and_blank a b mark seen e =
     let both : mark ∷ 32 ∷ [] ≡ a ∷ b ∷ [] = (starts_is Decides-eqb (mark ∷ 32 ∷ []) (a ∷ b ∷ []) true (sym e)).0 refl in
     (sym (head_is mark a (32 ∷ []) (b ∷ []) both), sym (head_is 32 b [] [] (tail_is mark a (32 ∷ []) (b ∷ []) both)))
 
-goes_on : (seen : List ℕ) (mark : ℕ) → seen ≢ [] → IsLine seen → starts_with nat_eq (mark ∷ 32 ∷ []) (take 2 seen) ≡ true → IsLine (mark ∷ 32 ∷ []) → ((bytes : List ℕ) → (piece : List ℕ) × (piece_of (mark ∷ 32 ∷ bytes) ≡ Some piece)) → GoesOnAsPiece seen
+goes_on : (seen : List ℕ) (mark : ℕ) → seen ≢ [] → IsLine seen → starts_with nat_eq (mark ∷ 32 ∷ []) (take 2 seen) ≡ true → IsLine (mark ∷ 32 ∷ [])
+    → ((bytes : List ℕ) → (piece : List ℕ) × (piece_of (mark ∷ 32 ∷ bytes) ≡ Some piece)) → GoesOnAsPiece seen
 goes_on [] mark begun is_line e whole gives = absurd (begun refl)
 goes_on (a ∷ []) mark begun is_line e whole gives =
     let is : a ∷ 32 ∷ [] ≡ mark ∷ 32 ∷ [] = ap (λ (n : ℕ). n ∷ 32 ∷ []) (mark_alone a mark e) in
@@ -162,7 +179,8 @@ cut_piece front rest seen all g = record {
     whole = refl;
     text_is =
         ap (λ (l : List ℕ). l ++ (g.tail ++ 10 ∷ ended (configuration_line (front ++ g.piece)))) all
-        ∙ sym (append_assoc seen g.tail (10 ∷ ended (configuration_line (front ++ g.piece)))) ∙ sym (append_assoc (seen ++ g.tail) (10 ∷ []) (ended (configuration_line (front ++ g.piece))));
+        ∙ sym (append_assoc seen g.tail (10 ∷ ended (configuration_line (front ++ g.piece))))
+        ∙ sym (append_assoc (seen ++ g.tail) (10 ∷ []) (ended (configuration_line (front ++ g.piece))));
   };
 }
 
@@ -192,7 +210,8 @@ cut_rest front rest seen u e = by_tests (begins_piece seen) (starts_with nat_eq 
     by_tests false false is_s is_t h = absurd cc
 
 -- or it doesn't
-begins_so : (seen more bytes : List ℕ) (mark : ℕ) → seen ≢ [] → begins_piece (mark ∷ []) ≡ true → ((rest : List ℕ) → begins_piece (mark ∷ 32 ∷ rest) ≡ true) → seen ++ more ≡ mark ∷ 32 ∷ bytes → begins_piece seen ≡ true
+begins_so : (seen more bytes : List ℕ) (mark : ℕ) → seen ≢ [] → begins_piece (mark ∷ []) ≡ true → ((rest : List ℕ) → begins_piece (mark ∷ 32 ∷ rest) ≡ true)
+    → seen ++ more ≡ mark ∷ 32 ∷ bytes → begins_piece seen ≡ true
 begins_so [] more bytes mark begun alone all e = absurd (begun refl)
 begins_so (a ∷ []) more bytes mark begun alone all e = ap (λ (n : ℕ). begins_piece (n ∷ [])) (head_is a mark more (32 ∷ bytes) e) ∙ alone
 begins_so (a ∷ b ∷ seen) more bytes mark begun alone all e =
@@ -213,7 +232,8 @@ no_end_inside : (rest seen text more line further : List ℕ) → IsUnfinished s
 no_end_inside rest seen text more line further u is_line cut e =
     let all : seen ≡ ended line ++ (further ++ more) = sym u.all ∙ e ∙ ap (λ (l : List ℕ). l ++ more) cut ∙ append_assoc (ended line) further more in
     let one : count_by is_end (ended line) ≡ 1 = one_end line is_line in
-    let sum : count_by is_end (ended line ++ (further ++ more)) ≡ count_by is_end (ended line) + count_by is_end (further ++ more) = ends_add (ended line) (further ++ more) in
+    let sum : count_by is_end (ended line ++ (further ++ more)) ≡ count_by is_end (ended line) + count_by is_end (further ++ more) =
+    ends_add (ended line) (further ++ more) in
     let none : count_by is_end (ended line ++ (further ++ more)) ≡ 0 = ap (count_by is_end) (sym all) ∙ u.is_line.single in
     absurd (omega (arith, one, sum, none))
 
@@ -228,7 +248,8 @@ unfinished_rest front rest seen u e = record {
   by_front : IsCutRest front rest → ⊥
   by_front c =
       let f = first_of_rest front (rest ++ c.more) c.configuration c.says in
-      let l = front_of_line f.line f.more seen c.more u.is_line.single (sym (append_assoc f.line (10 ∷ []) f.more) ∙ sym f.cut ∙ ap (λ (s : List ℕ). s ++ c.more) u.all) in
+      let l = front_of_line f.line f.more seen c.more u.is_line.single (sym (append_assoc f.line (10 ∷ []) f.more) ∙ sym f.cut ∙ ap (λ (s : List ℕ). s ++ c.more) u.all)
+      in
       elim f.kind [
         | inl p ↦ true_false (begins_piece seen) (piece_begins seen l.more p.0 u.begun (ap piece_of (sym l.is) ∙ p.1)) both.0
         | inr k ↦ true_false (starts_with nat_eq (configuration_line front) seen)
@@ -237,7 +258,8 @@ unfinished_rest front rest seen u e = record {
 
 -- ---- why no line is taken
 
-cut_stops : (longest : ℕ) (F : Type 0) (front rest seen : List ℕ) (t : Bool) → begins_rest front seen ≡ t → IsUnfinished seen rest → RestStops longest F (Some rest) front (if t then Cut else Damaged)
+cut_stops : (longest : ℕ) (F : Type 0) (front rest seen : List ℕ) (t : Bool) → begins_rest front seen ≡ t → IsUnfinished seen rest
+    → RestStops longest F (Some rest) front (if t then Cut else Damaged)
 cut_stops longest F front rest seen true is u = cut_rest front rest seen u is
 cut_stops longest F front rest seen false is u = unfinished_rest front rest seen u is
 
@@ -245,7 +267,8 @@ unknown_stops : (longest : ℕ) (F : Type 0) (front : List ℕ) (t : Bool) → R
 unknown_stops longest F front true = tt
 unknown_stops longest F front false = tt
 
-pub line_stops : (longest : ℕ) (F : Type 0) (script : Option (List ℕ)) (front seen : List ℕ) (stop : ReadStop) → LineStops F script seen stop → RestStops longest F script front (rest_stop front seen stop)
+pub line_stops : (longest : ℕ) (F : Type 0) (script : Option (List ℕ)) (front seen : List ℕ) (stop : ReadStop) → LineStops F script seen stop
+    → RestStops longest F script front (rest_stop front seen stop)
 line_stops longest F script front seen stops.NoMemory h = tt
 line_stops longest F None front seen stops.Damaged h = tt
 line_stops longest F (Some rest) front seen stops.Damaged h = long_rest front rest h
@@ -260,19 +283,23 @@ over_known front (Some rest) h = over_rest front rest h
 pub over_stops : (front : List ℕ) (old new : Reading) (before after : Option (List ℕ)) → IsOver old new before after → IfSome (pending old before) (IsCutRest front)
 over_stops front old new before after over = over_known front (pending old before) (nothing_left (pending old before) (pending new after) over.kept over.at_end)
 
-pub piece_stops : (longest : ℕ) (F : Type 0) (old new : Reading) (before after : Option (List ℕ)) (line front : List ℕ) (stop : ConfigurationStop) → GivesLine old new before after line → PieceStops longest line front stop
+pub piece_stops : (longest : ℕ) (F : Type 0) (old new : Reading) (before after : Option (List ℕ)) (line front : List ℕ) (stop : ConfigurationStop)
+    → GivesLine old new before after line → PieceStops longest line front stop
     → RestStops longest F (pending old before) front stop
 piece_stops longest F old new before after line front NoMemory given h = tt
 piece_stops longest F old new before after line front Damaged given h = absurd h
 piece_stops longest F old new before after line front Cut given h = absurd h
 piece_stops longest F old new before after line front Read given h = absurd h
 piece_stops longest F old new before after line front TooLong given h =
-    behind_any (pending old before) (pending new after) (ended line) {Q = IsLongRest longest front} given.consumes (λ xs ys cut. long_piece longest front xs line ys given.is_line cut h)
+    behind_any (pending old before) (pending new after) (ended line) {Q = IsLongRest longest front} given.consumes
+    (λ xs ys cut. long_piece longest front xs line ys given.is_line cut h)
 
-pub other_stops : (front : List ℕ) (old new : Reading) (before after : Option (List ℕ)) (line : List ℕ) → GivesLine old new before after line → piece_of line ≡ None → bytes_eq line (configuration_line front) ≡ false
+pub other_stops : (front : List ℕ) (old new : Reading) (before after : Option (List ℕ)) (line : List ℕ) → GivesLine old new before after line → piece_of line ≡ None
+    → bytes_eq line (configuration_line front) ≡ false
     → IfSome (pending old before) (IsNoRest front)
 other_stops front old new before after line given none other =
-    behind_any (pending old before) (pending new after) (ended line) {Q = IsNoRest front} given.consumes (λ xs ys cut. other_rest front xs line ys given.is_line none other cut)
+    behind_any (pending old before) (pending new after) (ended line) {Q = IsNoRest front} given.consumes
+    (λ xs ys cut. other_rest front xs line ys given.is_line none other cut)
 
 -- ---- the whole, behind lines that gave a front
 
@@ -284,7 +311,8 @@ record Leftover (given whole rest further last : List ℕ) : Type 0 where
   is : whole ≡ given ++ more
   cut : rest ≡ lines ++ (ended last ++ further)
 
-leftover : (lines others : List (List ℕ)) (given whole rest further last : List ℕ) → All IsLine lines → All IsLine others → pieces_of lines ≡ Some given → pieces_of others ≡ Some whole → IsLine last → piece_of last ≡ None
+leftover : (lines others : List (List ℕ)) (given whole rest further last : List ℕ) → All IsLine lines → All IsLine others → pieces_of lines ≡ Some given
+    → pieces_of others ≡ Some whole → IsLine last → piece_of last ≡ None
     → flat_map ended lines ++ rest ≡ flat_map ended others ++ (ended last ++ further) → Leftover given whole rest further last
 leftover [] others given whole rest further last are are_others h k is_last none e = record {
   lines = flat_map ended others;
@@ -296,14 +324,17 @@ leftover [] others given whole rest further last are are_others h k is_last none
 leftover (l ∷ lines) [] given whole rest further last are are_others h k is_last none e =
     let p = parted l lines given h in
     absurd (gives_no_piece l p.piece last p.first none
-    (same_line l last (flat_map ended lines ++ rest) further (first_is_line l lines are).single is_last.single (sym (append_assoc (ended l) (flat_map ended lines) rest) ∙ e)).0)
+    (same_line l last (flat_map ended lines ++ rest) further (first_is_line l lines are).single is_last.single
+    (sym (append_assoc (ended l) (flat_map ended lines) rest) ∙ e)).0)
 leftover (l ∷ lines) (m ∷ others) given whole rest further last are are_others h k is_last none e =
     let p = parted l lines given h in
     let q = parted m others whole k in
-    let first = same_line l m (flat_map ended lines ++ rest) (flat_map ended others ++ (ended last ++ further)) (first_is_line l lines are).single (first_is_line m others are_others).single
+    let first = same_line l m (flat_map ended lines ++ rest) (flat_map ended others ++ (ended last ++ further)) (first_is_line l lines are).single
+    (first_is_line m others are_others).single
     (sym (append_assoc (ended l) (flat_map ended lines) rest) ∙ e ∙ append_assoc (ended m) (flat_map ended others) (ended last ++ further)) in
     let same : p.piece ≡ q.piece = some_same p.piece q.piece (sym p.first ∙ ap piece_of first.0 ∙ q.first) in
-    let r = leftover lines others p.others q.others rest further last (others_are_lines l lines are) (others_are_lines m others are_others) p.behind q.behind is_last none first.1 in
+    let r = leftover lines others p.others q.others rest further last (others_are_lines l lines are) (others_are_lines m others are_others) p.behind q.behind is_last none
+    first.1 in
     record {
       lines = r.lines;
       more = r.more;
@@ -317,10 +348,13 @@ record RestOf (front rest text further configuration : List ℕ) : Type 0 where
   says : SaysRest front tail configuration
   cut : rest ≡ tail ++ further
 
-rest_of : (lines front rest text further configuration : List ℕ) → GivesText lines front → SaysConfiguration text configuration → lines ++ rest ≡ text ++ further → RestOf front rest text further configuration
+rest_of : (lines front rest text further configuration : List ℕ) → GivesText lines front → SaysConfiguration text configuration → lines ++ rest ≡ text ++ further
+    → RestOf front rest text further configuration
 rest_of lines front rest text further configuration gives says e =
-    let r = leftover gives.lines says.gives.lines front configuration rest further (configuration_line configuration) gives.are_lines says.gives.are_lines gives.gives says.gives.gives (configuration_is_line configuration) (configuration_no_piece configuration)
-    (ap (λ (l : List ℕ). l ++ rest) (sym gives.text_is) ∙ e ∙ ap (λ (l : List ℕ). l ++ further) (says.text_is ∙ ap (λ (l : List ℕ). l ++ ended (configuration_line configuration)) says.gives.text_is)
+    let r = leftover gives.lines says.gives.lines front configuration rest further (configuration_line configuration) gives.are_lines says.gives.are_lines gives.gives
+    says.gives.gives (configuration_is_line configuration) (configuration_no_piece configuration)
+    (ap (λ (l : List ℕ). l ++ rest) (sym gives.text_is) ∙ e ∙ ap (λ (l : List ℕ). l ++ further)
+    (says.text_is ∙ ap (λ (l : List ℕ). l ++ ended (configuration_line configuration)) says.gives.text_is)
     ∙ append_assoc (flat_map ended says.gives.lines) (ended (configuration_line configuration)) further) in
     record {
       tail = r.lines ++ ended (configuration_line configuration);
@@ -331,14 +365,20 @@ rest_of lines front rest text further configuration gives says e =
 no_configuration : (whole lines front rest : List ℕ) → whole ≢ [] → GivesText lines front → whole ≡ lines ++ rest → IsNoRest front rest → IsDamagedConfiguration whole
 no_configuration whole lines front rest some gives cut n = record {
   some = some;
-  none = λ text further configuration e says. let r = rest_of lines front rest text further configuration gives says (sym cut ∙ e) in n.none r.tail further configuration r.cut r.says;
+  none = λ text further configuration e says. let r = rest_of lines front rest text further configuration gives says (sym cut ∙ e) in
+      n.none r.tail further configuration r.cut r.says;
   no_front = by_front;
 } where
   by_front : IsCutConfiguration whole → ⊥
   by_front c =
       let r = rest_of lines front (rest ++ c.more) (whole ++ c.more) [] c.configuration gives c.says
       (sym (append_assoc lines rest c.more) ∙ ap (λ (l : List ℕ). l ++ c.more) (sym cut) ∙ sym (append-nil (whole ++ c.more))) in
-      n.no_front (record { more = c.more; configuration = c.configuration; cut = c.cut; says = subst (λ (l : List ℕ). SaysRest front l c.configuration) (sym (r.cut ∙ append-nil r.tail)) r.says })
+      n.no_front (record {
+        more = c.more;
+        configuration = c.configuration;
+        cut = c.cut;
+        says = subst (λ (l : List ℕ). SaysRest front l c.configuration) (sym (r.cut ∙ append-nil r.tail)) r.says;
+      })
 
 pub joined : (lines front text configuration : List ℕ) → GivesText lines front → SaysRest front text configuration → SaysConfiguration (lines ++ text) configuration
 joined lines front text configuration gives says = record {
@@ -353,10 +393,12 @@ cut_of whole lines front rest some gives cut c = record {
   configuration = c.configuration;
   begun = some;
   cut = c.cut;
-  says = subst (λ (l : List ℕ). SaysConfiguration l c.configuration) (sym (append_assoc lines rest c.more) ∙ ap (λ (l : List ℕ). l ++ c.more) (sym cut)) (joined lines front (rest ++ c.more) c.configuration gives c.says);
+  says = subst (λ (l : List ℕ). SaysConfiguration l c.configuration) (sym (append_assoc lines rest c.more) ∙ ap (λ (l : List ℕ). l ++ c.more) (sym cut))
+      (joined lines front (rest ++ c.more) c.configuration gives c.says);
 }
 
-long_of : (longest : ℕ) (whole lines front rest : List ℕ) → GivesText lines front → whole ≡ lines ++ rest → IsLongRest longest front rest → IsLongConfiguration longest whole
+long_of : (longest : ℕ) (whole lines front rest : List ℕ) → GivesText lines front → whole ≡ lines ++ rest → IsLongRest longest front rest
+    → IsLongConfiguration longest whole
 long_of longest whole lines front rest gives cut l = record {
   text = lines ++ l.text;
   further = l.further;
@@ -378,10 +420,12 @@ pub record Taken (old new : Reading) (before after : Option (List ℕ)) (front :
 pub taken_none : (r : Reading) (before : Option (List ℕ)) → Taken r r before before []
 taken_none r before = record { lines = []; gives = gives_nothing; consumes = Consumes-nil (pending r before); number = omega arith; fewer = omega arith }
 
-pub taken_more : (old mid new : Reading) (before middle after : Option (List ℕ)) (front grown : List ℕ) → Taken old mid before middle front → TakesPiece mid new middle after front grown → Taken old new before after grown
+pub taken_more : (old mid new : Reading) (before middle after : Option (List ℕ)) (front grown : List ℕ) → Taken old mid before middle front
+    → TakesPiece mid new middle after front grown → Taken old new before after grown
 taken_more old mid new before middle after front grown t p = record {
   lines = t.lines ++ ended p.line;
-  gives = subst (λ (l : List ℕ). GivesText (t.lines ++ ended p.line) l) (sym p.adds.added) (gives_both t.lines (ended p.line) front p.adds.piece t.gives (gives_one p.line p.adds.piece p.given.is_line p.adds.gives));
+  gives = subst (λ (l : List ℕ). GivesText (t.lines ++ ended p.line) l) (sym p.adds.added)
+      (gives_both t.lines (ended p.line) front p.adds.piece t.gives (gives_one p.line p.adds.piece p.given.is_line p.adds.gives));
   consumes = Consumes-trans (pending old before) (pending mid middle) (pending new after) t.lines (ended p.line) t.consumes p.given.consumes;
   number =
       let one : count_by is_end (ended p.line) ≡ 1 = one_end p.line p.given.is_line in
@@ -395,7 +439,8 @@ taken_more old mid new before middle after front grown t p = record {
 pub takes_less : (old new : Reading) (before after : Option (List ℕ)) (front grown : List ℕ) → TakesPiece old new before after front grown → left new < left old
 takes_less old new before after front grown p = p.given.fewer
 
-pub taken_whole : (old mid new : Reading) (before middle after : Option (List ℕ)) (front configuration : List ℕ) → Taken old mid before middle front → GivesLine mid new middle after (configuration_line front) → configuration ≡ front
+pub taken_whole : (old mid new : Reading) (before middle after : Option (List ℕ)) (front configuration : List ℕ) → Taken old mid before middle front
+    → GivesLine mid new middle after (configuration_line front) → configuration ≡ front
     → GivesConfiguration old new before after configuration
 taken_whole old mid new before middle after front configuration t given is = record {
   text = t.lines ++ ended (configuration_line front);
@@ -403,7 +448,8 @@ taken_whole old mid new before middle after front configuration t given is = rec
   consumes = Consumes-trans (pending old before) (pending mid middle) (pending new after) t.lines (ended (configuration_line front)) t.consumes given.consumes;
   number =
       let one : count_by is_end (ended (configuration_line front)) ≡ 1 = one_end (configuration_line front) given.is_line in
-      let sum : count_by is_end (t.lines ++ ended (configuration_line front)) ≡ count_by is_end t.lines + count_by is_end (ended (configuration_line front)) = ends_add t.lines (ended (configuration_line front)) in
+      let sum : count_by is_end (t.lines ++ ended (configuration_line front)) ≡ count_by is_end t.lines + count_by is_end (ended (configuration_line front)) =
+      ends_add t.lines (ended (configuration_line front)) in
       let first : mid.number ≡ old.number + count_by is_end t.lines = t.number in
       let next : new.number ≡ mid.number + 1 = given.number in
       omega (arith, one, sum, first, next);
@@ -420,18 +466,23 @@ some_pending r (Some more) some = λ e. some (no_front r.unread more e)
     no_front (x ∷ xs) ys e = absurd (omega (arith, ap length e))
 
 -- what is left behind a text that was read, where something was
-behind_some : (a b : Option (List ℕ)) (text : List ℕ) {P Q : List ℕ → Type 0} → Consumes a b text → IfSome a (λ rest. rest ≢ []) → IfSome b P → ((xs ys : List ℕ) → xs ≢ [] → xs ≡ text ++ ys → P ys → Q xs) → IfSome a Q
+behind_some : (a b : Option (List ℕ)) (text : List ℕ) {P Q : List ℕ → Type 0} → Consumes a b text → IfSome a (λ rest. rest ≢ []) → IfSome b P
+    → ((xs ys : List ℕ) → xs ≢ [] → xs ≡ text ++ ys → P ys → Q xs) → IfSome a Q
 behind_some None b text h some p f = tt
 behind_some (Some xs) None text h some p f = absurd h
 behind_some (Some xs) (Some ys) text h some p f = f xs ys some h p
 
-pub taken_stops : (longest : ℕ) (F : Type 0) (old mid : Reading) (before middle : Option (List ℕ)) (front : List ℕ) (stop : ConfigurationStop) → old.unread ≢ [] → Taken old mid before middle front
+pub taken_stops : (longest : ℕ) (F : Type 0) (old mid : Reading) (before middle : Option (List ℕ)) (front : List ℕ) (stop : ConfigurationStop) → old.unread ≢ []
+    → Taken old mid before middle front
     → RestStops longest F (pending mid middle) front stop → ConfigurationStops longest F (pending old before) stop
 taken_stops longest F old mid before middle front NoMemory some t h = tt
 taken_stops longest F old mid before middle front Damaged some t h =
-    behind_some (pending old before) (pending mid middle) t.lines {P = IsNoRest front} {Q = IsDamagedConfiguration} t.consumes (some_pending old before some) h (λ xs ys some cut p. no_configuration xs t.lines front ys some t.gives cut p)
+    behind_some (pending old before) (pending mid middle) t.lines {P = IsNoRest front} {Q = IsDamagedConfiguration} t.consumes (some_pending old before some) h
+    (λ xs ys some cut p. no_configuration xs t.lines front ys some t.gives cut p)
 taken_stops longest F old mid before middle front Cut some t h =
-    behind_some (pending old before) (pending mid middle) t.lines {P = IsCutRest front} {Q = IsCutConfiguration} t.consumes (some_pending old before some) h (λ xs ys some cut p. cut_of xs t.lines front ys some t.gives cut p)
+    behind_some (pending old before) (pending mid middle) t.lines {P = IsCutRest front} {Q = IsCutConfiguration} t.consumes (some_pending old before some) h
+    (λ xs ys some cut p. cut_of xs t.lines front ys some t.gives cut p)
 taken_stops longest F old mid before middle front Read some t h = h
 taken_stops longest F old mid before middle front TooLong some t h =
-    behind_some (pending old before) (pending mid middle) t.lines {P = IsLongRest longest front} {Q = IsLongConfiguration longest} t.consumes (some_pending old before some) h (λ xs ys some cut p. long_of longest xs t.lines front ys t.gives cut p)
+    behind_some (pending old before) (pending mid middle) t.lines {P = IsLongRest longest front} {Q = IsLongConfiguration longest} t.consumes
+    (some_pending old before some) h (λ xs ys some cut p. long_of longest xs t.lines front ys t.gives cut p)

@@ -64,7 +64,8 @@ no_first_line b text (c ∷ line) more said begins says e =
 no_event_so : (b : ℕ) (text more : List ℕ) (event : Event) (said : List ℕ) → BeginsNone b → SaysRecorded said event → b ∷ text ≡ said ++ more → ⊥
 no_event_so b text more event said begins (inl w) e = no_first_line b text w.line more (Whole event) begins w.says (e ∙ ap (λ (l : List ℕ). l ++ more) w.text_is)
 no_event_so b text more event said begins (inr d) e =
-    no_first_line b text d.line (46 ∷ 10 ∷ more) (Head d.head) begins d.says (e ∙ ap (λ (l : List ℕ). l ++ more) d.text_is ∙ append_assoc (ended d.line) (46 ∷ 10 ∷ []) more)
+    no_first_line b text d.line (46 ∷ 10 ∷ more) (Head d.head) begins d.says (e ∙ ap (λ (l : List ℕ). l ++ more) d.text_is
+    ∙ append_assoc (ended d.line) (46 ∷ 10 ∷ []) more)
 
 no_record : (b : ℕ) (text : List ℕ) → BeginsNone b → IsDamagedRecord (b ∷ text)
 no_record b text begins = record {
@@ -78,7 +79,8 @@ no_record b text begins = record {
 other_kind : (b : ℕ) (kind rest : List ℕ) → (b == 116) ≡ false → (b == 104) ≡ false → (b == 100) ≡ false → (b == 102) ≡ false → line_of_kind (b ∷ kind) rest ≡ None
 other_kind b kind rest is_t is_h is_d is_f = rw is_d (rw is_h (rw is_t (rw is_f refl)))
 
-behind_other : (b : ℕ) (parts : Option (List ℕ × List ℕ)) → (b == 116) ≡ false → (b == 104) ≡ false → (b == 100) ≡ false → (b == 102) ≡ false → (in_front (b ∷ []) parts >>= (λ p. line_of_kind p.0 p.1)) ≡ None
+behind_other : (b : ℕ) (parts : Option (List ℕ × List ℕ)) → (b == 116) ≡ false → (b == 104) ≡ false → (b == 100) ≡ false → (b == 102) ≡ false
+    → (in_front (b ∷ []) parts >>= (λ p. line_of_kind p.0 p.1)) ≡ None
 behind_other b None is_t is_h is_d is_f = refl
 behind_other b (Some p) is_t is_h is_d is_f = other_kind b p.0 p.1 is_t is_h is_d is_f
 
@@ -88,9 +90,11 @@ blank_first b line e = rw e refl
 no_blank_first : (b : ℕ) (line : List ℕ) → (b == 32) ≡ false → split_at_byte 32 (b ∷ line) ≡ in_front (b ∷ []) (split_at_byte 32 line)
 no_blank_first b line e = rw e refl
 
-other_first : (b : ℕ) (line : List ℕ) (is : Bool) → (b == 32) ≡ is → (b == 116) ≡ false → (b == 104) ≡ false → (b == 100) ≡ false → (b == 102) ≡ false → line_of (b ∷ line) ≡ None
+other_first : (b : ℕ) (line : List ℕ) (is : Bool) → (b == 32) ≡ is → (b == 116) ≡ false → (b == 104) ≡ false → (b == 100) ≡ false → (b == 102) ≡ false
+    → line_of (b ∷ line) ≡ None
 other_first b line true e is_t is_h is_d is_f = ap (λ (parts : Option (List ℕ × List ℕ)). parts >>= (λ p. line_of_kind p.0 p.1)) (blank_first b line e)
-other_first b line false e is_t is_h is_d is_f = ap (λ (parts : Option (List ℕ × List ℕ)). parts >>= (λ p. line_of_kind p.0 p.1)) (no_blank_first b line e) ∙ behind_other b (split_at_byte 32 line) is_t is_h is_d is_f
+other_first b line false e is_t is_h is_d is_f = ap (λ (parts : Option (List ℕ × List ℕ)). parts >>= (λ p. line_of_kind p.0 p.1)) (no_blank_first b line e)
+    ∙ behind_other b (split_at_byte 32 line) is_t is_h is_d is_f
 
 no_line_other : (b : ℕ) → begins_event b ≡ false → BeginsNone b
 no_line_other b e = by_tests (b == 116) (b == 104) (b == 100) (b == 102) refl refl refl refl e
@@ -111,9 +115,11 @@ true_false false e h = cc
 other_byte : (b mark : ℕ) → begins_configuration b ≡ false → begins_configuration mark ≡ true → b ≡ mark → ⊥
 other_byte b mark other begins is = true_false (begins_configuration b) (ap begins_configuration is ∙ begins) other
 
-no_configuration_so : (b : ℕ) (text more configuration said : List ℕ) → begins_configuration b ≡ false → SaysConfiguration said configuration → b ∷ text ≡ said ++ more → ⊥
+no_configuration_so : (b : ℕ) (text more configuration said : List ℕ) → begins_configuration b ≡ false → SaysConfiguration said configuration → b ∷ text ≡ said ++ more
+    → ⊥
 no_configuration_so b text more configuration said other says e =
-    by_lines says.gives.lines says.gives.gives (e ∙ ap (λ (l : List ℕ). l ++ more) (says.text_is ∙ ap (λ (l : List ℕ). l ++ ended (configuration_line configuration)) says.gives.text_is))
+    by_lines says.gives.lines says.gives.gives (e ∙ ap (λ (l : List ℕ). l ++ more) (says.text_is
+    ∙ ap (λ (l : List ℕ). l ++ ended (configuration_line configuration)) says.gives.text_is))
   where
     by_piece : (line piece behind : List ℕ) → IsPiece line piece → b ∷ text ≡ line ++ behind → ⊥
     by_piece line piece behind p h = elim p.is [
@@ -127,7 +133,8 @@ no_configuration_so b text more configuration said other says e =
         let p = parted line lines configuration gives in
         let rest : List ℕ = ended (configuration_line configuration) ++ more in
         by_piece line p.piece (10 ∷ (flat_map ended lines ++ rest)) (piece_is line p.piece p.first)
-        (h ∙ append_assoc (ended line ++ flat_map ended lines) (ended (configuration_line configuration)) more ∙ append_assoc (ended line) (flat_map ended lines) rest ∙ append_assoc line (10 ∷ []) (flat_map ended lines ++ rest))
+        (h ∙ append_assoc (ended line ++ flat_map ended lines) (ended (configuration_line configuration)) more ∙ append_assoc (ended line) (flat_map ended lines) rest
+        ∙ append_assoc line (10 ∷ []) (flat_map ended lines ++ rest))
 
 no_configuration : (b : ℕ) (text : List ℕ) → begins_configuration b ≡ false → IsDamagedConfiguration (b ∷ text)
 no_configuration b text other = record {
@@ -138,20 +145,27 @@ no_configuration b text other = record {
 
 -- ---- where some bytes were read
 
-begins : (r : Reading) (before after : Option (List ℕ)) (b : ℕ) (P : List ℕ → Type 0) → Keeps before (pending r after) → (rest : List ℕ) × (r.unread ≡ b ∷ rest) → ((text : List ℕ) → P (b ∷ text)) → IfSome before P
+begins : (r : Reading) (before after : Option (List ℕ)) (b : ℕ) (P : List ℕ → Type 0) → Keeps before (pending r after) → (rest : List ℕ) × (r.unread ≡ b ∷ rest)
+    → ((text : List ℕ) → P (b ∷ text)) → IfSome before P
 begins r None after b P k first all = tt
 begins r (Some bytes) None b P k first all = absurd k
 begins r (Some bytes) (Some more) b P k first all = subst P (sym (sym k ∙ ap (λ (l : List ℕ). l ++ more) first.1)) (all (first.0 ++ more))
 
-pub comes_configuration : (r : Reading) (before after : Option (List ℕ)) (b : ℕ) → Keeps before (pending r after) → (rest : List ℕ) × (r.unread ≡ b ∷ rest) → begins_configuration b ≡ true → IfSome before IsDamagedRecord
+pub comes_configuration : (r : Reading) (before after : Option (List ℕ)) (b : ℕ) → Keeps before (pending r after) → (rest : List ℕ) × (r.unread ≡ b ∷ rest)
+    → begins_configuration b ≡ true → IfSome before IsDamagedRecord
 comes_configuration r before after b k first is = begins r before after b IsDamagedRecord k first (λ text. no_record b text (λ line. no_line_so b line is))
 
-pub comes_event : (r : Reading) (before after : Option (List ℕ)) (b : ℕ) → Keeps before (pending r after) → (rest : List ℕ) × (r.unread ≡ b ∷ rest) → begins_configuration b ≡ false → IfSome before IsDamagedConfiguration
+pub comes_event : (r : Reading) (before after : Option (List ℕ)) (b : ℕ) → Keeps before (pending r after) → (rest : List ℕ) × (r.unread ≡ b ∷ rest)
+    → begins_configuration b ≡ false → IfSome before IsDamagedConfiguration
 comes_event r before after b k first is = begins r before after b IsDamagedConfiguration k first (λ text. no_configuration b text is)
 
 -- the first byte is this one
-pub has_first : (test : ℕ → Bool) (is : Bool) (r : Reading) (before after : Option (List ℕ)) (b : ℕ) → Keeps before (pending r after) → (rest : List ℕ) × (r.unread ≡ b ∷ rest) → test b ≡ is → IfSome before (BeginsBy test is)
-has_first test is r before after b k first tested = begins r before after b (BeginsBy test is) k first (λ text. record { first = b; behind = text; cut = refl; tested = tested })
+pub has_first : (test : ℕ → Bool) (is : Bool) (r : Reading) (before after : Option (List ℕ)) (b : ℕ) → Keeps before (pending r after)
+    → (rest : List ℕ) × (r.unread ≡ b ∷ rest) → test b ≡ is → IfSome before (BeginsBy test is)
+has_first test is r before after b k first tested = begins r before after b (BeginsBy test is) k first
+    (λ text. record { first = b; behind = text; cut = refl; tested = tested })
 
-pub comes_other : (r : Reading) (before after : Option (List ℕ)) (b : ℕ) → Keeps before (pending r after) → (rest : List ℕ) × (r.unread ≡ b ∷ rest) → begins_event b ≡ false → IfSome before (λ bytes. (bytes ≡ []) ⊎ IsDamagedRecord bytes)
-comes_other r before after b k first is = begins r before after b (λ bytes. (bytes ≡ []) ⊎ IsDamagedRecord bytes) k first (λ text. inr (no_record b text (no_line_other b is)))
+pub comes_other : (r : Reading) (before after : Option (List ℕ)) (b : ℕ) → Keeps before (pending r after) → (rest : List ℕ) × (r.unread ≡ b ∷ rest)
+    → begins_event b ≡ false → IfSome before (λ bytes. (bytes ≡ []) ⊎ IsDamagedRecord bytes)
+comes_other r before after b k first is = begins r before after b (λ bytes. (bytes ≡ []) ⊎ IsDamagedRecord bytes) k first
+    (λ text. inr (no_record b text (no_line_other b is)))

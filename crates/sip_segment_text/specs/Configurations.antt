@@ -1,5 +1,6 @@
 -- How the configurations of a record are read.
-use Rattle.std.specs.Prelude.{◌≡◌, ◌≢◌, ◌+◌, ◌<◌, ◌==◌, ◌||◌, ⊤, ℕ, Bool, true, false, nat_eq, List, [], ◌∷◌, ◌++◌, length, take, count_by, Option, Some, IfSome, codes, if◌then◌else◌}
+use Rattle.std.specs.Prelude.{◌≡◌, ◌≢◌, ◌+◌, ◌<◌, ◌==◌, ◌||◌, ⊤, ℕ, Bool, true, false, nat_eq, List, [], ◌∷◌, ◌++◌, length, take, count_by, Option, Some, IfSome, codes}
+use Rattle.std.specs.Prelude.{if◌then◌else◌}
 use Rattle.std.specs.List.{starts_with}
 use Rattle.std.specs.Io.KnownBytes.{Consumes, Keeps}
 use Rattle.sip_replay_script.specs.declared.read_stop.ReadStop.{ReadStop}

@@ -1,5 +1,5 @@
 //! The text of a configuration in a record, read piece by piece up to the line with its digest. `sip_record` writes it.
-ghost use Rattle.std.specs.Prelude.{◌≡◌, ◌≢◌, ◌≤◌, ◌++◌, [], ℕ, List, Some, None, true, false, length, option_map, OnOk, IfOk, IfErr, IfSome, IfNone};
+ghost use Rattle.std.specs.Prelude.{◌≡◌, ◌≢◌, ◌≤◌, ◌++◌, [], Some, None, true, false, length, option_map, OnOk, IfOk, IfErr, IfSome, IfNone};
 ghost use Rattle.std.specs.Str.{bytes_eq};
 ghost use Rattle.sip_segment_text.specs.Configurations.{begins_piece, begins_rest, rest_stop, AddsPiece, ConfigurationStops, GivesConfiguration};
 ghost use Rattle.sip_segment_text.specs.Configurations.{PartStops, PieceStops, RestStops, TakesPiece};

@@ -4,7 +4,7 @@
 //! - Used: `sip_record`, which writes them; `sip_segment_config`, which reads them; `sip_resume`, which takes them again;
 //!   `sipd_old_record`, for the first one; `sip_replay` and `sip_recorded` say what they come to.
 //! - Not here: the events of a record (`sip_replay_script`); what the text of a configuration states (`sip_segment_config`); the server.
-//! - Tried: worked examples in `src/examples.rt`, as contracts that compute; `test_serve`.
+//! - Tried: worked examples in `src/examples.rt`, as contracts that compute; `test_engine`.
 //!
 //! ```text
 //! match look_ahead(&mut lines, &mut reader)? {

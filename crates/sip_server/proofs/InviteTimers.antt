@@ -8,7 +8,8 @@ use Rattle.sip_server.specs.declared.server_invite.ServerInvite.{ServerInvite}
 use Rattle.sip_server.specs.declared.server_invite.ServerInvite.TheVariants.{Proceeding, Completed, Confirmed, Accepted, Terminated}
 
 -- a timer that runs after a row ran before it, or is started by it
-pub kept : (state : ServerInvite) (h : Heard) (letter : Letter) → runs (row state h).0 letter ≡ true → (runs state letter ≡ true) ⊎ Starts invite_machine (row state h).1 letter
+pub kept : (state : ServerInvite) (h : Heard) (letter : Letter) → runs (row state h).0 letter ≡ true
+    → (runs state letter ≡ true) ⊎ Starts invite_machine (row state h).1 letter
 kept (Proceeding true) invite letter e = inl e
 kept (Proceeding answered) success L e = inr (inl refl)
 kept (Proceeding answered) failure G e = inr (inl refl)
@@ -59,4 +60,8 @@ own Accepted L e = inr (inr (inr (inl refl)))
 own state letter e = cc
 
 pub keeps : KeepsTimers invite_machine
-keeps = record { kept = λ state input letter e. kept state (heard input) letter e; started = λ state input letter s. started state (heard input) letter s; anew = λ state letter e. anew state letter e }
+keeps = record {
+  kept = λ state input letter e. kept state (heard input) letter e;
+  started = λ state input letter s. started state (heard input) letter s;
+  anew = λ state letter e. anew state letter e;
+}

@@ -8,7 +8,8 @@ use Rattle.sip_server.specs.declared.server_other.ServerOther.{ServerOther}
 use Rattle.sip_server.specs.declared.server_other.ServerOther.TheVariants.{Trying, Proceeding, Completed, Terminated}
 
 -- a timer that runs after a row ran before it, or is started by it
-pub kept : (state : ServerOther) (h : Heard) (letter : Letter) → runs (row state h).0 letter ≡ true → (runs state letter ≡ true) ⊎ Starts other_machine (row state h).1 letter
+pub kept : (state : ServerOther) (h : Heard) (letter : Letter) → runs (row state h).0 letter ≡ true
+    → (runs state letter ≡ true) ⊎ Starts other_machine (row state h).1 letter
 kept Trying final J e = inr (inl refl)
 kept Proceeding final J e = inr (inl refl)
 kept Completed (fired J) J e = inl refl
@@ -37,4 +38,8 @@ own Completed J e = inl refl
 own state letter e = cc
 
 pub keeps : KeepsTimers other_machine
-keeps = record { kept = λ state input letter e. kept state (heard input) letter e; started = λ state input letter s. started state (heard input) letter s; anew = λ state letter e. anew state letter e }
+keeps = record {
+  kept = λ state input letter e. kept state (heard input) letter e;
+  started = λ state input letter s. started state (heard input) letter s;
+  anew = λ state letter e. anew state letter e;
+}

@@ -5,7 +5,8 @@ use Rattle.sip_timers.specs.declared.letter.Letter.TheVariants.{J}
 use Rattle.sip_server.specs.declared.server_other.ServerOther.TheVariants.{Trying, Proceeding, Completed, Terminated}
 use Rattle.sip_server.specs.declared.server_other.ServerOtherInput.{ServerOtherInput}
 
-after_terminated : (h : Heard) (inputs : List ServerOtherInput) → finals_sent Terminated inputs ≡ 0 → final_sent h (row Terminated h).1 + finals_sent (row Terminated h).0 inputs ≡ 0
+after_terminated : (h : Heard) (inputs : List ServerOtherInput) → finals_sent Terminated inputs ≡ 0
+    → final_sent h (row Terminated h).1 + finals_sent (row Terminated h).0 inputs ≡ 0
 after_terminated final inputs none = omega (arith, none)
 after_terminated h inputs none = omega (arith, none)
 
@@ -14,7 +15,8 @@ pub terminated : (inputs : List ServerOtherInput) → finals_sent Terminated inp
 terminated [] = refl
 terminated (input ∷ inputs) = after_terminated (heard input) inputs (terminated inputs)
 
-after_completed : (h : Heard) (inputs : List ServerOtherInput) → finals_sent Completed inputs ≡ 0 → final_sent h (row Completed h).1 + finals_sent (row Completed h).0 inputs ≡ 0
+after_completed : (h : Heard) (inputs : List ServerOtherInput) → finals_sent Completed inputs ≡ 0
+    → final_sent h (row Completed h).1 + finals_sent (row Completed h).0 inputs ≡ 0
 after_completed final inputs none = omega (arith, none)
 after_completed (fired J) inputs none = omega (arith, terminated inputs)
 after_completed h inputs none = omega (arith, none)
@@ -24,7 +26,8 @@ pub completed : (inputs : List ServerOtherInput) → finals_sent Completed input
 completed [] = refl
 completed (input ∷ inputs) = after_completed (heard input) inputs (completed inputs)
 
-after_proceeding : (h : Heard) (inputs : List ServerOtherInput) → finals_sent Proceeding inputs ≤ 1 → final_sent h (row Proceeding h).1 + finals_sent (row Proceeding h).0 inputs ≤ 1
+after_proceeding : (h : Heard) (inputs : List ServerOtherInput) → finals_sent Proceeding inputs ≤ 1
+    → final_sent h (row Proceeding h).1 + finals_sent (row Proceeding h).0 inputs ≤ 1
 after_proceeding final inputs one = omega (arith, completed inputs)
 after_proceeding h inputs one = omega (arith, one)
 

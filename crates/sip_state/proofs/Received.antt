@@ -15,7 +15,8 @@ use Rattle.sip_edit.specs.TopVia.{received_as, received_via}
 use Rattle.sip_state.specs.declared.top_via.TopVia.{TopVia}
 use Rattle.sip_state.specs.TopVia.{IsTopVia}
 
-none_by : (t : Bool) (value : List ℕ) (field : Field) (fields : List Field) → cond t (Some field) (first_named Name.Via fields) ≡ None → (first_named Name.Via fields ≡ None → with_first Name.Via value fields ≡ fields)
+none_by : (t : Bool) (value : List ℕ) (field : Field) (fields : List Field) → cond t (Some field) (first_named Name.Via fields) ≡ None
+    → (first_named Name.Via fields ≡ None → with_first Name.Via value fields ≡ fields)
     → cond t (record field { value = value } ∷ fields) (field ∷ with_first Name.Via value fields) ≡ field ∷ fields
 none_by true value field fields none rest = absurd cc
 none_by false value field fields none rest = ap (λ (w : List Field). field ∷ w) (rest none)
@@ -33,7 +34,8 @@ none_edited value fields none = none_named value fields (no_value (first_named N
 
 -- ---- where the top Via was read
 
-pub on_top : (fields : List Field) (value : List ℕ) (via : Via) → first_value Name.Via fields ≡ Some value → option_and_then via_of (first_value Name.Via fields) ≡ Some via → via_of value ≡ Some via
+pub on_top : (fields : List Field) (value : List ℕ) (via : Via) → first_value Name.Via fields ≡ Some value
+    → option_and_then via_of (first_value Name.Via fields) ≡ Some via → via_of value ≡ Some via
 on_top fields value via is read = sym (ap (option_and_then via_of) is) ∙ read
 
 -- it gets what it says that it gets

@@ -24,7 +24,8 @@ use Rattle.sip_state.specs.declared.open_request.Upward.{Upward}
 use Rattle.sip_state.specs.declared.proxy_state.ProxyState.{ProxyState}
 use Rattle.sip_state.specs.State.{is_invite, has_left, has_key, is_success}
 use Rattle.sip_state.specs.SameState.{SameState}
-use Rattle.sip_state.specs.Dialogs.{dialog_of, addresses_of, after_request, invite_answer, after_invite_answer, answered_dialog, after_answer_of, after_answer, after_answers, after_leaving}
+use Rattle.sip_state.specs.Dialogs.{dialog_of, addresses_of, after_request, invite_answer, after_invite_answer, answered_dialog, after_answer_of, after_answer}
+use Rattle.sip_state.specs.Dialogs.{after_answers, after_leaving}
 
 -- ---- dialogs
 
@@ -40,7 +41,8 @@ after_answer_same server now r u left right h = either_same now (nat_le u.status
   taught_same : (id : DialogId) → SameDialogs now (taught now id (addresses_of server u.message) left) (taught now id (addresses_of server u.message) right)
   taught_same id = edited_same now id (told (addresses_of server u.message)) left right h
 
-  by_answered : (o : Option DialogId) → SameDialogs now (option_map_or (λ id. after_invite_answer server now r u id left) o left) (option_map_or (λ id. after_invite_answer server now r u id right) o right)
+  by_answered : (o : Option DialogId) → SameDialogs now (option_map_or (λ id. after_invite_answer server now r u id left) o left)
+      (option_map_or (λ id. after_invite_answer server now r u id right) o right)
   by_answered None = h
   by_answered (Some id) = either_same now (nat_le u.status 299) _ _ _ _ (learnt_same now (invite_answer server r u id) left right h) (taught_same id)
 
@@ -59,7 +61,8 @@ pub after_request_same : (server : Server) (now : ℕ) (id : DialogId) (m : Mess
 after_request_same server now id m left right h = edited_same now id (λ d. record (told (addresses_of server m) d) { since = now }) left right h
 
 -- and that an INVITE stays open no longer
-pub after_leaving_same : (now : ℕ) (r : OpenRequest) (left right : List Dialog) → SameDialogs now left right → SameDialogs now (after_leaving now r left) (after_leaving now r right)
+pub after_leaving_same : (now : ℕ) (r : OpenRequest) (left right : List Dialog) → SameDialogs now left right
+    → SameDialogs now (after_leaving now r left) (after_leaving now r right)
 after_leaving_same now r left right h = either_same now (is_invite r && has_left r) _ _ _ _ (after_invite_same now r.number left right h) h
 
 -- ---- what is asked of a state
@@ -67,7 +70,8 @@ after_leaving_same now r left right h = either_same now (is_invite r && has_left
 pub bindings_alike : (left right : ProxyState) (aor : Aor) → SameState left right → live aor left.moment left.bindings ≡ live aor right.moment right.bindings
 bindings_alike left right aor h = h.bindings aor left.moment (omega arith) ∙ ap (λ (moment : ℕ). live aor moment right.bindings) h.moment
 
-pub credentials_alike : (left right : ProxyState) (a1 : List ℕ) (c : Credential) → SameState left right → worth_of left.nonces a1 c left.moment ≡ worth_of right.nonces a1 c right.moment
+pub credentials_alike : (left right : ProxyState) (a1 : List ℕ) (c : Credential) → SameState left right
+    → worth_of left.nonces a1 c left.moment ≡ worth_of right.nonces a1 c right.moment
 credentials_alike left right a1 c h = ap₂ (λ (nonces : List Nonce) (moment : ℕ). worth_of nonces a1 c moment) h.nonces h.moment
 
 pub requests_alike : (left right : ProxyState) (key : Key) → SameState left right → find (has_key key) left.requests ≡ find (has_key key) right.requests

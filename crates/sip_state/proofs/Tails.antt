@@ -31,7 +31,8 @@ of_received m source value text realm routes is edited = is ∙ ap (λ (w : List
 
 -- ---- that it is kept
 
-pub is_tail : (m : Message) (source from : Addr) (text kept realm : List ℕ) (written routes : RoutesKept) → text ≡ tail_of written kept (received m source) → source ≡ from → kept ≡ realm → written ≡ routes →
+pub is_tail : (m : Message) (source from : Addr) (text kept realm : List ℕ) (written routes : RoutesKept) → text ≡ tail_of written kept (received m source)
+    → source ≡ from → kept ≡ realm → written ≡ routes →
     text ≡ tail_of routes realm (received m from)
 is_tail m source from text kept realm written routes is is_source is_realm are_routes =
     is ∙ ap (λ (a : Addr). tail_of written kept (received m a)) is_source
@@ -58,12 +59,15 @@ same_routes a b r s e =
 abbrev pub are_left : Own → RoutesKept → List ℕ → List Field → Type 0
 are_left own routes uri fields = fields_kept routes fields ≡ fields_left own uri fields
 
-left_by : (own : Own) (routes : RoutesKept) (uri : List ℕ) (from : Addr) (fields : List Field) → ((via : List ℕ) → are_left own routes uri (with_first Name.Via via fields)) →
-    (first : Option (List ℕ)) → first_value Name.Via fields ≡ first → are_left own routes uri (option_map_or (λ value. with_first Name.Via (received_via value from) fields) first fields)
+left_by : (own : Own) (routes : RoutesKept) (uri : List ℕ) (from : Addr) (fields : List Field)
+    → ((via : List ℕ) → are_left own routes uri (with_first Name.Via via fields)) →
+    (first : Option (List ℕ)) → first_value Name.Via fields ≡ first → are_left own routes uri
+    (option_map_or (λ value. with_first Name.Via (received_via value from) fields) first fields)
 left_by own routes uri from fields left None none = subst (are_left own routes uri) (none_edited [] fields none) (left [])
 left_by own routes uri from fields left (Some value) is = left (received_via value from)
 
-left_received : (own : Own) (routes : RoutesKept) (uri : List ℕ) (from : Addr) (fields : List Field) → ((via : List ℕ) → are_left own routes uri (with_first Name.Via via fields)) →
+left_received : (own : Own) (routes : RoutesKept) (uri : List ℕ) (from : Addr) (fields : List Field)
+    → ((via : List ℕ) → are_left own routes uri (with_first Name.Via via fields)) →
     are_left own routes uri (received_fields from fields)
 left_received own routes uri from fields left = left_by own routes uri from fields left (first_value Name.Via fields) refl
 

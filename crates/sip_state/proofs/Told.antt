@@ -31,7 +31,8 @@ dialog_is m = dialog_of_core (result_ok (core_of m))
 -- ---- the addresses that it gives
 
 there_by : (rows : List HostAddress) (host : List ℕ) (t : Bool) (port : Option ℕ) →
-    option_and_then (address_there rows) (cond t (option_map (λ port. record { host = host; port = port }) port) None) ≡ cond t (option_and_then (address_at rows host) port) None
+    option_and_then (address_there rows) (cond t (option_map (λ port. record { host = host; port = port }) port) None)
+    ≡ cond t (option_and_then (address_at rows host) port) None
 there_by rows host true None = refl
 there_by rows host true (Some port) = refl
 there_by rows host false port = refl
@@ -40,18 +41,22 @@ uri_there : (rows : List HostAddress) (uri : AnyUri) → option_and_then (addres
 uri_there rows (Sip uri) = there_by rows uri.host (is_by_udp uri) (port_or_default uri.port)
 uri_there rows (Other text) = refl
 
-item_there : (rows : List HostAddress) (o : Option NameAddr) → option_and_then (address_there rows) (option_and_then (λ item. place_by item.uri) o) ≡ option_and_then (λ item. address_by (address_of rows) item.uri) o
+item_there : (rows : List HostAddress) (o : Option NameAddr) → option_and_then (address_there rows) (option_and_then (λ item. place_by item.uri) o)
+    ≡ option_and_then (λ item. address_by (address_of rows) item.uri) o
 item_there rows None = refl
 item_there rows (Some item) = uri_there rows item.uri
 
 field_there : (rows : List HostAddress) (field : Field) → option_and_then (address_there rows) (place_in field) ≡ address_in (address_of rows) field
 field_there rows field = item_there rows (item_in field)
 
-front : (rows : List HostAddress) (o : Option Place) (places : List Place) (a : Option Addr) (addresses : List Addr) → option_and_then (address_there rows) o ≡ a → filter_map (address_there rows) places ≡ addresses
+front : (rows : List HostAddress) (o : Option Place) (places : List Place) (a : Option Addr) (addresses : List Addr) → option_and_then (address_there rows) o ≡ a
+    → filter_map (address_there rows) places ≡ addresses
     → filter_map (address_there rows) (cons_option o places) ≡ cons_option a addresses
 front rows None places a addresses is rest = rest ∙ ap (λ (o : Option Addr). cons_option o addresses) is
-front rows (Some place) places a addresses is rest = ap (λ (o : Option Addr). cons_option o (filter_map (address_there rows) places)) is ∙ ap (λ (w : List Addr). cons_option a w) rest
+front rows (Some place) places a addresses is rest = ap (λ (o : Option Addr). cons_option o (filter_map (address_there rows) places)) is
+    ∙ ap (λ (w : List Addr). cons_option a w) rest
 
 pub addresses_are : (rows : List HostAddress) (fields : List Field) → filter_map (address_there rows) (places_in fields) ≡ addresses_in (address_of rows) fields
 addresses_are rows [] = refl
-addresses_are rows (field ∷ fields) = front rows (place_in field) (places_in fields) (address_in (address_of rows) field) (addresses_in (address_of rows) fields) (field_there rows field) (addresses_are rows fields)
+addresses_are rows (field ∷ fields) = front rows (place_in field) (places_in fields) (address_in (address_of rows) field) (addresses_in (address_of rows) fields)
+    (field_there rows field) (addresses_are rows fields)

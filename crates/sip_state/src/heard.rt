@@ -61,6 +61,7 @@ impl Model for Heard {
 }
 
 /// Which Routes of a message are left for a server.
+/// It is there for what is kept of a request that is answered here, of which no step asks it.
 fn unread_routes(alloc: Global, message: &KeptParts, own: &Own) -> Result<RoutesKept, AllocError>
     ensures { IfOk result (λ kept. kept ≡ kept_by own.now (facts_in message.now)) }
 {
@@ -70,6 +71,7 @@ fn unread_routes(alloc: Global, message: &KeptParts, own: &Own) -> Result<Routes
 }
 
 /// What a message says of its dialogs, if its core fields are read.
+/// It is there for what is kept of a request that is answered here, of which no step asks it.
 fn unread_names(alloc: Global, message: &KeptParts) -> Result<Option<Names>, AllocError>
     ensures { IfOk result (λ names. names ≡ Spec.names_in message.now) }
 {
@@ -78,6 +80,7 @@ fn unread_names(alloc: Global, message: &KeptParts) -> Result<Option<Names>, All
 }
 
 /// The value that the top Via of a message gets, which came from an address.
+/// It is there for another source than its own, which no step asks for.
 fn unread_via(alloc: Global, message: &KeptParts, from: Addr) -> Result<Value<'static>, AllocError>
     ensures { IfOk result (λ value. with_first Name.Via value message.now.fields ≡ received_fields from message.now.fields) }
 {
@@ -98,6 +101,7 @@ fn put_addresses(out: &mut Items<Addr>, hops: &Hops, places: &[Place]) -> Result
 }
 
 /// Adds the addresses that Contact and Record-Route of a message give by a table.
+/// It is there for what is kept of a request that is answered here, of which no step asks it.
 #[tactic(auto, using(crate::proofs::Told::addresses_are))]
 fn put_unread(
     alloc: Global,

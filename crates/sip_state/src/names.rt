@@ -66,6 +66,7 @@ impl Names {
 }
 
 /// What names the dialogs of a request, if its core fields are read.
+/// It is there for what is kept of a request that is answered here, of which no step asks it.
 pub(crate) fn names_in(alloc: Global, request: &View<'_>) -> Result<Option<Names>, AllocError>
     ensures { IfOk result (λ names. names ≡ Spec.names_in request.now) }
 {

@@ -33,6 +33,7 @@ fn is_same(left: Addr, right: Addr) -> bool
 }
 
 /// The value that a Via of a request gets which came from an address: a value that can't be read stays.
+/// It is there for another source than its own, which no step asks for.
 #[tactic(auto, using(crate::proofs::Received::unread))]
 fn received_text(alloc: Global, value: &[u8], from: Addr) -> Result<Bytes, AllocError>
     ensures { IfOk result (λ edited. edited ≡ received_via value.now from) }
@@ -44,7 +45,7 @@ fn received_text(alloc: Global, value: &[u8], from: Addr) -> Result<Bytes, Alloc
 }
 
 /// The value that the top Via of a request gets, which came from an address (RFC 3261 18.2.1); empty where there is no
-/// Via. `AllocError` is the only refusal.
+/// Via. `AllocError` is the only refusal. It is there for another source than its own, which no step asks for.
 #[tactic(auto, using(crate::proofs::Received::none_edited, crate::proofs::Received::edited))]
 pub(crate) fn received_value(
     alloc: Global,

@@ -1,17 +1,15 @@
 -- Targets for contacts, by the texts of their URIs.
-use Rattle.std.proofs.Common.{◌≡◌, ℕ, Bool, true, false, cond, List, [], ◌∷◌, ◌++◌, length, Option, Some, None, refl, sym, ap, ◌∙◌, arith, append-nil}
-use Rattle.std.specs.Prelude.{◌==◌, ◌||◌, not, filter, option_map}
+use Rattle.std.proofs.Common.{◌≡◌, ℕ, Bool, true, false, cond, List, [], ◌∷◌, Option, Some, None, Ok, refl, sym, ap, ◌∙◌}
+use Rattle.std.specs.Prelude.{◌||◌, not, filter, option_map}
 use Rattle.std.specs.Option.{option_and_then, unwrap_or}
 use Rattle.std.specs.List.{list_all, list_any}
-use Rattle.std.proofs.lemmas.Bool.{eqb-true}
 use Rattle.sip_text.specs.Words.{is_same_text}
 use Rattle.sip_uri.specs.declared.addr.Addr.{Addr}
 use Rattle.sip_uri.specs.declared.parameters.Parameter.{Parameter}
-use Rattle.sip_uri.specs.declared.scheme.Scheme.TheVariants.{Sip}
 use Rattle.sip_uri.specs.declared.uri.Uri.{Uri}
-use Rattle.sip_uri.specs.Port.{port_value}
+use Rattle.sip_uri.specs.Port.{port_value, port_number}
 use Rattle.sip_uri.specs.Reading.{reading_of}
-use Rattle.sip_uri.specs.PlainPlace.{IsUriAt}
+use Rattle.sip_uri.specs.PlainUri.{bare_uri, IsBare}
 use Rattle.sip_uri.specs.Uri.{text_of, is_parameter, names_differ, IsValid}
 use Rattle.sip_uri.proofs.Tests.{and_both, and_is, not_is}
 use Rattle.sip_uri.proofs.ReadingLaws.{valid_again}
@@ -19,7 +17,6 @@ use Rattle.sip_hops.specs.declared.host_address.HostAddress.{HostAddress}
 use Rattle.sip_hops.specs.HostAddress.{port_or_default, address_at, address_of}
 use Rattle.sip_location.specs.KeptBinding.{uri_or_nowhere, uri_in, IsUriText}
 use Rattle.sip_location.proofs.Reading.{is_said_text}
-use Rattle.sip_targets.specs.PlainUri.{IsPlainUri}
 use Rattle.sip_targets.specs.Target.{is_method, target_uri, target_for}
 
 -- ---- the URI of a contact stays one of the grammar without some parameters and without headers
@@ -53,7 +50,8 @@ names_kept keep (p ∷ ps) e =
     let both : (not (list_any (same_name p) ps) ≡ true) × (names_differ ps ≡ true) = and_both (not (list_any (same_name p) ps)) (names_differ ps) e in
     by_test (keep p) (none_kept (same_name p) keep ps (not_is (list_any (same_name p) ps) both.0)) (names_kept keep ps both.1)
   where
-    by_test : (t : Bool) → list_any (same_name p) (filter keep ps) ≡ false → names_differ (filter keep ps) ≡ true → names_differ (cond t (p ∷ filter keep ps) (filter keep ps)) ≡ true
+    by_test : (t : Bool) → list_any (same_name p) (filter keep ps) ≡ false → names_differ (filter keep ps) ≡ true
+        → names_differ (cond t (p ∷ filter keep ps) (filter keep ps)) ≡ true
     by_test true alone others = and_is (not (list_any (same_name p) (filter keep ps))) (names_differ (filter keep ps)) (ap not alone) others
     by_test false alone others = others
 
@@ -83,27 +81,29 @@ target_read rows contact text u made kept address valid read is says has there =
 
 -- ---- a contact without parameters and headers
 
-nothing : (xs : List ℕ) → (length xs == 0) ≡ true → xs ≡ []
-nothing [] e = refl
-nothing (x ∷ xs) e = absurd (omega (arith, eqb-true (length (x ∷ xs)) 0 e))
-
-default_is : (digits : Option (List ℕ)) (port : Option ℕ) → option_map port_value digits ≡ option_map (λ n. Some n) port → port_or_default digits ≡ Some (unwrap_or port 5060)
+default_is : (digits : Option (List ℕ)) (port : Option ℕ) → option_map port_value digits ≡ option_map (λ n. Some n) port
+    → port_or_default digits ≡ Some (unwrap_or port 5060)
 default_is None None e = refl
 default_is None (Some n) e = absurd cc
 default_is (Some ds) None e = absurd cc
 default_is (Some ds) (Some n) e = cc
 
-pub plain_is : (text host behind : List ℕ) (port : Option ℕ) → IsUriAt text host port behind → (length behind == 0) ≡ true → IsPlainUri text host (unwrap_or port 5060)
-plain_is text host behind port at none =
-    let whole : at.front ≡ text = sym (append-nil at.front) ∙ ap (λ (w : List ℕ). at.front ++ w) (sym (nothing behind none)) ∙ sym at.whole in
-    record { info = at.info; digits = at.digits; has_port = default_is at.digits port at.numbered; is_read = ap reading_of (sym whole) ∙ at.alone }
+pub bare_address : (rows : List HostAddress) (u : Uri) (host : List ℕ) (port : Option ℕ) → IsBare u → host ≡ u.host → port ≡ port_number u.port
+    → address_at rows host (unwrap_or port 5060) ≡ address_of rows u
+bare_address rows u host port bare same number =
+    let v : Uri = bare_uri bare.user u.host u.port in
+    let place : address_of rows v ≡ address_at rows u.host (unwrap_or (port_number u.port) 5060) =
+    ap (option_and_then (address_at rows u.host)) (default_is u.port (port_number u.port) bare.numbered) in
+    ap (λ (h : List ℕ). address_at rows h (unwrap_or port 5060)) same ∙ ap (λ (p : Option ℕ). address_at rows u.host (unwrap_or p 5060)) number ∙ sym place
+    ∙ sym (ap (address_of rows) bare.is)
 
-pub plain_target : (rows : List HostAddress) (text copy host : List ℕ) (port : ℕ) (kept : Uri) (address : Option Addr) → IsPlainUri text host port → copy ≡ text → kept ≡ uri_in copy
-    → address ≡ address_at rows host port → record { uri = kept; address = address } ≡ target_for rows (uri_in text)
-plain_target rows text copy host port kept address is same has there =
-    let u : Uri = record { scheme = Sip; userinfo = is.info; host = host; port = is.digits; parameters = []; headers = [] } in
-    let place : address_of rows u ≡ address_at rows host port = ap (option_and_then (address_at rows host)) is.has_port in
-    let says : uri_in text ≡ u = ap uri_or_nowhere is.is_read in
-    let uri : kept ≡ u = has ∙ ap uri_in same ∙ says in
-    let whole : record { uri = kept; address = address } ≡ target_for rows u = rw (uri, there, ← place) refl in
+pub plain_target : (rows : List HostAddress) (text copy : List ℕ) (u kept : Uri) (address : Option Addr) → reading_of text ≡ Ok u → IsBare u → copy ≡ text
+    → kept ≡ uri_in copy
+    → address ≡ address_of rows u → record { uri = kept; address = address } ≡ target_for rows (uri_in text)
+plain_target rows text copy u kept address reads bare same has there =
+    let v : Uri = bare_uri bare.user u.host u.port in
+    let says : uri_in text ≡ v = ap uri_or_nowhere reads ∙ bare.is in
+    let uri : kept ≡ v = has ∙ ap uri_in same ∙ says in
+    let place : address ≡ address_of rows v = there ∙ ap (address_of rows) bare.is in
+    let whole : record { uri = kept; address = address } ≡ target_for rows v = rw (uri, place) refl in
     whole ∙ ap (target_for rows) (sym says)

@@ -1,3 +1,2 @@
 pub mod Contacts
-pub mod RequestUris
 pub mod Deciding

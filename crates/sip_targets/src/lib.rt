@@ -12,13 +12,12 @@
 
 pub mod examples;
 pub mod laws;
-mod plain_uri;
-mod read_uri;
 mod request_uri;
 mod target;
 mod target_set;
 mod target_uri;
 mod targets;
+mod uri_address;
 
 pub use request_uri::RequestUri;
 pub use target::Target;

@@ -6,11 +6,11 @@ ghost use Rattle.sip_location.specs.KeptBinding.{uri_in, IsUriText};
 ghost use Rattle.sip_targets.specs.Target as Definitions;
 ghost use Rattle.sip_targets.specs.Target.{target_for};
 
-use crate::plain_uri::plain_place_of;
 use crate::target_uri::TargetUri;
+use crate::uri_address::address_in;
 use sip_hops::Hops;
 use sip_text::{Bytes, Items};
-use sip_uri::{Addr, Parameter, Uri, UriError, parse_uri, write_uri};
+use sip_uri::{Addr, Parameter, Uri, UriError, UriRef, parse_uri, write_uri};
 use sip_uri_equality::says_same_no_case;
 use std::alloc::{AllocError, Global};
 
@@ -96,10 +96,10 @@ impl Target {
         requires { IsUriText contact.now }
         ensures { IfOk result (λ target. target ≡ target_for hops.now.addresses (uri_in contact.now)) }
     {
-        let Some((host, port)) = plain_place_of(contact) else {
+        let Some(uri) = UriRef::plain_of(contact) else {
             return target_read(alloc, contact, hops);
         };
-        let address = hops.address_at(host, port);
+        let address = address_in(&uri, hops);
         let uri = TargetUri::of(alloc, Bytes::copy(alloc, contact)?)?;
         Ok(Target { uri, address })
     }

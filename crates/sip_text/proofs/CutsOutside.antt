@@ -1,5 +1,6 @@
 -- Cutting text at a byte outside quoted text.
-use Rattle.std.proofs.Common.{◌≡◌, ℕ, ◌+◌, ◌<◌, ◌≤◌, Bool, true, false, List, [], ◌∷◌, ◌++◌, length, take, drop, get_or, Option, Some, None, refl, sym, ap, ◌∙◌, append_assoc, arith}
+use Rattle.std.proofs.Common.{◌≡◌, ℕ, ◌+◌, ◌<◌, ◌≤◌, Bool, true, false, List, [], ◌∷◌, ◌++◌, length, take, drop, get_or, Option, Some, None, refl, sym, ap, ◌∙◌}
+use Rattle.std.proofs.Common.{append_assoc, arith}
 use Rattle.std.proofs.lemmas.List.{append-nil, take_more, drop_more, drop_all}
 use Rattle.sip_text.specs.declared.cuts.Quoting.{Quoting}
 use Rattle.sip_text.specs.declared.cuts.Quoting.TheVariants.{Outside}
@@ -18,14 +19,17 @@ in_front-nil (Some x) = refl
 pub split_begins : (quoting : Quoting) (mark : ℕ) (bytes : List ℕ) → in_front [] (split_from quoting mark bytes) ≡ split_from quoting mark bytes
 split_begins quoting mark bytes = in_front-nil (split_from quoting mark bytes)
 
-pub split_ends : (quoting : Quoting) (mark : ℕ) (bytes : List ℕ) (i : ℕ) (total : Option (List ℕ × List ℕ)) → i < length bytes → is_mark quoting mark (get_or bytes i 0) ≡ true
+pub split_ends : (quoting : Quoting) (mark : ℕ) (bytes : List ℕ) (i : ℕ) (total : Option (List ℕ × List ℕ)) → i < length bytes
+    → is_mark quoting mark (get_or bytes i 0) ≡ true
     → in_front (take i bytes) (split_from quoting mark (drop i bytes)) ≡ total → Some (take i bytes, drop (i + 1) bytes) ≡ total
 split_ends quoting mark bytes i total lt is so_far =
     let here : split_from quoting mark (drop i bytes) ≡ Some ([], drop (i + 1) bytes) = ap (split_from quoting mark) (drop_more bytes i 0 lt) ∙ rw is refl in
     ap (λ (w : List ℕ). Some (w, drop (i + 1) bytes)) (sym (append-nil (take i bytes))) ∙ sym (ap (in_front (take i bytes)) here) ∙ so_far
 
-pub split_goes_on : (quoting : Quoting) (mark : ℕ) (bytes : List ℕ) (i : ℕ) (total : Option (List ℕ × List ℕ)) → i < length bytes → is_mark quoting mark (get_or bytes i 0) ≡ false
-    → in_front (take i bytes) (split_from quoting mark (drop i bytes)) ≡ total → in_front (take (i + 1) bytes) (split_from (quoting_after quoting (get_or bytes i 0)) mark (drop (i + 1) bytes)) ≡ total
+pub split_goes_on : (quoting : Quoting) (mark : ℕ) (bytes : List ℕ) (i : ℕ) (total : Option (List ℕ × List ℕ)) → i < length bytes
+    → is_mark quoting mark (get_or bytes i 0) ≡ false
+    → in_front (take i bytes) (split_from quoting mark (drop i bytes)) ≡ total → in_front (take (i + 1) bytes)
+    (split_from (quoting_after quoting (get_or bytes i 0)) mark (drop (i + 1) bytes)) ≡ total
 split_goes_on quoting mark bytes i total lt is so_far =
     let rest : Option (List ℕ × List ℕ) = split_from (quoting_after quoting (get_or bytes i 0)) mark (drop (i + 1) bytes) in
     let here : split_from quoting mark (drop i bytes) ≡ in_front (get_or bytes i 0 ∷ []) rest = ap (split_from quoting mark) (drop_more bytes i 0 lt) ∙ rw is refl in
@@ -90,7 +94,8 @@ shorter_test quoting mark b bs front rest false is e less =
 
 shorter_from : (quoting : Quoting) (mark : ℕ) (bytes front rest : List ℕ) → Some (front, rest) ≡ split_from quoting mark bytes → length rest < length bytes
 shorter_from quoting mark [] front rest e = absurd cc
-shorter_from quoting mark (b ∷ bs) front rest e = shorter_test quoting mark b bs front rest (is_mark quoting mark b) refl e (λ f r h. shorter_from (quoting_after quoting b) mark bs f r h)
+shorter_from quoting mark (b ∷ bs) front rest e = shorter_test quoting mark b bs front rest (is_mark quoting mark b) refl e
+    (λ f r h. shorter_from (quoting_after quoting b) mark bs f r h)
 
 pub is_shorter : (mark : ℕ) (bytes front rest : List ℕ) → Some (front, rest) ≡ split_outside mark bytes → length rest < length bytes
 is_shorter mark bytes front rest e = shorter_from Outside mark bytes front rest e

@@ -1,5 +1,6 @@
 -- Texts that differ without case: in another order, and where they are in order.
-use Rattle.std.proofs.Common.{◌≡◌, ℕ, ◌+◌, ◌<◌, Bool, true, false, List, [], ◌∷◌, map, length, get_or, drop, Bor, Ordering, Less, Equal, Greater, IsPermutation, IsSorted, is_eq, is_lt, refl, sym, ap, ◌∙◌, arith}
+use Rattle.std.proofs.Common.{◌≡◌, ℕ, ◌+◌, ◌<◌, Bool, true, false, List, [], ◌∷◌, map, length, get_or, drop, Bor, Ordering, Less, Equal, Greater, IsPermutation, IsSorted}
+use Rattle.std.proofs.Common.{is_eq, is_lt, refl, sym, ap, ◌∙◌, arith}
 use Rattle.std.specs.Prelude.{◌&&◌, ◌||◌, ◌↔◌, not}
 use Rattle.std.specs.Cmp.{IsTotalOrder, IsStrictWeakOrder, Equal-is}
 use Rattle.std.specs.List.{AllByRecursion, AllPairs, IsDistinct, list_any}
@@ -7,7 +8,8 @@ use Rattle.std.specs.Ordering.{eq_by_cmp, ordering_reverse}
 use Rattle.std.proofs.lemmas.Cmp.{on_total, nat_list_cmp_total, nat_list_eq_equiv}
 use Rattle.std.proofs.lemmas.List.{drop_more, get_or_default, map-id}
 use Rattle.std.proofs.lemmas.List.Sorted.{IsPermutation-sym, ranks_by}
-use Rattle.std.proofs.lemmas.Map.Keys.{IsDistinct-head, IsDistinct-tail, IsDistinct-cons, IsDistinct-from_sorted, IsDistinct-from_apart, IsDistinct-IsPermutation, apart_from_distinct, sorted_from_all_adjacent}
+use Rattle.std.proofs.lemmas.Map.Keys.{IsDistinct-head, IsDistinct-tail, IsDistinct-cons, IsDistinct-from_sorted, IsDistinct-from_apart, IsDistinct-IsPermutation}
+use Rattle.std.proofs.lemmas.Map.Keys.{apart_from_distinct, sorted_from_all_adjacent}
 use Rattle.std.proofs.lemmas.Map.Text.{is_eq-slice_cmp}
 use Rattle.sip_text.specs.Words.{without_case, is_same_text}
 use Rattle.sip_text.specs.Distinct.{order_without_case, all_differ}
@@ -29,7 +31,8 @@ equal_is_same left right =
     (λ e. sym (tie_is_same left right) ∙ equal.1 e, λ e. equal.0 (tie_is_same left right ∙ e))
 
 -- where one text ends in front of the other
-pub order_at_end : (left behind right : List ℕ) (i : ℕ) → i < length left → length behind ≡ 0 → order_without_case (drop i left) behind ≡ order_without_case left right → Greater ≡ order_without_case left right
+pub order_at_end : (left behind right : List ℕ) (i : ℕ) → i < length left → length behind ≡ 0 → order_without_case (drop i left) behind ≡ order_without_case left right
+    → Greater ≡ order_without_case left right
 order_at_end left [] right i within none is = sym (ap (λ (w : List ℕ). order_without_case w []) (drop_more left i 0 within)) ∙ is
 order_at_end left (b ∷ bs) right i within none is = let no : ⊥ = omega arith in absurd no
 
@@ -65,7 +68,8 @@ module _ {X : Type 0} (text : X → List ℕ) where
   none_from x (y ∷ ys) e = by_first (same_by x y) refl e (none_from x ys)
     where
       by_first : (b : Bool) → same_by x y ≡ b → (b || list_any (λ other. is_same_text (text x) other) (map text ys)) ≡ false
-          → (list_any (λ other. is_same_text (text x) other) (map text ys) ≡ false → AllByRecursion (λ z. same_by x z ≡ false) ys) → AllByRecursion (λ z. same_by x z ≡ false) (y ∷ ys)
+          → (list_any (λ other. is_same_text (text x) other) (map text ys) ≡ false → AllByRecursion (λ z. same_by x z ≡ false) ys)
+          → AllByRecursion (λ z. same_by x z ≡ false) (y ∷ ys)
       by_first true is e rest = absurd cc
       by_first false is e rest = (is, rest e)
 
@@ -77,7 +81,8 @@ module _ {X : Type 0} (text : X → List ℕ) where
   distinct_from [] e = none_distinct same_by
   distinct_from (x ∷ xs) e = by_first (list_any (λ other. is_same_text (text x) other) (map text xs)) refl e (distinct_from xs)
     where
-      by_first : (b : Bool) → list_any (λ other. is_same_text (text x) other) (map text xs) ≡ b → (not b && all_differ (map text xs)) ≡ true → (all_differ (map text xs) ≡ true → IsDistinct same_by xs) → IsDistinct same_by (x ∷ xs)
+      by_first : (b : Bool) → list_any (λ other. is_same_text (text x) other) (map text xs) ≡ b → (not b && all_differ (map text xs)) ≡ true
+          → (all_differ (map text xs) ≡ true → IsDistinct same_by xs) → IsDistinct same_by (x ∷ xs)
       by_first true is e rest = absurd cc
       by_first false is e rest = IsDistinct-cons same_by x xs (none_from x xs is) (rest e)
 
@@ -104,7 +109,8 @@ alike false false f g = refl
 pub differ_in_any_order : (old new : List Text) → IsPermutation old new → all_differ (texts_of new) ≡ all_differ (texts_of old)
 differ_in_any_order old new moved =
     let flips : (a b : Text) → is_same a b ≡ is_same b a = λ a b. same_is_symmetric a.now b.now in
-    alike (all_differ (texts_of new)) (all_differ (texts_of old)) (λ e. differ_from (λ (x : Text). x.now) old (IsDistinct-IsPermutation is_same flips new old (IsPermutation-sym old new moved) (distinct_from (λ (x : Text). x.now) new e)))
+    alike (all_differ (texts_of new)) (all_differ (texts_of old)) (λ e. differ_from (λ (x : Text). x.now) old
+    (IsDistinct-IsPermutation is_same flips new old (IsPermutation-sym old new moved) (distinct_from (λ (x : Text). x.now) new e)))
     (λ e. differ_from (λ (x : Text). x.now) new (IsDistinct-IsPermutation is_same flips old new moved (distinct_from (λ (x : Text). x.now) old e)))
 
 -- ---- texts in order
@@ -116,13 +122,15 @@ DifferAt ts i j = (d : Text) → is_same (get_or ts i d) (get_or ts j d) ≡ fal
 pub DifferAt-from_differ : (ts : List Text) (i j : ℕ) → all_differ (texts_of ts) ≡ true → i < j → j < length ts → DifferAt ts i j
 DifferAt-from_differ ts i j e less within d = apart_from_distinct is_same ts i j d (distinct_from (λ (x : Text). x.now) ts e) less within
 
-pub some_stands_twice : (ts : List Text) (i j : ℕ) (d e : Text) → i < j → j < length ts → is_same_text (get_or ts i d).now (get_or ts j e).now ≡ true → false ≡ all_differ (texts_of ts)
+pub some_stands_twice : (ts : List Text) (i j : ℕ) (d e : Text) → i < j → j < length ts → is_same_text (get_or ts i d).now (get_or ts j e).now ≡ true
+    → false ≡ all_differ (texts_of ts)
 some_stands_twice ts i j d e less within same = by_all (all_differ (texts_of ts)) refl
   where
     by_all : (b : Bool) → all_differ (texts_of ts) ≡ b → false ≡ b
     by_all false is = refl
     by_all true is =
-        let other : is_same_text (get_or ts i d).now (get_or ts j e).now ≡ false = ap (λ (t : Text). is_same_text (get_or ts i d).now t.now) (get_or_default ts j e d within) ∙ DifferAt-from_differ ts i j is less within d in
+        let other : is_same_text (get_or ts i d).now (get_or ts j e).now ≡ false = ap (λ (t : Text). is_same_text (get_or ts i d).now t.now)
+        (get_or_default ts j e d within) ∙ DifferAt-from_differ ts i j is less within d in
         absurd cc
 
 only_less : (o p : Ordering) → o ≡ ordering_reverse p → is_lt p ≡ false → is_eq o ≡ false → o ≡ Less
@@ -145,7 +153,8 @@ all_rise ts d sorted neighbours =
     let rises : (k : ℕ) → k + 1 < length ts → order (get_or ts k d) (get_or ts (k + 1) d) ≡ Less =
     λ k h. let x = get_or ts k d in let y = get_or ts (k + 1) d in
     only_less (order x y) (order y x) (total.antisymm x y) (sorted k d (omega arith) h) (tie_is_same x.now y.now ∙ neighbours k h d) in
-    differ_from (λ (x : Text). x.now) ts (same_tests (eq_by_cmp order) is_same (λ a b. tie_is_same a.now b.now) ts (IsDistinct-from_sorted order ts (sorted_from_all_adjacent total ts d rises)))
+    differ_from (λ (x : Text). x.now) ts (same_tests (eq_by_cmp order) is_same (λ a b. tie_is_same a.now b.now) ts
+    (IsDistinct-from_sorted order ts (sorted_from_all_adjacent total ts d rises)))
 
 pub differ_from_neighbours : (ts : List Text) → IsSorted order ts → ((k : ℕ) → k + 1 < length ts → DifferAt ts k (k + 1)) → true ≡ all_differ (texts_of ts)
 differ_from_neighbours [] sorted neighbours = refl

@@ -14,18 +14,21 @@ differs b c e same = grind arith
 pub no_match : (b c : ℕ) → b ≢ c → (b == c) ≡ false
 no_match b c ne = grind arith
 
-plain_from : (b : ℕ) (rest v : List ℕ) (o : Option (List ℕ)) → b ≢ 37 → with_front (b ∷ []) o ≡ Some v → ((w : List ℕ) → o ≡ Some w → IsEscaped rest w) → IsEscaped (b ∷ rest) v
+plain_from : (b : ℕ) (rest v : List ℕ) (o : Option (List ℕ)) → b ≢ 37 → with_front (b ∷ []) o ≡ Some v → ((w : List ℕ) → o ≡ Some w → IsEscaped rest w)
+    → IsEscaped (b ∷ rest) v
 plain_from b rest v None ne e rest_is = absurd cc
 plain_from b rest v (Some w) ne e rest_is =
     let is : b ∷ w ≡ v = cc in
     let r = rest_is w refl in
     record { pieces = Plain b ∷ r.pieces; each = (ne, r.each); written = ap (λ (x : List ℕ). b ∷ x) r.written; says = sym is ∙ ap (λ (x : List ℕ). b ∷ x) r.says }
 
-plain_case : (b : ℕ) (rest v : List ℕ) → (b == 37) ≡ false → unescaped (b ∷ rest) ≡ Some v → ((w : List ℕ) → unescaped rest ≡ Some w → IsEscaped rest w) → IsEscaped (b ∷ rest) v
+plain_case : (b : ℕ) (rest v : List ℕ) → (b == 37) ≡ false → unescaped (b ∷ rest) ≡ Some v → ((w : List ℕ) → unescaped rest ≡ Some w → IsEscaped rest w)
+    → IsEscaped (b ∷ rest) v
 plain_case b rest v is e rest_is = plain_from b rest v (unescaped rest) (differs b 37 is) (sym (plain_one b rest is) ∙ e) rest_is
 
 escape_from : (b h l : ℕ) (rest v : List ℕ) (hex : Bool) (o : Option (List ℕ)) → b ≡ 37 → (is_ascii_hexdigit h && is_ascii_hexdigit l) ≡ hex
-    → cond hex (option_map (λ v. (16 * digit_value h + digit_value l) ∷ v) o) None ≡ Some v → ((w : List ℕ) → o ≡ Some w → IsEscaped rest w) → IsEscaped (b ∷ h ∷ l ∷ rest) v
+    → cond hex (option_map (λ v. (16 * digit_value h + digit_value l) ∷ v) o) None ≡ Some v → ((w : List ℕ) → o ≡ Some w → IsEscaped rest w)
+    → IsEscaped (b ∷ h ∷ l ∷ rest) v
 escape_from b h l rest v false o percent is e rest_is = absurd cc
 escape_from b h l rest v true None percent is e rest_is = absurd cc
 escape_from b h l rest v true (Some w) percent is e rest_is =
@@ -39,9 +42,11 @@ escape_from b h l rest v true (Some w) percent is e rest_is =
       says = sym value ∙ ap (λ (x : List ℕ). (16 * digit_value h + digit_value l) ∷ x) r.says;
     }
 
-percent_case : (b h l : ℕ) (rest v : List ℕ) → (b == 37) ≡ true → unescaped (b ∷ h ∷ l ∷ rest) ≡ Some v → ((w : List ℕ) → unescaped rest ≡ Some w → IsEscaped rest w) → IsEscaped (b ∷ h ∷ l ∷ rest) v
+percent_case : (b h l : ℕ) (rest v : List ℕ) → (b == 37) ≡ true → unescaped (b ∷ h ∷ l ∷ rest) ≡ Some v → ((w : List ℕ) → unescaped rest ≡ Some w → IsEscaped rest w)
+    → IsEscaped (b ∷ h ∷ l ∷ rest) v
 percent_case b h l rest v is e rest_is =
-    let one : unescaped (b ∷ h ∷ l ∷ rest) ≡ cond (is_ascii_hexdigit h && is_ascii_hexdigit l) (option_map (λ v. (16 * digit_value h + digit_value l) ∷ v) (unescaped rest)) None = rw is refl in
+    let one : unescaped (b ∷ h ∷ l ∷ rest) ≡ cond (is_ascii_hexdigit h && is_ascii_hexdigit l)
+    (option_map (λ v. (16 * digit_value h + digit_value l) ∷ v) (unescaped rest)) None = rw is refl in
     escape_from b h l rest v (is_ascii_hexdigit h && is_ascii_hexdigit l) (unescaped rest) (eqb-true b 37 is) refl (sym one ∙ e) rest_is
 
 cut_short : (b : ℕ) (rest v : List ℕ) → unescaped (b ∷ rest) ≡ None → unescaped (b ∷ rest) ≡ Some v → IsEscaped (b ∷ rest) v
@@ -51,12 +56,14 @@ one_left : (b : ℕ) (v : List ℕ) (t : Bool) → (b == 37) ≡ t → unescaped
 one_left b v true is e rest_is = cut_short b [] v (rw is refl) e
 one_left b v false is e rest_is = plain_case b [] v is e rest_is
 
-two_left : (b h : ℕ) (v : List ℕ) (t : Bool) → (b == 37) ≡ t → unescaped (b ∷ h ∷ []) ≡ Some v → ((w : List ℕ) → unescaped (h ∷ []) ≡ Some w → IsEscaped (h ∷ []) w) → IsEscaped (b ∷ h ∷ []) v
+two_left : (b h : ℕ) (v : List ℕ) (t : Bool) → (b == 37) ≡ t → unescaped (b ∷ h ∷ []) ≡ Some v → ((w : List ℕ) → unescaped (h ∷ []) ≡ Some w → IsEscaped (h ∷ []) w)
+    → IsEscaped (b ∷ h ∷ []) v
 two_left b h v true is e rest_is = cut_short b (h ∷ []) v (rw is refl) e
 two_left b h v false is e rest_is = plain_case b (h ∷ []) v is e rest_is
 
 more_left : (b h l : ℕ) (rest v : List ℕ) (t : Bool) → (b == 37) ≡ t → unescaped (b ∷ h ∷ l ∷ rest) ≡ Some v
-    → ((w : List ℕ) → unescaped (h ∷ l ∷ rest) ≡ Some w → IsEscaped (h ∷ l ∷ rest) w) → ((w : List ℕ) → unescaped rest ≡ Some w → IsEscaped rest w) → IsEscaped (b ∷ h ∷ l ∷ rest) v
+    → ((w : List ℕ) → unescaped (h ∷ l ∷ rest) ≡ Some w → IsEscaped (h ∷ l ∷ rest) w) → ((w : List ℕ) → unescaped rest ≡ Some w → IsEscaped rest w)
+    → IsEscaped (b ∷ h ∷ l ∷ rest) v
 more_left b h l rest v true is e plain_is rest_is = percent_case b h l rest v is e rest_is
 more_left b h l rest v false is e plain_is rest_is = plain_case b (h ∷ l ∷ rest) v is e plain_is
 

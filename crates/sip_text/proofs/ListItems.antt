@@ -24,7 +24,8 @@ at_cut Quoted b is = absurd cc
 at_cut Escaped b is = absurd cc
 at_cut Bracketed b is = absurd cc
 
-ones_cut : (place : Place) (o : Option (List (List ℕ))) (items : List (List ℕ)) → place ≡ Outside → option_map (λ items. [] ∷ items) o ≡ Some items → ((rest : List (List ℕ)) → o ≡ Some rest → AreOnes Outside rest) → AreOnes place items
+ones_cut : (place : Place) (o : Option (List (List ℕ))) (items : List (List ℕ)) → place ≡ Outside → option_map (λ items. [] ∷ items) o ≡ Some items
+    → ((rest : List (List ℕ)) → o ≡ Some rest → AreOnes Outside rest) → AreOnes place items
 ones_cut place None items out e rest_are = absurd cc
 ones_cut place (Some []) items out e rest_are = absurd (rest_are [] refl)
 ones_cut place (Some (first ∷ others)) items out e rest_are =
@@ -51,7 +52,8 @@ are_ones_nil Escaped items e = absurd cc
 are_ones_nil Bracketed items e = absurd cc
 
 either : (place : Place) (b : ℕ) (bs : List ℕ) (items : List (List ℕ)) (t : Bool) → is_cut place b ≡ t → between_cuts place (b ∷ bs) ≡ Some items
-    → ((rest : List (List ℕ)) → between_cuts Outside bs ≡ Some rest → AreOnes Outside rest) → ((rest : List (List ℕ)) → between_cuts (place_after place b) bs ≡ Some rest → AreOnes (place_after place b) rest) → AreOnes place items
+    → ((rest : List (List ℕ)) → between_cuts Outside bs ≡ Some rest → AreOnes Outside rest)
+    → ((rest : List (List ℕ)) → between_cuts (place_after place b) bs ≡ Some rest → AreOnes (place_after place b) rest) → AreOnes place items
 either place b bs items true is e out on =
     let one : between_cuts place (b ∷ bs) ≡ option_map (λ items. [] ∷ items) (between_cuts Outside bs) = rw is refl in
     ones_cut place (between_cuts Outside bs) items (at_cut place b is) (sym one ∙ e) out
@@ -61,7 +63,8 @@ either place b bs items false is e out on =
 
 pub are_ones : (place : Place) (text : List ℕ) (items : List (List ℕ)) → between_cuts place text ≡ Some items → AreOnes place items
 are_ones place [] items e = are_ones_nil place items e
-are_ones place (b ∷ bs) items e = either place b bs items (is_cut place b) refl e (λ rest h. are_ones Outside bs rest h) (λ rest h. are_ones (place_after place b) bs rest h)
+are_ones place (b ∷ bs) items e = either place b bs items (is_cut place b) refl e (λ rest h. are_ones Outside bs rest h)
+    (λ rest h. are_ones (place_after place b) bs rest h)
 
 -- ---- without blanks
 
@@ -89,7 +92,11 @@ blank_outside b e = elim (is_32_or_9 b e) [ inl s ↦ rw s refl | inr t ↦ rw t
 
 blank_inside : (place : Place) (b : ℕ) → is_blank b ≡ true → place_after place b ≡ Outside → place ≡ Outside
 blank_inside Outside b e h = refl
-blank_inside Quoted b e h = elim (is_32_or_9 b e) [ inl s ↦ absurd (quoted_32 (ap (place_after Quoted) (sym s) ∙ h)) | inr t ↦ absurd (quoted_9 (ap (place_after Quoted) (sym t) ∙ h)) ]
+blank_inside Quoted b e h = elim (is_32_or_9 b e) [
+  | inl s ↦ absurd (quoted_32 (ap (place_after Quoted) (sym s) ∙ h))
+  | inr t ↦ absurd
+      (quoted_9 (ap (place_after Quoted) (sym t) ∙ h))
+]
   where
     quoted_32 : place_after Quoted 32 ≡ Outside → ⊥
     quoted_32 h = cc
@@ -97,7 +104,11 @@ blank_inside Quoted b e h = elim (is_32_or_9 b e) [ inl s ↦ absurd (quoted_32 
     quoted_9 : place_after Quoted 9 ≡ Outside → ⊥
     quoted_9 h = cc
 blank_inside Escaped b e h = absurd cc
-blank_inside Bracketed b e h = elim (is_32_or_9 b e) [ inl s ↦ absurd (bracketed_32 (ap (place_after Bracketed) (sym s) ∙ h)) | inr t ↦ absurd (bracketed_9 (ap (place_after Bracketed) (sym t) ∙ h)) ]
+blank_inside Bracketed b e h = elim (is_32_or_9 b e) [
+  | inl s ↦ absurd (bracketed_32 (ap (place_after Bracketed) (sym s) ∙ h))
+  | inr t ↦ absurd
+      (bracketed_9 (ap (place_after Bracketed) (sym t) ∙ h))
+]
   where
     bracketed_32 : place_after Bracketed 32 ≡ Outside → ⊥
     bracketed_32 h = cc
@@ -150,7 +161,8 @@ one_front place (c ∷ cs) bs h e =
 
 one_behind : (us cs : List ℕ) → Blanks us → IsOne Outside (us ++ cs) → IsOne Outside cs
 one_behind [] cs h e = e
-one_behind (a ∷ us) cs h e = one_behind us cs h.1 (subst (λ (p : Place). IsOne p (us ++ cs)) (blank_outside a h.0) (one_rest Outside a (us ++ cs) (blank_not_cut Outside a h.0) e))
+one_behind (a ∷ us) cs h e = one_behind us cs h.1 (subst (λ (p : Place). IsOne p (us ++ cs)) (blank_outside a h.0)
+    (one_rest Outside a (us ++ cs) (blank_not_cut Outside a h.0) e))
 
 pub one_trimmed : (item : List ℕ) → IsOne Outside item → IsOne Outside (trimmed item)
 one_trimmed item e =
@@ -183,7 +195,8 @@ and_both false b e = absurd cc
 and_is : (a b : Bool) → a ≡ true → b ≡ true → (a && b) ≡ true
 and_is a b e f = rw (e, f) refl
 
-pass_cut : (p : ℕ → Bool) (o : Option (List (List ℕ))) (items : List (List ℕ)) → option_map (λ items. [] ∷ items) o ≡ Some items → ((rest : List (List ℕ)) → o ≡ Some rest → Pass p rest) → Pass p items
+pass_cut : (p : ℕ → Bool) (o : Option (List (List ℕ))) (items : List (List ℕ)) → option_map (λ items. [] ∷ items) o ≡ Some items
+    → ((rest : List (List ℕ)) → o ≡ Some rest → Pass p rest) → Pass p items
 pass_cut p None items e are = absurd cc
 pass_cut p (Some rest) items e are =
     let same : [] ∷ rest ≡ items = cc in
@@ -193,13 +206,15 @@ pass_onto : (p : ℕ → Bool) (b : ℕ) (rest : List (List ℕ)) → p b ≡ tr
 pass_onto p b [] e are = tt
 pass_onto p b (item ∷ rest) e are = (and_is (p b) (list_all p item) e are.0, are.1)
 
-pass_on : (p : ℕ → Bool) (b : ℕ) (o : Option (List (List ℕ))) (items : List (List ℕ)) → p b ≡ true → option_map (λ items. onto (b ∷ []) items) o ≡ Some items → ((rest : List (List ℕ)) → o ≡ Some rest → Pass p rest) → Pass p items
+pass_on : (p : ℕ → Bool) (b : ℕ) (o : Option (List (List ℕ))) (items : List (List ℕ)) → p b ≡ true → option_map (λ items. onto (b ∷ []) items) o ≡ Some items
+    → ((rest : List (List ℕ)) → o ≡ Some rest → Pass p rest) → Pass p items
 pass_on p b None items h e are = absurd cc
 pass_on p b (Some rest) items h e are =
     let same : onto (b ∷ []) rest ≡ items = cc in
     subst (Pass p) same (pass_onto p b rest h (are rest refl))
 
-pass_either : (p : ℕ → Bool) (place : Place) (b : ℕ) (bs : List ℕ) (items : List (List ℕ)) (t : Bool) → is_cut place b ≡ t → p b ≡ true → between_cuts place (b ∷ bs) ≡ Some items
+pass_either : (p : ℕ → Bool) (place : Place) (b : ℕ) (bs : List ℕ) (items : List (List ℕ)) (t : Bool) → is_cut place b ≡ t → p b ≡ true
+    → between_cuts place (b ∷ bs) ≡ Some items
     → ((place : Place) (rest : List (List ℕ)) → between_cuts place bs ≡ Some rest → Pass p rest) → Pass p items
 pass_either p place b bs items true is h e are =
     let one : between_cuts place (b ∷ bs) ≡ option_map (λ items. [] ∷ items) (between_cuts Outside bs) = rw is refl in
@@ -237,13 +252,21 @@ pub record IsItemOf (p : ℕ → Bool) (item : List ℕ) : Type 0 where
   pub pass : list_all p item ≡ true
   pub tight : IsTight item
 
-of_step : (p : ℕ → Bool) (item : List ℕ) (t : Bool) (o : Option (List (List ℕ))) (out : List (List ℕ)) → is_nil (trimmed item) ≡ t → IsOne Outside item → list_all p item ≡ true → cond t None (option_map (λ others. trimmed item ∷ others) o) ≡ Some out
+of_step : (p : ℕ → Bool) (item : List ℕ) (t : Bool) (o : Option (List (List ℕ))) (out : List (List ℕ)) → is_nil (trimmed item) ≡ t → IsOne Outside item
+    → list_all p item ≡ true → cond t None (option_map (λ others. trimmed item ∷ others) o) ≡ Some out
     → ((rest : List (List ℕ)) → o ≡ Some rest → AllByRecursion (IsItemOf p) rest) → AllByRecursion (IsItemOf p) out
 of_step p item true o out is one h e rest_are = absurd cc
 of_step p item false None out is one h e rest_are = absurd cc
 of_step p item false (Some rest) out is one h e rest_are =
     let same : trimmed item ∷ rest ≡ out = cc in
-    subst (AllByRecursion (IsItemOf p)) same (record { one = cut_one (trimmed item) (one_trimmed item one) (tight_of item) is; pass = all_trimmed_pass p item h; tight = tight_of item }, rest_are rest refl)
+    subst (AllByRecursion (IsItemOf p)) same (
+      record {
+        one = cut_one (trimmed item) (one_trimmed item one) (tight_of item) is;
+        pass = all_trimmed_pass p item h;
+        tight = tight_of item;
+      },
+      rest_are rest refl,
+    )
 
 of_all : (p : ℕ → Bool) (items out : List (List ℕ)) → AllByRecursion (IsOne Outside) items → Pass p items → all_trimmed items ≡ Some out → AllByRecursion (IsItemOf p) out
 of_all p [] out h k e =
@@ -251,7 +274,8 @@ of_all p [] out h k e =
     subst (AllByRecursion (IsItemOf p)) same tt
 of_all p (item ∷ items) out h k e = of_step p item (is_nil (trimmed item)) (all_trimmed items) out refl h.0 k.0 e (λ rest r. of_all p items rest h.1 k.1 r)
 
-of_option : (p : ℕ → Bool) (o : Option (List (List ℕ))) (out : List (List ℕ)) → option_and_then all_trimmed o ≡ Some out → ((items : List (List ℕ)) → o ≡ Some items → AreOnes Outside items) → ((items : List (List ℕ)) → o ≡ Some items → Pass p items) → AllByRecursion (IsItemOf p) out
+of_option : (p : ℕ → Bool) (o : Option (List (List ℕ))) (out : List (List ℕ)) → option_and_then all_trimmed o ≡ Some out
+    → ((items : List (List ℕ)) → o ≡ Some items → AreOnes Outside items) → ((items : List (List ℕ)) → o ≡ Some items → Pass p items) → AllByRecursion (IsItemOf p) out
 of_option p None out e are pass = absurd cc
 of_option p (Some items) out e are pass = of_all p items out (ones items (are items refl)) (pass items refl) e
 

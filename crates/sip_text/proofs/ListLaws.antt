@@ -63,7 +63,8 @@ step_outside b bs false true q k c r =
 step_outside b bs false false q k c r =
     record { parts = OneByte b ∷ r.parts; each = ((differs b 44 c, differs b 34 q, differs b 60 k), r.each); written = ap (λ (x : List ℕ). b ∷ x) r.written }
 
-step_quoted : (b : ℕ) (bs : List ℕ) (quote pair : Bool) → (b == 34) ≡ quote → (b == 92) ≡ pair → RestAt (cond quote Outside (cond pair Escaped Quoted)) bs → InQuotes (b ∷ bs)
+step_quoted : (b : ℕ) (bs : List ℕ) (quote pair : Bool) → (b == 34) ≡ quote → (b == 92) ≡ pair → RestAt (cond quote Outside (cond pair Escaped Quoted)) bs
+    → InQuotes (b ∷ bs)
 step_quoted b bs true pair q p r = record { pieces = []; each = tt; rest = bs; written = ap (λ (x : ℕ). x ∷ bs) (eqb-true b 34 q); after = r }
 step_quoted b bs false true q p r =
     record {
@@ -74,11 +75,23 @@ step_quoted b bs false true q p r =
       after = r.after.after;
     }
 step_quoted b bs false false q p r =
-    record { pieces = QdText b ∷ r.pieces; each = ((differs b 34 q, differs b 92 p), r.each); rest = r.rest; written = ap (λ (x : List ℕ). b ∷ x) r.written; after = r.after }
+    record {
+      pieces = QdText b ∷ r.pieces;
+      each = ((differs b 34 q, differs b 92 p), r.each);
+      rest = r.rest;
+      written = ap (λ (x : List ℕ). b ∷ x) r.written;
+      after = r.after;
+    }
 
 step_bracketed : (b : ℕ) (bs : List ℕ) (closes : Bool) → (b == 62) ≡ closes → RestAt (cond closes Outside Bracketed) bs → InBrackets (b ∷ bs)
 step_bracketed b bs true k r = record { bytes = []; each = tt; rest = bs; written = ap (λ (x : ℕ). x ∷ bs) (eqb-true b 62 k); after = r }
-step_bracketed b bs false k r = record { bytes = b ∷ r.bytes; each = (differs b 62 k, r.each); rest = r.rest; written = ap (λ (x : List ℕ). b ∷ x) r.written; after = r.after }
+step_bracketed b bs false k r = record {
+  bytes = b ∷ r.bytes;
+  each = (differs b 62 k, r.each);
+  rest = r.rest;
+  written = ap (λ (x : List ℕ). b ∷ x) r.written;
+  after = r.after;
+}
 
 step : (place : Place) (b : ℕ) (bs : List ℕ) → is_cut place b ≡ false → RestAt (place_after place b) bs → RestAt place (b ∷ bs)
 step Outside b bs not_cut r = step_outside b bs (b == 34) (b == 60) refl refl not_cut r
@@ -100,7 +113,8 @@ rest_at place (b ∷ bs) e =
 
 -- ---- and back
 
-in_quotes : (pieces : List QuotedPiece) (rest : List ℕ) → AllByRecursion IsQuotedPiece pieces → IsOne Outside rest → IsOne Quoted ((flat_map piece_text pieces ++ 34 ∷ []) ++ rest)
+in_quotes : (pieces : List QuotedPiece) (rest : List ℕ) → AllByRecursion IsQuotedPiece pieces → IsOne Outside rest
+    → IsOne Quoted ((flat_map piece_text pieces ++ 34 ∷ []) ++ rest)
 in_quotes [] rest each one = one_more Quoted 34 rest refl one
 in_quotes (QdText b ∷ pieces) rest each one =
     let stays : place_after Quoted b ≡ Quoted = rw (no_match b 34 each.0.0, no_match b 92 each.0.1) refl in
@@ -169,18 +183,23 @@ text_is : (text : List ℕ) (place : Place) (items : List (List ℕ)) → betwee
 text_is [] place items e = text_nil place items e
 text_is (b ∷ bs) place items e = text_step place b bs items (is_cut place b) refl e (λ p rest h. text_is bs p rest h)
 
-put_on : (b : ℕ) (first : List ℕ) (o : Option (List (List ℕ))) → option_map (λ items. onto (b ∷ []) items) (option_map (λ items. first ∷ items) o) ≡ option_map (λ items. (b ∷ first) ∷ items) o
+put_on : (b : ℕ) (first : List ℕ) (o : Option (List (List ℕ))) → option_map (λ items. onto (b ∷ []) items) (option_map (λ items. first ∷ items) o)
+    ≡ option_map (λ items. (b ∷ first) ∷ items) o
 put_on b first None = refl
 put_on b first (Some items) = refl
 
-one_before : (place : Place) (first more : List ℕ) → IsOne place first → between_cuts place (first ++ 44 ∷ more) ≡ option_map (λ items. first ∷ items) (between_cuts Outside more)
+one_before : (place : Place) (first more : List ℕ) → IsOne place first → between_cuts place (first ++ 44 ∷ more)
+    ≡ option_map (λ items. first ∷ items) (between_cuts Outside more)
 one_before place [] more one = rw (one_nil place one) refl
 one_before place (b ∷ bs) more one =
     let not_cut = not_cut_one place b bs (is_cut place b) refl one in
-    let go_on : between_cuts place (b ∷ (bs ++ 44 ∷ more)) ≡ option_map (λ items. onto (b ∷ []) items) (between_cuts (place_after place b) (bs ++ 44 ∷ more)) = rw not_cut refl in
-    go_on ∙ ap (option_map (λ items. onto (b ∷ []) items)) (one_before (place_after place b) bs more (one_rest place b bs not_cut one)) ∙ put_on b bs (between_cuts Outside more)
+    let go_on : between_cuts place (b ∷ (bs ++ 44 ∷ more)) ≡ option_map (λ items. onto (b ∷ []) items) (between_cuts (place_after place b) (bs ++ 44 ∷ more)) =
+    rw not_cut refl in
+    go_on ∙ ap (option_map (λ items. onto (b ∷ []) items)) (one_before (place_after place b) bs more (one_rest place b bs not_cut one))
+    ∙ put_on b bs (between_cuts Outside more)
 
-cut_back : (first : List ℕ) (others : List (List ℕ)) → IsOne Outside first → AllByRecursion (IsOne Outside) others → between_cuts Outside (join_with_byte 44 (first ∷ others)) ≡ Some (first ∷ others)
+cut_back : (first : List ℕ) (others : List (List ℕ)) → IsOne Outside first → AllByRecursion (IsOne Outside) others
+    → between_cuts Outside (join_with_byte 44 (first ∷ others)) ≡ Some (first ∷ others)
 cut_back first [] one each = one
 cut_back first (second ∷ others) one each =
     one_before Outside first (join_with_byte 44 (second ∷ others)) one ∙ ap (option_map (λ items. first ∷ items)) (cut_back second others each.0 each.1)
@@ -200,7 +219,8 @@ record AreTrimmed (between items : List (List ℕ)) : Type 0 where
   full : AllByRecursion (λ item. item ≢ []) items
 
 trim_one : (item : List ℕ) (others items : List (List ℕ)) (nil : Bool) (o : Option (List (List ℕ))) → is_nil (trimmed item) ≡ nil
-    → cond nil None (option_map (λ others. trimmed item ∷ others) o) ≡ Some items → ((rest : List (List ℕ)) → o ≡ Some rest → AreTrimmed others rest) → AreTrimmed (item ∷ others) items
+    → cond nil None (option_map (λ others. trimmed item ∷ others) o) ≡ Some items → ((rest : List (List ℕ)) → o ≡ Some rest → AreTrimmed others rest)
+    → AreTrimmed (item ∷ others) items
 trim_one item others items true o is e rest_are = absurd cc
 trim_one item others items false None is e rest_are = absurd cc
 trim_one item others items false (Some rest) is e rest_are =
@@ -231,7 +251,8 @@ list_from text items [] ones is t = absurd ones
 list_from text items (first ∷ others) ones is t =
     record { between = first ∷ others; some = λ e. cc; each = (rest_at Outside first ones.0, texts_of others ones.1); written = is; trims = t.trims; full = t.full }
 
-list_by : (text : List ℕ) (items : List (List ℕ)) (o : Option (List (List ℕ))) → between_cuts Outside text ≡ o → option_and_then all_trimmed o ≡ Some items → IsList text items
+list_by : (text : List ℕ) (items : List (List ℕ)) (o : Option (List (List ℕ))) → between_cuts Outside text ≡ o → option_and_then all_trimmed o ≡ Some items
+    → IsList text items
 list_by text items None is e = absurd cc
 list_by text items (Some between) is e = list_from text items between (are_ones Outside text between is) (text_is text Outside between is) (are_trimmed between items e)
 

@@ -1,5 +1,5 @@
 -- A value with no comma, no quote and at most one pair of brackets is one item.
-use Rattle.std.proofs.Common.{◌≡◌, ℕ, zero, suc, ◌+◌, ◌-◌, ◌<◌, ◌≤◌, Bool, true, false, List, [], ◌∷◌, length, take, drop, get_or, Option, Some, refl, sym, ap, subst, ◌∙◌, arith}
+use Rattle.std.proofs.Common.{◌≡◌, ℕ, zero, suc, ◌+◌, ◌-◌, ◌<◌, ◌≤◌, Bool, true, false, List, [], ◌∷◌, length, drop, get_or, Option, Some, refl, ap, subst, ◌∙◌, arith}
 use Rattle.std.specs.Prelude.{◌||◌, ◌==◌, option_map}
 use Rattle.memchr.specs.Find.{NoneBefore, Nowhere, Passes, is_byte, is_byte3}
 use Rattle.sip_text.specs.declared.lists.Place.TheVariants.{Outside, Bracketed}
@@ -26,7 +26,8 @@ passed b bs none one =
     let t : ((b == 44) ≡ false) × ((b == 34) ≡ false) × ((b == 60) ≡ false) = none_of b none in
     rw (t.0, t.1, t.2) (ap (put b) one)
 
-front : (start : ℕ) (bytes : List ℕ) → start ≤ length bytes → ((k : ℕ) → k < start → is_byte3 44 34 60 (get_or bytes k 0) ≡ true → ⊥) → IsOne (drop start bytes) → IsOne bytes
+front : (start : ℕ) (bytes : List ℕ) → start ≤ length bytes → ((k : ℕ) → k < start → is_byte3 44 34 60 (get_or bytes k 0) ≡ true → ⊥) → IsOne (drop start bytes)
+    → IsOne bytes
 front zero bytes fits none one = one
 front (suc start) [] fits none one = absurd (omega arith)
 front (suc start) (b ∷ bs) fits none one = passed b bs (none 0 (omega arith)) (front start bs (omega arith) (λ k lt. none (suc k) (omega arith)) one)
@@ -36,7 +37,8 @@ none_cuts [] none = refl
 none_cuts (b ∷ bs) none = passed b bs (none 0 (omega arith) (omega arith)) (none_cuts bs (λ k low lt. none (suc k) (omega arith) (omega arith)))
 
 -- a bracket that has begun ends, and nothing behind it cuts
-bracketed : (end : ℕ) (bytes : List ℕ) → end < length bytes → ((k : ℕ) → k < end → is_byte 62 (get_or bytes k 0) ≡ true → ⊥) → is_byte 62 (get_or bytes end 0) ≡ true → IsOne (drop (suc end) bytes)
+bracketed : (end : ℕ) (bytes : List ℕ) → end < length bytes → ((k : ℕ) → k < end → is_byte 62 (get_or bytes k 0) ≡ true → ⊥) → is_byte 62 (get_or bytes end 0) ≡ true
+    → IsOne (drop (suc end) bytes)
     → between_cuts Bracketed bytes ≡ Some (bytes ∷ [])
 bracketed end [] lt none here one = absurd (omega arith)
 bracketed zero (b ∷ bs) lt none here one = rw here (ap (put b) one)
@@ -48,21 +50,24 @@ bracketed (suc end) (b ∷ bs) lt none here one =
     not_so true h = absurd (h refl)
     not_so false h = refl
 
-pair : (end : ℕ) (bytes : List ℕ) → get_or bytes 0 0 ≡ 60 → end < length bytes → ((k : ℕ) → k < end → is_byte 62 (get_or bytes k 0) ≡ true → ⊥) → is_byte 62 (get_or bytes end 0) ≡ true → IsOne (drop (suc end) bytes)
+pair : (end : ℕ) (bytes : List ℕ) → get_or bytes 0 0 ≡ 60 → end < length bytes → ((k : ℕ) → k < end → is_byte 62 (get_or bytes k 0) ≡ true → ⊥)
+    → is_byte 62 (get_or bytes end 0) ≡ true → IsOne (drop (suc end) bytes)
     → IsOne bytes
 pair end [] first lt none here one = absurd (omega arith)
 pair zero (b ∷ bs) first lt none here one =
     let clash : (60 == 62) ≡ true = subst (λ (c : ℕ). (c == 62) ≡ true) first here in absurd cc
 pair (suc end) (b ∷ bs) first lt none here one = rw first (ap (put 60) (bracketed end bs (omega arith) (λ k below. none (suc k) (omega arith)) here one))
 
-pub one_bracket : (bracket rest : List ℕ) (end : ℕ) → get_or bracket 0 0 ≡ 60 → NoneBefore (Passes (is_byte 62) bracket) 0 (length bracket) end × Passes (is_byte 62) bracket end → rest ≡ drop (end + 1) bracket
+pub one_bracket : (bracket rest : List ℕ) (end : ℕ) → get_or bracket 0 0 ≡ 60 → NoneBefore (Passes (is_byte 62) bracket) 0 (length bracket) end
+    × Passes (is_byte 62) bracket end → rest ≡ drop (end + 1) bracket
     → between_cuts Outside rest ≡ Some (rest ∷ []) → between_cuts Outside bracket ≡ Some (bracket ∷ [])
 one_bracket bracket rest end first q behind one =
     let next : end + 1 ≡ suc end = omega arith in
     let rest_is : rest ≡ drop (suc end) bracket = behind ∙ ap (λ (n : ℕ). drop n bracket) next in
     pair end bracket first q.0.high (λ k lt. q.0.before k (omega arith) lt) q.1 (subst (λ (w : List ℕ). IsOne w) rest_is one)
 
-pub one_front : (value bracket : List ℕ) (start : ℕ) → NoneBefore (Passes (is_byte3 44 34 60) value) 0 (length value) start × Passes (is_byte3 44 34 60) value start → bracket ≡ drop start value
+pub one_front : (value bracket : List ℕ) (start : ℕ) → NoneBefore (Passes (is_byte3 44 34 60) value) 0 (length value) start × Passes (is_byte3 44 34 60) value start
+    → bracket ≡ drop start value
     → between_cuts Outside bracket ≡ Some (bracket ∷ []) → between_cuts Outside value ≡ Some (value ∷ [])
 one_front value bracket start p is inner =
     front start value (omega (arith, p.0.high)) (λ k lt. p.0.before k (omega arith) lt) (subst (λ (w : List ℕ). IsOne w) is inner)
@@ -83,7 +88,8 @@ tight (b ∷ bs) full first last =
     let at : length (b ∷ bs) - 1 ≡ length bs = omega arith in
     (first, last_full b bs (subst (λ (n : ℕ). is_blank (get_or (b ∷ bs) n 0) ≡ false) at last))
 
-pub tight_item : (value : List ℕ) → 0 < length value → is_blank (get_or value 0 0) ≡ false → is_blank (get_or value (length value - 1) 0) ≡ false → between_cuts Outside value ≡ Some (value ∷ []) → cut value ≡ Some (value ∷ [])
+pub tight_item : (value : List ℕ) → 0 < length value → is_blank (get_or value 0 0) ≡ false → is_blank (get_or value (length value - 1) 0) ≡ false
+    → between_cuts Outside value ≡ Some (value ∷ []) → cut value ≡ Some (value ∷ [])
 tight_item value full first last one =
     let kept : trimmed value ≡ value = tight_again value (tight value full first last) in
     let some : is_nil value ≡ false = not_nil value full in

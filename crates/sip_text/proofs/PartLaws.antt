@@ -42,7 +42,8 @@ uncut_out : (mark : ℕ) (parts : List (List ℕ)) → AreUncut Outside mark par
 uncut_out mark [] h = absurd h
 uncut_out mark (first ∷ others) h = h
 
-cut_here : (quoting : Quoting) (mark b : ℕ) (bs : List ℕ) (parts : List (List ℕ)) → (quoting ≡ Outside) × (b ≡ mark) → Parted Outside mark bs parts → Parted quoting mark (b ∷ bs) ([] ∷ parts)
+cut_here : (quoting : Quoting) (mark b : ℕ) (bs : List ℕ) (parts : List (List ℕ)) → (quoting ≡ Outside) × (b ≡ mark) → Parted Outside mark bs parts
+    → Parted quoting mark (b ∷ bs) ([] ∷ parts)
 cut_here quoting mark b bs [] at p = absurd p.uncut
 cut_here quoting mark b bs (first ∷ others) at p =
     record {
@@ -55,11 +56,13 @@ join_onto : (mark b : ℕ) (first : List ℕ) (others : List (List ℕ)) → joi
 join_onto mark b first [] = refl
 join_onto mark b first (next ∷ others) = refl
 
-closed_onto : (quoting : Quoting) (b : ℕ) (first : List ℕ) (others : List (List ℕ)) → AreClosedFrom (quoting_after quoting b) (first ∷ others) → AreClosedFrom quoting ((b ∷ first) ∷ others)
+closed_onto : (quoting : Quoting) (b : ℕ) (first : List ℕ) (others : List (List ℕ)) → AreClosedFrom (quoting_after quoting b) (first ∷ others)
+    → AreClosedFrom quoting ((b ∷ first) ∷ others)
 closed_onto quoting b first [] h = tt
 closed_onto quoting b first (next ∷ others) h = h
 
-one_more : (quoting : Quoting) (mark b : ℕ) (bs : List ℕ) (parts : List (List ℕ)) → is_mark quoting mark b ≡ false → Parted (quoting_after quoting b) mark bs parts → Parted quoting mark (b ∷ bs) (onto (b ∷ []) parts)
+one_more : (quoting : Quoting) (mark b : ℕ) (bs : List ℕ) (parts : List (List ℕ)) → is_mark quoting mark b ≡ false → Parted (quoting_after quoting b) mark bs parts
+    → Parted quoting mark (b ∷ bs) (onto (b ∷ []) parts)
 one_more quoting mark b bs [] is p = absurd p.uncut
 one_more quoting mark b bs (first ∷ others) is p =
     let none : split_from quoting mark (b ∷ first) ≡ None = rw (is, p.uncut.0) refl in
@@ -69,7 +72,8 @@ one_more quoting mark b bs (first ∷ others) is p =
       closed = closed_onto quoting b first others p.closed;
     }
 
-by_test : (quoting : Quoting) (mark b : ℕ) (bs : List ℕ) (t : Bool) → is_mark quoting mark b ≡ t → Parted Outside mark bs (parts_from Outside mark bs) → Parted (quoting_after quoting b) mark bs (parts_from (quoting_after quoting b) mark bs)
+by_test : (quoting : Quoting) (mark b : ℕ) (bs : List ℕ) (t : Bool) → is_mark quoting mark b ≡ t → Parted Outside mark bs (parts_from Outside mark bs)
+    → Parted (quoting_after quoting b) mark bs (parts_from (quoting_after quoting b) mark bs)
     → Parted quoting mark (b ∷ bs) (parts_from quoting mark (b ∷ bs))
 by_test quoting mark b bs true is out on = rw is (cut_here quoting mark b bs (parts_from Outside mark bs) (at_mark quoting mark b is) out)
 by_test quoting mark b bs false is out on = rw is (one_more quoting mark b bs (parts_from (quoting_after quoting b) mark bs) is on)
@@ -85,7 +89,12 @@ some_parts quoting mark (first ∷ others) h e = cc
 pub are_parted : (mark : ℕ) (text : List ℕ) → IsParted mark text (parts_at mark text)
 are_parted mark text =
     let p : Parted Outside mark text (parts_at mark text) = parted Outside mark text in
-    record { whole = p.whole; uncut = uncut_out mark (parts_at mark text) p.uncut; closed = closed_out (parts_at mark text) p.closed; some = some_parts Outside mark (parts_at mark text) p.uncut }
+    record {
+      whole = p.whole;
+      uncut = uncut_out mark (parts_at mark text) p.uncut;
+      closed = closed_out (parts_at mark text) p.closed;
+      some = some_parts Outside mark (parts_at mark text) p.uncut;
+    }
 
 -- ---- and no others are
 
@@ -101,7 +110,8 @@ last_part quoting mark (b ∷ bs) uncut =
     let not_here : is_mark quoting mark b ≡ false = r.0 in
     rw not_here (ap (onto (b ∷ [])) (last_part (quoting_after quoting b) mark bs r.1))
 
-next_part : (quoting : Quoting) (mark : ℕ) (part rest : List ℕ) → IsUncut quoting mark part → quoting_behind quoting part ≡ Outside → parts_from quoting mark (part ++ mark ∷ rest) ≡ part ∷ parts_at mark rest
+next_part : (quoting : Quoting) (mark : ℕ) (part rest : List ℕ) → IsUncut quoting mark part → quoting_behind quoting part ≡ Outside
+    → parts_from quoting mark (part ++ mark ∷ rest) ≡ part ∷ parts_at mark rest
 next_part quoting mark [] rest uncut out = rw out (rw (same mark) refl)
   where
     same : (n : ℕ) → is_mark Outside n n ≡ true
@@ -111,11 +121,13 @@ next_part quoting mark (b ∷ bs) rest uncut out =
     let not_here : is_mark quoting mark b ≡ false = r.0 in
     rw not_here (ap (onto (b ∷ [])) (next_part (quoting_after quoting b) mark bs rest r.1 out))
 
-parts_again : (mark : ℕ) (parts : List (List ℕ)) → parts ≢ [] → AllByRecursion (λ part. split_outside mark part ≡ None) parts → AreClosed parts → parts_at mark (join_with_byte mark parts) ≡ parts
+parts_again : (mark : ℕ) (parts : List (List ℕ)) → parts ≢ [] → AllByRecursion (λ part. split_outside mark part ≡ None) parts → AreClosed parts
+    → parts_at mark (join_with_byte mark parts) ≡ parts
 parts_again mark [] some uncut closed = absurd (some refl)
 parts_again mark (part ∷ []) some uncut closed = last_part Outside mark part uncut.0
 parts_again mark (part ∷ next ∷ others) some uncut closed =
-    next_part Outside mark part (join_with_byte mark (next ∷ others)) uncut.0 closed.0 ∙ ap (λ (ps : List (List ℕ)). part ∷ ps) (parts_again mark (next ∷ others) (λ e. cc) uncut.1 closed.1)
+    next_part Outside mark part (join_with_byte mark (next ∷ others)) uncut.0 closed.0
+    ∙ ap (λ (ps : List (List ℕ)). part ∷ ps) (parts_again mark (next ∷ others) (λ e. cc) uncut.1 closed.1)
 
 pub only_parts : (mark : ℕ) (text : List ℕ) (parts : List (List ℕ)) → IsParted mark text parts → parts ≡ parts_at mark text
 only_parts mark text parts is = sym (parts_again mark parts is.some is.uncut is.closed) ∙ ap (parts_at mark) is.whole

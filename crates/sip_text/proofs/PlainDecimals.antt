@@ -1,5 +1,6 @@
 -- The text of a number is read as it, and no other text without leading zeros is.
-use Rattle.std.proofs.Common.{◌≡◌, ℕ, zero, suc, ◌<◌, ◌^◌, Bool, true, false, ◌&&◌, ◌==◌, nat_lt, List, [], ◌∷◌, length, get_or, decimal, Some, None, refl, sym, ap, subst, ◌∙◌, arith, if◌then◌else◌}
+use Rattle.std.proofs.Common.{◌≡◌, ℕ, zero, suc, ◌<◌, ◌^◌, Bool, true, false, ◌&&◌, ◌==◌, nat_lt, List, [], ◌∷◌, length, get_or, decimal, Some, None, refl, sym, ap}
+use Rattle.std.proofs.Common.{subst, ◌∙◌, arith, if◌then◌else◌}
 use Rattle.std.specs.List.{list_all}
 use Rattle.std.specs.Char.{is_ascii_digit}
 use Rattle.std.specs.Str.{all_ascii_digits}
@@ -22,9 +23,11 @@ one_or_no_zero (d ∷ f ∷ ds) some e is =
     let never : (48 == 48) ≡ false = subst (λ (k : ℕ). (k == 48) ≡ false) is e in
     absurd cc
 
-pub written_digits : (ds : List ℕ) → 0 < length ds → list_all is_ascii_digit ds ≡ true → has_leading_zero ds ≡ false → digits_value 10 ds < 2 ^ 64 → ds ≡ decimal (digits_value 10 ds)
+pub written_digits : (ds : List ℕ) → 0 < length ds → list_all is_ascii_digit ds ≡ true → has_leading_zero ds ≡ false → digits_value 10 ds < 2 ^ 64
+    → ds ≡ decimal (digits_value 10 ds)
 written_digits ds some digits front small =
-    sym (decimal-digits_value (numerals_by_value (λ ds. all_ascii_digits ds ≡ true) tells_all_ascii_digits) ds (sym (same_test ds) ∙ digits) some (one_or_no_zero ds some front) small)
+    sym (decimal-digits_value (numerals_by_value (λ ds. all_ascii_digits ds ≡ true) tells_all_ascii_digits) ds (sym (same_test ds) ∙ digits) some
+    (one_or_no_zero ds some front) small)
 
 -- what a reading found
 record IsPlain (zeros all small : Bool) (value number : ℕ) : Type 0 where
@@ -33,7 +36,8 @@ record IsPlain (zeros all small : Bool) (value number : ℕ) : Type 0 where
   below : small ≡ true
   is : value ≡ number
 
-parts : (zeros all small : Bool) (value number : ℕ) → (if zeros then None else if all && small then Some value else None) ≡ Some number → IsPlain zeros all small value number
+parts : (zeros all small : Bool) (value number : ℕ) → (if zeros then None else if all && small then Some value else None) ≡ Some number
+    → IsPlain zeros all small value number
 parts true all small value number e = absurd cc
 parts false false small value number e = absurd cc
 parts false true false value number e = absurd cc
@@ -56,10 +60,12 @@ plain_front : (n : ℕ) → n < 2 ^ 64 → has_leading_zero (decimal n) ≡ fals
 plain_front zero lt = ap has_leading_zero (decimal_digit 0 (omega arith))
 plain_front (suc n) lt = no_zero (decimal (suc n)) (first_decimal (suc n) (omega arith) lt)
 
-joined : (zeros all small : Bool) (value n : ℕ) → zeros ≡ false → all ≡ true → small ≡ true → value ≡ n → (if zeros then None else if all && small then Some value else None) ≡ Some n
+joined : (zeros all small : Bool) (value n : ℕ) → zeros ≡ false → all ≡ true → small ≡ true → value ≡ n
+    → (if zeros then None else if all && small then Some value else None) ≡ Some n
 joined zeros all small value n e f g is = rw (e, f, g) (ap (λ (k : ℕ). Some k) is)
 
-plain_is : (ds : List ℕ) (n : ℕ) → 0 < length ds → has_leading_zero ds ≡ false → list_all is_ascii_digit ds ≡ true → digits_value 10 ds ≡ n → n < 2 ^ 64 → plain_decimal_of ds ≡ Some n
+plain_is : (ds : List ℕ) (n : ℕ) → 0 < length ds → has_leading_zero ds ≡ false → list_all is_ascii_digit ds ≡ true → digits_value 10 ds ≡ n → n < 2 ^ 64
+    → plain_decimal_of ds ≡ Some n
 plain_is [] n some front all is lt = absurd (omega arith)
 plain_is (d ∷ ds) n some front all is lt =
     joined (has_leading_zero (d ∷ ds)) (list_all is_ascii_digit (d ∷ ds)) (nat_lt (digits_value 10 (d ∷ ds)) (2 ^ 64)) (digits_value 10 (d ∷ ds)) n front all

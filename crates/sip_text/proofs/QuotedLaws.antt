@@ -17,18 +17,29 @@ record IsInside (rest bytes : List ℕ) : Type 0 where
   written : rest ≡ flat_map piece_text pieces ++ 34 ∷ []
   says : bytes ≡ map piece_byte pieces
 
-more_from : (p : QuotedPiece) (front rest v : List ℕ) (o : Option (List ℕ)) → IsQuotedPiece p → ((w : List ℕ) → front ++ w ≡ piece_text p ++ w) → with_front (piece_byte p ∷ []) o ≡ Some v
+more_from : (p : QuotedPiece) (front rest v : List ℕ) (o : Option (List ℕ)) → IsQuotedPiece p → ((w : List ℕ) → front ++ w ≡ piece_text p ++ w)
+    → with_front (piece_byte p ∷ []) o ≡ Some v
     → ((w : List ℕ) → o ≡ Some w → IsInside rest w) → IsInside (front ++ rest) v
 more_from (QdText b) front rest v None good is e rest_is = absurd cc
 more_from (QuotedPair b) front rest v None good is e rest_is = absurd cc
 more_from (QdText b) front rest v (Some w) good is e rest_is =
     let value : b ∷ w ≡ v = cc in
     let r = rest_is w refl in
-    record { pieces = QdText b ∷ r.pieces; each = (good, r.each); written = is rest ∙ ap (λ (x : List ℕ). b ∷ x) r.written; says = sym value ∙ ap (λ (x : List ℕ). b ∷ x) r.says }
+    record {
+      pieces = QdText b ∷ r.pieces;
+      each = (good, r.each);
+      written = is rest ∙ ap (λ (x : List ℕ). b ∷ x) r.written;
+      says = sym value ∙ ap (λ (x : List ℕ). b ∷ x) r.says;
+    }
 more_from (QuotedPair b) front rest v (Some w) good is e rest_is =
     let value : b ∷ w ≡ v = cc in
     let r = rest_is w refl in
-    record { pieces = QuotedPair b ∷ r.pieces; each = (good, r.each); written = is rest ∙ ap (λ (x : List ℕ). 92 ∷ b ∷ x) r.written; says = sym value ∙ ap (λ (x : List ℕ). b ∷ x) r.says }
+    record {
+      pieces = QuotedPair b ∷ r.pieces;
+      each = (good, r.each);
+      written = is rest ∙ ap (λ (x : List ℕ). 92 ∷ b ∷ x) r.written;
+      says = sym value ∙ ap (λ (x : List ℕ). b ∷ x) r.says;
+    }
 
 last_quote : (b : ℕ) (v : List ℕ) → cond (b == 34) (Some []) None ≡ Some v → IsInside (b ∷ []) v
 last_quote b v e =
@@ -37,7 +48,8 @@ last_quote b v e =
 
 more_left : (b c : ℕ) (rest v : List ℕ) (quote pair : Bool) → (b == 34) ≡ quote → (b == 92) ≡ pair
     → cond quote None (cond pair (option_map (λ v. c ∷ v) (inside_quotes rest)) (option_map (λ v. b ∷ v) (inside_quotes (c ∷ rest)))) ≡ Some v
-    → ((w : List ℕ) → inside_quotes rest ≡ Some w → IsInside rest w) → ((w : List ℕ) → inside_quotes (c ∷ rest) ≡ Some w → IsInside (c ∷ rest) w) → IsInside (b ∷ c ∷ rest) v
+    → ((w : List ℕ) → inside_quotes rest ≡ Some w → IsInside rest w) → ((w : List ℕ) → inside_quotes (c ∷ rest) ≡ Some w → IsInside (c ∷ rest) w)
+    → IsInside (b ∷ c ∷ rest) v
 more_left b c rest v true pair q p e behind_is after_is = absurd cc
 more_left b c rest v false true q p e behind_is after_is =
     more_from (QuotedPair c) (b ∷ c ∷ []) rest v (inside_quotes rest) tt (λ w. ap (λ (x : ℕ). x ∷ c ∷ w) (eqb-true b 92 p)) e behind_is
@@ -88,7 +100,8 @@ front_by : (x : ℕ) (xs : List ℕ) (t : Bool) → stands_for_itself x ≡ t �
 front_by x xs true e rest_is =
     let front : plain_front (x ∷ xs) ≡ x ∷ plain_front xs = take_while-cons stands_for_itself x xs ∙ ap (λ (t : Bool). cond t (x ∷ plain_front xs) []) e in
     let plain = neither (x == 34) (x == 92) e in
-    subst (λ (ys : List ℕ). inside_quotes (ys ++ 34 ∷ []) ≡ Some ys) (sym front) (plain_inside x (plain_front xs ++ 34 ∷ []) plain.0 plain.1 ∙ ap (with_front (x ∷ [])) rest_is)
+    subst (λ (ys : List ℕ). inside_quotes (ys ++ 34 ∷ []) ≡ Some ys) (sym front) (plain_inside x (plain_front xs ++ 34 ∷ []) plain.0 plain.1
+    ∙ ap (with_front (x ∷ [])) rest_is)
 front_by x xs false e rest_is =
     let front : plain_front (x ∷ xs) ≡ [] = take_while-cons stands_for_itself x xs ∙ ap (λ (t : Bool). cond t (x ∷ plain_front xs) []) e in
     subst (λ (ys : List ℕ). inside_quotes (ys ++ 34 ∷ []) ≡ Some ys) (sym front) refl
@@ -101,9 +114,11 @@ front_is_plain : (xs : List ℕ) → take (length (plain_front xs)) xs ≡ plain
 front_is_plain xs = ap (λ (n : ℕ). take n xs) (length-prefix_len stands_for_itself xs)
 
 -- what stands before the last quote where no byte of it is a quote or a `\`
-pub plain_ends : (xs front behind : List ℕ) → front ≡ take (length (plain_front xs)) xs → behind ≡ drop (length (plain_front xs)) xs → behind ≡ 34 ∷ [] → inside_quotes xs ≡ Some front
+pub plain_ends : (xs front behind : List ℕ) → front ≡ take (length (plain_front xs)) xs → behind ≡ drop (length (plain_front xs)) xs → behind ≡ 34 ∷ []
+    → inside_quotes xs ≡ Some front
 plain_ends xs front behind front_is behind_is e =
     let plain = front_is ∙ front_is_plain xs in
     let whole : xs ≡ plain_front xs ++ 34 ∷ [] =
-    sym (take-append-drop (length (plain_front xs)) xs) ∙ ap (λ (v : List ℕ). take (length (plain_front xs)) xs ++ v) (sym behind_is ∙ e) ∙ ap (λ (v : List ℕ). v ++ 34 ∷ []) (front_is_plain xs) in
+    sym (take-append-drop (length (plain_front xs)) xs) ∙ ap (λ (v : List ℕ). take (length (plain_front xs)) xs ++ v) (sym behind_is ∙ e)
+    ∙ ap (λ (v : List ℕ). v ++ 34 ∷ []) (front_is_plain xs) in
     ap inside_quotes whole ∙ front_quoted xs ∙ ap (λ (v : List ℕ). Some v) (sym plain)

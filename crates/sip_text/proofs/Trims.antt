@@ -1,5 +1,6 @@
 -- What is trimmed stays so, also behind a space.
-use Rattle.std.proofs.Common.{◌≡◌, ℕ, zero, suc, ◌-◌, Bool, true, false, List, [], ◌∷◌, ◌++◌, length, take, drop, refl, sym, ap, subst, ◌∙◌, append_assoc, arith, length-append, inl, inr, ◌⊎◌}
+use Rattle.std.proofs.Common.{◌≡◌, ℕ, zero, suc, ◌-◌, Bool, true, false, List, [], ◌∷◌, ◌++◌, length, take, drop, refl, sym, ap, subst, ◌∙◌, append_assoc, arith}
+use Rattle.std.proofs.Common.{length-append, inl, inr, ◌⊎◌}
 use Rattle.std.specs.Prelude.{reverse, take_while}
 use Rattle.std.specs.List.{AllByRecursion}
 use Rattle.std.proofs.lemmas.List.{append-nil, reverse-append, length-reverse, take_at, drop_at}
@@ -63,10 +64,12 @@ behind_is : (xs cs bs : List ℕ) → ends_full cs → Blanks bs → take_while 
 behind_is xs cs bs full blanks =
     let l : Last cs = last_of cs full in
     let turned : reverse ((xs ++ cs) ++ bs) ≡ reverse bs ++ (l.last ∷ reverse (xs ++ l.front)) =
-    reverse-append (xs ++ cs) bs ∙ ap (λ (w : List ℕ). reverse bs ++ w) (ap (λ (w : List ℕ). reverse (xs ++ w)) l.whole ∙ ap reverse (sym (append_assoc xs l.front (l.last ∷ []))) ∙ reverse-append (xs ++ l.front) (l.last ∷ [])) in
+    reverse-append (xs ++ cs) bs ∙ ap (λ (w : List ℕ). reverse bs ++ w) (ap (λ (w : List ℕ). reverse (xs ++ w)) l.whole
+    ∙ ap reverse (sym (append_assoc xs l.front (l.last ∷ []))) ∙ reverse-append (xs ++ l.front) (l.last ∷ [])) in
     ap (take_while is_blank) turned ∙ while_blanks (reverse bs) l.last (reverse (xs ++ l.front)) (blanks_reverse bs blanks) l.full
 
-end_is : (xs cs bs : List ℕ) → ends_full cs → Blanks bs → take (length ((xs ++ cs) ++ bs) - length (take_while is_blank (reverse ((xs ++ cs) ++ bs)))) ((xs ++ cs) ++ bs) ≡ xs ++ cs
+end_is : (xs cs bs : List ℕ) → ends_full cs → Blanks bs → take (length ((xs ++ cs) ++ bs) - length (take_while is_blank (reverse ((xs ++ cs) ++ bs)))) ((xs ++ cs) ++ bs)
+    ≡ xs ++ cs
 end_is xs cs bs full blanks =
     let n : length (take_while is_blank (reverse ((xs ++ cs) ++ bs))) ≡ length bs = ap length (behind_is xs cs bs full blanks) ∙ length-reverse bs in
     let k : length ((xs ++ cs) ++ bs) - length (take_while is_blank (reverse ((xs ++ cs) ++ bs))) ≡ length (xs ++ cs) = omega (arith, n, length-append (xs ++ cs) bs) in
@@ -89,7 +92,8 @@ all_blank xs h =
 pub trimmed_is : (us cs bs : List ℕ) → Blanks us → IsTight cs → Blanks bs → trimmed ((us ++ cs) ++ bs) ≡ cs
 trimmed_is us [] bs a t b = all_blank ((us ++ []) ++ bs) (both_blank (us ++ []) bs (both_blank us [] a tt) b)
 trimmed_is us (c ∷ cs) bs a t b =
-    let f : length (take_while is_blank ((us ++ c ∷ cs) ++ bs)) ≡ length us = ap length (ap (take_while is_blank) (append_assoc us (c ∷ cs) bs) ∙ while_blanks us c (cs ++ bs) a t.0) in
+    let f : length (take_while is_blank ((us ++ c ∷ cs) ++ bs)) ≡ length us = ap length
+    (ap (take_while is_blank) (append_assoc us (c ∷ cs) bs) ∙ while_blanks us c (cs ++ bs) a t.0) in
     ap (drop (length (take_while is_blank ((us ++ c ∷ cs) ++ bs)))) (end_is us (c ∷ cs) bs t.1 b)
     ∙ ap (λ (n : ℕ). drop n (us ++ c ∷ cs)) f ∙ drop_at us (c ∷ cs) (length us) refl
 
@@ -131,8 +135,24 @@ back_of (b ∷ bytes) =
 split_back : (bytes : List ℕ) (b : ℕ) → is_blank b ≡ false → IsBack bytes → IsSplit (b ∷ bytes)
 split_back bytes b e r =
     elim r.full [
-      | inl none ↦ record { before = []; core = b ∷ []; behind = r.behind; whole = ap (λ (w : List ℕ). b ∷ w) (r.whole ∙ ap (λ (w : List ℕ). w ++ r.behind) none); blanks_before = tt; tight = (e, e); blanks_behind = r.blanks }
-      | inr full ↦ record { before = []; core = b ∷ r.core; behind = r.behind; whole = ap (λ (w : List ℕ). b ∷ w) r.whole; blanks_before = tt; tight = (e, longer b r.core full); blanks_behind = r.blanks }
+      | inl none ↦ record {
+        before = [];
+        core = b ∷ [];
+        behind = r.behind;
+        whole = ap (λ (w : List ℕ). b ∷ w) (r.whole ∙ ap (λ (w : List ℕ). w ++ r.behind) none);
+        blanks_before = tt;
+        tight = (e, e);
+        blanks_behind = r.blanks;
+      }
+      | inr full ↦ record {
+        before = [];
+        core = b ∷ r.core;
+        behind = r.behind;
+        whole = ap (λ (w : List ℕ). b ∷ w) r.whole;
+        blanks_before = tt;
+        tight = (e, longer b r.core full);
+        blanks_behind = r.blanks;
+      }
     ]
   where
     longer : (b : ℕ) (cs : List ℕ) → ends_full cs → ends_full (b ∷ cs)
@@ -140,7 +160,15 @@ split_back bytes b e r =
     longer b (c ∷ cs) full = full
 
 split_more : (bytes : List ℕ) (b : ℕ) (t : Bool) → is_blank b ≡ t → IsSplit bytes → IsSplit (b ∷ bytes)
-split_more bytes b true e s = record { before = b ∷ s.before; core = s.core; behind = s.behind; whole = ap (λ (w : List ℕ). b ∷ w) s.whole; blanks_before = (e, s.blanks_before); tight = s.tight; blanks_behind = s.blanks_behind }
+split_more bytes b true e s = record {
+  before = b ∷ s.before;
+  core = s.core;
+  behind = s.behind;
+  whole = ap (λ (w : List ℕ). b ∷ w) s.whole;
+  blanks_before = (e, s.blanks_before);
+  tight = s.tight;
+  blanks_behind = s.blanks_behind;
+}
 split_more bytes b false e s = split_back bytes b e (back_of bytes)
 
 pub split_of : (bytes : List ℕ) → IsSplit bytes

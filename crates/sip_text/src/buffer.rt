@@ -6,9 +6,17 @@ use std::alloc::{AllocError, Global};
 use std::marker::Model;
 
 /// What a longer text is written into, in one block of memory, seen as the bytes that it has.
-#[derive(Clone, Drop)]
+#[derive(Clone)]
 pub struct Buffer {
     block: Vec<u8>,
+}
+
+/// Written out, so that it is proved once and not wherever one is dropped.
+impl Drop for Buffer {
+    #[inline]
+    fn drop(self) {
+        let Buffer { block: _ } = self;
+    }
 }
 
 impl Model for Buffer {

@@ -7,9 +7,16 @@ use std::alloc::{AllocError, Global};
 use std::marker::Model;
 
 /// Bytes of its own, seen as the list of them. A few of them, 16 at most, take no memory beside the value itself.
-#[derive(Drop)]
 pub struct Bytes {
     store: Store,
+}
+
+/// Written out, so that it is proved once and not wherever one is dropped.
+impl Drop for Bytes {
+    #[inline]
+    fn drop(self) {
+        let Bytes { store: _ } = self;
+    }
 }
 
 impl Model for Bytes {

@@ -7,9 +7,17 @@ use std::alloc::{AllocError, Global};
 use std::marker::Model;
 
 /// Items of one kind in their order, seen as the list of them.
-#[derive(Clone, Drop)]
+#[derive(Clone)]
 pub struct Items<T: Drop> {
     list: Vec<T>,
+}
+
+/// Written out, so that it is proved once and not wherever some are dropped.
+impl<T: Drop> Drop for Items<T> {
+    #[inline]
+    fn drop(self) {
+        let Items { list: _ } = self;
+    }
 }
 
 impl<T: Drop> Model for Items<T> {

@@ -1,4 +1,4 @@
-ghost use Rattle.std.specs.Prelude.{◌≡◌, ◌<◌, true, Some, [], ◌∷◌, length, slice_index};
+ghost use Rattle.std.specs.Prelude.{◌≡◌, ◌<◌, true, Some, [], ◌∷◌, slice_index};
 ghost use Rattle.sip_text.specs.Lists.{cut, between_cuts};
 ghost use Rattle.sip_text.specs.declared.lists.Place.TheVariants.{Outside};
 

@@ -2,3 +2,4 @@ pub mod TextRuns
 pub mod Names
 pub mod OneValue
 pub mod Beginnings
+pub mod LineEnds

@@ -44,7 +44,8 @@ at_run bytes mark run at is ends = elim (cases_lt at run) [
     | inl more ↦
         let fits : run < length (take at bytes) = omega (arith, length-take at bytes, ends.long, ends.early, more) in
         let here : get_or (take at bytes) run 0 ≡ get_or bytes (0 + run) 0 = get_or-take at bytes run 0 more ∙ ap (λ (n : ℕ). get_or bytes n 0) (omega arith) in
-        let clash : true ≡ false = sym ends.letters ∙ list_all_at is_letter_or_dash (take at bytes) run 0 fits (ap is_letter_or_dash here ∙ is.1 (omega (arith, more, ends.early))) in
+        let clash : true ≡ false = sym ends.letters ∙ list_all_at is_letter_or_dash (take at bytes) run 0 fits
+        (ap is_letter_or_dash here ∙ is.1 (omega (arith, more, ends.early))) in
         absurd cc
     | inr less ↦ omega (arith, late, less)
   ]

@@ -1,8 +1,7 @@
 -- A value without commas, quotes and brackets, or of one pair of brackets, is one item.
-use Rattle.std.proofs.Common.{◌≡◌, ℕ, zero, suc, ◌+◌, ◌-◌, ◌<◌, ◌≤◌, Bool, true, false, List, [], ◌∷◌, length, drop, get_or, Some, refl, sym, ap, subst, ◌∙◌, arith, inl, inr}
+use Rattle.std.proofs.Common.{◌≡◌, ℕ, zero, suc, ◌+◌, ◌-◌, ◌<◌, ◌≤◌, Bool, true, false, List, [], ◌∷◌, length, drop, get_or, Some, refl, sym, ap, subst, ◌∙◌, arith}
 use Rattle.std.specs.Prelude.{not, ◌&&◌}
 use Rattle.std.specs.List.{list_all}
-use Rattle.std.proofs.lemmas.Bool.{cases_lt}
 use Rattle.std.proofs.lemmas.Bool.Decides.{nat_tests}
 use Rattle.std.proofs.lemmas.List.Folds.{list_all_at}
 use Rattle.memchr.specs.Find.{Nowhere, Passes, is_byte, is_byte3}
@@ -20,7 +19,8 @@ nowhere xs all = λ k low lt here.
 pub over_blank : (b : ℕ) → 32 < b → is_blank b ≡ false
 over_blank b lt = grind (arith, nat_tests, lt)
 
-pub plain_value : (value : List ℕ) → 0 < length value → 32 < get_or value 0 0 → 32 < get_or value (length value - 1) 0 → list_all is_unmarked value ≡ true → cut value ≡ Some (value ∷ [])
+pub plain_value : (value : List ℕ) → 0 < length value → 32 < get_or value 0 0 → 32 < get_or value (length value - 1) 0 → list_all is_unmarked value ≡ true
+    → cut value ≡ Some (value ∷ [])
 plain_value value some first last all = tight_item value some (over_blank _ first) (over_blank _ last) (none_cuts value (nowhere value all))
 
 -- ---- a pair of brackets
@@ -60,7 +60,8 @@ rest_behind : (n : ℕ) (xs : List ℕ) → list_all is_unmarked (drop 1 xs) ≡
 rest_behind n [] all = refl
 rest_behind n (x ∷ xs) all = all_behind n xs all
 
-pub bracketed_value : (value inner : List ℕ) → 0 < length value → 32 < get_or value 0 0 → 32 < get_or value (length value - 1) 0 → get_or value 0 0 ≡ 60 → get_or value (length value - 1) 0 ≡ 62 → inner ≡ drop 1 value
+pub bracketed_value : (value inner : List ℕ) → 0 < length value → 32 < get_or value 0 0 → 32 < get_or value (length value - 1) 0 → get_or value 0 0 ≡ 60
+    → get_or value (length value - 1) 0 ≡ 62 → inner ≡ drop 1 value
     → list_all is_unmarked inner ≡ true → cut value ≡ Some (value ∷ [])
 bracketed_value value inner some first last begins ends is all =
     let f : FirstEnd value = first_end value (length value - 1) (omega (arith, some)) (ap (is_byte 62) ends) in
@@ -68,7 +69,8 @@ bracketed_value value inner some first last begins ends is all =
     let rest : list_all is_unmarked (drop (f.at + 1) value) ≡ true =
     subst (λ (n : ℕ). list_all is_unmarked (drop n value) ≡ true) (sym next) (rest_behind f.at value (subst (λ (w : List ℕ). list_all is_unmarked w ≡ true) is all)) in
     tight_item value some (over_blank _ first) (over_blank _ last)
-    (one_bracket value (drop (f.at + 1) value) f.at begins (record { low = omega arith; high = f.within; before = λ k low lt h. f.none k lt h }, f.here) refl (none_cuts (drop (f.at + 1) value) (nowhere (drop (f.at + 1) value) rest)))
+    (one_bracket value (drop (f.at + 1) value) f.at begins (record { low = omega arith; high = f.within; before = λ k low lt h. f.none k lt h }, f.here) refl
+    (none_cuts (drop (f.at + 1) value) (nowhere (drop (f.at + 1) value) rest)))
 
 -- ---- by so many bytes at once
 
@@ -76,14 +78,7 @@ bracketed_value value inner some first last begins ends is all =
 pub record IsUnmarkedBefore (bytes : List ℕ) (end : ℕ) : Type 0 where
   pub pass : AllPassBetween is_unmarked bytes 0 end
 
-pub begins_unmarked : (bytes : List ℕ) → IsUnmarkedBefore bytes 0
-begins_unmarked bytes = record { pass = λ k from to. absurd (omega arith) }
-
-pub unmarked_more : (bytes : List ℕ) (end run next : ℕ) → IsUnmarkedBefore bytes end → PassesIn is_unmarked bytes end 16 run → 16 ≤ run → next ≡ end + 16 → IsUnmarkedBefore bytes next
-unmarked_more bytes end run next so_far more whole is = record {
-  pass = λ k from to. elim (cases_lt k end) [ inl early ↦ so_far.pass k from early | inr late ↦ more.1 k late (omega (arith, is, whole)) ];
-}
-
-pub unmarked_all : (bytes : List ℕ) (seen run last : ℕ) → 16 ≤ length bytes → last ≡ length bytes - 16 → last ≤ seen → IsUnmarkedBefore bytes seen → PassesIn is_unmarked bytes last 16 run → 16 ≤ run → list_all is_unmarked bytes ≡ true
+pub unmarked_all : (bytes : List ℕ) (seen run last : ℕ) → 16 ≤ length bytes → last ≡ length bytes - 16 → last ≤ seen → IsUnmarkedBefore bytes seen
+    → PassesIn is_unmarked bytes last 16 run → 16 ≤ run → list_all is_unmarked bytes ≡ true
 unmarked_all bytes seen run last long is overlaps front back whole =
     covered is_unmarked bytes seen 16 long (omega (arith, is, overlaps)) front.pass (λ k from to. back.1 k (omega (arith, is, from)) (omega (arith, is, to, whole)))

@@ -1,5 +1,5 @@
 -- A front of bytes that pass a test, as those do that may stand in a value.
-use Rattle.std.proofs.Common.{◌≡◌, ℕ, ◌+◌, ◌<◌, ◌≤◌, Bool, true, false, List, [], ◌∷◌, length, take, get_or, refl, sym, subst, arith, inl, inr}
+use Rattle.std.proofs.Common.{◌≡◌, ℕ, ◌+◌, ◌<◌, ◌≤◌, Bool, true, false, List, [], ◌∷◌, length, take, refl, sym, subst, arith, inl, inr}
 use Rattle.std.specs.Prelude.{◌&&◌}
 use Rattle.std.specs.List.{list_all}
 use Rattle.std.proofs.lemmas.Bool.{cases_lt}
@@ -13,24 +13,11 @@ pub record PassesBefore (test : ℕ → Bool) (bytes : List ℕ) (end : ℕ) : T
   pub within : end ≤ length bytes
   pub pass : AllPassBetween test bytes 0 end
 
-pub begins_run : (test : ℕ → Bool) (bytes : List ℕ) → PassesBefore test bytes 0
-begins_run test bytes = record { within = omega arith; pass = λ k from to. absurd (omega arith) }
-
-pub run_more : (test : ℕ → Bool) (bytes : List ℕ) (end run next : ℕ) → PassesBefore test bytes end → PassesIn test bytes end 16 run → end + 16 ≤ length bytes → next ≡ end + run → PassesBefore test bytes next
+pub run_more : (test : ℕ → Bool) (bytes : List ℕ) (end run next : ℕ) → PassesBefore test bytes end → PassesIn test bytes end 16 run → end + 16 ≤ length bytes
+    → next ≡ end + run → PassesBefore test bytes next
 run_more test bytes end run next so_far more fits is = record {
   within = omega (arith, is, more.0);
   pass = λ k from to. elim (cases_lt k end) [ inl early ↦ so_far.pass k from early | inr late ↦ more.1 k late (omega (arith, is)) ];
-}
-
-pub run_next : (test : ℕ → Bool) (bytes : List ℕ) (end next : ℕ) → PassesBefore test bytes end → end < length bytes → test (get_or bytes end 0) ≡ true → next ≡ end + 1 → PassesBefore test bytes next
-run_next test bytes end next so_far fits here is = record {
-  within = omega (arith, is);
-  pass = λ k from to. elim (cases_lt k end) [
-    | inl early ↦ so_far.pass k from early
-    | inr late ↦
-        let same : k ≡ end = omega (arith, is) in
-        subst (λ (n : ℕ). test (get_or bytes n 0) ≡ true) (sym same) here
-  ];
 }
 
 pub run_front : (test : ℕ → Bool) (bytes : List ℕ) (end : ℕ) → PassesBefore test bytes end → list_all test (take end bytes) ≡ true
@@ -56,7 +43,8 @@ right_of false b e = absurd cc
 pub all_weaker : (test other : ℕ → Bool) → ((b : ℕ) → test b ≡ true → other b ≡ true) → (xs : List ℕ) → list_all test xs ≡ true → list_all other xs ≡ true
 all_weaker test other weaker [] all = refl
 all_weaker test other weaker (x ∷ xs) all =
-    both_of (other x) (list_all other xs) (weaker x (left_of (test x) (list_all test xs) all)) (all_weaker test other weaker xs (right_of (test x) (list_all test xs) all))
+    both_of (other x) (list_all other xs) (weaker x (left_of (test x) (list_all test xs) all))
+    (all_weaker test other weaker xs (right_of (test x) (list_all test xs) all))
 
 pub text_front : (bytes : List ℕ) (end : ℕ) → PassesBefore is_text_but_tab bytes end → list_all is_text (take end bytes) ≡ true
 text_front bytes end is = all_weaker is_text_but_tab is_text (λ b e. left_of (is_text b) _ e) (take end bytes) (run_front is_text_but_tab bytes end is)

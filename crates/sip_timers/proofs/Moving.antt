@@ -17,7 +17,8 @@ pub stands : (ts : List Timer) (t : Timer) → IsHeld ts (t ∷ []) → Stands t
 stands ts t h p passes = grind (arith, nat_tests, h.stand p, count-one p t, passes)
 
 -- a timer that stands is stopped
-pub Moves-stopped : (ts : List Timer) (t : Timer) → ((p : Timer → Bool) → count_by p ts ≡ count_by p (without t.key ts) + cond (p t) 1 0) → Moves ts (t ∷ []) (without t.key ts) []
+pub Moves-stopped : (ts : List Timer) (t : Timer) → ((p : Timer → Bool) → count_by p ts ≡ count_by p (without t.key ts) + cond (p t) 1 0)
+    → Moves ts (t ∷ []) (without t.key ts) []
 Moves-stopped ts t taken = record {
   same = λ p. omega (arith, count-one p t, taken p);
   keys_differ = λ differ key. omega (arith, differ key, taken (λ u. eqb u.key key));
@@ -25,11 +26,13 @@ Moves-stopped ts t taken = record {
 
 -- the one that holds a timer's key
 fresh_key : (ts : List Timer) (t : Timer) (key : ℕ) (b : Bool) → eqb t.key key ≡ b → keys_with t.key ts ≡ 0 → keys_with key ts ≤ 1 → keys_with key ts + cond b 1 0 ≤ 1
-fresh_key ts t key true same none one = let e : t.key ≡ key = grind (arith, nat_tests) in let zero : keys_with key ts ≡ 0 = subst (λ k. keys_with k ts ≡ 0) e none in omega arith
+fresh_key ts t key true same none one = let e : t.key ≡ key = grind (arith, nat_tests) in let zero : keys_with key ts ≡ 0 = subst (λ k. keys_with k ts ≡ 0) e none in
+    omega arith
 fresh_key ts t key false same none one = omega arith
 
 -- a timer is set
-pub Moves-started : (ts : List Timer) (t : Timer) → keys_with t.key ts ≡ 0 → ((p : Timer → Bool) → count_by p (placed t ts) ≡ count_by p ts + cond (p t) 1 0) → Moves ts [] (placed t ts) (t ∷ [])
+pub Moves-started : (ts : List Timer) (t : Timer) → keys_with t.key ts ≡ 0 → ((p : Timer → Bool) → count_by p (placed t ts) ≡ count_by p ts + cond (p t) 1 0)
+    → Moves ts [] (placed t ts) (t ∷ [])
 Moves-started ts t none set = record {
   same = λ p. omega (arith, count-one p t, set p);
   keys_differ = λ differ key. let e = set (λ u. eqb u.key key) in let one = fresh_key ts t key (eqb t.key key) refl none (differ key) in omega arith;
@@ -40,7 +43,8 @@ Moves-started ts t none set = record {
 pub Moves-none : (ts : List Timer) → Moves ts [] ts []
 Moves-none ts = record { same = λ p. refl; keys_differ = λ differ. differ }
 
-pub Moves-both : (ts us vs before after further later : List Timer) → Moves ts before us after → Moves us further vs later → Moves ts (before ++ further) vs (after ++ later)
+pub Moves-both : (ts us vs before after further later : List Timer) → Moves ts before us after → Moves us further vs later
+    → Moves ts (before ++ further) vs (after ++ later)
 Moves-both ts us vs before after further later a b = record {
   same = λ p. omega (arith, a.same p, b.same p, count-append p before further, count-append p after later);
   keys_differ = λ differ. b.keys_differ (a.keys_differ differ);

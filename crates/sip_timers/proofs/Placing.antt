@@ -35,7 +35,8 @@ pub keys_from-next : (n : ℕ) (ts : List Timer) → keys_from (n + 1) ts ≤ ke
 keys_from-next n ts = count_le (λ t. leb (n + 1) t.key) (λ t. leb n t.key) ts (λ t h. grind (arith, nat_tests))
 
 -- all that goes with a key is the timer that has it
-pub count_cancelled : (ts : List Timer) (t : Timer) → keys_with t.key ts ≤ 1 → Stands t ts → (p : Timer → Bool) → count_by p ts ≡ count_by p (without t.key ts) + cond (p t) 1 0
+pub count_cancelled : (ts : List Timer) (t : Timer) → keys_with t.key ts ≤ 1 → Stands t ts → (p : Timer → Bool)
+    → count_by p ts ≡ count_by p (without t.key ts) + cond (p t) 1 0
 count_cancelled ts t once stands p =
     let q : Timer → Bool = λ u. eqb u.key t.key in
     let parts = count_split p q ts in
@@ -47,7 +48,8 @@ count_cancelled ts t once stands p =
     let back : count_by (λ u. p u && q u) ts ≤ count_by (λ u. q u && p u) ts = count_le (λ u. p u && q u) (λ u. q u && p u) ts (λ u h. grind (arith, nat_tests)) in
     grind (arith, nat_tests)
 
-pub keys_from-placed : (n : ℕ) (due : ℕ) (name : Name) (ts : List Timer) → keys_from n ts ≡ 0 → keys_from (n + 1) (placed (record { key = n; due = due; name = name }) ts) ≡ 0
+pub keys_from-placed : (n : ℕ) (due : ℕ) (name : Name) (ts : List Timer) → keys_from n ts ≡ 0
+    → keys_from (n + 1) (placed (record { key = n; due = due; name = name }) ts) ≡ 0
 keys_from-placed n due name ts h =
     let e = count-placed (λ t. leb (n + 1) t.key) (record { key = n; due = due; name = name }) ts in
     let le = keys_from-next n ts in
@@ -67,7 +69,8 @@ AreOrdered-placed t (u ∷ ts) h = elim (ltb t.due u.due) as (λ b. (ltb t.due u
 pub AreOrdered-without : (key : ℕ) (ts : List Timer) → AreOrdered ts → AreOrdered (without key ts)
 AreOrdered-without key [] h = tt
 AreOrdered-without key (t ∷ ts) h =
-    let fewer : due_before t.due (without key ts) ≤ due_before t.due ts = rw (count-without (λ x. ltb x.due t.due) key ts) (count_le (λ x. not (eqb x.key key) && ltb x.due t.due) (λ x. ltb x.due t.due) ts (λ x k. grind (arith, nat_tests))) in
+    let fewer : due_before t.due (without key ts) ≤ due_before t.due ts = rw (count-without (λ x. ltb x.due t.due) key ts)
+    (count_le (λ x. not (eqb x.key key) && ltb x.due t.due) (λ x. ltb x.due t.due) ts (λ x k. grind (arith, nat_tests))) in
     elim (eqb t.key key) as (λ b. AreOrdered (cond (not b) (t ∷ without key ts) (without key ts))) [
       | true ↦ AreOrdered-without key ts h.1
       | false ↦ (omega arith, AreOrdered-without key ts h.1)

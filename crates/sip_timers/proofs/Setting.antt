@@ -45,7 +45,8 @@ placed_in_front q t moment (u ∷ us) none early = by_test (q u) (placed_in_fron
   by_test false rest = rest
 
 -- a timer goes behind one that is due no later, whichever are left
-goes_past : (t u : Timer) (a b : Bool) (rest whole : List Timer) → ltb t.due u.due ≡ false → whole ≡ cond b (placed t rest) rest → cond a (u ∷ whole) whole ≡ cond b (placed t (cond a (u ∷ rest) rest)) (cond a (u ∷ rest) rest)
+goes_past : (t u : Timer) (a b : Bool) (rest whole : List Timer) → ltb t.due u.due ≡ false → whole ≡ cond b (placed t rest) rest
+    → cond a (u ∷ whole) whole ≡ cond b (placed t (cond a (u ∷ rest) rest)) (cond a (u ∷ rest) rest)
 goes_past t u true true rest whole late is = ap (λ us. u ∷ us) is ∙ sym (ap (λ b. cond b (t ∷ u ∷ rest) (u ∷ placed t rest)) late)
 goes_past t u true false rest whole late is = ap (λ us. u ∷ us) is
 goes_past t u false b rest whole late is = is
@@ -77,7 +78,8 @@ filter-all_placed q standing (t ∷ ts) h =
     filter-all_placed q (placed t standing) ts (AreOrdered-placed t standing h)
     ∙ ap (λ us. all_placed us (filter q ts)) (filter-placed q t standing h)
     ∙ by_test (q t) where
-      by_test : (b : Bool) → all_placed (cond b (placed t (filter q standing)) (filter q standing)) (filter q ts) ≡ all_placed (filter q standing) (cond b (t ∷ filter q ts) (filter q ts))
+      by_test : (b : Bool) → all_placed (cond b (placed t (filter q standing)) (filter q standing)) (filter q ts)
+          ≡ all_placed (filter q standing) (cond b (t ∷ filter q ts) (filter q ts))
       by_test true = refl
       by_test false = refl
 
@@ -139,7 +141,8 @@ SetsInOrder-started ts before t is_new =
     record { stays = λ u. true; set = t ∷ []; are_named = AreSome-all (t ∷ []); are_new = (is_new, tt); order = λ ordered. ap (λ us. placed t us) (sym (filter-true ts)) }
 
 -- some are set, and then others
-pub SetsInOrder-both : (ts us vs before after further : List Timer) → SetsInOrder ts before us after → SetsInOrder us before vs further → SetsInOrder ts before vs (after ++ further)
+pub SetsInOrder-both : (ts us vs before after further : List Timer) → SetsInOrder ts before us after → SetsInOrder us before vs further
+    → SetsInOrder ts before vs (after ++ further)
 SetsInOrder-both ts us vs before after further a b = record {
   stays = λ t. a.stays t && b.stays t;
   set = filter b.stays a.set ++ b.set;
@@ -158,7 +161,8 @@ SetsInOrder-both ts us vs before after further a b = record {
 }
 
 -- beside others before
-pub SetsInOrder-further : (ts before others us after : List Timer) → SetsInOrder ts before us after → AllByRecursion (λ t. IsNew before t → IsNew others t) after → SetsInOrder ts others us after
+pub SetsInOrder-further : (ts before others us after : List Timer) → SetsInOrder ts before us after → AllByRecursion (λ t. IsNew before t → IsNew others t) after
+    → SetsInOrder ts others us after
 SetsInOrder-further ts before others us after a each = record {
   stays = a.stays;
   set = a.set;

@@ -29,7 +29,8 @@ pub seen : StaysOrdered → (b : ℕ) (lists : List (List Timer)) → StandInPla
 seen set b lists h d = due_at-in_order set d (concat lists) ∙ due_at-concat d lists (slot_of b d) (λ i n. h d i n)
 
 -- lists in which the same timers of each moment stand in its slot have the same timers
-pub same_pending : StaysOrdered → (b c : ℕ) (xs ys : List (List Timer)) → StandInPlace b xs → StandInPlace c ys → ((d : ℕ) → due_at d (list_at xs (slot_of b d)) ≡ due_at d (list_at ys (slot_of c d))) → pending_in xs ≡ pending_in ys
+pub same_pending : StaysOrdered → (b c : ℕ) (xs ys : List (List Timer)) → StandInPlace b xs → StandInPlace c ys
+    → ((d : ℕ) → due_at d (list_at xs (slot_of b d)) ≡ due_at d (list_at ys (slot_of c d))) → pending_in xs ≡ pending_in ys
 same_pending set b c xs ys hx hy same =
     same_by_dues (pending_in xs) (pending_in ys) (AreOrdered-in_order set (concat xs)) (AreOrdered-in_order set (concat ys))
     (λ d. seen set b xs hx d ∙ (same d ∙ sym (seen set c ys hy d)))
@@ -50,9 +51,11 @@ module _ (b : ℕ) (lists : List (List Timer)) (t : Timer) (slot : ℕ) (at : sl
       (λ o. ap (λ l. due_at d l) (list_at-other lists slot i (list_at lists slot ++ t ∷ []) o) ∙ h d i n)
 
   pushed-dues : (d : ℕ) → due_at d (list_at (set lists slot (list_at lists slot ++ t ∷ [])) (slot_of b d)) ≡ due_at d (list_at lists (slot_of b d)) ++ due_at d (t ∷ [])
-  pushed-dues d = by_same (due_at d (list_at (set lists slot (list_at lists slot ++ t ∷ [])) (slot_of b d)) ≡ due_at d (list_at lists (slot_of b d)) ++ due_at d (t ∷ [])) (slot_of b d) slot
+  pushed-dues d = by_same (due_at d (list_at (set lists slot (list_at lists slot ++ t ∷ [])) (slot_of b d)) ≡ due_at d (list_at lists (slot_of b d)) ++ due_at d (t ∷ []))
+      (slot_of b d) slot
       (λ e. subst (λ j. due_at d (list_at (set lists slot (list_at lists slot ++ t ∷ [])) j) ≡ due_at d (list_at lists j) ++ due_at d (t ∷ [])) (sym e) (pushed-at d))
-      (λ o. ap (λ l. due_at d l) (list_at-other lists slot (slot_of b d) (list_at lists slot ++ t ∷ []) o) ∙ (sym (append-nil (due_at d (list_at lists (slot_of b d)))) ∙ ap (λ l. due_at d (list_at lists (slot_of b d)) ++ l) (sym (alone d o))))
+      (λ o. ap (λ l. due_at d l) (list_at-other lists slot (slot_of b d) (list_at lists slot ++ t ∷ []) o)
+      ∙ (sym (append-nil (due_at d (list_at lists (slot_of b d)))) ∙ ap (λ l. due_at d (list_at lists (slot_of b d)) ++ l) (sym (alone d o))))
 
   pub pushed-pending : StaysOrdered → pending_in (set lists slot (list_at lists slot ++ t ∷ [])) ≡ placed t (pending_in lists)
   pushed-pending stays =
@@ -67,27 +70,37 @@ module _ (b : ℕ) (lists : List (List Timer)) (t : Timer) (slot : ℕ) (at : sl
 
 -- ---- a timer is taken out
 
-module _ (b : ℕ) (lists : List (List Timer)) (key due : ℕ) (h : StandInPlace b lists) (known : count_by (λ t. eqb t.key key && not (eqb t.due due)) (concat lists) ≡ 0) where
+module _ (b : ℕ) (lists : List (List Timer)) (key due : ℕ) (h : StandInPlace b lists)
+    (known : count_by (λ t. eqb t.key key && not (eqb t.due due)) (concat lists) ≡ 0) where
   key-elsewhere : (d : ℕ) → d ≢ due → keys_with key (due_at d (list_at lists (slot_of b d))) ≡ 0
   key-elsewhere d n =
-      let counted : keys_with key (due_at d (list_at lists (slot_of b d))) ≡ count_by (λ t. eqb t.due d && eqb t.key key) (list_at lists (slot_of b d)) = count-filter (λ t. eqb t.key key) (λ t. eqb t.due d) (list_at lists (slot_of b d)) in
-      let fewer : count_by (λ t. eqb t.due d && eqb t.key key) (list_at lists (slot_of b d)) ≤ count_by (λ t. eqb t.key key && not (eqb t.due due)) (list_at lists (slot_of b d)) = count_le (λ t. eqb t.due d && eqb t.key key) (λ t. eqb t.key key && not (eqb t.due due)) (list_at lists (slot_of b d)) (λ t k. grind (arith, nat_tests, k, n)) in
+      let counted : keys_with key (due_at d (list_at lists (slot_of b d))) ≡ count_by (λ t. eqb t.due d && eqb t.key key) (list_at lists (slot_of b d)) =
+      count-filter (λ t. eqb t.key key) (λ t. eqb t.due d) (list_at lists (slot_of b d)) in
+      let fewer : count_by (λ t. eqb t.due d && eqb t.key key) (list_at lists (slot_of b d)) ≤ count_by (λ t. eqb t.key key && not (eqb t.due due))
+      (list_at lists (slot_of b d)) = count_le (λ t. eqb t.due d && eqb t.key key) (λ t. eqb t.key key && not (eqb t.due due)) (list_at lists (slot_of b d))
+      (λ t k. grind (arith, nat_tests, k, n)) in
       omega (arith, counted, fewer, known, count-at_le (λ t. eqb t.key key && not (eqb t.due due)) lists (slot_of b d))
 
   -- the slot of the moment has the key
   pub key-here : 1 ≤ keys_with key (concat lists) → 1 ≤ keys_with key (list_at lists (slot_of b due))
   key-here some =
       let split = count_split (λ t. eqb t.key key) (λ t. eqb t.due due) (concat lists) in
-      let none : count_by (λ t. not (eqb t.due due) && eqb t.key key) (concat lists) ≤ count_by (λ t. eqb t.key key && not (eqb t.due due)) (concat lists) = count_le (λ t. not (eqb t.due due) && eqb t.key key) (λ t. eqb t.key key && not (eqb t.due due)) (concat lists) (λ t k. grind (arith, nat_tests, k)) in
-      let then : keys_with key (due_at due (concat lists)) ≡ count_by (λ t. eqb t.due due && eqb t.key key) (concat lists) = count-filter (λ t. eqb t.key key) (λ t. eqb t.due due) (concat lists) in
-      let here : keys_with key (due_at due (concat lists)) ≡ keys_with key (due_at due (list_at lists (slot_of b due))) = ap (λ l. keys_with key l) (due_at-concat due lists (slot_of b due) (λ i n. h due i n)) in
-      let counted : keys_with key (due_at due (list_at lists (slot_of b due))) ≡ count_by (λ t. eqb t.due due && eqb t.key key) (list_at lists (slot_of b due)) = count-filter (λ t. eqb t.key key) (λ t. eqb t.due due) (list_at lists (slot_of b due)) in
-      let fewer : count_by (λ t. eqb t.due due && eqb t.key key) (list_at lists (slot_of b due)) ≤ keys_with key (list_at lists (slot_of b due)) = count_le (λ t. eqb t.due due && eqb t.key key) (λ t. eqb t.key key) (list_at lists (slot_of b due)) (λ t k. grind (arith, nat_tests, k)) in
+      let none : count_by (λ t. not (eqb t.due due) && eqb t.key key) (concat lists) ≤ count_by (λ t. eqb t.key key && not (eqb t.due due)) (concat lists) =
+      count_le (λ t. not (eqb t.due due) && eqb t.key key) (λ t. eqb t.key key && not (eqb t.due due)) (concat lists) (λ t k. grind (arith, nat_tests, k)) in
+      let then : keys_with key (due_at due (concat lists)) ≡ count_by (λ t. eqb t.due due && eqb t.key key) (concat lists) =
+      count-filter (λ t. eqb t.key key) (λ t. eqb t.due due) (concat lists) in
+      let here : keys_with key (due_at due (concat lists)) ≡ keys_with key (due_at due (list_at lists (slot_of b due))) =
+      ap (λ l. keys_with key l) (due_at-concat due lists (slot_of b due) (λ i n. h due i n)) in
+      let counted : keys_with key (due_at due (list_at lists (slot_of b due))) ≡ count_by (λ t. eqb t.due due && eqb t.key key) (list_at lists (slot_of b due)) =
+      count-filter (λ t. eqb t.key key) (λ t. eqb t.due due) (list_at lists (slot_of b due)) in
+      let fewer : count_by (λ t. eqb t.due due && eqb t.key key) (list_at lists (slot_of b due)) ≤ keys_with key (list_at lists (slot_of b due)) =
+      count_le (λ t. eqb t.due due && eqb t.key key) (λ t. eqb t.key key) (list_at lists (slot_of b due)) (λ t k. grind (arith, nat_tests, k)) in
       omega (arith, some, split, none, known, then, here, counted, fewer)
 
   module _ (slot : ℕ) (at : slot_of b due ≡ slot) (within : slot < length lists) where
     gone-at : (d : ℕ) → due_at d (list_at (set lists slot (without key (list_at lists slot))) slot) ≡ without key (due_at d (list_at lists slot))
-    gone-at d = ap (λ l. due_at d l) (list_at-same lists slot (without key (list_at lists slot)) within) ∙ filter-swap (λ t. eqb t.due d) (λ t. not (eqb t.key key)) (list_at lists slot)
+    gone-at d = ap (λ l. due_at d l) (list_at-same lists slot (without key (list_at lists slot)) within)
+        ∙ filter-swap (λ t. eqb t.due d) (λ t. not (eqb t.key key)) (list_at lists slot)
 
     pub gone-in_place : StandInPlace b (set lists slot (without key (list_at lists slot)))
     gone-in_place d i n = by_same (due_at d (list_at (set lists slot (without key (list_at lists slot))) i) ≡ []) i slot
@@ -96,12 +109,14 @@ module _ (b : ℕ) (lists : List (List Timer)) (key due : ℕ) (h : StandInPlace
         (λ o. ap (λ l. due_at d l) (list_at-other lists slot i (without key (list_at lists slot)) o) ∙ h d i n)
 
     gone-dues : (d : ℕ) → due_at d (list_at (set lists slot (without key (list_at lists slot))) (slot_of b d)) ≡ without key (due_at d (list_at lists (slot_of b d)))
-    gone-dues d = by_same (due_at d (list_at (set lists slot (without key (list_at lists slot))) (slot_of b d)) ≡ without key (due_at d (list_at lists (slot_of b d)))) (slot_of b d) slot
+    gone-dues d = by_same (due_at d (list_at (set lists slot (without key (list_at lists slot))) (slot_of b d)) ≡ without key (due_at d (list_at lists (slot_of b d))))
+        (slot_of b d) slot
         (λ e. subst (λ j. due_at d (list_at (set lists slot (without key (list_at lists slot))) j) ≡ without key (due_at d (list_at lists j))) (sym e) (gone-at d))
         (λ o. ap (λ l. due_at d l) (list_at-other lists slot (slot_of b d) (without key (list_at lists slot)) o)
         ∙ sym (without-none key (due_at d (list_at lists (slot_of b d))) (key-elsewhere d (λ e. o (ap (λ x. slot_of b x) e ∙ at)))))
 
-    pub gone-pending : StaysOrdered → ((k : ℕ) (ts : List Timer) → AreOrdered ts → AreOrdered (without k ts)) → pending_in (set lists slot (without key (list_at lists slot))) ≡ without key (pending_in lists)
+    pub gone-pending : StaysOrdered → ((k : ℕ) (ts : List Timer) → AreOrdered ts → AreOrdered (without k ts))
+        → pending_in (set lists slot (without key (list_at lists slot))) ≡ without key (pending_in lists)
     gone-pending stays left =
         same_by_dues (pending_in (set lists slot (without key (list_at lists slot)))) (without key (pending_in lists))
         (AreOrdered-in_order stays (concat (set lists slot (without key (list_at lists slot)))))

@@ -1,5 +1,6 @@
 -- Which timer of a list is due first, and lists in rising order.
-use Rattle.std.proofs.Common.{◌≡◌, ◌≢◌, ℕ, zero, suc, ◌+◌, ◌≤◌, List, [], ◌∷◌, ◌++◌, Option, Some, None, option_map, Bool, cond, ltb, eqb, true, false, refl, sym, ap, subst, ◌∙◌, arith}
+use Rattle.std.proofs.Common.{◌≡◌, ◌≢◌, ℕ, zero, suc, ◌+◌, ◌≤◌, List, [], ◌∷◌, ◌++◌, Option, Some, None, option_map, Bool, cond, ltb, eqb, true, false, refl, sym, ap}
+use Rattle.std.proofs.Common.{subst, ◌∙◌, arith}
 use Rattle.std.specs.Prelude.{IfSome, not}
 use Rattle.std.proofs.lemmas.Bool.Decides.{nat_tests}
 use Rattle.std.proofs.lemmas.List.Sums.{sum_by-cons, sum_by-append}
@@ -134,7 +135,8 @@ least_bound moment (t ∷ ts) u none e =
     let first : ltb t.due moment ≡ false = grind (arith, nat_tests, due_before-cons moment t ts) in
     by_rest (least ts) (λ v f. least_bound moment ts v rest f) first e
   where
-    by_rest : (o : Option Timer) → ((v : Timer) → o ≡ Some v → ltb v.due moment ≡ false) → ltb t.due moment ≡ false → Some (earlier t o) ≡ Some u → ltb u.due moment ≡ false
+    by_rest : (o : Option Timer) → ((v : Timer) → o ≡ Some v → ltb v.due moment ≡ false) → ltb t.due moment ≡ false → Some (earlier t o) ≡ Some u
+        → ltb u.due moment ≡ false
     by_rest None later first e = bound_of moment t u first e
     by_rest (Some v) later first e = bound_of_two moment t u v first (later v refl) e
 
@@ -150,34 +152,40 @@ stands_of : (rows : Slab Row) (t u : Timer) → timer_at rows (number_of t) ≡ 
 stands_of rows t u here e =
     let P : Option Timer → Type 0 = λ o. IfSome o (λ v. timer_at rows (number_of v) ≡ Some v) in subst P e here
 
-stands_of_two : (rows : Slab Row) (t u v : Timer) → timer_at rows (number_of t) ≡ Some t → timer_at rows (number_of v) ≡ Some v → Some (cond (ltb v.due t.due) v t) ≡ Some u → timer_at rows (number_of u) ≡ Some u
+stands_of_two : (rows : Slab Row) (t u v : Timer) → timer_at rows (number_of t) ≡ Some t → timer_at rows (number_of v) ≡ Some v
+    → Some (cond (ltb v.due t.due) v t) ≡ Some u → timer_at rows (number_of u) ≡ Some u
 stands_of_two rows t u v first second =
     elim (ltb v.due t.due) as (λ b. Some (cond b v t) ≡ Some u → timer_at rows (number_of u) ≡ Some u) [
       | true ↦ (λ e. stands_of rows v u second e)
       | false ↦ (λ e. stands_of rows t u first e)
     ]
 
-stands_of_earlier : (rows : Slab Row) (t u : Timer) (o : Option Timer) → timer_at rows (number_of t) ≡ Some t → ((v : Timer) → o ≡ Some v → timer_at rows (number_of v) ≡ Some v) → Some (earlier t o) ≡ Some u → timer_at rows (number_of u) ≡ Some u
+stands_of_earlier : (rows : Slab Row) (t u : Timer) (o : Option Timer) → timer_at rows (number_of t) ≡ Some t
+    → ((v : Timer) → o ≡ Some v → timer_at rows (number_of v) ≡ Some v) → Some (earlier t o) ≡ Some u → timer_at rows (number_of u) ≡ Some u
 stands_of_earlier rows t u None here later e = stands_of rows t u here e
 stands_of_earlier rows t u (Some v) here later e = stands_of_two rows t u v here (later v refl) e
 
 -- the timer that is due first has its row
-pub least_stands : (rows : Slab Row) (before : Option RowNumber) (ts : List Timer) (after : Option RowNumber) (u : Timer) → IsThread rows before ts after → least ts ≡ Some u → timer_at rows (number_of u) ≡ Some u
+pub least_stands : (rows : Slab Row) (before : Option RowNumber) (ts : List Timer) (after : Option RowNumber) (u : Timer) → IsThread rows before ts after
+    → least ts ≡ Some u → timer_at rows (number_of u) ≡ Some u
 least_stands rows before [] after u p e = absurd (cc)
 least_stands rows before (t ∷ ts) after u p e =
     stands_of_earlier rows t u (least ts) (ap (λ o. option_map (timer_of t.key) o) p.0) (λ v f. least_stands rows (Some (number_of t)) ts after v p.1 f) e
 
 -- so has the one that is due first when those of a key are taken out
-pub least_stands_without : (rows : Slab Row) (before : Option RowNumber) (ts : List Timer) (after : Option RowNumber) (key : ℕ) (u : Timer) → IsThread rows before ts after → least (without key ts) ≡ Some u → timer_at rows (number_of u) ≡ Some u
+pub least_stands_without : (rows : Slab Row) (before : Option RowNumber) (ts : List Timer) (after : Option RowNumber) (key : ℕ) (u : Timer)
+    → IsThread rows before ts after → least (without key ts) ≡ Some u → timer_at rows (number_of u) ≡ Some u
 least_stands_without rows before [] after key u p e = absurd (cc)
 least_stands_without rows before (t ∷ ts) after key u p e = by_key (eqb t.key key) (λ v f. least_stands_without rows (Some (number_of t)) ts after key v p.1 f) e
   where
-    by_key : (b : Bool) → ((v : Timer) → least (without key ts) ≡ Some v → timer_at rows (number_of v) ≡ Some v) → least (cond (not b) (t ∷ without key ts) (without key ts)) ≡ Some u → timer_at rows (number_of u) ≡ Some u
+    by_key : (b : Bool) → ((v : Timer) → least (without key ts) ≡ Some v → timer_at rows (number_of v) ≡ Some v)
+        → least (cond (not b) (t ∷ without key ts) (without key ts)) ≡ Some u → timer_at rows (number_of u) ≡ Some u
     by_key true later e = later u e
     by_key false later e = stands_of_earlier rows t u (least (without key ts)) (ap (λ o. option_map (timer_of t.key) o) p.0) later e
 
 -- so has the one that is due first but for one other
-pub second_stands : (rows : Slab Row) (ts : List Timer) (u : Timer) → IsThread rows None ts None → least (all_but_least ts) ≡ Some u → timer_at rows (number_of u) ≡ Some u
+pub second_stands : (rows : Slab Row) (ts : List Timer) (u : Timer) → IsThread rows None ts None → least (all_but_least ts) ≡ Some u
+    → timer_at rows (number_of u) ≡ Some u
 second_stands rows ts u p e = by_least (least ts) e
   where
     by_least : (o : Option Timer) → least (all_but o ts) ≡ Some u → timer_at rows (number_of u) ≡ Some u
@@ -187,15 +195,28 @@ second_stands rows ts u p e = by_least (least ts) e
 -- ---- lists in rising order
 
 -- a timer that is due no earlier than the last one goes behind it
-pub AreOrdered-put : (rows : Slab Row) (before : Option RowNumber) (ts : List Timer) (after : Option RowNumber) (t : Timer) → IsThread rows before ts after → AreOrdered ts → ((key : ℕ) (row : Row) → 1 ≤ keys_with key ts → last_or ts before ≡ Some (record { 0 = key }) → get rows key ≡ Some row → row.due ≤ t.due) → AreOrdered (ts ++ t ∷ [])
+pub AreOrdered-put : (rows : Slab Row) (before : Option RowNumber) (ts : List Timer) (after : Option RowNumber) (t : Timer) → IsThread rows before ts after
+    → AreOrdered ts → ((key : ℕ) (row : Row) → 1 ≤ keys_with key ts → last_or ts before ≡ Some (record { 0 = key }) → get rows key ≡ Some row → row.due ≤ t.due)
+    → AreOrdered (ts ++ t ∷ [])
 AreOrdered-put rows before [] after t p h late = (refl, tt)
 AreOrdered-put rows before (u ∷ []) after t p h late =
     let le : u.due ≤ t.due = late u.key _ (keys_with-here u []) refl p.0 in
     (grind (arith, nat_tests, due_before-cons u.due t []), (refl, tt))
 AreOrdered-put rows before (u ∷ w ∷ ws) after t p h late =
-    let rest : AreOrdered ((w ∷ ws) ++ t ∷ []) = AreOrdered-put rows (Some (number_of u)) (w ∷ ws) after t p.1 h.1 (λ key row k. late key row (omega (arith, keys_with-more key u (w ∷ ws)))) in
+    let rest : AreOrdered ((w ∷ ws) ++ t ∷ []) = AreOrdered-put rows (Some (number_of u)) (w ∷ ws) after t p.1 h.1
+    (λ key row k. late key row (omega (arith, keys_with-more key u (w ∷ ws)))) in
     (first_before u w ws t h.0 rest.0, rest)
   where
-    first_before : (u w : Timer) (ws : List Timer) (t : Timer) → due_before u.due (w ∷ ws) ≡ 0 → due_before w.due (ws ++ t ∷ []) ≡ 0 → due_before u.due (w ∷ (ws ++ t ∷ [])) ≡ 0
+    first_before : (u w : Timer) (ws : List Timer) (t : Timer) → due_before u.due (w ∷ ws) ≡ 0 → due_before w.due (ws ++ t ∷ []) ≡ 0
+        → due_before u.due (w ∷ (ws ++ t ∷ [])) ≡ 0
     first_before u w ws t a b =
-        grind (arith, nat_tests, due_before-cons u.due w ws, due_before-cons u.due w (ws ++ t ∷ []), due_before-append w.due ws (t ∷ []), due_before-append u.due ws (t ∷ []), due_before-cons w.due t [], due_before-cons u.due t [])
+        grind (
+          arith,
+          nat_tests,
+          due_before-cons u.due w ws,
+          due_before-cons u.due w (ws ++ t ∷ []),
+          due_before-append w.due ws (t ∷ []),
+          due_before-append u.due ws (t ∷ []),
+          due_before-cons w.due t [],
+          due_before-cons u.due t [],
+        )

@@ -1,5 +1,6 @@
 -- The slot and the timer that are due first.
-use Rattle.std.proofs.Common.{◌≡◌, ◌≢◌, ℕ, ◌+◌, ◌*◌, ◌/◌, ◌%◌, ◌-◌, ◌≤◌, ◌<◌, List, [], ◌∷◌, length, ltb, cond, true, false, refl, ap, sym, ◌∙◌, arith, subst, Option, Some, None, drop}
+use Rattle.std.proofs.Common.{◌≡◌, ◌≢◌, ℕ, ◌+◌, ◌*◌, ◌/◌, ◌%◌, ◌-◌, ◌≤◌, ◌<◌, List, [], ◌∷◌, length, ltb, cond, true, false, refl, ap, sym, ◌∙◌, arith, subst, Option}
+use Rattle.std.proofs.Common.{Some, None, drop}
 use Rattle.std.proofs.lemmas.Bool.Decides.{nat_tests}
 use Rattle.std.proofs.lemmas.List.{get_or_past}
 use Rattle.sip_timers.specs.declared.timer.Timer.{Timer}
@@ -8,7 +9,8 @@ use Rattle.sip_timers_wheel.specs.Places.{slot_of, start_of, level_of, width, sl
 use Rattle.sip_timers_wheel.specs.Order.{due_at}
 use Rattle.sip_timers_wheel.specs.Wheel.{IsWheel, pending_in, IsFirstSlot, IsEmptyLevel, IsFirstFrom}
 use Rattle.sip_timers_wheel.proofs.Order.{StaysOrdered, AreOrdered-in_order, head_by_dues, due_at-same, due_at-other}
-use Rattle.sip_timers_wheel.proofs.Moments.{slot-late, slot-none, slot-in, slot_below, slot_in-range, start_after, start_le, before_end, same_start, same_slot, ahead, behind_level, behind_slot, level_below}
+use Rattle.sip_timers_wheel.proofs.Moments.{slot-late, slot-none, slot-in, slot_below, slot_in-range, start_after, start_le, before_end, same_start, same_slot, ahead}
+use Rattle.sip_timers_wheel.proofs.Moments.{behind_level, behind_slot, level_below}
 use Rattle.sip_timers_wheel.proofs.Changes.{by_same, seen}
 use Rattle.sip_timers_wheel.proofs.Moves.{by_moment, near_by_slot, by_length}
 
@@ -39,7 +41,8 @@ begins : (xs : List Timer) (l : Timer) (ys : List Timer) → xs ≡ l ∷ ys →
 begins xs l ys e = e ∙ ap (λ z. l ∷ drop 1 z) (sym e)
 
 -- the least of a list with one more in front: that one, or else the least of the rest
-by_least : (P : Type 0) (t : Timer) (ts : List Timer) (l : Timer) → least (t ∷ ts) ≡ Some l → (l ≡ t → ((u : Timer) → least ts ≡ Some u → t.due ≤ u.due) → P) → (least ts ≡ Some l → l.due < t.due → P) → P
+by_least : (P : Type 0) (t : Timer) (ts : List Timer) (l : Timer) → least (t ∷ ts) ≡ Some l → (l ≡ t → ((u : Timer) → least ts ≡ Some u → t.due ≤ u.due) → P)
+    → (least ts ≡ Some l → l.due < t.due → P) → P
 by_least P t ts l h itself rest = by_option P (least ts)
     (λ none. itself (sym (some-is t l (sym (ap (λ o. Some (earlier t o)) none) ∙ h))) (λ u e. absurd (grind (arith, sym none ∙ e))))
     (λ u some. elim (ltb u.due t.due) as (λ v. (ltb u.due t.due ≡ v) → P) [
@@ -95,11 +98,13 @@ module _ (stays : StaysOrdered) (b : ℕ) (lists : List (List Timer)) (wheel : I
   -- the first one of what is late
   pub head-late : (l : Timer) → least (list_at lists 320) ≡ Some l → pending_in lists ≡ l ∷ drop 1 (pending_in lists)
   head-late l is = head-of 320 l is (λ d n lt.
-      let late : l.due ≤ b = by_moment (l.due ≤ b) b l.due (λ le. le) (λ a c. absurd (omega (arith, slot_below b l.due a c, least-stands 320 l is))) (λ far. absurd (omega (arith, slot-none b l.due far, least-stands 320 l is))) in
+      let late : l.due ≤ b = by_moment (l.due ≤ b) b l.due (λ le. le) (λ a c. absurd (omega (arith, slot_below b l.due a c, least-stands 320 l is)))
+      (λ far. absurd (omega (arith, slot-none b l.due far, least-stands 320 l is))) in
       absurd (n (slot-late b d (omega (arith, late, lt)))))
 
   -- or else of the first slot
-  pub head-first : (slot start end : ℕ) (l : Timer) → list_at lists 320 ≡ [] → IsFirstSlot b lists slot start end → least (list_at lists slot) ≡ Some l → pending_in lists ≡ l ∷ drop 1 (pending_in lists)
+  pub head-first : (slot start end : ℕ) (l : Timer) → list_at lists 320 ≡ [] → IsFirstSlot b lists slot start end → least (list_at lists slot) ≡ Some l
+      → pending_in lists ≡ l ∷ drop 1 (pending_in lists)
   head-first slot start end l none-late first is = head-of slot l is (λ d n lt. by_moment (due_at d (list_at lists (slot_of b d)) ≡ []) b d
       (λ late. ap (λ x. due_at d x) (ap (λ i. list_at lists i) (slot-late b d late) ∙ none-late))
       (λ a c. by_length (due_at d (list_at lists (slot_of b d)) ≡ []) (list_at lists (slot_of b d))
@@ -122,7 +127,9 @@ round-offset q x offset a c d e = omega (arith, a, c, d, e)
 round-back : (q x : ℕ) → q < x → x ≤ q + 64 → ((q + 1) % 64 + (x - q - 1)) % 64 ≡ x % 64
 round-back q x a c = omega (arith, a, c)
 
-module _ (b : ℕ) (lists : List (List Timer)) (level from offset due : ℕ) (wheel : IsWheel b lists) (from-is : from ≡ (b / width level + 1) % 64) (in-levels : level < 5) (below : (lower : ℕ) → lower < level → IsEmptyLevel lists lower) (first : IsFirstFrom lists level from offset) (some : 1 ≤ length (due_at due (list_at lists (level * 64 + (from + offset) % 64)))) where
+module _ (b : ℕ) (lists : List (List Timer)) (level from offset due : ℕ) (wheel : IsWheel b lists) (from-is : from ≡ (b / width level + 1) % 64) (in-levels : level < 5)
+    (below : (lower : ℕ) → lower < level → IsEmptyLevel lists lower) (first : IsFirstFrom lists level from offset)
+    (some : 1 ≤ length (due_at due (list_at lists (level * 64 + (from + offset) % 64)))) where
   abbrev slot : ℕ
   slot = level * 64 + (from + offset) % 64
 
@@ -145,24 +152,36 @@ module _ (b : ℕ) (lists : List (List Timer)) (level from offset due : ℕ) (wh
 
   place-is : due / width level ≡ b / width level + 1 + offset
   place-is =
-      let range : (b / width level < due / width level) × (due / width level ≤ b / width level + 64) = subst (λ k. (b / width k < due / width k) × (due / width k ≤ b / width k + 64)) level-is (ahead b due near.0 near.1) in
+      let range : (b / width level < due / width level) × (due / width level ≤ b / width level + 64) =
+      subst (λ k. (b / width k < due / width k) × (due / width k ≤ b / width k + 64)) level-is (ahead b due near.0 near.1) in
       round-offset (b / width level) (due / width level) offset range.0 range.1 first.within (digit-is ∙ ap (λ f. (f + offset) % 64) from-is)
 
   -- a timer of the same level in another slot is further ahead
-  further : (e : ℕ) → b < e → e < b + 1073741824 → level_of b e ≡ level → slot_of b e ≢ slot → 1 ≤ length (list_at lists (slot_of b e)) → due / width level < e / width level
+  further : (e : ℕ) → b < e → e < b + 1073741824 → level_of b e ≡ level → slot_of b e ≢ slot → 1 ≤ length (list_at lists (slot_of b e))
+      → due / width level < e / width level
   further e lt up at n there =
-      let range : (b / width level < e / width level) × (e / width level ≤ b / width level + 64) = subst (λ k. (b / width k < e / width k) × (e / width k ≤ b / width k + 64)) at (ahead b e lt up) in
+      let range : (b / width level < e / width level) × (e / width level ≤ b / width level + 64) =
+      subst (λ k. (b / width k < e / width k) × (e / width k ≤ b / width k + 64)) at (ahead b e lt up) in
       let its-slot : slot_of b e ≡ level * 64 + e / width level % 64 = slot-in b e lt up ∙ ap (λ k. slot_at k e) at in
-      let back : (from + (e / width level - b / width level - 1)) % 64 ≡ e / width level % 64 = ap (λ f. (f + (e / width level - b / width level - 1)) % 64) from-is ∙ round-back (b / width level) (e / width level) range.0 range.1 in
+      let back : (from + (e / width level - b / width level - 1)) % 64 ≡ e / width level % 64 = ap (λ f. (f + (e / width level - b / width level - 1)) % 64) from-is
+      ∙ round-back (b / width level) (e / width level) range.0 range.1 in
       let not-same : e / width level ≢ due / width level = (λ k. n (its-slot ∙ (ap (λ q. level * 64 + q % 64) k ∙ ap (λ r. level * 64 + r) digit-is))) in
-      let not-nearer : ¬ (e / width level - b / width level - 1 < offset) = (λ k. omega (arith, subst (λ j. 1 ≤ length (list_at lists j)) (its-slot ∙ ap (λ r. level * 64 + r) (sym back)) there, ap (λ l. length l) (first.before (e / width level - b / width level - 1) k))) in
+      let not-nearer : ¬ (e / width level - b / width level - 1 < offset) = (λ k. omega (
+        arith,
+        subst (λ j. 1 ≤ length (list_at lists j)) (its-slot ∙ ap (λ r. level * 64 + r) (sym back)) there,
+        ap (λ l. length l) (first.before (e / width level - b / width level - 1) k),
+      )) in
       omega (arith, range, place-is, not-same, not-nearer)
 
   other : (e : ℕ) → slot_of b e ≢ slot → slot_of b e < 320 → 1 ≤ length (list_at lists (slot_of b e)) → start_of b due + width (level_of b due) ≤ start_of b e
   other e n low there =
       let up : (b < e) × (e < b + 1073741824) = near_by_slot b e low in
       elim (ltb (level_of b e) level) as (λ v. (ltb (level_of b e) level ≡ v) → start_of b due + width (level_of b due) ≤ start_of b e) [
-        | true ↦ (λ k. absurd (omega (arith, subst (λ j. 1 ≤ length (list_at lists j)) (slot-in b e up.0 up.1) there, ap (λ l. length l) (below (level_of b e) (lower-by (level_of b e) level k) (e / width (level_of b e) % 64) (omega arith)))))
+        | true ↦ (λ k. absurd (omega (
+          arith,
+          subst (λ j. 1 ≤ length (list_at lists j)) (slot-in b e up.0 up.1) there,
+          ap (λ l. length l) (below (level_of b e) (lower-by (level_of b e) level k) (e / width (level_of b e) % 64) (omega arith)),
+        )))
         | false ↦ (λ k. by_same (start_of b due + width (level_of b due) ≤ start_of b e) (level_of b e) level
             (λ at. behind_slot b due e level level-is at (further e up.0 up.1 at n there))
             (λ o. behind_level b due e near.0 up.0 (higher-by (level_of b e) level (level_of b due) k o level-is)))
@@ -174,7 +193,8 @@ module _ (b : ℕ) (lists : List (List Timer)) (level from offset due : ℕ) (wh
     in_level = slot-low;
     ahead = start_after b due near.0;
     spans = omega (arith, start_le b due, before_end b due);
-    start_is = (λ e at. let up : (b < e) × (e < b + 1073741824) = near_by_slot b e (omega (arith, at, slot-low)) in same_start b e due up.0 up.1 near.0 near.1 (at ∙ sym stands));
+    start_is = (λ e at. let up : (b < e) × (e < b + 1073741824) = near_by_slot b e (omega (arith, at, slot-low)) in
+        same_start b e due up.0 up.1 near.0 near.1 (at ∙ sym stands));
     own = (λ e at.
         let up : (b < e) × (e < b + 1073741824) = near_by_slot b e (omega (arith, at, slot-low)) in
         let starts : start_of b e ≡ start_of b due = same_start b e due up.0 up.1 near.0 near.1 (at ∙ sym stands) in

@@ -64,7 +64,8 @@ due_at-nowhere d (l ∷ lists) h =
     ∙ (ap (λ xs. xs ++ due_at d (concat lists)) (h 0) ∙ due_at-nowhere d lists (λ i. h (suc i)))
 
 -- what is due at a moment stands in one list
-pub due_at-concat : (d : ℕ) (lists : List (List Timer)) (slot : ℕ) → ((i : ℕ) → i ≢ slot → due_at d (list_at lists i) ≡ []) → due_at d (concat lists) ≡ due_at d (list_at lists slot)
+pub due_at-concat : (d : ℕ) (lists : List (List Timer)) (slot : ℕ) → ((i : ℕ) → i ≢ slot → due_at d (list_at lists i) ≡ [])
+    → due_at d (concat lists) ≡ due_at d (list_at lists slot)
 due_at-concat d [] slot h = refl
 due_at-concat d (l ∷ lists) zero h =
     filter-append (λ t. eqb t.due d) l (concat lists)

@@ -33,7 +33,8 @@ pub record Next (rows : Slab Row) (n : RowNumber) (best whole : Option Timer) : 
 pub next_of : (rows : Slab Row) (n : RowNumber) (best whole : Option Timer) → IsLeft rows (Some n) best whole → Next rows n best whole
 next_of rows n best whole left = by_rest left.before left.rest left.thread left.starts left.fits left.answer
   where
-    by_rest : (before : Option RowNumber) (rest : List Timer) → IsThread rows before rest None → Some n ≡ first_or rest None → length rest ≤ slab_len rows → sooner best (least rest) ≡ whole → Next rows n best whole
+    by_rest : (before : Option RowNumber) (rest : List Timer) → IsThread rows before rest None → Some n ≡ first_or rest None → length rest ≤ slab_len rows
+        → sooner best (least rest) ≡ whole → Next rows n best whole
     by_rest before [] thread starts fits answer = absurd (cc)
     by_rest before (t ∷ ts) thread starts fits answer =
         let same : number_of t ≡ n = cc in
@@ -43,7 +44,14 @@ next_of rows n best whole left = by_rest left.before left.rest left.thread left.
         subst P same (record {
           row = row_of before t (first_or ts None);
           found = thread.0;
-          later = record { before = Some (number_of t); rest = ts; thread = thread.1; starts = refl; fits = omega (arith, fits); answer = sooner-assoc best (Some t) (least ts) ∙ answer };
+          later = record {
+            before = Some (number_of t);
+            rest = ts;
+            thread = thread.1;
+            starts = refl;
+            fits = omega (arith, fits);
+            answer = sooner-assoc best (Some t) (least ts) ∙ answer;
+          };
           fewer = omega (arith, ap length all, ap length rest);
         })
 
@@ -59,14 +67,18 @@ found_all rows at best whole left is = by_rest left.rest (sym is ∙ left.starts
     by_rest (t ∷ ts) starts answer = absurd (cc)
 
 pub row_is_next : (rows : Slab Row) (at : Option RowNumber) (n : RowNumber) (best whole : Option Timer) → IsLeft rows at best whole → at ≡ Some n → ContainsKey rows n.0
-row_is_next rows at n best whole left is = let P : Option RowNumber → Type 0 = λ o. IsLeft rows o best whole in ap is_some (next_of rows n best whole (subst P is left)).found
+row_is_next rows at n best whole left is = let P : Option RowNumber → Type 0 = λ o. IsLeft rows o best whole in
+    ap is_some (next_of rows n best whole (subst P is left)).found
 
-pub left_after : (rows : Slab Row) (at : Option RowNumber) (n : RowNumber) (best next whole : Option Timer) (row : Row) (t : Timer) → IsLeft rows at best whole → at ≡ Some n → get rows n.0 ≡ Some row → timer_at rows n ≡ Some t → next ≡ sooner best (Some t) → IsLeft rows row.next next whole × (length (walk rows (slab_len rows) row.next) < length (walk rows (slab_len rows) at))
+pub left_after : (rows : Slab Row) (at : Option RowNumber) (n : RowNumber) (best next whole : Option Timer) (row : Row) (t : Timer) → IsLeft rows at best whole
+    → at ≡ Some n → get rows n.0 ≡ Some row → timer_at rows n ≡ Some t → next ≡ sooner best (Some t)
+    → IsLeft rows row.next next whole × (length (walk rows (slab_len rows) row.next) < length (walk rows (slab_len rows) at))
 left_after rows at n best next whole row t left is found timer chosen =
     let P : Option RowNumber → Type 0 = λ o. IsLeft rows o best whole in
     let step = next_of rows n best whole (subst P is left) in
     let same : step.row ≡ row = same_row (step.row) row (sym step.found ∙ found) in
-    let best_is : sooner best (Some (timer_of n.0 step.row)) ≡ next = ap (λ o. sooner best o) (sym (ap (λ o. option_map (timer_of n.0) o) step.found) ∙ timer) ∙ sym chosen in
+    let best_is : sooner best (Some (timer_of n.0 step.row)) ≡ next = ap (λ o. sooner best o) (sym (ap (λ o. option_map (timer_of n.0) o) step.found) ∙ timer)
+    ∙ sym chosen in
     let Q : Row → Type 0 = λ r. IsLeft rows r.next next whole × (length (walk rows (slab_len rows) r.next) < length (walk rows (slab_len rows) at)) in
     let R : Option Timer → Type 0 = λ o. IsLeft rows (step.row).next o whole in
     subst Q same (subst R best_is step.later, omega (arith, step.fewer, ap (λ o. length (walk rows (slab_len rows) o)) is))

@@ -1,5 +1,6 @@
 -- Marks that tell which slots have a timer.
-use Rattle.std.proofs.Common.{◌≡◌, ◌≢◌, ℕ, ◌+◌, ◌*◌, ◌/◌, ◌%◌, ◌≤◌, ◌<◌, List, [], ◌∷◌, ◌++◌, length, refl, ap, sym, ◌∙◌, arith, subst, get_or, set, replicate, ltb, true, false}
+use Rattle.std.proofs.Common.{◌≡◌, ◌≢◌, ℕ, ◌+◌, ◌*◌, ◌/◌, ◌%◌, ◌≤◌, ◌<◌, List, [], ◌∷◌, ◌++◌, length, refl, ap, sym, ◌∙◌, arith, subst, get_or, set, replicate, ltb, true}
+use Rattle.std.proofs.Common.{false}
 use Rattle.std.specs.Int.{bit_at}
 use Rattle.std.proofs.lemmas.Bool.Decides.{nat_tests}
 use Rattle.std.proofs.lemmas.List.{length-set, length-replicate, get_or-replicate, get_or_past}
@@ -19,7 +20,8 @@ some-by-mark : (ts : List Timer) → mark_for ts ≡ 1 → 1 ≤ length ts
 some-by-mark [] h = absurd (grind (arith, nat_tests, h))
 some-by-mark (t ∷ ts) h = omega arith
 
-module _ (words : List ℕ) (lists : List (List Timer)) (level from offset : ℕ) (marked : AreMarked words lists) (in-levels : level < 5) (next : IsNextMark (get_or words level 0) from offset) where
+module _ (words : List ℕ) (lists : List (List Timer)) (level from offset : ℕ) (marked : AreMarked words lists) (in-levels : level < 5)
+    (next : IsNextMark (get_or words level 0) from offset) where
   mark-at : (p : ℕ) → p < 64 → bit_at (get_or words level 0) p ≡ mark_for (list_at lists (level * 64 + p))
   mark-at p h =
       let word : get_or words ((level * 64 + p) / 64) 0 ≡ get_or words level 0 = ap (λ l. get_or words l 0) (omega (arith, h)) in
@@ -38,7 +40,8 @@ pub by_first : (P : Type 0) (ts : List Timer) → 1 ≤ length ts → ((t : Time
 by_first P [] h some = absurd (omega (arith, h))
 by_first P (t ∷ rest) h some = some t rest refl
 
-module _ (old new : List (List Timer)) (from to : ℕ) (some : 1 ≤ length (list_at old from)) (moves : (t : Timer) (rest : List Timer) → list_at old from ≡ t ∷ rest → new ≡ set (set old from rest) to (list_at old to ++ t ∷ [])) where
+module _ (old new : List (List Timer)) (from to : ℕ) (some : 1 ≤ length (list_at old from)) (moves : (t : Timer) (rest : List Timer) → list_at old from ≡ t ∷ rest
+    → new ≡ set (set old from rest) to (list_at old to ++ t ∷ [])) where
   pub moved-length : length new ≡ length old
   moved-length = by_first (length new ≡ length old) (list_at old from) some (λ t rest e.
       ap (λ l. length l) (moves t rest e) ∙ (length-set (set old from rest) to (list_at old to ++ t ∷ []) ∙ length-set old from rest))
@@ -77,5 +80,6 @@ no-word i = ap (λ l. get_or l i 0) zeros ∙ by_below (get_or (replicate 5 0) i
 pub no-marks : (lists : List (List Timer)) → lists ≡ replicate 321 [] → (length lists ≡ 321) × AreMarked no-words lists
 no-marks lists e = (
   ap (λ l. length l) e ∙ length-replicate {A = List Timer} 321 [],
-  (λ slot low. (ap (λ w. bit_at w (slot % 64)) (no-word (slot / 64)) ∙ bit_at-zero (slot % 64)) ∙ sym (ap (λ l. mark_for l) (ap (λ l. list_at l slot) e ∙ get_or-replicate 321 slot [] [] (omega (arith, low))))),
+  (λ slot low. (ap (λ w. bit_at w (slot % 64)) (no-word (slot / 64)) ∙ bit_at-zero (slot % 64))
+      ∙ sym (ap (λ l. mark_for l) (ap (λ l. list_at l slot) e ∙ get_or-replicate 321 slot [] [] (omega (arith, low))))),
 )

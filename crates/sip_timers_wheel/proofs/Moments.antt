@@ -58,8 +58,10 @@ by_level P b d p0 p1 p2 p3 p4 =
                   | true ↦ (λ e2. let s2 : d / 262144 ≡ b / 262144 = grind (arith, nat_tests, e2) in p2 (record { level = level-2 b d n0 n1 s2; below = n1; same = s2 }))
                   | false ↦ (λ e2. let n2 : d / 262144 ≢ b / 262144 = grind (arith, nat_tests, e2) in
                       elim (eqb (d / 16777216) (b / 16777216)) as (λ v. (eqb (d / 16777216) (b / 16777216) ≡ v) → P) [
-                        | true ↦ (λ e3. let s3 : d / 16777216 ≡ b / 16777216 = grind (arith, nat_tests, e3) in p3 (record { level = level-3 b d n0 n1 n2 s3; below = n2; same = s3 }))
-                        | false ↦ (λ e3. let n3 : d / 16777216 ≢ b / 16777216 = grind (arith, nat_tests, e3) in p4 (record { level = level-4 b d n0 n1 n2 n3; below = n3 }))
+                        | true ↦ (λ e3. let s3 : d / 16777216 ≡ b / 16777216 = grind (arith, nat_tests, e3) in
+                            p3 (record { level = level-3 b d n0 n1 n2 s3; below = n2; same = s3 }))
+                        | false ↦ (λ e3. let n3 : d / 16777216 ≢ b / 16777216 = grind (arith, nat_tests, e3) in
+                            p4 (record { level = level-4 b d n0 n1 n2 n3; below = n3 }))
                       ] refl)
                 ] refl)
           ] refl)
@@ -105,7 +107,8 @@ pub slot-in : (b d : ℕ) → b < d → d < b + 1073741824 → slot_of b d ≡ s
 slot-in b d h k = grind (arith, nat_tests)
 
 pub level_below : (b d : ℕ) → level_of b d < 5
-level_below b d = by_level (level_of b d < 5) b d (λ at. omega (arith, at.level)) (λ at. omega (arith, at.level)) (λ at. omega (arith, at.level)) (λ at. omega (arith, at.level)) (λ at. omega (arith, at.level))
+level_below b d = by_level (level_of b d < 5) b d (λ at. omega (arith, at.level)) (λ at. omega (arith, at.level)) (λ at. omega (arith, at.level))
+    (λ at. omega (arith, at.level)) (λ at. omega (arith, at.level))
 
 pub start_le : (b d : ℕ) → start_of b d ≤ d
 start_le b d = by_level (start_of b d ≤ d) b d
@@ -204,14 +207,19 @@ slot_at-level k d = omega arith
 slot_at-digit : (k d : ℕ) → slot_at k d % 64 ≡ d / width k % 64
 slot_at-digit k d = omega arith
 
-pub same_slot : (b d e : ℕ) → b < d → d < b + 1073741824 → b < e → e < b + 1073741824 → slot_of b d ≡ slot_of b e → (level_of b d ≡ level_of b e) × (d / width (level_of b d) ≡ e / width (level_of b d))
+pub same_slot : (b d e : ℕ) → b < d → d < b + 1073741824 → b < e → e < b + 1073741824 → slot_of b d ≡ slot_of b e
+    → (level_of b d ≡ level_of b e) × (d / width (level_of b d) ≡ e / width (level_of b d))
 same_slot b d e ld nd le ne same =
     let s : slot_at (level_of b d) d ≡ slot_at (level_of b e) e = sym (slot-in b d ld nd) ∙ (same ∙ slot-in b e le ne) in
     let levels : level_of b d ≡ level_of b e = sym (slot_at-level (level_of b d) d) ∙ (ap (λ x. x / 64) s ∙ slot_at-level (level_of b e) e) in
-    let digits : d / width (level_of b d) % 64 ≡ e / width (level_of b e) % 64 = sym (slot_at-digit (level_of b d) d) ∙ (ap (λ x. x % 64) s ∙ slot_at-digit (level_of b e) e) in
+    let digits : d / width (level_of b d) % 64 ≡ e / width (level_of b e) % 64 = sym (slot_at-digit (level_of b d) d)
+    ∙ (ap (λ x. x % 64) s ∙ slot_at-digit (level_of b e) e) in
     let ahead_d = ahead b d ld nd in
-    let ahead_e : (b / width (level_of b d) < e / width (level_of b d)) × (e / width (level_of b d) ≤ b / width (level_of b d) + 64) = rw levels (ahead b e le ne) in
-    (levels, same_round (b / width (level_of b d)) (d / width (level_of b d)) (e / width (level_of b d)) ahead_d.0 ahead_d.1 ahead_e.0 ahead_e.1 (digits ∙ ap (λ l. e / width l % 64) (sym levels)))
+    let ahead_e : (b / width (level_of b d) < e / width (level_of b d)) × (e / width (level_of b d) ≤ b / width (level_of b d) + 64) = rw levels (ahead b e le ne) in (
+      levels,
+      same_round (b / width (level_of b d)) (d / width (level_of b d)) (e / width (level_of b d)) ahead_d.0 ahead_d.1 ahead_e.0 ahead_e.1
+          (digits ∙ ap (λ l. e / width l % 64) (sym levels)),
+    )
 
 pub same_start : (b d e : ℕ) → b < d → d < b + 1073741824 → b < e → e < b + 1073741824 → slot_of b d ≡ slot_of b e → start_of b d ≡ start_of b e
 same_start b d e ld nd le ne same =
@@ -233,13 +241,16 @@ upto-1 : (c d : ℕ) → d / 64 ≡ c / 64 → level_of c d < 1
 upto-1 c d h = omega (arith, level-0 c d h)
 
 upto-2 : (c d : ℕ) → d / 4096 ≡ c / 4096 → level_of c d < 2
-upto-2 c d h = by_level (level_of c d < 2) c d (λ at. omega (arith, at.level)) (λ at. omega (arith, at.level)) (λ at. absurd (at.below h)) (λ at. absurd (omega (arith, at.below, h))) (λ at. absurd (omega (arith, at.below, h)))
+upto-2 c d h = by_level (level_of c d < 2) c d (λ at. omega (arith, at.level)) (λ at. omega (arith, at.level)) (λ at. absurd (at.below h))
+    (λ at. absurd (omega (arith, at.below, h))) (λ at. absurd (omega (arith, at.below, h)))
 
 upto-3 : (c d : ℕ) → d / 262144 ≡ c / 262144 → level_of c d < 3
-upto-3 c d h = by_level (level_of c d < 3) c d (λ at. omega (arith, at.level)) (λ at. omega (arith, at.level)) (λ at. omega (arith, at.level)) (λ at. absurd (at.below h)) (λ at. absurd (omega (arith, at.below, h)))
+upto-3 c d h = by_level (level_of c d < 3) c d (λ at. omega (arith, at.level)) (λ at. omega (arith, at.level)) (λ at. omega (arith, at.level)) (λ at. absurd (at.below h))
+    (λ at. absurd (omega (arith, at.below, h)))
 
 upto-4 : (c d : ℕ) → d / 16777216 ≡ c / 16777216 → level_of c d < 4
-upto-4 c d h = by_level (level_of c d < 4) c d (λ at. omega (arith, at.level)) (λ at. omega (arith, at.level)) (λ at. omega (arith, at.level)) (λ at. omega (arith, at.level)) (λ at. absurd (at.below h))
+upto-4 c d h = by_level (level_of c d < 4) c d (λ at. omega (arith, at.level)) (λ at. omega (arith, at.level)) (λ at. omega (arith, at.level))
+    (λ at. omega (arith, at.level)) (λ at. absurd (at.below h))
 
 -- what stands in a slot of which a moment is reached goes to a lower level, or is due
 level_falls : (b c d : ℕ) → c < d → start_of b d ≤ c → c < start_of b d + width (level_of b d) → level_of c d < level_of b d

@@ -38,10 +38,6 @@ near_by_slot b d h = by_moment ((b < d) × (d < b + 1073741824)) b d
     (λ lt near. (lt, near))
     (λ far. absurd (omega (arith, h, slot-none b d far)))
 
-pub nil_by_length : (ts : List Timer) → length ts ≡ 0 → ts ≡ []
-nil_by_length [] h = refl
-nil_by_length (t ∷ ts) h = absurd (omega (arith, h))
-
 pub by_length : (P : Type 0) (ts : List Timer) → (ts ≡ [] → P) → (1 ≤ length ts → P) → P
 by_length P [] none some = none refl
 by_length P (t ∷ ts) none some = some (omega arith)
@@ -58,7 +54,8 @@ moved-none start slot lists = record {
   slots = refl;
 }
 
-module _ (start slot : ℕ) (moved : List Timer) (old now : List (List Timer)) (t : Timer) (rest : List Timer) (to : ℕ) (so_far : AreMoved start slot moved old now) (first : list_at now slot ≡ t ∷ rest) (goes : slot_of start t.due ≡ to) (differ : to ≢ slot) (slot-within : slot < length now) (to-within : to < length now) where
+module _ (start slot : ℕ) (moved : List Timer) (old now : List (List Timer)) (t : Timer) (rest : List Timer) (to : ℕ) (so_far : AreMoved start slot moved old now)
+    (first : list_at now slot ≡ t ∷ rest) (goes : slot_of start t.due ≡ to) (differ : to ≢ slot) (slot-within : slot < length now) (to-within : to < length now) where
   abbrev pub new : List (List Timer)
   new = set (set now slot rest) to (list_at now to ++ t ∷ [])
 
@@ -79,18 +76,24 @@ module _ (start slot : ℕ) (moved : List Timer) (old now : List (List Timer)) (
 
   at-to : (d : ℕ) → to ≢ slot → due_at d (list_at new to) ≡ due_at d (list_at old to) ++ cond (eqb to (slot_of start d)) (due_at d (moved ++ t ∷ [])) []
   at-to d n =
-      let began : due_at d (list_at new to) ≡ due_at d (list_at now to) ++ due_at d (t ∷ []) = ap (λ l. due_at d l) new-to ∙ filter-append (λ u. eqb u.due d) (list_at now to) (t ∷ []) in
-      let before : due_at d (list_at new to) ≡ (due_at d (list_at old to) ++ cond (eqb to (slot_of start d)) (due_at d moved) []) ++ due_at d (t ∷ []) = began ∙ ap (λ l. l ++ due_at d (t ∷ [])) (so_far.others d to n) in
-      before ∙ elim (eqb to (slot_of start d)) as (λ v. (eqb to (slot_of start d) ≡ v) → (due_at d (list_at old to) ++ cond v (due_at d moved) []) ++ due_at d (t ∷ []) ≡ due_at d (list_at old to) ++ cond v (due_at d (moved ++ t ∷ [])) []) [
+      let began : due_at d (list_at new to) ≡ due_at d (list_at now to) ++ due_at d (t ∷ []) = ap (λ l. due_at d l) new-to
+      ∙ filter-append (λ u. eqb u.due d) (list_at now to) (t ∷ []) in
+      let before : due_at d (list_at new to) ≡ (due_at d (list_at old to) ++ cond (eqb to (slot_of start d)) (due_at d moved) []) ++ due_at d (t ∷ []) = began
+      ∙ ap (λ l. l ++ due_at d (t ∷ [])) (so_far.others d to n) in
+      before ∙ elim (eqb to (slot_of start d)) as (λ v. (eqb to (slot_of start d) ≡ v)
+      → (due_at d (list_at old to) ++ cond v (due_at d moved) []) ++ due_at d (t ∷ []) ≡ due_at d (list_at old to) ++ cond v (due_at d (moved ++ t ∷ [])) []) [
         | true ↦ (λ e. append_assoc (due_at d (list_at old to)) (due_at d moved) (due_at d (t ∷ [])) ∙ ap (λ l. due_at d (list_at old to) ++ l) (sym (more d)))
-        | false ↦ (λ e. ap (λ l. (due_at d (list_at old to) ++ []) ++ l) (elsewhere d (λ k. grind (arith, nat_tests, e, k))) ∙ append-nil (due_at d (list_at old to) ++ []))
+        | false ↦ (λ e. ap (λ l. (due_at d (list_at old to) ++ []) ++ l) (elsewhere d (λ k. grind (arith, nat_tests, e, k)))
+            ∙ append-nil (due_at d (list_at old to) ++ []))
       ] refl
 
   at-other : (d i : ℕ) → i ≢ slot → i ≢ to → due_at d (list_at new i) ≡ due_at d (list_at old i) ++ cond (eqb i (slot_of start d)) (due_at d (moved ++ t ∷ [])) []
   at-other d i n m =
       ap (λ l. due_at d l) (new-other i n m) ∙ (so_far.others d i n
-      ∙ elim (eqb i (slot_of start d)) as (λ v. (eqb i (slot_of start d) ≡ v) → due_at d (list_at old i) ++ cond v (due_at d moved) [] ≡ due_at d (list_at old i) ++ cond v (due_at d (moved ++ t ∷ [])) []) [
-        | true ↦ (λ e. ap (λ l. due_at d (list_at old i) ++ l) (sym (more d ∙ (ap (λ l. due_at d moved ++ l) (elsewhere d (λ k. m (same-by i (slot_of start d) e ∙ k))) ∙ append-nil (due_at d moved)))))
+      ∙ elim (eqb i (slot_of start d)) as (λ v. (eqb i (slot_of start d) ≡ v) → due_at d (list_at old i) ++ cond v (due_at d moved) [] ≡ due_at d (list_at old i)
+      ++ cond v (due_at d (moved ++ t ∷ [])) []) [
+        | true ↦ (λ e. ap (λ l. due_at d (list_at old i) ++ l) (sym (more d ∙ (ap (λ l. due_at d moved ++ l) (elsewhere d (λ k. m (same-by i (slot_of start d) e ∙ k)))
+            ∙ append-nil (due_at d moved)))))
         | false ↦ (λ e. refl)
       ] refl)
 
@@ -106,7 +109,8 @@ module _ (start slot : ℕ) (moved : List Timer) (old now : List (List Timer)) (
 -- ---- all have moved
 
 -- once a moment of the first slot is reached, by which its front timer is due at the earliest
-module _ (b : ℕ) (old : List (List Timer)) (slot start end due to : ℕ) (wheel : IsWheel b old) (first : IsFirstSlot b old slot start end) (front : slot_of b due ≡ slot) (begun : start ≤ to) (soon : to ≤ due) where
+module _ (b : ℕ) (old : List (List Timer)) (slot start end due to : ℕ) (wheel : IsWheel b old) (first : IsFirstSlot b old slot start end) (front : slot_of b due ≡ slot)
+    (begun : start ≤ to) (soon : to ≤ due) where
   before : to < end
   before = omega (arith, soon, first.own due front)
 
@@ -141,20 +145,23 @@ module _ (b : ℕ) (old : List (List Timer)) (slot start end due to : ℕ) (whee
     same-dues d = ap (λ l. due_at d l) (sym all-moved)
 
     to-its-slot : (d : ℕ) → slot_of to d ≢ slot → due_at d (list_at new (slot_of to d)) ≡ due_at d (list_at old (slot_of to d)) ++ due_at d (list_at old slot)
-    to-its-slot d n = all.others d (slot_of to d) n ∙ elim (eqb (slot_of to d) (slot_of to d)) as (λ v. (eqb (slot_of to d) (slot_of to d) ≡ v) → due_at d (list_at old (slot_of to d)) ++ cond v (due_at d moved) [] ≡ due_at d (list_at old (slot_of to d)) ++ due_at d (list_at old slot)) [
-      | true ↦ (λ e. ap (λ l. due_at d (list_at old (slot_of to d)) ++ l) (same-dues d))
-      | false ↦ (λ e. absurd (is-itself (slot_of to d) e))
-    ] refl
+    to-its-slot d n = all.others d (slot_of to d) n ∙ elim (eqb (slot_of to d) (slot_of to d)) as (λ v. (eqb (slot_of to d) (slot_of to d) ≡ v)
+        → due_at d (list_at old (slot_of to d)) ++ cond v (due_at d moved) [] ≡ due_at d (list_at old (slot_of to d)) ++ due_at d (list_at old slot)) [
+          | true ↦ (λ e. ap (λ l. due_at d (list_at old (slot_of to d)) ++ l) (same-dues d))
+          | false ↦ (λ e. absurd (is-itself (slot_of to d) e))
+        ] refl
 
     to-no-other : (d i : ℕ) → i ≢ slot → i ≢ slot_of to d → due_at d (list_at new i) ≡ due_at d (list_at old i)
-    to-no-other d i n m = all.others d i n ∙ elim (eqb i (slot_of to d)) as (λ v. (eqb i (slot_of to d) ≡ v) → due_at d (list_at old i) ++ cond v (due_at d moved) [] ≡ due_at d (list_at old i)) [
-      | true ↦ (λ e. absurd (m (same-by i (slot_of to d) e)))
-      | false ↦ (λ e. append-nil (due_at d (list_at old i)))
-    ] refl
+    to-no-other d i n m = all.others d i n ∙ elim (eqb i (slot_of to d)) as (λ v. (eqb i (slot_of to d) ≡ v)
+        → due_at d (list_at old i) ++ cond v (due_at d moved) [] ≡ due_at d (list_at old i)) [
+          | true ↦ (λ e. absurd (m (same-by i (slot_of to d) e)))
+          | false ↦ (λ e. append-nil (due_at d (list_at old i)))
+        ] refl
 
     nothing-left : (d i : ℕ) → i ≢ slot → i ≢ slot_of to d → due_at d (list_at old i) ≡ []
     nothing-left d i n m = by_same (due_at d (list_at old i) ≡ []) i (slot_of b d)
-        (λ e. subst (λ j. due_at d (list_at old j) ≡ []) (sym e) (by_cases (due_at d (list_at old (slot_of b d)) ≡ []) (stays-there d (λ k. n (e ∙ k))) (λ none. none) (λ same. absurd (m (e ∙ sym same)))))
+        (λ e. subst (λ j. due_at d (list_at old j) ≡ []) (sym e) (by_cases (due_at d (list_at old (slot_of b d)) ≡ []) (stays-there d (λ k. n (e ∙ k))) (λ none. none)
+        (λ same. absurd (m (e ∙ sym same)))))
         (λ o. wheel.in_place d i o)
 
     pub moved-in_place : StandInPlace to new
@@ -187,7 +194,8 @@ module _ (b : ℕ) (old : List (List Timer)) (slot start end due to : ℕ) (whee
     moved-pending set = same_pending set to b new old moved-in_place wheel.in_place moved-dues
 
 -- whatever is due in the first slot goes to another one
-pub first-goes : (b : ℕ) (old : List (List Timer)) (slot start end due to : ℕ) → IsWheel b old → IsFirstSlot b old slot start end → slot_of b due ≡ slot → start ≤ to → to ≤ due → GoesElsewhere to slot old
+pub first-goes : (b : ℕ) (old : List (List Timer)) (slot start end due to : ℕ) → IsWheel b old → IsFirstSlot b old slot start end → slot_of b due ≡ slot → start ≤ to
+    → to ≤ due → GoesElsewhere to slot old
 first-goes b old slot start end due to wheel first front begun soon d some =
     by_same ((slot_of to d ≢ slot) × (slot_of to d < length old)) slot (slot_of b d)
     (λ e.
@@ -196,7 +204,8 @@ first-goes b old slot start end due to wheel first front begun soon d some =
     (λ n. absurd (grind (arith, some, ap (λ l. length l) (wheel.in_place d slot n))))
 
 -- where no slot is reached all stay
-pub unreached-wheel : (b now : ℕ) (lists : List (List Timer)) → IsWheel b lists → b ≤ now → ((d : ℕ) → slot_of b d < 320 → 1 ≤ length (list_at lists (slot_of b d)) → now < start_of b d) → IsWheel now lists
+pub unreached-wheel : (b now : ℕ) (lists : List (List Timer)) → IsWheel b lists → b ≤ now
+    → ((d : ℕ) → slot_of b d < 320 → 1 ≤ length (list_at lists (slot_of b d)) → now < start_of b d) → IsWheel now lists
 unreached-wheel b now lists wheel le none = record {
   slots = wheel.slots;
   in_place = (λ d i n. by_same (due_at d (list_at lists i) ≡ []) i (slot_of b d)
@@ -205,6 +214,10 @@ unreached-wheel b now lists wheel le none = record {
       (λ some. by_moment (due_at d (list_at lists i) ≡ []) b d
       (λ late. absurd (n (e ∙ (slot-late b d late ∙ sym (slot-late now d (omega (arith, late, le)))))))
       (λ lt near. absurd (n (e ∙ sym (slot_stays b now d le lt near (none d (slot_below b d lt near) (subst (λ j. 1 ≤ length (list_at lists j)) e some))))))
-      (λ far. absurd (omega (arith, subst (λ j. 1 ≤ length (list_at lists j)) (e ∙ slot-none b d far) some, ap (λ l. length l) (get_or_past lists 321 [] (omega (arith, wheel.slots))))))))
+      (λ far. absurd (omega (
+        arith,
+        subst (λ j. 1 ≤ length (list_at lists j)) (e ∙ slot-none b d far) some,
+        ap (λ l. length l) (get_or_past lists 321 [] (omega (arith, wheel.slots))),
+      )))))
       (λ o. wheel.in_place d i o));
 }

@@ -43,13 +43,15 @@ due_at-placed d t [] h = refl
 due_at-placed d t (u ∷ us) h =
     elim (ltb t.due u.due) as (λ b. (ltb t.due u.due ≡ b) → due_at d (cond b (t ∷ u ∷ us) (u ∷ placed t us)) ≡ due_at d (u ∷ us) ++ due_at d (t ∷ [])) [
       | true ↦ (λ k. elim (eqb t.due d) as (λ b. (eqb t.due d ≡ b) → cond b (t ∷ due_at d (u ∷ us)) (due_at d (u ∷ us)) ≡ due_at d (u ∷ us) ++ cond b (t ∷ []) []) [
-        | true ↦ (λ e. let none : due_at d (u ∷ us) ≡ [] = due_at-none d u.due (u ∷ us) (grind (arith, nat_tests, count-cons (λ x. ltb x.due u.due) u us, h.0)) (grind (arith, nat_tests, k, e)) in rw none refl)
+        | true ↦ (λ e. let none : due_at d (u ∷ us) ≡ [] = due_at-none d u.due (u ∷ us) (grind (arith, nat_tests, count-cons (λ x. ltb x.due u.due) u us, h.0))
+            (grind (arith, nat_tests, k, e)) in rw none refl)
         | false ↦ (λ e. sym (append-nil (due_at d (u ∷ us))))
       ] refl)
-      | false ↦ (λ k. elim (eqb u.due d) as (λ b. cond b (u ∷ due_at d (placed t us)) (due_at d (placed t us)) ≡ cond b (u ∷ due_at d us) (due_at d us) ++ due_at d (t ∷ [])) [
-        | true ↦ ap (λ xs. u ∷ xs) (due_at-placed d t us h.1)
-        | false ↦ due_at-placed d t us h.1
-      ])
+      | false ↦ (λ k. elim (eqb u.due d) as (λ b. cond b (u ∷ due_at d (placed t us)) (due_at d (placed t us)) ≡ cond b (u ∷ due_at d us) (due_at d us)
+          ++ due_at d (t ∷ [])) [
+            | true ↦ ap (λ xs. u ∷ xs) (due_at-placed d t us h.1)
+            | false ↦ due_at-placed d t us h.1
+          ])
     ] refl
 
 -- ---- ordered lists
@@ -68,7 +70,8 @@ due_at-tails d x xs ys =
       | false ↦ (λ e. e)
     ]
 
-same_heads : (x : Timer) (xs : List Timer) (y : Timer) (ys : List Timer) → AreOrdered (x ∷ xs) → AreOrdered (y ∷ ys) → ((d : ℕ) → due_at d (x ∷ xs) ≡ due_at d (y ∷ ys)) → x ≡ y
+same_heads : (x : Timer) (xs : List Timer) (y : Timer) (ys : List Timer) → AreOrdered (x ∷ xs) → AreOrdered (y ∷ ys) → ((d : ℕ) → due_at d (x ∷ xs) ≡ due_at d (y ∷ ys))
+    → x ≡ y
 same_heads x xs y ys hx hy h =
     let not_before : ¬ (x.due < y.due) = before-no x xs y ys hy (h x.due) in
     let not_behind : ¬ (y.due < x.due) = before-no y ys x xs hx (sym (h y.due)) in
@@ -87,11 +90,16 @@ same_by_dues (x ∷ xs) (y ∷ ys) hx hy h =
     ap (λ z. z ∷ xs) head ∙ ap (λ zs. y ∷ zs) tail
 
 -- the first of an ordered list: the first one of the first moment at which one is due
-pub head_by_dues : (xs : List Timer) (t : Timer) (ts : List Timer) → AreOrdered xs → ((d : ℕ) → d < t.due → due_at d xs ≡ []) → due_at t.due xs ≡ t ∷ ts → xs ≡ t ∷ drop 1 xs
+pub head_by_dues : (xs : List Timer) (t : Timer) (ts : List Timer) → AreOrdered xs → ((d : ℕ) → d < t.due → due_at d xs ≡ []) → due_at t.due xs ≡ t ∷ ts
+    → xs ≡ t ∷ drop 1 xs
 head_by_dues [] t ts hx before at = absurd (grind (arith, ap (λ l. length l) at))
 head_by_dues (x ∷ xs) t ts hx before at =
     let not_before : ¬ (x.due < t.due) = (λ lt. grind (arith, ap (λ l. length l) (sym (due_at-same x xs) ∙ before x.due lt))) in
-    let not_behind : ¬ (t.due < x.due) = (λ lt. grind (arith, ap (λ l. length l) (sym at ∙ due_at-none t.due x.due (x ∷ xs) (grind (arith, nat_tests, count-cons (λ z. ltb z.due x.due) x xs, hx.0)) lt))) in
+    let not_behind : ¬ (t.due < x.due) = (λ lt. grind (
+      arith,
+      ap (λ l. length l) (sym at
+          ∙ due_at-none t.due x.due (x ∷ xs) (grind (arith, nat_tests, count-cons (λ z. ltb z.due x.due) x xs, hx.0)) lt),
+    )) in
     let e : x.due ≡ t.due = grind (arith, not_before, not_behind) in
     let same : x ∷ due_at x.due xs ≡ t ∷ ts = sym (due_at-same x xs) ∙ (ap (λ d. due_at d (x ∷ xs)) e ∙ at) in
     ap (λ z. z ∷ xs) (ap (λ l. get_or l 0 x) same)

@@ -1,5 +1,6 @@
 -- What each call of a wheel leaves.
-use Rattle.std.proofs.Common.{◌≡◌, ◌≢◌, ℕ, ◌+◌, ◌*◌, ◌/◌, ◌%◌, ◌≤◌, ◌<◌, List, [], ◌∷◌, ◌++◌, length, eqb, leb, cond, true, false, refl, ap, sym, ◌∙◌, arith, subst, set, drop, ltb, Option, Some, None, ◌⊎◌, inl, inr}
+use Rattle.std.proofs.Common.{◌≡◌, ◌≢◌, ℕ, ◌+◌, ◌*◌, ◌/◌, ◌%◌, ◌≤◌, ◌<◌, List, [], ◌∷◌, ◌++◌, length, eqb, leb, cond, true, false, refl, ap, sym, ◌∙◌, arith, subst, set}
+use Rattle.std.proofs.Common.{drop, ltb, Option, Some, None, ◌⊎◌, inl, inr}
 use Rattle.std.specs.Prelude.{not, ◌&&◌, count_by, IfNone, IfSome, MatchOption}
 use Rattle.std.proofs.lemmas.Bool.{cases_lt}
 use Rattle.std.proofs.lemmas.Bool.Decides.{nat_tests}
@@ -26,7 +27,8 @@ near-by b d h = by_moment (d < b + 1073741824) b d (λ le. omega (arith, le)) (�
 
 -- ---- a timer is set
 
-module _ (b : ℕ) (lists new : List (List Timer)) (t : Timer) (slot : ℕ) (wheel : IsWheel b lists) (near : t.due < b + 1073741824) (at : slot ≡ slot_of b t.due) (pushed : new ≡ set lists slot (list_at lists slot ++ t ∷ [])) where
+module _ (b : ℕ) (lists new : List (List Timer)) (t : Timer) (slot : ℕ) (wheel : IsWheel b lists) (near : t.due < b + 1073741824) (at : slot ≡ slot_of b t.due)
+    (pushed : new ≡ set lists slot (list_at lists slot ++ t ∷ [])) where
   in-range : slot < length lists
   in-range = omega (arith, wheel.slots, at, slot_known b t.due near)
 
@@ -51,7 +53,8 @@ module _ (stands : StandsThen) (key : ℕ) (lists : List (List Timer)) where
   pub once-in : keys_with key (concat lists) ≤ 1 → keys_with key (pending_in lists) ≤ 1
   once-in h = omega (arith, h, count-in_order stands (λ t. eqb t.key key) (concat lists))
 
-module _ (b : ℕ) (lists : List (List Timer)) (key due : ℕ) (wheel : IsWheel b lists) (known : count_by (λ t. eqb t.key key && not (eqb t.due due)) (concat lists) ≡ 0) (some : 1 ≤ keys_with key (concat lists)) where
+module _ (b : ℕ) (lists : List (List Timer)) (key due : ℕ) (wheel : IsWheel b lists) (known : count_by (λ t. eqb t.key key && not (eqb t.due due)) (concat lists) ≡ 0)
+    (some : 1 ≤ keys_with key (concat lists)) where
   pub taken-present : 1 ≤ keys_with key (list_at lists (slot_of b due))
   taken-present = key-here b lists key due wheel.in_place known some
 
@@ -59,7 +62,12 @@ module _ (b : ℕ) (lists : List (List Timer)) (key due : ℕ) (wheel : IsWheel 
   taken-known = by_moment (slot_of b due < 321) b due
       (λ le. slot_known b due (omega (arith, le)))
       (λ lt near. slot_known b due near)
-      (λ far. absurd (omega (arith, taken-present, ap (λ l. keys_with key l) (ap (λ i. list_at lists i) (slot-none b due far) ∙ get_or_past lists 321 [] (omega (arith, wheel.slots))))))
+      (λ far. absurd (omega (
+        arith,
+        taken-present,
+        ap (λ l. keys_with key l) (ap (λ i. list_at lists i) (slot-none b due far)
+            ∙ get_or_past lists 321 [] (omega (arith, wheel.slots))),
+      )))
 
   pub taken-near : due < b + 1073741824
   taken-near = near-by b due taken-known
@@ -79,13 +87,11 @@ module _ (b : ℕ) (lists : List (List Timer)) (key due : ℕ) (wheel : IsWheel 
 
 -- ---- the first one is taken out
 
-pub first-has : (t : Timer) (ts rest : List Timer) → ts ≡ t ∷ rest → 1 ≤ keys_with t.key ts
-first-has t ts rest e = subst (λ l. 1 ≤ keys_with t.key l) (sym e) (grind (arith, nat_tests, count-cons (λ u. eqb u.key t.key) t rest))
-
 pub first-goes-out : (t : Timer) (ts : List Timer) → ts ≡ t ∷ drop 1 ts → keys_with t.key ts ≤ 1 → without t.key ts ≡ drop 1 ts
 first-goes-out t ts e once =
     let rest : keys_with t.key (drop 1 ts) ≡ 0 = grind (arith, nat_tests, count-cons (λ u. eqb u.key t.key) t (drop 1 ts), ap (λ l. keys_with t.key l) e, once) in
-    ap (λ l. without t.key l) e ∙ elim (eqb t.key t.key) as (λ v. (eqb t.key t.key ≡ v) → cond (not v) (t ∷ without t.key (drop 1 ts)) (without t.key (drop 1 ts)) ≡ drop 1 ts) [
+    ap (λ l. without t.key l) e ∙ elim (eqb t.key t.key) as (λ v. (eqb t.key t.key ≡ v)
+    → cond (not v) (t ∷ without t.key (drop 1 ts)) (without t.key (drop 1 ts)) ≡ drop 1 ts) [
       | true ↦ (λ k. without-none t.key (drop 1 ts) rest)
       | false ↦ (λ k. absurd (grind (arith, nat_tests, k)))
     ] refl
@@ -99,7 +105,8 @@ popped-cons now t rest le = elim (leb t.due now) as (λ v. (leb t.due now ≡ v)
   | false ↦ (λ k. absurd (grind (arith, nat_tests, k, le)))
 ] refl
 
-pub popped-first : (now : ℕ) (t : Timer) (old ts new : List Timer) → old ≡ ts → ts ≡ t ∷ drop 1 ts → new ≡ without t.key ts → keys_with t.key ts ≤ 1 → t.due ≤ now → pair t new ≡ popped now old
+pub popped-first : (now : ℕ) (t : Timer) (old ts new : List Timer) → old ≡ ts → ts ≡ t ∷ drop 1 ts → new ≡ without t.key ts → keys_with t.key ts ≤ 1 → t.due ≤ now
+    → pair t new ≡ popped now old
 popped-first now t old ts new same e gone once le =
     let out : new ≡ drop 1 ts = gone ∙ first-goes-out t ts e once in
     ap (λ (l : List Timer). pair t l) out ∙ (sym (popped-cons now t (drop 1 ts) le) ∙ ap (λ l. popped now l) (sym (same ∙ e)))
@@ -127,27 +134,38 @@ by_due P [] due h some = absurd (grind (arith, h))
 by_due P (t ∷ rest) due h some = some t rest refl (grind (arith, h))
 
 pub some-due : (ts : List Timer) (due : ℕ) → first_due ts ≡ Some due → 1 ≤ length (due_at due ts)
-some-due ts due h = by_due (1 ≤ length (due_at due ts)) ts due h (λ t rest e d. subst (λ l. 1 ≤ length (due_at due l)) (sym e) (subst (λ x. 1 ≤ length (due_at x (t ∷ rest))) d (omega (arith, ap (λ l. length l) (due_at-same t rest)))))
+some-due ts due h = by_due (1 ≤ length (due_at due ts)) ts due h (λ t rest e d. subst (λ l. 1 ≤ length (due_at due l)) (sym e)
+    (subst (λ x. 1 ≤ length (due_at x (t ∷ rest))) d (omega (arith, ap (λ l. length l) (due_at-same t rest)))))
 
-pub due-some : (ts : List Timer) (due : ℕ) → first_due ts ≡ Some due → 1 ≤ length ts
-due-some [] due h = absurd (grind (arith, h))
-due-some (t ∷ ts) due h = omega arith
-
-module _ (start slot : ℕ) (moved : List Timer) (old now : List (List Timer)) (due : ℕ) (so_far : AreMoved start slot moved old now) (first : first_due (list_at now slot) ≡ Some due) (goes : GoesElsewhere start slot old) (slots : length old ≡ 321) (low : slot < 321) where
+module _ (start slot : ℕ) (moved : List Timer) (old now : List (List Timer)) (due : ℕ) (so_far : AreMoved start slot moved old now)
+    (first : first_due (list_at now slot) ≡ Some due) (goes : GoesElsewhere start slot old) (slots : length old ≡ 321) (low : slot < 321) where
   pub goes-now : (slot_of start due ≢ slot) × (slot_of start due < length old)
-  goes-now = goes due (subst (λ l. 1 ≤ length (due_at due l)) (sym so_far.left) (omega (arith, some-due (list_at now slot) due first, ap (λ l. length l) (filter-append (λ t. eqb t.due due) moved (list_at now slot)), length-append (due_at due moved) (due_at due (list_at now slot)))))
+  goes-now = goes due (subst (λ l. 1 ≤ length (due_at due l)) (sym so_far.left) (omega (
+    arith,
+    some-due (list_at now slot) due first,
+    ap (λ l. length l) (filter-append (λ t. eqb t.due due) moved (list_at now slot)),
+    length-append (due_at due moved) (due_at due (list_at now slot)),
+  )))
 
-  module _ (new-lists : List (List Timer)) (to : ℕ) (at : to ≡ slot_of start due) (moves : (t : Timer) (rest : List Timer) → list_at now slot ≡ t ∷ rest → new-lists ≡ set (set now slot rest) to (list_at now to ++ t ∷ [])) where
+  module _ (new-lists : List (List Timer)) (to : ℕ) (at : to ≡ slot_of start due) (moves : (t : Timer) (rest : List Timer) → list_at now slot ≡ t ∷ rest
+      → new-lists ≡ set (set now slot rest) to (list_at now to ++ t ∷ [])) where
     pub still-moved : (x : List Timer) × AreMoved start slot x old new-lists
     still-moved = by_due ((x : List Timer) × AreMoved start slot x old new-lists) (list_at now slot) due first (λ t rest e d. (
       moved ++ t ∷ [],
       subst (λ l. AreMoved start slot (moved ++ t ∷ []) old l) (sym (moves t rest e))
-          (moved-more start slot moved old now t rest to so_far e (ap (λ x. slot_of start x) d ∙ sym at) (λ k. goes-now.0 (sym at ∙ k)) (omega (arith, so_far.slots, slots, low)) (omega (arith, so_far.slots, at, goes-now.1))),
+          (moved-more start slot moved old now t rest to so_far e (ap (λ x. slot_of start x) d ∙ sym at) (λ k. goes-now.0 (sym at ∙ k))
+          (omega (arith, so_far.slots, slots, low)) (omega (arith, so_far.slots, at, goes-now.1))),
     ))
 
     pub fewer-left : length (list_at new-lists slot) < length (list_at now slot)
     fewer-left = by_due (length (list_at new-lists slot) < length (list_at now slot)) (list_at now slot) due first (λ t rest e d.
-        omega (arith, ap (λ l. length l) e, ap (λ l. length (list_at l slot)) (moves t rest e), ap (λ l. length l) (new-slot start slot moved old now t rest to so_far e (ap (λ x. slot_of start x) d ∙ sym at) (λ k. goes-now.0 (sym at ∙ k)) (omega (arith, so_far.slots, slots, low)) (omega (arith, so_far.slots, at, goes-now.1)))))
+        omega (
+          arith,
+          ap (λ l. length l) e,
+          ap (λ l. length (list_at l slot)) (moves t rest e),
+          ap (λ l. length l) (new-slot start slot moved old now t rest to so_far e (ap (λ x. slot_of start x) d ∙ sym at) (λ k. goes-now.0 (sym at ∙ k))
+              (omega (arith, so_far.slots, slots, low)) (omega (arith, so_far.slots, at, goes-now.1))),
+        ))
 
 -- ---- what is first
 
@@ -155,7 +173,8 @@ module _ (stays : StaysOrdered) (b : ℕ) (lists : List (List Timer)) (wheel : I
   pub first-none : ((level : ℕ) → level < 5 → IsEmptyLevel lists level) → pending_in lists ≡ []
   first-none none = none-pending stays b lists wheel (none-least (list_at lists 320) none-late) none
 
-  pub first-some : (slot start end : ℕ) (result : Option Timer) → IsFirstSlot b lists slot start end → result ≡ least (list_at lists slot) → MatchOption result (pending_in lists ≡ []) (λ first. pending_in lists ≡ first ∷ drop 1 (pending_in lists))
+  pub first-some : (slot start end : ℕ) (result : Option Timer) → IsFirstSlot b lists slot start end → result ≡ least (list_at lists slot)
+      → MatchOption result (pending_in lists ≡ []) (λ first. pending_in lists ≡ first ∷ drop 1 (pending_in lists))
   first-some slot start end None first e = absurd (omega (arith, first.holds, ap (λ l. length l) (none-least (list_at lists slot) (sym e))))
   first-some slot start end (Some l) first e = head-first stays b lists wheel slot start end l (none-least (list_at lists 320) none-late) first (sym e)
 
@@ -205,15 +224,6 @@ first-placed t (u ∷ us) = elim (ltb t.due u.due) as (λ v. Some (cond v t u) �
   | false ↦ refl
 ]
 
-pub first-without : (key : ℕ) (t : Timer) (ts : List Timer) → Some t ≡ first_of ts → t.key ≢ key → Some t ≡ first_of (without key ts)
-first-without key t [] e n = absurd (grind (arith, e))
-first-without key t (u ∷ us) e n =
-    let same : u ≡ t = some-is u t (sym e) in
-    elim (eqb u.key key) as (λ v. (eqb u.key key ≡ v) → Some t ≡ first_of (cond (not v) (u ∷ without key us) (without key us))) [
-      | true ↦ (λ k. absurd (grind (arith, nat_tests, k, n, ap (λ x. x.key) same)))
-      | false ↦ (λ k. e)
-    ] refl
-
 pub none-due : (b : ℕ) (ts : List Timer) → None ≡ first_of ts → (due : ℕ) → first_due ts ≡ Some due → b < due
 none-due b [] e due h = absurd (grind (arith, h))
 none-due b (t ∷ ts) e due h = absurd (grind (arith, e))
@@ -223,7 +233,12 @@ none-due b (t ∷ ts) e due h = absurd (grind (arith, e))
 pub none-reached : (b now : ℕ) (lists : List (List Timer)) → ((level : ℕ) → level < 5 → IsEmptyLevel lists level) → AreUnreached b now lists
 none-reached b now lists none d low some =
     let near : (b < d) × (d < b + 1073741824) = near_by_slot b d low in
-    absurd (omega (arith, some, ap (λ l. length l) (ap (λ i. list_at lists i) (slot-in b d near.0 near.1) ∙ none (level_of b d) (level_below b d) (d / width (level_of b d) % 64) (omega arith))))
+    absurd (omega (
+      arith,
+      some,
+      ap (λ l. length l) (ap (λ i. list_at lists i) (slot-in b d near.0 near.1)
+          ∙ none (level_of b d) (level_below b d) (d / width (level_of b d) % 64) (omega arith)),
+    ))
 
 pub later-reached : (b now : ℕ) (lists : List (List Timer)) (slot start end : ℕ) → IsFirstSlot b lists slot start end → now < start → AreUnreached b now lists
 later-reached b now lists slot start end first later d low some = by_same (now < start_of b d) (slot_of b d) slot
@@ -273,14 +288,24 @@ module _ (stays : StaysOrdered) (b : ℕ) (lists : List (List Timer)) (wheel : I
       (λ n. absurd (omega (arith, ap (λ l. length l) (sym (ap (λ l. due_at u.due l) is ∙ due_at-same u us) ∙ wheel.in_place u.due (slot_of b d) n)))) in
       let near : (b < d) × (d < b + 1073741824) = near_by_slot b d low in
       let its-near : (b < u.due) × (u.due < b + 1073741824) = near_by_slot b u.due (omega (arith, its-slot, low)) in
-      let stands : 1 ≤ length (due_at u.due (pending_in lists)) = omega (arith, ap (λ l. length l) (seen stays b lists wheel.in_place u.due ∙ (ap (λ i. due_at u.due (list_at lists i)) its-slot ∙ (ap (λ l. due_at u.due l) is ∙ due_at-same u us)))) in
+      let stands : 1 ≤ length (due_at u.due (pending_in lists)) = omega (
+        arith,
+        ap (λ l. length l)
+            (seen stays b lists wheel.in_place u.due ∙ (ap (λ i. due_at u.due (list_at lists i)) its-slot ∙ (ap (λ l. due_at u.due l) is ∙ due_at-same u us))),
+      ) in
       let later : t.due ≤ u.due = no_earlier t (pending_in lists) first (AreOrdered-in_order stays (concat lists)) u.due stands in
       omega (arith, far.1, start_rises b t.due u.due far.0 later, same_start b u.due d its-near.0 its-near.1 near.0 near.1 its-slot))
 
-  pub first-ahead : (first : Option Timer) → first ≡ first_of (pending_in lists) → ((t : Timer) → first ≡ Some t → (b < t.due) × (now < start_of b t.due)) → AreUnreached b now lists
+  pub first-ahead : (first : Option Timer) → first ≡ first_of (pending_in lists) → ((t : Timer) → first ≡ Some t → (b < t.due) × (now < start_of b t.due))
+      → AreUnreached b now lists
   first-ahead None first far d low some = by_front (now < start_of b d) (list_at lists (slot_of b d)) some (λ u us is.
       let its-slot : slot_of b u.due ≡ slot_of b d = by_same (slot_of b u.due ≡ slot_of b d) (slot_of b d) (slot_of b u.due)
       (λ e. sym e)
       (λ n. absurd (omega (arith, ap (λ l. length l) (sym (ap (λ l. due_at u.due l) is ∙ due_at-same u us) ∙ wheel.in_place u.due (slot_of b d) n)))) in
-      absurd (omega (arith, ap (λ l. length l) (sym (seen stays b lists wheel.in_place u.due ∙ (ap (λ i. due_at u.due (list_at lists i)) its-slot ∙ (ap (λ l. due_at u.due l) is ∙ due_at-same u us))) ∙ ap (λ ts. due_at u.due ts) (no-first (pending_in lists) first)))))
+      absurd (omega (
+        arith,
+        ap (λ l. length l) (sym (seen stays b lists wheel.in_place u.due
+            ∙ (ap (λ i. due_at u.due (list_at lists i)) its-slot ∙ (ap (λ l. due_at u.due l) is ∙ due_at-same u us)))
+            ∙ ap (λ ts. due_at u.due ts) (no-first (pending_in lists) first)),
+      )))
   first-ahead (Some t) first far d low some = ahead-of t first (far t refl) d low some

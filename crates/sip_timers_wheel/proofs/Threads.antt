@@ -1,5 +1,6 @@
 -- Lists that are threaded through rows: cut, joined, and with other rows written.
-use Rattle.std.proofs.Common.{◌≡◌, ◌≢◌, ℕ, zero, suc, ◌+◌, ◌≤◌, List, [], ◌∷◌, ◌++◌, length, append-nil, Option, Some, None, Bool, cond, eqb, true, false, refl, sym, ap, ◌∙◌, arith}
+use Rattle.std.proofs.Common.{◌≡◌, ◌≢◌, ℕ, zero, suc, ◌+◌, ◌≤◌, List, [], ◌∷◌, ◌++◌, length, append-nil, Option, Some, None, Bool, cond, eqb, true, false, refl, sym, ap}
+use Rattle.std.proofs.Common.{◌∙◌, arith}
 use Rattle.std.specs.Prelude.{not, ◌&&◌}
 use Rattle.std.proofs.lemmas.Bool.Decides.{nat_tests}
 use Rattle.std.proofs.lemmas.List.Elements.{filter-append}
@@ -49,26 +50,37 @@ pub number_is : (n m : RowNumber) → Some n ≡ Some m → n.0 ≡ m.0
 number_is n m e = ap key_or_zero e
 
 -- the last timer of some stands among them
-pub last_or-stands : (t : Timer) (ts : List Timer) (before : Option RowNumber) (key : ℕ) → last_or (t ∷ ts) before ≡ Some (record { 0 = key }) → 1 ≤ keys_with key (t ∷ ts)
+pub last_or-stands : (t : Timer) (ts : List Timer) (before : Option RowNumber) (key : ℕ) → last_or (t ∷ ts) before ≡ Some (record { 0 = key })
+    → 1 ≤ keys_with key (t ∷ ts)
 last_or-stands t [] before key e =
     let same : t.key ≡ key = number_is (number_of t) (record { 0 = key }) e in
     grind (arith, nat_tests, keys_with-cons key t [])
 last_or-stands t (u ∷ us) before key e = omega (arith, keys_with-more key t (u ∷ us), last_or-stands u us (Some (number_of t)) key e)
 
-pub IsThread-append : (rows : Slab Row) (before : Option RowNumber) (xs ys : List Timer) (after : Option RowNumber) → IsThread rows before xs (first_or ys after) → IsThread rows (last_or xs before) ys after → IsThread rows before (xs ++ ys) after
+pub IsThread-append : (rows : Slab Row) (before : Option RowNumber) (xs ys : List Timer) (after : Option RowNumber) → IsThread rows before xs (first_or ys after)
+    → IsThread rows (last_or xs before) ys after → IsThread rows before (xs ++ ys) after
 IsThread-append rows before [] ys after p q = q
-IsThread-append rows before (t ∷ xs) ys after p q = (p.0 ∙ ap (λ next. Some (row_of before t next)) (sym (first_or-append xs ys after)), IsThread-append rows (Some (number_of t)) xs ys after p.1 q)
+IsThread-append rows before (t ∷ xs) ys after p q = (
+  p.0 ∙ ap (λ next. Some (row_of before t next)) (sym (first_or-append xs ys after)),
+  IsThread-append rows (Some (number_of t)) xs ys after p.1 q,
+)
 
-pub IsThread-front : (rows : Slab Row) (before : Option RowNumber) (xs ys : List Timer) (after : Option RowNumber) → IsThread rows before (xs ++ ys) after → IsThread rows before xs (first_or ys after)
+pub IsThread-front : (rows : Slab Row) (before : Option RowNumber) (xs ys : List Timer) (after : Option RowNumber) → IsThread rows before (xs ++ ys) after
+    → IsThread rows before xs (first_or ys after)
 IsThread-front rows before [] ys after p = tt
-IsThread-front rows before (t ∷ xs) ys after p = (p.0 ∙ ap (λ next. Some (row_of before t next)) (first_or-append xs ys after), IsThread-front rows (Some (number_of t)) xs ys after p.1)
+IsThread-front rows before (t ∷ xs) ys after p = (
+  p.0 ∙ ap (λ next. Some (row_of before t next)) (first_or-append xs ys after),
+  IsThread-front rows (Some (number_of t)) xs ys after p.1,
+)
 
-pub IsThread-back : (rows : Slab Row) (before : Option RowNumber) (xs ys : List Timer) (after : Option RowNumber) → IsThread rows before (xs ++ ys) after → IsThread rows (last_or xs before) ys after
+pub IsThread-back : (rows : Slab Row) (before : Option RowNumber) (xs ys : List Timer) (after : Option RowNumber) → IsThread rows before (xs ++ ys) after
+    → IsThread rows (last_or xs before) ys after
 IsThread-back rows before [] ys after p = p
 IsThread-back rows before (t ∷ xs) ys after p = IsThread-back rows (Some (number_of t)) xs ys after p.1
 
 -- rows that belong to no timer of a list may change
-pub IsThread-frame : (old new : Slab Row) (before : Option RowNumber) (ts : List Timer) (after : Option RowNumber) → ((key : ℕ) → 1 ≤ keys_with key ts → get new key ≡ get old key) → IsThread old before ts after → IsThread new before ts after
+pub IsThread-frame : (old new : Slab Row) (before : Option RowNumber) (ts : List Timer) (after : Option RowNumber)
+    → ((key : ℕ) → 1 ≤ keys_with key ts → get new key ≡ get old key) → IsThread old before ts after → IsThread new before ts after
 IsThread-frame old new before [] after keeps p = tt
 IsThread-frame old new before (t ∷ ts) after keeps p = (
   keeps t.key (keys_with-here t ts) ∙ p.0,
@@ -76,27 +88,37 @@ IsThread-frame old new before (t ∷ ts) after keeps p = (
 )
 
 -- another row may stand behind the last one
-pub IsThread-next : (old new : Slab Row) (before : Option RowNumber) (ts : List Timer) (after next : Option RowNumber) → KeysDiffer ts → ((key : ℕ) (row : Row) → 1 ≤ keys_with key ts → last_or ts before ≡ Some (record { 0 = key }) → get old key ≡ Some row → get new key ≡ Some (record row { next = next })) → ((key : ℕ) → 1 ≤ keys_with key ts → last_or ts before ≢ Some (record { 0 = key }) → get new key ≡ get old key) → IsThread old before ts after → IsThread new before ts next
+pub IsThread-next : (old new : Slab Row) (before : Option RowNumber) (ts : List Timer) (after next : Option RowNumber) → KeysDiffer ts
+    → ((key : ℕ) (row : Row) → 1 ≤ keys_with key ts → last_or ts before ≡ Some (record { 0 = key }) → get old key ≡ Some row
+    → get new key ≡ Some (record row { next = next })) → ((key : ℕ) → 1 ≤ keys_with key ts → last_or ts before ≢ Some (record { 0 = key }) → get new key ≡ get old key)
+    → IsThread old before ts after → IsThread new before ts next
 IsThread-next old new before [] after next differ changed others p = tt
 IsThread-next old new before (t ∷ []) after next differ changed others p = (changed t.key _ (keys_with-here t []) refl p.0, tt)
 IsThread-next old new before (t ∷ u ∷ us) after next differ changed others p =
-    let other : last_or (u ∷ us) (Some (number_of t)) ≢ Some (number_of t) = λ e. omega (arith, key_is_once t (u ∷ us) differ, last_or-stands u us (Some (number_of t)) t.key e) in (
+    let other : last_or (u ∷ us) (Some (number_of t)) ≢ Some (number_of t) = λ e. omega
+    (arith, key_is_once t (u ∷ us) differ, last_or-stands u us (Some (number_of t)) t.key e) in (
       others t.key (keys_with-here t (u ∷ us)) other ∙ p.0,
-      IsThread-next old new (Some (number_of t)) (u ∷ us) after next (KeysDiffer-rest t (u ∷ us) differ) (λ key row h. changed key row (omega (arith, keys_with-more key t (u ∷ us)))) (λ key h. others key (omega (arith, keys_with-more key t (u ∷ us)))) p.1,
+      IsThread-next old new (Some (number_of t)) (u ∷ us) after next (KeysDiffer-rest t (u ∷ us) differ)
+          (λ key row h. changed key row (omega (arith, keys_with-more key t (u ∷ us)))) (λ key h. others key (omega (arith, keys_with-more key t (u ∷ us)))) p.1,
     )
 
 -- another row may stand in front of the first one
-pub IsThread-previous : (old new : Slab Row) (before previous : Option RowNumber) (ts : List Timer) (after : Option RowNumber) → KeysDiffer ts → ((key : ℕ) (row : Row) → first_or ts None ≡ Some (record { 0 = key }) → get old key ≡ Some row → get new key ≡ Some (record row { previous = previous })) → ((key : ℕ) → 1 ≤ keys_with key ts → first_or ts None ≢ Some (record { 0 = key }) → get new key ≡ get old key) → IsThread old before ts after → IsThread new previous ts after
+pub IsThread-previous : (old new : Slab Row) (before previous : Option RowNumber) (ts : List Timer) (after : Option RowNumber) → KeysDiffer ts
+    → ((key : ℕ) (row : Row) → first_or ts None ≡ Some (record { 0 = key }) → get old key ≡ Some row → get new key ≡ Some (record row { previous = previous }))
+    → ((key : ℕ) → 1 ≤ keys_with key ts → first_or ts None ≢ Some (record { 0 = key }) → get new key ≡ get old key) → IsThread old before ts after
+    → IsThread new previous ts after
 IsThread-previous old new before previous [] after differ changed others p = tt
 IsThread-previous old new before previous (t ∷ ts) after differ changed others p = (
   changed t.key _ refl p.0,
   IsThread-frame old new (Some (number_of t)) ts after
-      (λ key h. others key (omega (arith, keys_with-more key t ts)) (λ e. let same : t.key ≡ key = number_is (number_of t) (record { 0 = key }) e in omega (arith, rw same at (key_is_once t ts differ))))
+      (λ key h. others key (omega (arith, keys_with-more key t ts)) (λ e. let same : t.key ≡ key = number_is (number_of t) (record { 0 = key }) e in
+      omega (arith, rw same at (key_is_once t ts differ))))
       p.1,
 )
 
 -- the timers that are met are those of the thread
-pub walk_is : (rows : Slab Row) (steps : ℕ) (before : Option RowNumber) (ts : List Timer) → IsThread rows before ts None → length ts ≤ steps → walk rows steps (first_or ts None) ≡ ts
+pub walk_is : (rows : Slab Row) (steps : ℕ) (before : Option RowNumber) (ts : List Timer) → IsThread rows before ts None → length ts ≤ steps
+    → walk rows steps (first_or ts None) ≡ ts
 walk_is rows zero before [] p fits = refl
 walk_is rows zero before (t ∷ ts) p fits = absurd (omega arith)
 walk_is rows (suc steps) before [] p fits = refl
@@ -123,11 +145,15 @@ pub without_swap : (key other : ℕ) (ts : List Timer) → without key (without 
 without_swap key other [] = refl
 without_swap key other (t ∷ ts) = by_keys (eqb t.key key) (eqb t.key other) (without_swap key other ts) refl refl
   where
-    by_keys : (b c : Bool) → without key (without other ts) ≡ without other (without key ts) → eqb t.key key ≡ b → eqb t.key other ≡ c → without key (without other (t ∷ ts)) ≡ without other (without key (t ∷ ts))
+    by_keys : (b c : Bool) → without key (without other ts) ≡ without other (without key ts) → eqb t.key key ≡ b → eqb t.key other ≡ c
+        → without key (without other (t ∷ ts)) ≡ without other (without key (t ∷ ts))
     by_keys true true rest e f = ap (without key) (without_here other t ts f) ∙ rest ∙ sym (ap (without other) (without_here key t ts e))
-    by_keys true false rest e f = ap (without key) (without_past other t ts f) ∙ without_here key t (without other ts) e ∙ rest ∙ sym (ap (without other) (without_here key t ts e))
-    by_keys false true rest e f = ap (without key) (without_here other t ts f) ∙ rest ∙ sym (without_here other t (without key ts) f) ∙ sym (ap (without other) (without_past key t ts e))
-    by_keys false false rest e f = ap (without key) (without_past other t ts f) ∙ without_past key t (without other ts) e ∙ ap (λ us. t ∷ us) rest ∙ sym (without_past other t (without key ts) f) ∙ sym (ap (without other) (without_past key t ts e))
+    by_keys true false rest e f = ap (without key) (without_past other t ts f) ∙ without_here key t (without other ts) e ∙ rest
+        ∙ sym (ap (without other) (without_here key t ts e))
+    by_keys false true rest e f = ap (without key) (without_here other t ts f) ∙ rest ∙ sym (without_here other t (without key ts) f)
+        ∙ sym (ap (without other) (without_past key t ts e))
+    by_keys false false rest e f = ap (without key) (without_past other t ts f) ∙ without_past key t (without other ts) e ∙ ap (λ us. t ∷ us) rest
+        ∙ sym (without_past other t (without key ts) f) ∙ sym (ap (without other) (without_past key t ts e))
 
 without-append : (key : ℕ) (xs ys : List Timer) → without key (xs ++ ys) ≡ without key xs ++ without key ys
 without-append key xs ys = filter-append (λ t. not (eqb t.key key)) xs ys
@@ -168,7 +194,14 @@ split_here key t ts differ e =
 
 split_later : (key : ℕ) (t : Timer) (ts : List Timer) → eqb t.key key ≡ false → Split key ts → Split key (t ∷ ts)
 split_later key t ts e later =
-    record { front = t ∷ later.front; timer = later.timer; back = later.back; whole = ap (λ us. t ∷ us) later.whole; keyed = later.keyed; rest = rw e (ap (λ us. t ∷ us) later.rest) }
+    record {
+      front = t ∷ later.front;
+      timer = later.timer;
+      back = later.back;
+      whole = ap (λ us. t ∷ us) later.whole;
+      keyed = later.keyed;
+      rest = rw e (ap (λ us. t ∷ us) later.rest);
+    }
 
 stands_later : (key : ℕ) (t : Timer) (ts : List Timer) → eqb t.key key ≡ false → 1 ≤ keys_with key (t ∷ ts) → 1 ≤ keys_with key ts
 stands_later key t ts e stands = grind (arith, nat_tests, keys_with-cons key t ts)

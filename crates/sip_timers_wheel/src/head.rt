@@ -1,13 +1,13 @@
 //! One list of timers by its ends, threaded through rows of a slab: one is put behind the others or taken out of its middle,
 //! and the one that is due first is remembered. Which slot a list is of is known in `slots`.
-ghost use Rattle.std.specs.Prelude.{◌≡◌, ◌≢◌, ◌≤◌, ◌<◌, ◌+◌, ◌==◌, ℕ, ◌∷◌, [], ◌++◌, Some, None, IfSome, length, MatchOption, nat_lt};
+ghost use Rattle.std.specs.Prelude.{◌≡◌, ◌≢◌, ◌≤◌, ◌<◌, ◌+◌, ◌==◌, ℕ, ◌∷◌, [], ◌++◌, Some, None, IfSome, length, MatchOption};
 ghost use Rattle.std.specs.Prelude.{if◌then◌else◌, is_some, true};
 ghost use Rattle.slab.specs.Slab.{get, ContainsKey, slab_len};
 ghost use Rattle.sip_timers.specs.Timers.{keys_with, without, KeysDiffer};
 ghost use Rattle.sip_timers_wheel.specs.declared.row.RowNumber.{RowNumber};
 ghost use Rattle.sip_timers_wheel.specs.declared.row.Row.{Row};
 ghost use Rattle.sip_timers_wheel.specs.Lists.{least};
-ghost use Rattle.sip_timers_wheel.specs.Threads.{list_of, timer_of, IsHeld, IsLeastWith, KnowsLeast, known_least, other_than, SameSize};
+ghost use Rattle.sip_timers_wheel.specs.Threads.{list_of, timer_of, IsHeld, IsLeastWith, known_least, other_than, SameSize};
 
 use crate::row::{Row, RowNumber, set_beside, set_next, set_previous};
 use slab::Slab;

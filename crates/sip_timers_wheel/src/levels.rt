@@ -1,5 +1,5 @@
 //! The slots of all levels, with marks that tell which have a timer. Which slot a moment belongs to is said in `places`.
-ghost use Rattle.std.specs.Prelude.{◌≡◌, ◌≢◌, ◌≤◌, ◌<◌, ◌+◌, ◌==◌, ◌&&◌, not, ℕ, List, [], ◌∷◌, ◌++◌, length, replicate, count_by};
+ghost use Rattle.std.specs.Prelude.{◌≡◌, ◌≢◌, ◌≤◌, ◌<◌, ◌+◌, ◌==◌, ◌&&◌, not, List, [], ◌∷◌, ◌++◌, length, replicate, count_by};
 ghost use Rattle.std.specs.Prelude.{slice_set, IfOk, OnOk, OnErr, MatchOption};
 ghost use Rattle.sip_timers.specs.Timers.{without, keys_with, first_due};
 ghost use Rattle.sip_timers.specs.declared.timer.Timer.{Timer};

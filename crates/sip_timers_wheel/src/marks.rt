@@ -1,4 +1,4 @@
-ghost use Rattle.std.specs.Prelude.{◌≡◌, ◌≢◌, ◌<◌, ◌↔◌, MatchOption, ℕ};
+ghost use Rattle.std.specs.Prelude.{◌≡◌, ◌≢◌, ◌<◌, MatchOption, ℕ};
 ghost use Rattle.std.specs.Int.{bit_at};
 ghost use Rattle.sip_timers_wheel.specs.Marks.{IsNextMark, HasNoMark};
 

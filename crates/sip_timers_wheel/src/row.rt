@@ -1,4 +1,4 @@
-ghost use Rattle.std.specs.Prelude.{◌≡◌, ◌≤◌, Some, IfSome, true};
+ghost use Rattle.std.specs.Prelude.{◌≡◌, Some, IfSome};
 ghost use Rattle.slab.specs.Slab.{ContainsKey, get, Updates};
 ghost use Rattle.sip_timers_wheel.specs.declared.row.RowNumber.{RowNumber};
 ghost use Rattle.sip_timers_wheel.specs.declared.row.Row.{Row};

@@ -1,5 +1,5 @@
 //! The lists of timers, one for each slot, over one slab of rows. Which moments a slot is for is said in `places`.
-ghost use Rattle.std.specs.Prelude.{◌≡◌, ◌≢◌, ◌≤◌, ◌<◌, ◌+◌, ◌==◌, ◌&&◌, not, ℕ, List, [], ◌∷◌, ◌++◌, length, replicate, count_by};
+ghost use Rattle.std.specs.Prelude.{◌≡◌, ◌≢◌, ◌≤◌, ◌<◌, ◌+◌, ◌==◌, ◌&&◌, not, List, [], ◌∷◌, ◌++◌, length, replicate, count_by};
 ghost use Rattle.std.specs.Prelude.{slice_set, Some, IfOk, OnOk, OnErr};
 ghost use Rattle.sip_timers.specs.Timers.{without, keys_with, first_due};
 ghost use Rattle.sip_timers.specs.declared.timer.Timer.{Timer};

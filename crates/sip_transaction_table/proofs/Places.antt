@@ -1,5 +1,6 @@
 -- Places in lists.
-use Rattle.std.proofs.Common.{◌≡◌, ℕ, ◌≤◌, ◌<◌, Bool, true, false, cond, List, [], ◌∷◌, length, get_or, set, slice_get, position, Some, None, refl, sym, ◌∙◌, ap, subst, arith, ◌⊎◌, inl, inr}
+use Rattle.std.proofs.Common.{◌≡◌, ℕ, ◌≤◌, ◌<◌, Bool, true, false, cond, List, [], ◌∷◌, length, get_or, set, slice_get, position, Some, None, refl, sym, ◌∙◌, ap, subst}
+use Rattle.std.proofs.Common.{arith, ◌⊎◌, inl, inr}
 use Rattle.std.specs.Prelude.{find, nat_lt}
 use Rattle.std.specs.List.{All, AllPairs, position_or_len}
 use Rattle.std.specs.Option.{option_and_then}
@@ -43,12 +44,14 @@ module _ {X : Type 0} (test : X → Bool) where
   -- the element that is found
   pub found : (xs : List X) → option_and_then (slice_get xs) (position test xs) ≡ find test xs
   found xs = by_test (nat_lt (position_or_len test xs) (length xs)) refl ∙ sym (find_at test xs) where
-    by_test : (b : Bool) → nat_lt (position_or_len test xs) (length xs) ≡ b → option_and_then (slice_get xs) (cond b (Some (position_or_len test xs)) None) ≡ slice_get xs (position_or_len test xs)
+    by_test : (b : Bool) → nat_lt (position_or_len test xs) (length xs) ≡ b → option_and_then (slice_get xs) (cond b (Some (position_or_len test xs)) None)
+        ≡ slice_get xs (position_or_len test xs)
     by_test true is = refl
     by_test false is = let past : length xs ≤ position_or_len test xs = grind (arith, nat_tests, is) in sym (slice_get_past xs (position_or_len test xs) past)
 
 -- pairs after one element is replaced by one that stands to others as it did
-pub all_pairs_set : {X : Type 0} (R : X → X → Type 0) (xs : List X) (i : ℕ) (x y : X) → slice_get xs i ≡ Some x → ((a : X) → R a x → R a y) → ((b : X) → R x b → R y b) → AllPairs R xs → AllPairs R (set xs i y)
+pub all_pairs_set : {X : Type 0} (R : X → X → Type 0) (xs : List X) (i : ℕ) (x y : X) → slice_get xs i ≡ Some x → ((a : X) → R a x → R a y) → ((b : X) → R x b → R y b)
+    → AllPairs R xs → AllPairs R (set xs i y)
 all_pairs_set {X} R xs i x y at left right pairs j k d lt inside = by_place (cases_eq j i) (cases_eq k i) where
   within : i < length xs
   within = slice_get_within xs i x at

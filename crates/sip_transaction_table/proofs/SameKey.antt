@@ -13,7 +13,8 @@ decides a b =
     Decides-like (same_key a b) same alike
     (Decides-and _ (bytes_eq a.method b.method)
     (Decides-and _ (a.port == b.port)
-    (Decides-and (bytes_eq a.branch b.branch) (bytes_eq a.host b.host) (bytes_decides a.branch b.branch) (bytes_decides a.host b.host)) (Decides-eqb a.port b.port)) (bytes_decides a.method b.method))
+    (Decides-and (bytes_eq a.branch b.branch) (bytes_eq a.host b.host) (bytes_decides a.branch b.branch) (bytes_decides a.host b.host)) (Decides-eqb a.port b.port))
+    (bytes_decides a.method b.method))
   where
     same : ((a.branch ≡ b.branch × a.host ≡ b.host) × a.port ≡ b.port) × a.method ≡ b.method → a ≡ b
     same p =

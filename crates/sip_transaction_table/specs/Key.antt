@@ -1,5 +1,5 @@
 -- The key of a request: what a server transaction is found by (RFC 3261 17.2.3).
-use Rattle.std.specs.Prelude.{ℕ, Bool, ◌&&◌, ◌==◌, nat_eq, if◌then◌else◌, List, codes, Option, Some, None}
+use Rattle.std.specs.Prelude.{ℕ, Bool, ◌&&◌, ◌==◌, not, nat_eq, if◌then◌else◌, List, codes, Option, Some, None}
 use Rattle.std.specs.Option.{option_and_then, unwrap_or}
 use Rattle.std.specs.List.{starts_with}
 use Rattle.std.specs.Str.{bytes_eq}
@@ -52,3 +52,8 @@ key_of m = start_key m.fields m.start
 abbrev pub same_key : Key → Key → Bool
 same_key left right = bytes_eq left.branch right.branch && bytes_eq left.host right.host && left.port == right.port
     && bytes_eq left.method right.method
+
+-- whether a CANCEL with a key names a request with another one: of the same branch and sent-by, and neither ACK nor CANCEL (RFC 3261 9.2)
+abbrev pub is_cancelled_by : Key → Key → Bool
+is_cancelled_by cancel key = bytes_eq key.branch cancel.branch && bytes_eq key.host cancel.host && key.port == cancel.port && not
+    (bytes_eq key.method (codes "CANCEL")) && not (bytes_eq key.method (codes "ACK"))

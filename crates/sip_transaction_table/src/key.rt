@@ -2,7 +2,7 @@
 //! Which open request has a key is found in `table`.
 ghost use Rattle.std.specs.Prelude.{◌≡◌, ◌↔◌, IsTrue, IfOk};
 ghost use Rattle.std.specs.Str.{bytes_eq};
-ghost use Rattle.sip_transaction_table.specs.Key.{key_method, key_from, same_key};
+ghost use Rattle.sip_transaction_table.specs.Key.{key_method, key_from, same_key, is_cancelled_by};
 
 use crate::method::KeyMethod;
 use sip_header::{Via, branch_of};
@@ -90,6 +90,29 @@ impl Key {
         ensures { result ≡ bytes_eq self.now.method method.now }
     {
         same_bytes(self.method.as_slice(), method)
+    }
+
+    /// Whether a CANCEL with the key `cancel` names a request with this one: of the same branch and sent-by, and neither ACK
+    /// nor CANCEL (RFC 3261 9.2). Takes no memory.
+    pub(crate) fn is_cancelled_by(&self, cancel: &Key) -> bool
+        ensures { result ≡ is_cancelled_by cancel.now self.now }
+    {
+        if !same_bytes(self.branch.as_slice(), cancel.branch.as_slice()) {
+            return false;
+        }
+        if !same_bytes(self.host.as_slice(), cancel.host.as_slice()) {
+            return false;
+        }
+        if self.port != cancel.port {
+            return false;
+        }
+        if self.is_method(b"CANCEL") {
+            return false;
+        }
+        if self.is_method(b"ACK") {
+            return false;
+        }
+        true
     }
 }
 

@@ -1,12 +1,13 @@
 //! The open keys by a hash under a secret, each with the number of its row: whichever keys peers choose, one is found in constant time.
 //! The rows themselves stand in `numbered`.
 ghost use Rattle.std.specs.Prelude.{◌≡◌, ◌≤◌, ◌<◌, ◌+◌, ◌==◌, ◌++◌, ◌∷◌, [], ℕ, Some, length, remove, slice_get, if◌then◌else◌};
-ghost use Rattle.std.specs.Prelude.{IfNone, IfOk, OnOk};
-ghost use Rattle.sip_transaction_table.specs.Digest.{digest_of};
-ghost use Rattle.sip_transaction_table.specs.Keys.{count_in};
+ghost use Rattle.std.specs.Prelude.{IfNone, IfSome, IfOk, OnOk};
+ghost use Rattle.sip_base.specs.Keyed.{fed_first};
+ghost use Rattle.sip_transaction_table.specs.Digest.{digest_of, named_digest};
+ghost use Rattle.sip_transaction_table.specs.Keys.{count_in, counted};
 
 use crate::Key;
-use crate::digest::digest_of;
+use crate::digest::{digest_of, named_digest};
 use crate::front::take_out;
 use sip_base::Keyed;
 use std::alloc::{AllocError, Global};
@@ -48,10 +49,11 @@ impl Model for Keys {
 }
 
 impl Keys {
-    /// No key, and room for the digests of all rows that may stand. `AllocError` is the only refusal.
+    /// No key, and room for the digests of all rows that may stand. Keys are hashed under the secret `keys`. `AllocError` is the only refusal.
     pub(crate) fn new(alloc: Global, keys: u128) -> Result<Self, AllocError>
         ensures entries { IfOk result (λ keys. keys.entries ≡ []) }
         ensures digests { IfOk result (λ keys. keys.digests ≡ []) }
+        ensures secret { IfOk result (λ filed. filed.secret ≡ fed_first keys) }
     {
         let digests = VecDeque::with_capacity(alloc, ROOM)?;
         Ok(Keys {
@@ -67,6 +69,17 @@ impl Keys {
     {
         match self.hints.get(&digest_of(&self.secret, key)) {
             Some(hint) => Some(hint.number),
+            None => None,
+        }
+    }
+
+    /// What is known of the keys that have the digest of those that a CANCEL with this key names. None says that none is filed.
+    pub(crate) fn named(&self, cancel: &Key) -> Option<Hint>
+        ensures none { IfNone result (count_in (named_digest self.now.secret cancel.now) self.now.entries ≡ 0) }
+        ensures some { IfSome result (λ hint. count_in (named_digest self.now.secret cancel.now) self.now.entries ≡ counted hint) }
+    {
+        match self.hints.get(&named_digest(&self.secret, cancel)) {
+            Some(hint) => Some(*hint),
             None => None,
         }
     }

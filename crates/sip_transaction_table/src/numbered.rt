@@ -1,8 +1,8 @@
 //! The rows of open requests in rising order of their numbers: found by number by bisection, or passed over one by one for a key.
 //! `table` finds them by key.
-ghost use Rattle.std.specs.Prelude.{◌≡◌, ◌<◌, ◌≤◌, ◌++◌, ◌∷◌, ◌==◌, [], ℕ, length, position, remove, slice_get, slice_set, Some, IfOk};
+ghost use Rattle.std.specs.Prelude.{◌≡◌, ◌<◌, ◌≤◌, ◌++◌, ◌∷◌, ◌==◌, [], length, position, remove, slice_get, slice_set, Some, IfOk};
 ghost use Rattle.std.specs.List.{All, AllPairs};
-ghost use Rattle.sip_transaction_table.specs.Key.{same_key};
+ghost use Rattle.sip_transaction_table.specs.Key.{same_key, is_cancelled_by};
 
 use crate::front::take_out;
 use crate::held::Held;
@@ -67,7 +67,7 @@ impl<R: Row> Numbered<R> {
             .ok()
     }
 
-    /// The place of the first row with a key, row by row.
+    /// The place of the first row with a key, row by row. Called only where two have one digest.
     pub(crate) fn scan(&self, key: &Key) -> Option<usize>
         ensures { result ≡ position (λ r. same_key (R.key r) key.now) self.now }
     {
@@ -78,11 +78,11 @@ impl<R: Row> Numbered<R> {
 
     /// The place of the first row that a CANCEL with this key names, row by row.
     pub(crate) fn scan_cancelled(&self, key: &Key) -> Option<usize>
-        ensures { result ≡ position (R.is_cancelled_by key.now) self.now }
+        ensures { result ≡ position (λ r. is_cancelled_by key.now (R.key r)) self.now }
     {
         self.rows
             .iter()
-            .position(|row| row.get().is_cancelled_by(key))
+            .position(|row| row.get().key().is_cancelled_by(key))
     }
 
     /// Adds a row behind all others. Takes no memory.

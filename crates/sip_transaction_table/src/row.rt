@@ -1,4 +1,4 @@
-ghost use Rattle.std.specs.Prelude.{◌≡◌, ℕ, Bool};
+ghost use Rattle.std.specs.Prelude.{◌≡◌, ℕ};
 ghost use Rattle.sip_transaction_table.specs.declared.key.Key.{Key};
 ghost use Rattle.sip_transaction_table.specs.declared.transaction.Transaction.{Transaction};
 
@@ -12,9 +12,6 @@ pub trait Row: Drop {
     // What its server transaction is found by.
     ghost key: { Self → Key };
 
-    // Whether a CANCEL with this key names it.
-    ghost is_cancelled_by: { Key → Self → Bool };
-
     // What it is once one of its transactions ended.
     ghost ended: { Transaction → Self → Self };
 
@@ -25,10 +22,6 @@ pub trait Row: Drop {
     /// What its server transaction is found by (RFC 3261 17.2.3).
     fn key(&self) -> &Key
         ensures { result.now ≡ key self.now };
-
-    /// Whether a CANCEL with this key names it (RFC 3261 9.2).
-    fn is_cancelled_by(&self, cancel: &Key) -> bool
-        ensures { result ≡ is_cancelled_by cancel.now self.now };
 
     /// One of its transactions ends; its number and its key stay. Takes no memory.
     fn end(&mut self, transaction: Transaction)

@@ -1,10 +1,11 @@
 //! The table of open requests: its rows (`numbered`) and their keys (`keys`), which always agree (RFC 3261 17.2.3).
 //! What a row is and which timers it has is said in `sip_fork`.
-ghost use Rattle.std.specs.Prelude.{◌≡◌, ◌<◌, ◌≤◌, ◌++◌, ◌∷◌, ◌+◌, ◌==◌, [], ℕ, false, length, position, find, remove, slice_get};
+ghost use Rattle.std.specs.Prelude.{◌≡◌, ◌<◌, ◌≤◌, ◌++◌, ◌∷◌, ◌+◌, ◌==◌, [], false, length, position, find, remove, slice_get};
 ghost use Rattle.std.specs.Prelude.{slice_set, nat_le, Option, Some, None, IfOk, OnOk};
 ghost use Rattle.std.specs.List.{All, AllPairs};
 ghost use Rattle.std.specs.Option.{option_and_then};
-ghost use Rattle.sip_transaction_table.specs.Key.{same_key};
+ghost use Rattle.sip_base.specs.Keyed.{fed_first};
+ghost use Rattle.sip_transaction_table.specs.Key.{same_key, is_cancelled_by};
 
 use crate::held::Held;
 use crate::keys::Keys;
@@ -18,7 +19,7 @@ use std::marker::Model;
 const OPEN: usize = 1024;
 
 /// The open requests, in rising order of their numbers, each with a key of its own.
-/// Seen as the list of them, and how many more can be added with no memory.
+/// Seen as the list of them, how many more can be added with no memory, and the secret under which keys are hashed.
 pub struct Table<R: Row> {
     rows: Numbered<R>,
     keys: Keys,
@@ -36,7 +37,7 @@ impl<R: Row> Model for Table<R> {
 
     ghost Value = { Rows R };
 
-    ghost view = { λ t. record { rows = t.rows; room = t.keys.room } };
+    ghost view = { λ t. record { rows = t.rows; room = t.keys.room; secret = t.keys.secret } };
 
     ghost invariant = { λ t. AreFiled R.key t.rows t.keys };
 }
@@ -44,7 +45,8 @@ impl<R: Row> Model for Table<R> {
 impl<R: Row> Table<R> {
     /// No open request. Keys are hashed under the secret `keys`. `AllocError` is the only refusal.
     pub fn new(alloc: Global, keys: u128) -> Result<Self, AllocError>
-        ensures { IfOk result (λ table. table.rows ≡ []) }
+        ensures rows { IfOk result (λ table. table.rows ≡ []) }
+        ensures secret { IfOk result (λ table. table.secret ≡ fed_first keys) }
     {
         let rows = Numbered::new(alloc)?;
         let keys = Keys::new(alloc, keys)?;
@@ -89,7 +91,7 @@ impl<R: Row> Table<R> {
     }
 
     /// The place of the open request with a key (RFC 3261 17.2.3), which is the only one: by its hash under the secret,
-    /// and the number known for it; row by row only where another open key has that hash of 64 bits. Takes no memory.
+    /// and the number known for it; row by row only where another open key has that hash. Takes no memory.
     pub fn find(&self, key: &Key) -> Option<usize>
         ensures place { result ≡ position (λ r. same_key (R.key r) key.now) self.now.rows }
         ensures row { option_and_then (slice_get self.now.rows) result ≡ find (λ r. same_key (R.key r) key.now) self.now.rows }
@@ -106,11 +108,24 @@ impl<R: Row> Table<R> {
         self.rows.scan(key)
     }
 
-    /// The place of the earliest open request that a CANCEL with this key names (RFC 3261 9.2), row by row. Takes no memory.
+    /// The place of the earliest open request that a CANCEL with this key names (RFC 3261 9.2): by the hash that its key has
+    /// under the secret, and the number known for it; row by row only where several open keys have that hash, as those of one
+    /// branch and sent-by with other methods do. Takes no memory.
     pub fn find_cancelled(&self, key: &Key) -> Option<usize>
-        ensures place { result ≡ position (R.is_cancelled_by key.now) self.now.rows }
-        ensures row { option_and_then (slice_get self.now.rows) result ≡ find (R.is_cancelled_by key.now) self.now.rows }
+        ensures place { result ≡ position (λ r. is_cancelled_by key.now (R.key r)) self.now.rows }
+        ensures row { option_and_then (slice_get self.now.rows) result ≡ find (λ r. is_cancelled_by key.now (R.key r)) self.now.rows }
     {
+        let hint = match self.keys.named(key) {
+            Some(hint) => hint,
+            None => return None,
+        };
+        if hint.others == 0 {
+            if let Some(only) = self.rows.find(hint.number) {
+                if self.rows.get(only).key().is_cancelled_by(key) {
+                    return Some(only);
+                }
+            }
+        }
         self.rows.scan_cancelled(key)
     }
 
@@ -119,6 +134,7 @@ impl<R: Row> Table<R> {
         ensures rows { self.new.rows ≡ self.old.rows }
         ensures ok { OnOk result (1 ≤ self.new.room) }
         ensures room { self.old.room ≤ self.new.room }
+        ensures secret { self.new.secret ≡ self.old.secret }
     {
         self.keys.reserve()
     }
@@ -131,6 +147,7 @@ impl<R: Row> Table<R> {
         requires alone { position (λ r. same_key (R.key r) (R.key row)) self.old.rows ≡ None }
         ensures rows { self.new.rows ≡ self.old.rows ++ row ∷ [] }
         ensures room { self.old.room ≤ self.new.room + 1 }
+        ensures secret { self.new.secret ≡ self.old.secret }
     {
         self.keys.add(row.get().key(), row.get().number());
         self.rows.push(row);
@@ -143,6 +160,7 @@ impl<R: Row> Table<R> {
         requires key { (r : R) → slice_get self.old.rows place ≡ Some r → R.key row ≡ R.key r }
         ensures rows { self.new.rows ≡ slice_set self.old.rows place row }
         ensures room { self.new.room ≡ self.old.room }
+        ensures secret { self.new.secret ≡ self.old.secret }
     {
         self.rows.replace(place, row);
     }
@@ -152,6 +170,7 @@ impl<R: Row> Table<R> {
         requires { place < length self.old.rows }
         ensures rows { (r : R) → slice_get self.old.rows place ≡ Some r → self.new.rows ≡ slice_set self.old.rows place (R.ended transaction r) }
         ensures room { self.new.room ≡ self.old.room }
+        ensures secret { self.new.secret ≡ self.old.secret }
     {
         self.rows.end(place, transaction);
     }
@@ -163,6 +182,7 @@ impl<R: Row> Table<R> {
         ensures old { slice_get self.old.rows place ≡ Some result }
         ensures closed { position (λ r. same_key (R.key r) (R.key result)) self.new.rows ≡ None }
         ensures room { self.old.room ≤ self.new.room }
+        ensures secret { self.new.secret ≡ self.old.secret }
     {
         let row = self.rows.remove(place);
         let digest = self.keys.take_digest(place);

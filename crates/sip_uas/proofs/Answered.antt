@@ -1,5 +1,6 @@
 -- What follows what policy decided, as it is drafted.
-use Rattle.std.proofs.Common.{◌≡◌, ◌∙◌, ℕ, Bool, true, false, cond, List, [], ◌∷◌, Option, Result, Some, None, Ok, Err, IfSome, IfOk, IsOk, refl, sym, ap, subst, true≢false}
+use Rattle.std.proofs.Common.{◌≡◌, ◌∙◌, ℕ, Bool, true, false, cond, List, [], ◌∷◌, Option, Result, Some, None, Ok, Err, IfSome, IfOk, IsOk, refl, sym, ap, subst}
+use Rattle.std.proofs.Common.{true≢false}
 use Rattle.std.specs.declared.alloc.AllocError.{AllocError}
 use Rattle.sip_forwarding.specs.declared.arrival.Arrival.{Arrival}
 use Rattle.sip_forwarding.specs.Arrivals.{arrival_of}
@@ -33,7 +34,8 @@ use Rattle.sip_uas.specs.Asking.{are_nobody, nobody_status}
 use Rattle.sip_uas.specs.Drafts.{AreAfter, Does, Drafts, IsOpenable}
 
 -- what a draft does in a state with other nonces
-pub with_nonces : (now : ℕ) (draft : Draft) (nonces : List Nonce) (state : ProxyState) (effect : Effect) → Does now draft nonces None (record state { nonces = nonces }) effect → Does now draft nonces None state effect
+pub with_nonces : (now : ℕ) (draft : Draft) (nonces : List Nonce) (state : ProxyState) (effect : Effect)
+    → Does now draft nonces None (record state { nonces = nonces }) effect → Does now draft nonces None state effect
 with_nonces now draft nonces state effect h =
     record {
       originals_are = h.originals_are;
@@ -82,22 +84,28 @@ module _ (server : Server) (a : Arrival) (m : Message) (q : Question) (minute : 
 
   -- ---- challenge and denial
 
-  pub challenged_with : (result : Result Draft AllocError) (status : ℕ) (extras : List Field) → status ≡ Effects.challenge_status q.operation → extras ≡ Effects.challenges_to server (arrival_of a) q
+  pub challenged_with : (result : Result Draft AllocError) (status : ℕ) (extras : List Field) → status ≡ Effects.challenge_status q.operation
+      → extras ≡ Effects.challenges_to server (arrival_of a) q
       → IfOk result (Replies (Outcome.Challenge status) status extras)
-      → IfOk result (λ draft. minute ≡ minute_on server q → Drafts full a.now draft (λ nonces. issued (used nonces a.now q.proof) a.word a.now) None (Effects.challenged server (arrival_of a) m q))
+      → IfOk result (λ draft. minute ≡ minute_on server q → Drafts full a.now draft (λ nonces. issued (used nonces a.now q.proof) a.word a.now) None
+      (Effects.challenged server (arrival_of a) m q))
   challenged_with (Ok draft) status extras status_is extras_are h = λ is state room.
       let nonces : List Nonce = issued (used state.nonces a.now q.proof) a.word a.now in
-      let h' : Replies (Outcome.Challenge (Effects.challenge_status q.operation)) (Effects.challenge_status q.operation) (Effects.challenges_to server (arrival_of a) q) draft =
-      subst (λ (s : ℕ). Replies (Outcome.Challenge s) s (Effects.challenges_to server (arrival_of a) q) draft) status_is (subst (λ (fs : List Field). Replies (Outcome.Challenge status) status fs draft) extras_are h) in
+      let h' : Replies (Outcome.Challenge (Effects.challenge_status q.operation)) (Effects.challenge_status q.operation) (Effects.challenges_to server (arrival_of a) q)
+      draft =
+      subst (λ (s : ℕ). Replies (Outcome.Challenge s) s (Effects.challenges_to server (arrival_of a) q) draft) status_is
+      (subst (λ (fs : List Field). Replies (Outcome.Challenge status) status fs draft) extras_are h) in
       with_nonces a.now draft nonces state (Effects.challenged server (arrival_of a) m q state) (h' is (record state { nonces = nonces }) room)
   challenged_with (Err e) status extras status_is extras_are h = tt
 
   pub denied_with : (result : Result Draft AllocError) (rule : ℕ) (extras : List Field) → extras ≡ denial_warning server.config.own rule ∷ []
       → IfOk result (Replies (Outcome.Deny rule) 403 extras)
-      → IfOk result (λ draft. minute ≡ minute_on server q → Drafts full a.now draft (λ nonces. used nonces a.now q.proof) None (Effects.denied server (arrival_of a) m q rule))
+      → IfOk result (λ draft. minute ≡ minute_on server q → Drafts full a.now draft (λ nonces. used nonces a.now q.proof) None
+      (Effects.denied server (arrival_of a) m q rule))
   denied_with (Ok draft) rule extras extras_are h = λ is state room.
       let nonces : List Nonce = used state.nonces a.now q.proof in
-      let h' : Replies (Outcome.Deny rule) 403 (denial_warning server.config.own rule ∷ []) draft = subst (λ (fs : List Field). Replies (Outcome.Deny rule) 403 fs draft) extras_are h in
+      let h' : Replies (Outcome.Deny rule) 403 (denial_warning server.config.own rule ∷ []) draft =
+      subst (λ (fs : List Field). Replies (Outcome.Deny rule) 403 fs draft) extras_are h in
       with_nonces a.now draft nonces state (Effects.denied server (arrival_of a) m q rule state) (h' is (record state { nonces = nonces }) room)
   denied_with (Err e) rule extras extras_are h = tt
 
@@ -105,19 +113,25 @@ module _ (server : Server) (a : Arrival) (m : Message) (q : Question) (minute : 
 
   -- a draft of it
   abbrev pub Refuses : ℕ → ℕ → List Field → Draft → Type 0
-  Refuses rule status extras draft = minute ≡ minute_on server q → Drafts full a.now draft (λ nonces. used nonces a.now q.proof) None (Effects.answered_by_rule server (arrival_of a) m q rule status extras)
+  Refuses rule status extras draft = minute ≡ minute_on server q → Drafts full a.now draft (λ nonces. used nonces a.now q.proof) None
+      (Effects.answered_by_rule server (arrival_of a) m q rule status extras)
 
-  pub refused_with : (result : Result Draft AllocError) (rule status : ℕ) (extras : List Field) → IfOk result (Replies (Outcome.Answer rule status) status extras) → IfOk result (Refuses rule status extras)
+  pub refused_with : (result : Result Draft AllocError) (rule status : ℕ) (extras : List Field) → IfOk result (Replies (Outcome.Answer rule status) status extras)
+      → IfOk result (Refuses rule status extras)
   refused_with (Ok draft) rule status extras h = λ is state room.
       let nonces : List Nonce = used state.nonces a.now q.proof in
       with_nonces a.now draft nonces state (Effects.answered_by_rule server (arrival_of a) m q rule status extras state) (h is (record state { nonces = nonces }) room)
   refused_with (Err e) rule status extras h = tt
 
-  pub unsent_with : (result : Result Draft AllocError) (rule status : ℕ) (extras : List Field) (targets : Targets) → are_nobody targets ≡ true → status ≡ nobody_status targets → extras ≡ []
+  pub unsent_with : (result : Result Draft AllocError) (rule status : ℕ) (extras : List Field) (targets : Targets) → are_nobody targets ≡ true
+      → status ≡ nobody_status targets → extras ≡ []
       → IfOk result (Refuses rule status extras)
-      → IfOk result (λ draft. minute ≡ minute_on server q → Drafts full a.now draft (λ nonces. used nonces a.now q.proof) None (Effects.sending server (arrival_of a) m q rule targets))
-  unsent_with (Ok draft) rule status extras NotFound nobody status_is extras_are h = subst (λ (s : ℕ). Refuses rule s [] draft) status_is (subst (λ (fs : List Field). Refuses rule status fs draft) extras_are h)
-  unsent_with (Ok draft) rule status extras Unavailable nobody status_is extras_are h = subst (λ (s : ℕ). Refuses rule s [] draft) status_is (subst (λ (fs : List Field). Refuses rule status fs draft) extras_are h)
+      → IfOk result (λ draft. minute ≡ minute_on server q → Drafts full a.now draft (λ nonces. used nonces a.now q.proof) None
+      (Effects.sending server (arrival_of a) m q rule targets))
+  unsent_with (Ok draft) rule status extras NotFound nobody status_is extras_are h = subst (λ (s : ℕ). Refuses rule s [] draft) status_is
+      (subst (λ (fs : List Field). Refuses rule status fs draft) extras_are h)
+  unsent_with (Ok draft) rule status extras Unavailable nobody status_is extras_are h =
+      subst (λ (s : ℕ). Refuses rule s [] draft) status_is (subst (λ (fs : List Field). Refuses rule status fs draft) extras_are h)
   unsent_with (Ok draft) rule status extras (Bindings targets) nobody status_is extras_are h = absurd (true≢false (sym nobody))
   unsent_with (Ok draft) rule status extras (Hop uri address) nobody status_is extras_are h = absurd (true≢false (sym nobody))
   unsent_with (Err e) rule status extras targets nobody status_is extras_are h = tt
@@ -130,14 +144,16 @@ module _ (server : Server) (a : Arrival) (m : Message) (q : Question) (minute : 
       → Refuses rule 200 (Effects.contact_fields a.now q.target after) draft
 
   pub bound_with : (result : Result Draft AllocError) (rule : ℕ) (extras : List Field) (plan : Planned)
-      → ((rows after : List Binding) (r : Registration) → IsPlan rows r a.now plan → registered rows r a.now ≡ Ok after → extras ≡ Effects.contact_fields a.now plan.aor after)
+      → ((rows after : List Binding) (r : Registration) → IsPlan rows r a.now plan → registered rows r a.now ≡ Ok after
+      → extras ≡ Effects.contact_fields a.now plan.aor after)
       → IfOk result (Refuses rule 200 extras)
       → IfOk result (Binds rule plan)
   bound_with (Ok draft) rule extras plan lists h = λ rows after r is_plan comes for.
       subst (λ (fs : List Field). Refuses rule 200 fs draft) (lists rows after r is_plan comes ∙ ap (λ aor. Effects.contact_fields a.now aor after) for) h
   bound_with (Err e) rule extras plan lists h = tt
 
-  bound_by : (draft : Draft) (rule : ℕ) (plan : Planned) (state : ProxyState) (r : Registration) (outcome : Result (List Binding) LocationError) → registered state.bindings r a.now ≡ outcome → IsOk outcome
+  bound_by : (draft : Draft) (rule : ℕ) (plan : Planned) (state : ProxyState) (r : Registration) (outcome : Result (List Binding) LocationError)
+      → registered state.bindings r a.now ≡ outcome → IsOk outcome
       → minute ≡ minute_on server q → is_full state ≡ full → IsPlan state.bindings r a.now plan → plan.aor ≡ q.target → Binds rule plan draft
       → Does a.now draft (used state.nonces a.now q.proof) (Some plan) state (Effects.registering server (arrival_of a) m q rule (registered_by outcome) state)
   bound_by draft rule plan state r (Ok after) comes ok is room is_plan for h =
@@ -146,17 +162,21 @@ module _ (server : Server) (a : Arrival) (m : Message) (q : Question) (minute : 
   bound_by draft rule plan state r (Err e) comes ok is room is_plan for h = absurd (true≢false (sym ok))
 
   pub planned_with : (result : Result Draft AllocError) (rule : ℕ) (plan : Planned) → IfOk result (Binds rule plan)
-      → IfOk result (λ draft. minute ≡ minute_on server q → (state : ProxyState) (outcome : Registered) → is_full state ≡ full → IsPlanned state.bindings a.now q.target outcome plan
+      → IfOk result (λ draft. minute ≡ minute_on server q → (state : ProxyState) (outcome : Registered) → is_full state ≡ full
+      → IsPlanned state.bindings a.now q.target outcome plan
       → Does a.now draft (used state.nonces a.now q.proof) (Some plan) state (Effects.registering server (arrival_of a) m q rule outcome state))
   planned_with (Ok draft) rule plan h = λ is state outcome room planned.
-      subst (λ (x : Registered). Does a.now draft (used state.nonces a.now q.proof) (Some plan) state (Effects.registering server (arrival_of a) m q rule x state)) (sym planned.comes_to)
-      (bound_by draft rule plan state planned.registration (registered state.bindings planned.registration a.now) refl planned.is_plan.0 is room planned.is_plan planned.is_for h)
+      subst (λ (x : Registered). Does a.now draft (used state.nonces a.now q.proof) (Some plan) state (Effects.registering server (arrival_of a) m q rule x state))
+      (sym planned.comes_to)
+      (bound_by draft rule plan state planned.registration (registered state.bindings planned.registration a.now) refl planned.is_plan.0 is room planned.is_plan
+      planned.is_for h)
   planned_with (Err e) rule plan h = tt
 
 -- ---- what is opened
 
 -- an answer that is final opens what can be opened
-pub opens_final : (result : Result Draft AllocError) (a : Arrival) (key : Key) (status : ℕ) → IsFinalAnswer status → IfOk result (λ draft. IsFinalAnswer status → IfSome draft.opened (IsOpenable a key))
+pub opens_final : (result : Result Draft AllocError) (a : Arrival) (key : Key) (status : ℕ) → IsFinalAnswer status
+    → IfOk result (λ draft. IsFinalAnswer status → IfSome draft.opened (IsOpenable a key))
     → IfOk result (λ draft. IfSome draft.opened (IsOpenable a key))
 opens_final (Ok draft) a key status final h = h final
 opens_final (Err e) a key status final h = tt

@@ -19,7 +19,10 @@ use Rattle.sip_dialog_lessons.specs.state.declared.server.Server.{Server}
 use Rattle.sip_validate.specs.Candidate.{Candidate}
 use Rattle.sip_validate.specs.Refusal as Checks
 use Rattle.sip_core.specs.verdict_model.declared.question.Question.{Question}
-use Rattle.sip_core.specs.verdict_model.Verdict.{Refused, Verdict, Drop, AckOn, Cancel, Answer, InDialog, Send, Register, refused_by, registered_by, registration_by, is_own_uri, within_at, within, next_address, ack_verdict, cancel_verdict, decided, let_through, answer_of, question_of, policy_verdict, is_outside, is_register, core_verdict, checked_verdict, new_verdict, request_targets, is_full, found_for_cancel}
+use Rattle.sip_core.specs.verdict_model.Verdict.{Refused, Verdict, Drop, AckOn, Cancel, Answer, InDialog, Send, Register, refused_by, registered_by, registration_by}
+use Rattle.sip_core.specs.verdict_model.Verdict.{is_own_uri, within_at, within, next_address, ack_verdict, cancel_verdict, decided, let_through, answer_of, question_of}
+use Rattle.sip_core.specs.verdict_model.Verdict.{policy_verdict, is_outside, is_register, core_verdict, checked_verdict, new_verdict, request_targets, is_full}
+use Rattle.sip_core.specs.verdict_model.Verdict.{found_for_cancel}
 use Rattle.sip_route.specs.Way.{request_uri_of}
 use Rattle.sip_location.specs.declared.binding.Binding.{Binding}
 use Rattle.sip_location.specs.declared.error.LocationError.{LocationError}
@@ -46,11 +49,13 @@ IsFinalRefusal (Some refusal) = IsFinalAnswer refusal.0
 abbrev said : Candidate → Option Checks.Row → Option (ℕ × List ℕ)
 said r row = option_map (λ (x : Checks.Row). (x.status, x.extra r)) row
 
-row_or_later : (r : Candidate) (row : Checks.Row) (later : Option Checks.Row) (b : Bool) → IsFinalAnswer row.status → IsFinalRefusal (said r later) → IsFinalRefusal (said r (cond b (Some row) later))
+row_or_later : (r : Candidate) (row : Checks.Row) (later : Option Checks.Row) (b : Bool) → IsFinalAnswer row.status → IsFinalRefusal (said r later)
+    → IsFinalRefusal (said r (cond b (Some row) later))
 row_or_later r row later true p q = p
 row_or_later r row later false p q = q
 
-first_row : (r : Candidate) (rows : List Checks.Row) → AllByRecursion (λ (row : Checks.Row). IsFinalAnswer row.status) rows → IsFinalRefusal (said r (find (λ row. row.applies r) rows))
+first_row : (r : Candidate) (rows : List Checks.Row) → AllByRecursion (λ (row : Checks.Row). IsFinalAnswer row.status) rows
+    → IsFinalRefusal (said r (find (λ row. row.applies r) rows))
 first_row r [] all = tt
 first_row r (row ∷ rows) all = row_or_later r row (find (λ x. x.applies r) rows) (row.applies r) all.0 (first_row r rows all.1)
 
@@ -84,7 +89,8 @@ let_through_final : (server : Server) (state : ProxyState) (now : ℕ) (m : Mess
     → AnswersFinally (let_through server state now m method core q id decision)
 let_through_final server state now m method core q id decision =
     either (is_register method) (Register q id (registration_by server state.bindings now m core)) (Send q id (request_targets server state.bindings now m q decision))
-    (registration_final (is_own_uri server (request_uri_of server.config.own m) && is_users_address server.config.users server.config.own.domains (to_aor core)) (registered state.bindings (registration_of core m.fields) now)) tt
+    (registration_final (is_own_uri server (request_uri_of server.config.own m) && is_users_address server.config.users server.config.own.domains (to_aor core))
+    (registered state.bindings (registration_of core m.fields) now)) tt
 
 decided_final : (server : Server) (state : ProxyState) (now : ℕ) (m : Message) (method : List ℕ) (core : CoreFields) (q : Question) (decision : Decision)
     → AnswersFinally (decided server state now m method core q decision)
@@ -95,7 +101,8 @@ decided_final server state now m method core q (Decision.Via id hop) = let_throu
 
 -- ---- in a dialog
 
-within_final : (state : ProxyState) (now : ℕ) (on : Addr → DialogId → Verdict) (none : Verdict) → ((address : Addr) (id : DialogId) → AnswersFinally (on address id)) → AnswersFinally none
+within_final : (state : ProxyState) (now : ℕ) (on : Addr → DialogId → Verdict) (none : Verdict) → ((address : Addr) (id : DialogId) → AnswersFinally (on address id))
+    → AnswersFinally none
     → (id : Option DialogId) (address : Option Addr) → AnswersFinally (within_at state now on none id address)
 within_final state now on none p q None address = q
 within_final state now on none p q (Some id) None = q
@@ -103,7 +110,8 @@ within_final state now on none p q (Some id) (Some address) = either (is_in_dial
 
 -- ---- a request
 
-core_final : (server : Server) (state : ProxyState) (now : ℕ) (m : Message) (method : List ℕ) (core : Option CoreFields) → AnswersFinally (core_verdict server state now m method core)
+core_final : (server : Server) (state : ProxyState) (now : ℕ) (m : Message) (method : List ℕ) (core : Option CoreFields)
+    → AnswersFinally (core_verdict server state now m method core)
 core_final server state now m method None = tt
 core_final server state now m method (Some core) =
     let q : Question = question_of server state.nonces now m method core in
@@ -111,21 +119,26 @@ core_final server state now m method (Some core) =
     (decided_final server state now m method core q (answer_of server q))
     (within_final state now InDialog (Answer 481 []) (λ address id. tt) refl (dialog_of m) (next_address server m))
 
-checked_final : (server : Server) (state : ProxyState) (now : ℕ) (m : Message) (method : List ℕ) (refusal : Option (ℕ × List ℕ)) → IsFinalRefusal refusal → AnswersFinally (checked_verdict server state now m method refusal)
+checked_final : (server : Server) (state : ProxyState) (now : ℕ) (m : Message) (method : List ℕ) (refusal : Option (ℕ × List ℕ)) → IsFinalRefusal refusal
+    → AnswersFinally (checked_verdict server state now m method refusal)
 checked_final server state now m method (Some refusal) h = h
 checked_final server state now m method None h =
-    either (is_full state) (Answer 503 []) (core_verdict server state now m method (result_ok (core_of m))) refl (core_final server state now m method (result_ok (core_of m)))
+    either (is_full state) (Answer 503 []) (core_verdict server state now m method (result_ok (core_of m))) refl
+    (core_final server state now m method (result_ok (core_of m)))
 
 ack_final : (server : Server) (state : ProxyState) (now : ℕ) (m : Message) (short : Bool) → AnswersFinally (ack_verdict server state now m short)
 ack_final server state now m short =
-    either (is_some (Checks.refusal_of server.config.own m short)) Drop (within server state now m AckOn Drop) tt (within_final state now AckOn Drop (λ address id. tt) tt (dialog_of m) (next_address server m))
+    either (is_some (Checks.refusal_of server.config.own m short)) Drop (within server state now m AckOn Drop) tt
+    (within_final state now AckOn Drop (λ address id. tt) tt (dialog_of m) (next_address server m))
 
 cancel_final : (server : Server) (state : ProxyState) (a : Arrival) (m : Message) (short : Bool) (key : Key) → AnswersFinally (cancel_verdict server state a m short key)
 cancel_final server state a m short key =
     let found : Verdict = Cancel (found_for_cancel state key a.from) in
-    either (Checks.is_bad_request server.config.own m short) (Answer 400 []) (cond (is_full state) (Answer 503 []) found) refl (either (is_full state) (Answer 503 []) found refl tt)
+    either (Checks.is_bad_request server.config.own m short) (Answer 400 []) (cond (is_full state) (Answer 503 []) found) refl
+    (either (is_full state) (Answer 503 []) found refl tt)
 
-pub new_final : (server : Server) (state : ProxyState) (a : Arrival) (m : Message) (short : Bool) (method : List ℕ) (key : Key) → AnswersFinally (new_verdict server state a m short method key)
+pub new_final : (server : Server) (state : ProxyState) (a : Arrival) (m : Message) (short : Bool) (method : List ℕ) (key : Key)
+    → AnswersFinally (new_verdict server state a m short method key)
 new_final server state a m short method key =
     let refusal : Option (ℕ × List ℕ) = Checks.refusal_of server.config.own m short in
     let ack : Verdict = ack_verdict server state a.now m short in

@@ -36,7 +36,8 @@ abbrev pub text_by : Server → Arrival → Message → ℕ → List Field → L
 text_by server a m status extras = text_of (made_answer server a.number m a.from status extras)
 
 reply_does : (server : Server) (a : Arrival) (m : Message) (status : ℕ) (extras : List Field) (records : List Record) (full : Bool)
-    → Drafts full a.now (draft_of (answer_packet false a.number m a.from (text_by server a m status extras)) (closing (arrival_of a) m status (text_by server a m status extras)) records full)
+    → Drafts full a.now (draft_of (answer_packet false a.number m a.from (text_by server a m status extras))
+    (closing (arrival_of a) m status (text_by server a m status extras)) records full)
     (λ nonces. nonces) None (Effects.replied server (arrival_of a) m status extras records)
 reply_does server a m status extras records full = λ state is.
     let r : OpenRequest = closing (arrival_of a) m status (text_by server a m status extras) in
@@ -53,14 +54,18 @@ reply_does server a m status extras records full = λ state is.
     }
 
 -- what is drafted of a reply does it
-pub replied_does : (result : Result Draft AllocError) (server : Server) (a : Arrival) (m : Message) (status : ℕ) (extras : List Field) (records : List Record) (full : Bool) (packet : Packet) (r : OpenRequest)
+pub replied_does : (result : Result Draft AllocError) (server : Server) (a : Arrival) (m : Message) (status : ℕ) (extras : List Field) (records : List Record)
+    (full : Bool) (packet : Packet) (r : OpenRequest)
     → packet ≡ answer_packet false a.number m a.from (text_by server a m status extras) → r ≡ closing (arrival_of a) m status (text_by server a m status extras)
     → IfOk result (λ draft. draft ≡ draft_of packet r records full)
     → IfOk result (λ draft. Drafts full a.now draft (λ nonces. nonces) None (Effects.replied server (arrival_of a) m status extras records))
 replied_does (Ok draft) server a m status extras records full packet r packet_is r_is is =
-    let same : draft_of (answer_packet false a.number m a.from (text_by server a m status extras)) (closing (arrival_of a) m status (text_by server a m status extras)) records full ≡ draft =
-    sym (is ∙ ap (λ (p : Packet). draft_of p r records full) packet_is ∙ ap (λ (x : OpenRequest). draft_of (answer_packet false a.number m a.from (text_by server a m status extras)) x records full) r_is) in
-    subst (λ (d : Draft). Drafts full a.now d (λ nonces. nonces) None (Effects.replied server (arrival_of a) m status extras records)) same (reply_does server a m status extras records full)
+    let same : draft_of (answer_packet false a.number m a.from (text_by server a m status extras)) (closing (arrival_of a) m status (text_by server a m status extras))
+    records full ≡ draft =
+    sym (is ∙ ap (λ (p : Packet). draft_of p r records full) packet_is ∙ ap (λ (x : OpenRequest).
+    draft_of (answer_packet false a.number m a.from (text_by server a m status extras)) x records full) r_is) in
+    subst (λ (d : Draft). Drafts full a.now d (λ nonces. nonces) None (Effects.replied server (arrival_of a) m status extras records)) same
+    (reply_does server a m status extras records full)
 replied_does (Err e) server a m status extras records full packet r packet_is r_is is = tt
 
 -- a request that is opened, if it is, has what holds of it
@@ -68,13 +73,22 @@ opened_has : (P : OpenRequest → Type 0) (r : OpenRequest) (full : Bool) → P 
 opened_has P r true h = tt
 opened_has P r false h = h
 
-closing_openable : (a : Arrival) (key : Key) (m : Message) (status : ℕ) (text : List ℕ) → key_of m ≡ Some key → Fits (closing (arrival_of a) m status text) → IsWithin a.now (closing (arrival_of a) m status text)
+closing_openable : (a : Arrival) (key : Key) (m : Message) (status : ℕ) (text : List ℕ) → key_of m ≡ Some key → Fits (closing (arrival_of a) m status text)
+    → IsWithin a.now (closing (arrival_of a) m status text)
     → IsOpenable a key (closing (arrival_of a) m status text)
 closing_openable a key m status text is fits within =
-    record { fits = fits; within = within; branched = NoBranch; number_is = refl; key_is = ap (λ (o : Option Key). unwrap_or o (record { branch = []; host = []; port = 0; method = [] })) is }
+    record {
+      fits = fits;
+      within = within;
+      branched = NoBranch;
+      number_is = refl;
+      key_is =
+          ap (λ (o : Option Key). unwrap_or o (record { branch = []; host = []; port = 0; method = [] })) is;
+    }
 
 -- so what is drafted of a reply can be opened
-pub replied_opens : (result : Result Draft AllocError) (a : Arrival) (key : Key) (m : Message) (status : ℕ) (text : List ℕ) (records : List Record) (full : Bool) (packet : Packet) (r : OpenRequest)
+pub replied_opens : (result : Result Draft AllocError) (a : Arrival) (key : Key) (m : Message) (status : ℕ) (text : List ℕ) (records : List Record) (full : Bool)
+    (packet : Packet) (r : OpenRequest)
     → key_of m ≡ Some key → r ≡ closing (arrival_of a) m status text → IsWithin a.now (closing (arrival_of a) m status text)
     → IfOk result (λ draft. draft ≡ draft_of packet r records full)
     → (Final : Type 0) → (Final → Fits (closing (arrival_of a) m status text))

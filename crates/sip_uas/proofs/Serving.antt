@@ -39,12 +39,15 @@ module _ (server : Server) (a : Arrival) (m : Message) (key : Key) (q : Question
 
   -- what comes of what policy decided
   abbrev pub Serves : Outcome → Draft → Type 0
-  Serves outcome draft = (state : ProxyState) (verdict : Definition.Verdict) → Definition.is_full state ≡ full → minute ≡ Definition.minute_on server q → IsOutcome state.bindings a.now q verdict outcome
-      → Does a.now draft (after_outcome (arrival_of a) outcome (used state.nonces a.now q.proof)) (plan_of outcome) state (Effects.effect_of server (arrival_of a) m verdict state)
+  Serves outcome draft = (state : ProxyState) (verdict : Definition.Verdict) → Definition.is_full state ≡ full → minute ≡ Definition.minute_on server q
+      → IsOutcome state.bindings a.now q verdict outcome
+      → Does a.now draft (after_outcome (arrival_of a) outcome (used state.nonces a.now q.proof)) (plan_of outcome) state
+      (Effects.effect_of server (arrival_of a) m verdict state)
 
   -- and it can be opened
   abbrev pub Opens : Outcome → Draft → Type 0
-  Opens outcome draft = (rows : List Binding) (verdict : Definition.Verdict) → IsOutcome rows a.now q verdict outcome → AnswersFinally verdict → IfSome draft.opened (IsOpenable a key)
+  Opens outcome draft = (rows : List Binding) (verdict : Definition.Verdict) → IsOutcome rows a.now q verdict outcome → AnswersFinally verdict
+      → IfSome draft.opened (IsOpenable a key)
 
   -- what a REGISTER comes to
   abbrev pub Registers : ℕ → Registering → Draft → Type 0
@@ -54,30 +57,37 @@ module _ (server : Server) (a : Arrival) (m : Message) (key : Key) (q : Question
 
   -- and it can be opened
   abbrev pub OpensRegistering : Registering → Draft → Type 0
-  OpensRegistering registering draft = (rows : List Binding) (registered : Definition.Registered) → ComesTo rows a.now q.target registered registering → RefusesFinally registered → IfSome draft.opened (IsOpenable a key)
+  OpensRegistering registering draft = (rows : List Binding) (registered : Definition.Registered) → ComesTo rows a.now q.target registered registering
+      → RefusesFinally registered → IfSome draft.opened (IsOpenable a key)
 
   -- ---- registration
 
   pub registers_planned : (result : Result Draft AllocError) (rule : ℕ) (plan : Planned) (outcome : Registering) → outcome ≡ Judge.Planned plan
-      → IfOk result (λ draft. minute ≡ Definition.minute_on server q → (state : ProxyState) (registered : Definition.Registered) → Definition.is_full state ≡ full → IsPlanned state.bindings a.now q.target registered plan
+      → IfOk result (λ draft. minute ≡ Definition.minute_on server q → (state : ProxyState) (registered : Definition.Registered) → Definition.is_full state ≡ full
+      → IsPlanned state.bindings a.now q.target registered plan
       → Does a.now draft (used state.nonces a.now q.proof) (Some plan) state (Effects.registering server (arrival_of a) m q rule registered state))
       → IfOk result (Registers rule outcome)
   registers_planned result rule plan outcome is h = subst (λ (o : Registering). IfOk result (Registers rule o)) (sym is) h
 
-  pub opens_planned : (result : Result Draft AllocError) (outcome : Registering) → IfOk result (λ draft. IfSome draft.opened (IsOpenable a key)) → IfOk result (OpensRegistering outcome)
+  pub opens_planned : (result : Result Draft AllocError) (outcome : Registering) → IfOk result (λ draft. IfSome draft.opened (IsOpenable a key))
+      → IfOk result (OpensRegistering outcome)
   opens_planned (Ok draft) outcome h = λ rows registered comes final. h
   opens_planned (Err e) outcome h = tt
 
-  refused_plainly : (result : Result Draft AllocError) (rule status : ℕ) (extras : List Field) → IfOk result (Asks (Effects.answered_by_rule server (arrival_of a) m q rule status extras)) → IfOk result (Registers rule (Judge.Refused status extras))
+  refused_plainly : (result : Result Draft AllocError) (rule status : ℕ) (extras : List Field)
+      → IfOk result (Asks (Effects.answered_by_rule server (arrival_of a) m q rule status extras)) → IfOk result (Registers rule (Judge.Refused status extras))
   refused_plainly (Ok draft) rule status extras h = λ is state registered room comes.
-      subst (λ (r : Definition.Registered). Does a.now draft (used state.nonces a.now q.proof) None state (Effects.registering server (arrival_of a) m q rule r state)) (sym comes) (h is state room)
+      subst (λ (r : Definition.Registered). Does a.now draft (used state.nonces a.now q.proof) None state (Effects.registering server (arrival_of a) m q rule r state))
+      (sym comes) (h is state room)
   refused_plainly (Err e) rule status extras h = tt
 
   pub registers_refused : (result : Result Draft AllocError) (rule status : ℕ) (extras : List Field) (outcome : Registering) → outcome ≡ Judge.Refused status extras
       → IfOk result (Asks (Effects.answered_by_rule server (arrival_of a) m q rule status extras)) → IfOk result (Registers rule outcome)
-  registers_refused result rule status extras outcome is h = subst (λ (o : Registering). IfOk result (Registers rule o)) (sym is) (refused_plainly result rule status extras h)
+  registers_refused result rule status extras outcome is h = subst (λ (o : Registering). IfOk result (Registers rule o)) (sym is)
+      (refused_plainly result rule status extras h)
 
-  opened_plainly : (result : Result Draft AllocError) (status : ℕ) (extras : List Field) → IfOk result (λ draft. IsFinalAnswer status → IfSome draft.opened (IsOpenable a key))
+  opened_plainly : (result : Result Draft AllocError) (status : ℕ) (extras : List Field)
+      → IfOk result (λ draft. IsFinalAnswer status → IfSome draft.opened (IsOpenable a key))
       → IfOk result (OpensRegistering (Judge.Refused status extras))
   opened_plainly (Ok draft) status extras h = λ rows registered comes final. h (subst RefusesFinally comes final)
   opened_plainly (Err e) status extras h = tt
@@ -89,25 +99,33 @@ module _ (server : Server) (a : Arrival) (m : Message) (key : Key) (q : Question
   -- ---- by what was decided
 
   pub serves_challenge : (result : Result Draft AllocError)
-      → IfOk result (λ draft. minute ≡ Definition.minute_on server q → Drafts full a.now draft (λ nonces. issued (used nonces a.now q.proof) a.word a.now) None (Effects.challenged server (arrival_of a) m q))
+      → IfOk result (λ draft. minute ≡ Definition.minute_on server q → Drafts full a.now draft (λ nonces. issued (used nonces a.now q.proof) a.word a.now) None
+      (Effects.challenged server (arrival_of a) m q))
       → IfOk result (Serves Challenge)
   serves_challenge (Ok draft) h = λ state verdict room is decided.
-      subst (λ (v : Definition.Verdict). Does a.now draft (issued (used state.nonces a.now q.proof) a.word a.now) None state (Effects.effect_of server (arrival_of a) m v state)) (sym decided) (h is state room)
+      subst (λ (v : Definition.Verdict). Does a.now draft (issued (used state.nonces a.now q.proof) a.word a.now) None state
+      (Effects.effect_of server (arrival_of a) m v state)) (sym decided) (h is state room)
   serves_challenge (Err e) h = tt
 
-  pub serves_denial : (result : Result Draft AllocError) (rule : ℕ) → IfOk result (Asks (Effects.denied server (arrival_of a) m q rule)) → IfOk result (Serves (Deny rule))
+  pub serves_denial : (result : Result Draft AllocError) (rule : ℕ) → IfOk result (Asks (Effects.denied server (arrival_of a) m q rule))
+      → IfOk result (Serves (Deny rule))
   serves_denial (Ok draft) rule h = λ state verdict room is decided.
-      subst (λ (v : Definition.Verdict). Does a.now draft (used state.nonces a.now q.proof) None state (Effects.effect_of server (arrival_of a) m v state)) (sym decided) (h is state room)
+      subst (λ (v : Definition.Verdict). Does a.now draft (used state.nonces a.now q.proof) None state (Effects.effect_of server (arrival_of a) m v state)) (sym decided)
+      (h is state room)
   serves_denial (Err e) rule h = tt
 
-  pub serves_nobody : (result : Result Draft AllocError) (rule : ℕ) (targets : Targets) → IfOk result (Asks (Effects.sending server (arrival_of a) m q rule targets)) → IfOk result (Serves (Send rule targets))
+  pub serves_nobody : (result : Result Draft AllocError) (rule : ℕ) (targets : Targets) → IfOk result (Asks (Effects.sending server (arrival_of a) m q rule targets))
+      → IfOk result (Serves (Send rule targets))
   serves_nobody (Ok draft) rule targets h = λ state verdict room is decided.
-      subst (λ (v : Definition.Verdict). Does a.now draft (used state.nonces a.now q.proof) None state (Effects.effect_of server (arrival_of a) m v state)) (sym decided) (h is state room)
+      subst (λ (v : Definition.Verdict). Does a.now draft (used state.nonces a.now q.proof) None state (Effects.effect_of server (arrival_of a) m v state)) (sym decided)
+      (h is state room)
   serves_nobody (Err e) rule targets h = tt
 
-  pub serves_registering : (result : Result Draft AllocError) (rule : ℕ) (registering : Registering) → IfOk result (Registers rule registering) → IfOk result (Serves (Register rule registering))
+  pub serves_registering : (result : Result Draft AllocError) (rule : ℕ) (registering : Registering) → IfOk result (Registers rule registering)
+      → IfOk result (Serves (Register rule registering))
   serves_registering (Ok draft) rule registering h = λ state verdict room is decided.
-      subst (λ (v : Definition.Verdict). Does a.now draft (used state.nonces a.now q.proof) (plan_in registering) state (Effects.effect_of server (arrival_of a) m v state)) (sym decided.verdict_is)
+      subst (λ (v : Definition.Verdict). Does a.now draft (used state.nonces a.now q.proof) (plan_in registering) state
+      (Effects.effect_of server (arrival_of a) m v state)) (sym decided.verdict_is)
       (h is state decided.registered room decided.comes_to)
   serves_registering (Err e) rule registering h = tt
 
@@ -115,24 +133,30 @@ module _ (server : Server) (a : Arrival) (m : Message) (key : Key) (q : Question
   opens_at_once (Ok draft) outcome h = λ rows verdict decided final. h
   opens_at_once (Err e) outcome h = tt
 
-  pub opens_registering : (result : Result Draft AllocError) (rule : ℕ) (registering : Registering) → IfOk result (OpensRegistering registering) → IfOk result (Opens (Register rule registering))
-  opens_registering (Ok draft) rule registering h = λ rows verdict decided final. h rows decided.registered decided.comes_to (subst AnswersFinally decided.verdict_is final)
+  pub opens_registering : (result : Result Draft AllocError) (rule : ℕ) (registering : Registering) → IfOk result (OpensRegistering registering)
+      → IfOk result (Opens (Register rule registering))
+  opens_registering (Ok draft) rule registering h = λ rows verdict decided final. h rows decided.registered decided.comes_to
+      (subst AnswersFinally decided.verdict_is final)
   opens_registering (Err e) rule registering h = tt
 
 -- ---- the whole
 
-pub serves : (result : Result Draft AllocError) (server : Server) (a : Arrival) (m : Message) (key : Key) (judged : Judged) (full : Bool) (outcome : Outcome) → judged.outcome ≡ outcome
+pub serves : (result : Result Draft AllocError) (server : Server) (a : Arrival) (m : Message) (key : Key) (judged : Judged) (full : Bool) (outcome : Outcome)
+    → judged.outcome ≡ outcome
     → IfOk result (Serves server a m key judged.question judged.minute full outcome)
-    → IfOk result (λ draft. (state : ProxyState) (rows : List Binding) (named : Option OpenRequest) (verdict : Definition.Verdict) → state.bindings ≡ rows → Definition.is_full state ≡ full → Is server rows a.now named verdict (Arrived.Judged judged)
+    → IfOk result (λ draft. (state : ProxyState) (rows : List Binding) (named : Option OpenRequest) (verdict : Definition.Verdict) → state.bindings ≡ rows
+    → Definition.is_full state ≡ full → Is server rows a.now named verdict (Arrived.Judged judged)
     → Does a.now draft (after_asking (arrival_of a) judged state.nonces) (plan_of judged.outcome) state (Effects.effect_of server (arrival_of a) m verdict state))
 serves (Ok draft) server a m key judged full outcome is h = λ state rows named verdict same room decided.
     subst (λ (o : Outcome). Serves server a m key judged.question judged.minute full o draft) (sym is) h state verdict room decided.0
     (subst (λ (rs : List Binding). IsOutcome rs a.now judged.question verdict judged.outcome) (sym same) decided.1)
 serves (Err e) server a m key judged full outcome is h = tt
 
-pub opens : (result : Result Draft AllocError) (server : Server) (a : Arrival) (m : Message) (key : Key) (judged : Judged) (full : Bool) (outcome : Outcome) → judged.outcome ≡ outcome
+pub opens : (result : Result Draft AllocError) (server : Server) (a : Arrival) (m : Message) (key : Key) (judged : Judged) (full : Bool) (outcome : Outcome)
+    → judged.outcome ≡ outcome
     → IfOk result (Opens server a m key judged.question judged.minute full outcome)
-    → IfOk result (λ draft. (rows : List Binding) (named : Option OpenRequest) (verdict : Definition.Verdict) → Is server rows a.now named verdict (Arrived.Judged judged) → AnswersFinally verdict
+    → IfOk result (λ draft. (rows : List Binding) (named : Option OpenRequest) (verdict : Definition.Verdict) → Is server rows a.now named verdict (Arrived.Judged judged)
+    → AnswersFinally verdict
     → IfSome draft.opened (IsOpenable a key))
 opens (Ok draft) server a m key judged full outcome is h = λ rows named verdict decided final.
     subst (λ (o : Outcome). Opens server a m key judged.question judged.minute full o draft) (sym is) h rows verdict decided.1 final

@@ -34,7 +34,7 @@ pub(crate) struct JudgedRequest<'a, 'v> {
     ghost in_time: { arrival.now + 32000 < 2 ^ 64 },
 }
 
-/// Written out, so that it is proved once and not wherever one is dropped.
+/// Written out, so that it is proved once and not wherever one is dropped. One is dropped only for want of memory.
 impl<'a, 'v> Drop for JudgedRequest<'a, 'v> {
     fn drop(self) {
         let JudgedRequest {

@@ -1,5 +1,6 @@
 -- Dotted text, number by number.
-use Rattle.std.proofs.Common.{◌≡◌, ℕ, ◌+◌, ◌*◌, ◌^◌, ◌<◌, ◌≤◌, Bool, true, false, cond, ◌&&◌, ◌==◌, not, nat_le, nat_lt, if◌then◌else◌, List, [], ◌∷◌, length, Option, Some, None, option_map, option_and_then, refl, sym, ap, ◌∙◌, arith}
+use Rattle.std.proofs.Common.{◌≡◌, ℕ, ◌+◌, ◌*◌, ◌^◌, ◌<◌, ◌≤◌, Bool, true, false, cond, ◌&&◌, ◌==◌, not, nat_le, nat_lt, if◌then◌else◌, List, [], ◌∷◌, length, Option}
+use Rattle.std.proofs.Common.{Some, None, option_map, option_and_then, refl, sym, ap, ◌∙◌, arith}
 use Rattle.std.specs.List.{list_all}
 use Rattle.std.specs.Char.{is_ascii_digit, digit_value}
 use Rattle.std.specs.Str.Parse.{digits_value_after, digits_value}
@@ -28,14 +29,17 @@ one_test true false n k v rest some le is = grind (arith, nat_tests)
 one_test true true n k v rest some le is = grind (arith, nat_tests)
 
 -- the same, as one test at the end
-number_is : (n : ℕ) (bs : List ℕ) → 0 < n → n ≤ 255 → cond (list_all is_ascii_digit bs && nat_le (digits_value_after 10 n bs) 255) (Some (digits_value_after 10 n bs)) None ≡ more_on (Some n) bs
+number_is : (n : ℕ) (bs : List ℕ) → 0 < n → n ≤ 255 → cond (list_all is_ascii_digit bs && nat_le (digits_value_after 10 n bs) 255) (Some (digits_value_after 10 n bs))
+    None ≡ more_on (Some n) bs
 number_is n [] some small = grind (arith, nat_tests)
 number_is n (b ∷ bs) some small =
     let k : ℕ = n * 10 + digit_value b in
-    one_test (is_ascii_digit b) (list_all is_ascii_digit bs) n k (digits_value_after 10 k bs) (λ m. more_on (Some m) bs) some (grows k bs) (λ h. number_is k bs (omega arith) h)
+    one_test (is_ascii_digit b) (list_all is_ascii_digit bs) n k (digits_value_after 10 k bs) (λ m. more_on (Some m) bs) some (grows k bs)
+    (λ h. number_is k bs (omega arith) h)
 
 -- the tests of a number at once
-flat : (all zeros : Bool) (v : ℕ) → option_and_then (λ n. if nat_le n 255 && not zeros then Some n else None) (if all && nat_lt v (2 ^ 64) then Some v else None) ≡ cond zeros None (cond (all && nat_le v 255) (Some v) None)
+flat : (all zeros : Bool) (v : ℕ) → option_and_then (λ n. if nat_le n 255 && not zeros then Some n else None) (if all && nat_lt v (2 ^ 64) then Some v else None)
+    ≡ cond zeros None (cond (all && nat_le v 255) (Some v) None)
 flat true true v = grind (arith, nat_tests)
 flat true false v = grind (arith, nat_tests)
 flat false true v = refl
@@ -55,7 +59,8 @@ zero_ends e es true is = rw is refl
 zero_ends e es false is = rw is refl
 
 behind_first : (d : ℕ) (ds : List ℕ) (zero : Bool) → is_ascii_digit d ≡ true → (d == 48) ≡ zero
-    → cond (has_leading_zero (d ∷ ds)) None (cond (list_all is_ascii_digit ds && nat_le (digits_value_after 10 (digit_value d) ds) 255) (Some (digits_value_after 10 (digit_value d) ds)) None) ≡ more_on (Some (digit_value d)) ds
+    → cond (has_leading_zero (d ∷ ds)) None (cond (list_all is_ascii_digit ds && nat_le (digits_value_after 10 (digit_value d) ds) 255)
+    (Some (digits_value_after 10 (digit_value d) ds)) None) ≡ more_on (Some (digit_value d)) ds
 behind_first d [] zero is starts = let e = digit_is d is in grind (arith, nat_tests)
 behind_first d (e ∷ es) true is starts =
     let same : d ≡ 48 = eqb-true d 48 starts in
@@ -66,7 +71,8 @@ behind_first d (e ∷ es) false is starts =
     rw starts (number_is (digit_value d) (e ∷ es) some (omega (arith, digit_small d is)))
 
 from_first : (d : ℕ) (ds : List ℕ) (digit : Bool) → is_ascii_digit d ≡ digit
-    → cond (has_leading_zero (d ∷ ds)) None (cond (list_all is_ascii_digit (d ∷ ds) && nat_le (digits_value 10 (d ∷ ds)) 255) (Some (digits_value 10 (d ∷ ds))) None) ≡ more_on None (d ∷ ds)
+    → cond (has_leading_zero (d ∷ ds)) None (cond (list_all is_ascii_digit (d ∷ ds) && nat_le (digits_value 10 (d ∷ ds)) 255) (Some (digits_value 10 (d ∷ ds))) None)
+    ≡ more_on None (d ∷ ds)
 from_first d ds true is =
     let first : 0 * 10 + digit_value d ≡ digit_value d = omega arith in
     rw (is, first) (behind_first d ds (d == 48) is refl)
@@ -170,7 +176,8 @@ numbers_one : (o : Option ℕ) → option_and_then (λ n. option_map (λ ns. n �
 numbers_one None = refl
 numbers_one (Some n) = refl
 
-numbers_more : (rest : List ℕ) (o : Option ℕ) → option_and_then (λ n. option_map (λ ns. n ∷ ns) (ip_numbers (between_dots rest))) o ≡ numbers_by (option_map (λ n. (n, Some rest)) o)
+numbers_more : (rest : List ℕ) (o : Option ℕ) → option_and_then (λ n. option_map (λ ns. n ∷ ns) (ip_numbers (between_dots rest))) o
+    ≡ numbers_by (option_map (λ n. (n, Some rest)) o)
 numbers_more rest None = refl
 numbers_more rest (Some n) = refl
 
@@ -211,26 +218,33 @@ twice : (f g : List ℕ → List ℕ) (o : Option (List ℕ)) → option_map f (
 twice f g None = refl
 twice f g (Some ns) = refl
 
-two_are : (text : List ℕ) (a b : ℕ) (r s : Option (List ℕ)) → Some (a, r) ≡ number_at text → Some (b, s) ≡ next r → ip_of text ≡ option_and_then kept (option_map (λ ns. a ∷ b ∷ ns) (behind s))
-two_are text a b r s e f = first_is text a r e ∙ ap (λ o. option_and_then kept (option_map (λ ns. a ∷ ns) o)) (more_are r s b f) ∙ ap (option_and_then kept) (twice (λ ns. a ∷ ns) (λ ns. b ∷ ns) (behind s))
+two_are : (text : List ℕ) (a b : ℕ) (r s : Option (List ℕ)) → Some (a, r) ≡ number_at text → Some (b, s) ≡ next r
+    → ip_of text ≡ option_and_then kept (option_map (λ ns. a ∷ b ∷ ns) (behind s))
+two_are text a b r s e f = first_is text a r e ∙ ap (λ o. option_and_then kept (option_map (λ ns. a ∷ ns) o)) (more_are r s b f)
+    ∙ ap (option_and_then kept) (twice (λ ns. a ∷ ns) (λ ns. b ∷ ns) (behind s))
 
 pub two_alone : (text : List ℕ) (a b : ℕ) (r s : Option (List ℕ)) → Some (a, r) ≡ number_at text → Some (b, s) ≡ next r → None ≡ next s → None ≡ ip_of text
 two_alone text a b r s e f none = sym (two_are text a b r s e f ∙ no_more (λ ns. a ∷ b ∷ ns) s refl none)
 
 three_are : (text : List ℕ) (a b c : ℕ) (r s t : Option (List ℕ)) → Some (a, r) ≡ number_at text → Some (b, s) ≡ next r → Some (c, t) ≡ next s
     → ip_of text ≡ option_and_then kept (option_map (λ ns. a ∷ b ∷ c ∷ ns) (behind t))
-three_are text a b c r s t e f g = two_are text a b r s e f ∙ ap (λ o. option_and_then kept (option_map (λ ns. a ∷ b ∷ ns) o)) (more_are s t c g) ∙ ap (option_and_then kept) (twice (λ ns. a ∷ b ∷ ns) (λ ns. c ∷ ns) (behind t))
+three_are text a b c r s t e f g = two_are text a b r s e f ∙ ap (λ o. option_and_then kept (option_map (λ ns. a ∷ b ∷ ns) o)) (more_are s t c g)
+    ∙ ap (option_and_then kept) (twice (λ ns. a ∷ b ∷ ns) (λ ns. c ∷ ns) (behind t))
 
-pub three_alone : (text : List ℕ) (a b c : ℕ) (r s t : Option (List ℕ)) → Some (a, r) ≡ number_at text → Some (b, s) ≡ next r → Some (c, t) ≡ next s → None ≡ next t → None ≡ ip_of text
+pub three_alone : (text : List ℕ) (a b c : ℕ) (r s t : Option (List ℕ)) → Some (a, r) ≡ number_at text → Some (b, s) ≡ next r → Some (c, t) ≡ next s → None ≡ next t
+    → None ≡ ip_of text
 three_alone text a b c r s t e f g none = sym (three_are text a b c r s t e f g ∙ no_more (λ ns. a ∷ b ∷ c ∷ ns) t refl none)
 
 four_are : (text : List ℕ) (a b c d : ℕ) (r s t u : Option (List ℕ)) → Some (a, r) ≡ number_at text → Some (b, s) ≡ next r → Some (c, t) ≡ next s → Some (d, u) ≡ next t
     → ip_of text ≡ option_and_then kept (option_map (λ ns. a ∷ b ∷ c ∷ d ∷ ns) (behind u))
-four_are text a b c d r s t u e f g h = three_are text a b c r s t e f g ∙ ap (λ o. option_and_then kept (option_map (λ ns. a ∷ b ∷ c ∷ ns) o)) (more_are t u d h) ∙ ap (option_and_then kept) (twice (λ ns. a ∷ b ∷ c ∷ ns) (λ ns. d ∷ ns) (behind u))
+four_are text a b c d r s t u e f g h = three_are text a b c r s t e f g ∙ ap (λ o. option_and_then kept (option_map (λ ns. a ∷ b ∷ c ∷ ns) o)) (more_are t u d h)
+    ∙ ap (option_and_then kept) (twice (λ ns. a ∷ b ∷ c ∷ ns) (λ ns. d ∷ ns) (behind u))
 
-pub four_alone : (text : List ℕ) (a b c d : ℕ) (r s t u : Option (List ℕ)) → Some (a, r) ≡ number_at text → Some (b, s) ≡ next r → Some (c, t) ≡ next s → Some (d, u) ≡ next t → u ≡ None
+pub four_alone : (text : List ℕ) (a b c d : ℕ) (r s t u : Option (List ℕ)) → Some (a, r) ≡ number_at text → Some (b, s) ≡ next r → Some (c, t) ≡ next s
+    → Some (d, u) ≡ next t → u ≡ None
     → Some (a ∷ b ∷ c ∷ d ∷ []) ≡ ip_of text
-four_alone text a b c d r s t u e f g h last = sym (four_are text a b c d r s t u e f g h ∙ ap (λ o. option_and_then kept (option_map (λ ns. a ∷ b ∷ c ∷ d ∷ ns) (behind o))) last)
+four_alone text a b c d r s t u e f g h last = sym (four_are text a b c d r s t u e f g h
+    ∙ ap (λ o. option_and_then kept (option_map (λ ns. a ∷ b ∷ c ∷ d ∷ ns) (behind o))) last)
 
 -- ---- more than four numbers
 
@@ -250,7 +264,8 @@ five a b c d (Some ns) some =
     let long = some ns refl in
     rw (ne_eqb (length (a ∷ b ∷ c ∷ d ∷ ns)) 4 (λ e. omega (arith, e, long))) refl
 
-pub too_many : (text : List ℕ) (a b c d : ℕ) (r s t u : Option (List ℕ)) (rest : List ℕ) → Some (a, r) ≡ number_at text → Some (b, s) ≡ next r → Some (c, t) ≡ next s → Some (d, u) ≡ next t → u ≡ Some rest
+pub too_many : (text : List ℕ) (a b c d : ℕ) (r s t u : Option (List ℕ)) (rest : List ℕ) → Some (a, r) ≡ number_at text → Some (b, s) ≡ next r → Some (c, t) ≡ next s
+    → Some (d, u) ≡ next t → u ≡ Some rest
     → None ≡ ip_of text
 too_many text a b c d r s t u rest e f g h more =
     sym (four_are text a b c d r s t u e f g h ∙ ap (λ o. option_and_then kept (option_map (λ ns. a ∷ b ∷ c ∷ d ∷ ns) (behind o))) more

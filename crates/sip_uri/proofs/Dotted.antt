@@ -1,5 +1,6 @@
 -- Dotted text, and the address that it writes.
-use Rattle.std.proofs.Common.{◌≡◌, ℕ, zero, suc, ◌<◌, ◌≤◌, ◌^◌, Bool, true, false, ◌&&◌, ◌==◌, not, nat_le, nat_lt, List, [], ◌∷◌, ◌++◌, length, map, decimal, Option, Some, None, option_map, option_and_then, refl, sym, inl, inr, ap, ◌∙◌, arith, if◌then◌else◌}
+use Rattle.std.proofs.Common.{◌≡◌, ℕ, zero, suc, ◌<◌, ◌≤◌, ◌^◌, Bool, true, false, ◌&&◌, ◌==◌, not, nat_le, nat_lt, List, [], ◌∷◌, ◌++◌, length, map, decimal, Option}
+use Rattle.std.proofs.Common.{Some, None, option_map, option_and_then, refl, sym, inl, inr, ap, ◌∙◌, arith, if◌then◌else◌}
 use Rattle.std.specs.List.{list_all, join_with_byte}
 use Rattle.std.specs.Str.{byte}
 use Rattle.std.specs.Str.Parse.{digits_value}
@@ -44,7 +45,8 @@ number_written (d ∷ ds) n e =
     let digits = and_both (list_all is_ascii_digit (d ∷ ds)) (nat_lt (digits_value 10 (d ∷ ds)) (2 ^ 64)) value.0 in
     let both = and_both (nat_le got.0 255) (not (has_leading_zero (d ∷ ds))) limit.0 in
     let small : nat_le (digits_value 10 (d ∷ ds)) 255 ≡ true = ap (λ k. nat_le k 255) value.1 ∙ both.0 in
-    written_digits (d ∷ ds) (omega arith) digits.0 (not_is (has_leading_zero (d ∷ ds)) both.1) (omega (arith, leb-true (digits_value 10 (d ∷ ds)) 255 small)) ∙ ap decimal (value.1 ∙ limit.1)
+    written_digits (d ∷ ds) (omega arith) digits.0 (not_is (has_leading_zero (d ∷ ds)) both.1) (omega (arith, leb-true (digits_value 10 (d ∷ ds)) 255 small))
+    ∙ ap decimal (value.1 ∙ limit.1)
 
 -- ---- the pieces
 
@@ -80,7 +82,8 @@ join_next : (pieces : List (List ℕ)) → (pieces ≡ [] → ⊥) → join_with
 join_next [] some = absurd (some refl)
 join_next (piece ∷ pieces) some = refl
 
-join_by : (b : ℕ) (bs : List ℕ) (t : Bool) → (b == byte ".") ≡ t → join_with_byte 46 (between_dots bs) ≡ bs → join_with_byte 46 (if t then [] ∷ between_dots bs else onto (b ∷ []) (between_dots bs)) ≡ b ∷ bs
+join_by : (b : ℕ) (bs : List ℕ) (t : Bool) → (b == byte ".") ≡ t → join_with_byte 46 (between_dots bs) ≡ bs
+    → join_with_byte 46 (if t then [] ∷ between_dots bs else onto (b ∷ []) (between_dots bs)) ≡ b ∷ bs
 join_by b bs true is e =
     let dot : b ≡ 46 = eqb-true b 46 is in
     join_next (between_dots bs) (some_piece bs) ∙ cc
@@ -92,7 +95,8 @@ joined (b ∷ bs) = join_by b bs (b == byte ".") refl (joined bs)
 
 -- ---- written
 
-four_by : (a b c d : ℕ) (rest : List ℕ) → (length (a ∷ b ∷ c ∷ d ∷ rest) == 4) ≡ true → join_with_byte 46 (map decimal (a ∷ b ∷ c ∷ d ∷ rest)) ≡ ip_text (a ∷ b ∷ c ∷ d ∷ rest)
+four_by : (a b c d : ℕ) (rest : List ℕ) → (length (a ∷ b ∷ c ∷ d ∷ rest) == 4) ≡ true
+    → join_with_byte 46 (map decimal (a ∷ b ∷ c ∷ d ∷ rest)) ≡ ip_text (a ∷ b ∷ c ∷ d ∷ rest)
 four_by a b c d [] e = simp append_assoc refl
 four_by a b c d (x ∷ rest) e =
     let never : length (a ∷ b ∷ c ∷ d ∷ x ∷ rest) ≡ 4 = eqb-true (length (a ∷ b ∷ c ∷ d ∷ x ∷ rest)) 4 e in

@@ -19,7 +19,8 @@ record IsSaid (text : List ℕ) : Type 0 where
 no_escape : (b h l : ℕ) (rest value : List ℕ) → (b == 37) ≡ false → unescaped (h ∷ l ∷ rest) ≡ Some value → unescaped (b ∷ h ∷ l ∷ rest) ≡ Some (b ∷ value)
 no_escape b h l rest value plain is = rw (plain, is) refl
 
-escape : (b h l : ℕ) (rest value : List ℕ) → (b == 37) ≡ true → (is_ascii_hexdigit h && is_ascii_hexdigit l) ≡ true → unescaped rest ≡ Some value → unescaped (b ∷ h ∷ l ∷ rest) ≡ Some ((16 * digit_value h + digit_value l) ∷ value)
+escape : (b h l : ℕ) (rest value : List ℕ) → (b == 37) ≡ true → (is_ascii_hexdigit h && is_ascii_hexdigit l) ≡ true → unescaped rest ≡ Some value
+    → unescaped (b ∷ h ∷ l ∷ rest) ≡ Some ((16 * digit_value h + digit_value l) ∷ value)
 escape b h l rest value percent digits is = rw (percent, digits, is) refl
 
 good : (class : ℕ → Bool) → class 37 ≡ false → (text : List ℕ) → are_escaped class text ≡ true → IsSaid text
@@ -34,7 +35,8 @@ good class none (b ∷ h ∷ []) e =
     record { value = b ∷ h ∷ []; is = rw (plain, next) refl }
 good class none (b ∷ h ∷ l ∷ rest) e = by_first (class b) (b == 37) refl refl (λ g. good class none (h ∷ l ∷ rest) g) (λ g. good class none rest g)
   where
-    by_first : (s t : Bool) → class b ≡ s → (b == 37) ≡ t → (are_escaped class (h ∷ l ∷ rest) ≡ true → IsSaid (h ∷ l ∷ rest)) → (are_escaped class rest ≡ true → IsSaid rest) → IsSaid (b ∷ h ∷ l ∷ rest)
+    by_first : (s t : Bool) → class b ≡ s → (b == 37) ≡ t → (are_escaped class (h ∷ l ∷ rest) ≡ true → IsSaid (h ∷ l ∷ rest))
+        → (are_escaped class rest ≡ true → IsSaid rest) → IsSaid (b ∷ h ∷ l ∷ rest)
     by_first true t p q plain on =
         let later : IsSaid (h ∷ l ∷ rest) = plain (sym (rw p refl) ∙ e) in
         let no_percent : (b == 37) ≡ false = differs class 37 none b p in

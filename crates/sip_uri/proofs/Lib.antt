@@ -13,3 +13,5 @@ pub mod TableLemmas
 pub mod Rests
 pub mod Users
 pub mod PlainPlaces
+pub mod PlainUris
+pub mod WrittenBytes

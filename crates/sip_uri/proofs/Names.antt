@@ -7,7 +7,8 @@ use Rattle.sip_text.specs.Distinct.{all_differ}
 use Rattle.sip_uri.specs.declared.parameters.Parameter.{Parameter}
 use Rattle.sip_uri.specs.Uri.{names_differ}
 
-named_alike : (name : List ℕ) (ps : List Parameter) → list_any (λ other. is_same_text name other) (map (λ (p : Parameter). p.name) ps) ≡ list_any (λ q. is_same_text name q.name) ps
+named_alike : (name : List ℕ) (ps : List Parameter) → list_any (λ other. is_same_text name other) (map (λ (p : Parameter). p.name) ps)
+    ≡ list_any (λ q. is_same_text name q.name) ps
 named_alike name [] = refl
 named_alike name (p ∷ ps) = ap (λ b. is_same_text name p.name || b) (named_alike name ps)
 

@@ -23,7 +23,8 @@ use Rattle.sip_uri.specs.Parts.{are_escaped, is_escaped, is_user_byte, is_user, 
 use Rattle.sip_uri.specs.Uri.{behind_mark, userinfo_text, port_text, is_password_or_none, is_userinfo, is_port_or_none}
 use Rattle.sip_uri.specs.Reading.{◌>>=◌, part_before, userinfo_from, valid_userinfo, userinfo_of, user_from, user_of}
 use Rattle.sip_text.specs.Splits.{split_at_byte}
-use Rattle.sip_uri.proofs.Tests.{some_is, pair_is, valid_is, and_both, and_is, is_other, others, all_join, split_again, never_split, split_is, part_whole, part_again, take_front, drop_front, front_length}
+use Rattle.sip_uri.proofs.Tests.{some_is, pair_is, valid_is, and_both, and_is, is_other, others, all_join, split_again, never_split, split_is, part_whole, part_again}
+use Rattle.sip_uri.proofs.Tests.{take_front, drop_front, front_length}
 
 -- ---- the scheme
 
@@ -103,15 +104,19 @@ pub user_is : (text : List ℕ) (x : Option UserInfo × List ℕ) → user_of te
 user_is text x e = user_by text x (split_at_byte 64 text) refl e
 
 -- a byte that is neither of the class nor in an escape stands nowhere
-pub escape_others : (class : ℕ → Bool) (mark : ℕ) → class mark ≡ false → (37 == mark) ≡ false → is_ascii_hexdigit mark ≡ false → (text : List ℕ) → are_escaped class text ≡ true → list_all (is_not mark) text ≡ true
+pub escape_others : (class : ℕ → Bool) (mark : ℕ) → class mark ≡ false → (37 == mark) ≡ false → is_ascii_hexdigit mark ≡ false → (text : List ℕ)
+    → are_escaped class text ≡ true → list_all (is_not mark) text ≡ true
 escape_others class mark none percent hex [] e = refl
 escape_others class mark none percent hex (b ∷ []) e = and_is (is_not mark b) true (is_other class mark none b (and_both (class b) true e).0) refl
 escape_others class mark none percent hex (b ∷ h ∷ []) e =
     let both = and_both (class b) (class h && true) e in
-    and_is (is_not mark b) (is_not mark h && true) (is_other class mark none b both.0) (and_is (is_not mark h) true (is_other class mark none h (and_both (class h) true both.1).0) refl)
-escape_others class mark none percent hex (b ∷ h ∷ l ∷ rest) e = by_first (class b) (b == 37) refl refl (λ g. escape_others class mark none percent hex (h ∷ l ∷ rest) g) (λ g. escape_others class mark none percent hex rest g)
+    and_is (is_not mark b) (is_not mark h && true) (is_other class mark none b both.0)
+    (and_is (is_not mark h) true (is_other class mark none h (and_both (class h) true both.1).0) refl)
+escape_others class mark none percent hex (b ∷ h ∷ l ∷ rest) e = by_first (class b) (b == 37) refl refl (λ g. escape_others class mark none percent hex (h ∷ l ∷ rest) g)
+    (λ g. escape_others class mark none percent hex rest g)
   where
-    by_first : (s t : Bool) → class b ≡ s → (b == 37) ≡ t → (are_escaped class (h ∷ l ∷ rest) ≡ true → list_all (is_not mark) (h ∷ l ∷ rest) ≡ true) → (are_escaped class rest ≡ true → list_all (is_not mark) rest ≡ true)
+    by_first : (s t : Bool) → class b ≡ s → (b == 37) ≡ t → (are_escaped class (h ∷ l ∷ rest) ≡ true → list_all (is_not mark) (h ∷ l ∷ rest) ≡ true)
+        → (are_escaped class rest ≡ true → list_all (is_not mark) rest ≡ true)
         → list_all (is_not mark) (b ∷ h ∷ l ∷ rest) ≡ true
     by_first true t p q plain on =
         let here : are_escaped class (h ∷ l ∷ rest) ≡ true = sym (rw p refl) ∙ e in
@@ -128,7 +133,8 @@ escape_others class mark none percent hex (b ∷ h ∷ l ∷ rest) e = by_first 
         absurd cc
 
 -- the same of a text that isn't empty
-pub full_others : (class : ℕ → Bool) (mark : ℕ) → class mark ≡ false → (37 == mark) ≡ false → is_ascii_hexdigit mark ≡ false → (text : List ℕ) → is_escaped class text ≡ true → list_all (is_not mark) text ≡ true
+pub full_others : (class : ℕ → Bool) (mark : ℕ) → class mark ≡ false → (37 == mark) ≡ false → is_ascii_hexdigit mark ≡ false → (text : List ℕ)
+    → is_escaped class text ≡ true → list_all (is_not mark) text ≡ true
 full_others class mark none percent hex [] e = refl
 full_others class mark none percent hex (b ∷ text) e = escape_others class mark none percent hex (b ∷ text) e
 
@@ -141,13 +147,16 @@ userinfo_again info valid =
     let both = and_both (is_user info.user) (is_password_or_none info.password) valid in
     ap (λ x. valid_userinfo (userinfo_from x)) (part_again 58 info.user info.password (full_others is_user_byte 58 refl refl refl info.user both.0) refl) ∙ rw valid refl
 
-pub user_again : (userinfo : Option UserInfo) (rest : List ℕ) → is_userinfo userinfo ≡ true → list_all (is_not 64) rest ≡ true → user_of (userinfo_text userinfo ++ rest) ≡ Ok (userinfo, rest)
+pub user_again : (userinfo : Option UserInfo) (rest : List ℕ) → is_userinfo userinfo ≡ true → list_all (is_not 64) rest ≡ true
+    → user_of (userinfo_text userinfo ++ rest) ≡ Ok (userinfo, rest)
 user_again None rest valid other = ap (user_from rest) (never_split 64 rest other)
 user_again (Some info) rest valid other =
     let both = and_both (is_user info.user) (is_password_or_none info.password) valid in
     let front : List ℕ = info.user ++ behind_mark 58 info.password in
-    let none : list_all (is_not 64) front ≡ true = all_join (is_not 64) info.user (behind_mark 58 info.password) (full_others is_user_byte 64 refl refl refl info.user both.0) (password_others info.password both.1) in
-    ap user_of (grouped front rest) ∙ ap (user_from (front ++ 64 ∷ rest)) (split_again 64 front rest none refl) ∙ ap (λ (o : Option UserInfo). ok_or o Syntax >>= λ i. Ok (Some i, rest)) (userinfo_again info valid)
+    let none : list_all (is_not 64) front ≡ true = all_join (is_not 64) info.user (behind_mark 58 info.password)
+    (full_others is_user_byte 64 refl refl refl info.user both.0) (password_others info.password both.1) in
+    ap user_of (grouped front rest) ∙ ap (user_from (front ++ 64 ∷ rest)) (split_again 64 front rest none refl)
+    ∙ ap (λ (o : Option UserInfo). ok_or o Syntax >>= λ i. Ok (Some i, rest)) (userinfo_again info valid)
 
 -- ---- the host
 
@@ -155,7 +164,8 @@ pub record IsHostCut (text host rest : List ℕ) : Type 0 where
   pub whole : text ≡ host ++ rest
   pub valid : is_host host ≡ true
 
-host_by : (text : List ℕ) (n : ℕ) (x : List ℕ × List ℕ) (t : Bool) → is_host (take n text) ≡ t → cond t (Some (take n text, drop n text)) None ≡ Some x → IsHostCut text x.0 x.1
+host_by : (text : List ℕ) (n : ℕ) (x : List ℕ × List ℕ) (t : Bool) → is_host (take n text) ≡ t → cond t (Some (take n text, drop n text)) None ≡ Some x
+    → IsHostCut text x.0 x.1
 host_by text n x true is e =
     let p = pair_is (take n text, drop n text) x e in
     rw (← p.0, ← p.1) (record { whole = sym (take-append-drop n text); valid = is })
@@ -172,7 +182,8 @@ address_length has_begun (b ∷ bs) rest e = by_end (b == 93) bs refl e (λ h. a
     last [] e = refl
     last (c ∷ bs) e = absurd cc
 
-    by_end : (t : Bool) (bs : List ℕ) → (b == 93) ≡ t → is_address_rest has_begun (b ∷ bs) ≡ true → (is_address_rest true bs ≡ true → prefix_len (is_not 93) (bs ++ rest) + 1 ≡ length bs) → prefix_len (is_not 93) (b ∷ (bs ++ rest)) + 1 ≡ length (b ∷ bs)
+    by_end : (t : Bool) (bs : List ℕ) → (b == 93) ≡ t → is_address_rest has_begun (b ∷ bs) ≡ true
+        → (is_address_rest true bs ≡ true → prefix_len (is_not 93) (bs ++ rest) + 1 ≡ length bs) → prefix_len (is_not 93) (b ∷ (bs ++ rest)) + 1 ≡ length (b ∷ bs)
     by_end true bs is e on =
         let here : (has_begun && is_nil bs) ≡ true = sym (rw is refl) ∙ e in
         let none : bs ≡ [] = last bs (and_both has_begun (is_nil bs) here).1 in
@@ -210,7 +221,8 @@ pub record IsPortCut (text : List ℕ) (port : Option (List ℕ)) : Type 0 where
   pub whole : text ≡ port_text port
   pub valid : is_port_or_none port ≡ true
 
-port_by : (b : ℕ) (digits : List ℕ) (port : Option (List ℕ)) (s t : Bool) → (b == 58) ≡ s → is_port digits ≡ t → cond (s && t) (Some (Some digits)) None ≡ Some port → IsPortCut (b ∷ digits) port
+port_by : (b : ℕ) (digits : List ℕ) (port : Option (List ℕ)) (s t : Bool) → (b == 58) ≡ s → is_port digits ≡ t → cond (s && t) (Some (Some digits)) None ≡ Some port
+    → IsPortCut (b ∷ digits) port
 port_by b digits port true true is valid e =
     let same : Some digits ≡ port = some_is (Some digits) port e in
     rw (← same) (record { whole = ap (λ (k : ℕ). k ∷ digits) (eqb-true b 58 is); valid = valid })
@@ -234,14 +246,16 @@ pub record IsPlace (text host : List ℕ) (port : Option (List ℕ)) : Type 0 wh
   pub is_one : is_host host ≡ true
   pub has_port : is_port_or_none port ≡ true
 
-place_end : (text host rest : List ℕ) (x : List ℕ × Option (List ℕ)) (o : Option (Option (List ℕ))) → IsHostCut text host rest → port_of rest ≡ o → option_map (λ port. (host, port)) o ≡ Some x → IsPlace text x.0 x.1
+place_end : (text host rest : List ℕ) (x : List ℕ × Option (List ℕ)) (o : Option (Option (List ℕ))) → IsHostCut text host rest → port_of rest ≡ o
+    → option_map (λ port. (host, port)) o ≡ Some x → IsPlace text x.0 x.1
 place_end text host rest x None cut is e = absurd cc
 place_end text host rest x (Some port) cut is e =
     let p = pair_is (host, port) x e in
     let q : IsPortCut rest port = port_is rest port is in
     rw (← p.0, ← p.1) (record { whole = cut.whole ∙ ap (λ (w : List ℕ). host ++ w) q.whole; is_one = cut.valid; has_port = q.valid })
 
-place_by : (text : List ℕ) (x : List ℕ × Option (List ℕ)) (o : Option (List ℕ × List ℕ)) → host_of text ≡ o → option_and_then (λ host. option_map (λ port. (host.0, port)) (port_of host.1)) o ≡ Some x → IsPlace text x.0 x.1
+place_by : (text : List ℕ) (x : List ℕ × Option (List ℕ)) (o : Option (List ℕ × List ℕ)) → host_of text ≡ o
+    → option_and_then (λ host. option_map (λ port. (host.0, port)) (port_of host.1)) o ≡ Some x → IsPlace text x.0 x.1
 place_by text x None is e = absurd cc
 place_by text x (Some y) is e = place_end text y.0 y.1 x (port_of y.1) (host_is text y is) refl e
 
@@ -268,7 +282,8 @@ address_others mark apart has_begun (b ∷ bs) e = by_end (b == 93) bs refl e (�
     last [] e = refl
     last (c ∷ bs) e = absurd cc
 
-    by_end : (t : Bool) (bs : List ℕ) → (b == 93) ≡ t → is_address_rest has_begun (b ∷ bs) ≡ true → (is_address_rest true bs ≡ true → list_all (is_not mark) bs ≡ true) → list_all (is_not mark) (b ∷ bs) ≡ true
+    by_end : (t : Bool) (bs : List ℕ) → (b == 93) ≡ t → is_address_rest has_begun (b ∷ bs) ≡ true → (is_address_rest true bs ≡ true → list_all (is_not mark) bs ≡ true)
+        → list_all (is_not mark) (b ∷ bs) ≡ true
     by_end true bs is e on =
         let here : (has_begun && is_nil bs) ≡ true = sym (rw is refl) ∙ e in
         and_is (is_not mark b) (list_all (is_not mark) bs) (ap (is_not mark) (eqb-true b 93 is) ∙ apart.closing) (last bs (and_both has_begun (is_nil bs) here).1)
@@ -289,7 +304,8 @@ host_others mark apart (b ∷ bs) e = by_bracket (b == 91) refl e
         let here : list_all is_host_byte (b ∷ bs) ≡ true = sym (rw is refl) ∙ e in
         others is_host_byte mark apart.name (b ∷ bs) here
 
-number_digits : (d : ℕ) (ds : List ℕ) (s t : Bool) → list_all is_ascii_digit (d ∷ ds) ≡ s → is_some (option_and_then in_port_range (cond (s && t) (Some (digits_value 10 (d ∷ ds))) None)) ≡ true → list_all is_ascii_digit (d ∷ ds) ≡ true
+number_digits : (d : ℕ) (ds : List ℕ) (s t : Bool) → list_all is_ascii_digit (d ∷ ds) ≡ s
+    → is_some (option_and_then in_port_range (cond (s && t) (Some (digits_value 10 (d ∷ ds))) None)) ≡ true → list_all is_ascii_digit (d ∷ ds) ≡ true
 number_digits d ds true t are e = are
 number_digits d ds false t are e = absurd cc
 
@@ -299,7 +315,9 @@ port_digits (d ∷ ds) e = number_digits d ds (list_all is_ascii_digit (d ∷ ds
 
 port_others : (mark : ℕ) → IsNoPlaceByte mark → (port : Option (List ℕ)) → is_port_or_none port ≡ true → list_all (is_not mark) (port_text port) ≡ true
 port_others mark apart None e = refl
-port_others mark apart (Some digits) e = and_is (is_not mark 58) (list_all (is_not mark) digits) apart.colon (others is_ascii_digit mark apart.digit digits (port_digits digits e))
+port_others mark apart (Some digits) e = and_is (is_not mark 58) (list_all (is_not mark) digits) apart.colon
+    (others is_ascii_digit mark apart.digit digits (port_digits digits e))
 
-pub place_others : (mark : ℕ) → IsNoPlaceByte mark → (host : List ℕ) (port : Option (List ℕ)) → is_host host ≡ true → is_port_or_none port ≡ true → list_all (is_not mark) (host ++ port_text port) ≡ true
+pub place_others : (mark : ℕ) → IsNoPlaceByte mark → (host : List ℕ) (port : Option (List ℕ)) → is_host host ≡ true → is_port_or_none port ≡ true
+    → list_all (is_not mark) (host ++ port_text port) ≡ true
 place_others mark apart host port h p = all_join (is_not mark) host (port_text port) (host_others mark apart host h) (port_others mark apart port p)

@@ -1,5 +1,6 @@
 -- The number of a port, digit by digit.
-use Rattle.std.proofs.Common.{◌≡◌, ℕ, ◌+◌, ◌*◌, ◌^◌, ◌<◌, ◌≤◌, Bool, true, false, cond, List, [], ◌∷◌, ◌++◌, length, take, get_or, Option, Some, None, refl, ap, ◌∙◌, arith}
+use Rattle.std.proofs.Common.{◌≡◌, ℕ, ◌+◌, ◌*◌, ◌^◌, ◌<◌, ◌≤◌, Bool, true, false, cond, List, [], ◌∷◌, ◌++◌, length, take, get_or, Option, Some, None, refl, ap, ◌∙◌}
+use Rattle.std.proofs.Common.{arith}
 use Rattle.std.specs.Prelude.{◌&&◌, nat_le, nat_lt}
 use Rattle.std.specs.Option.{option_and_then}
 use Rattle.std.specs.List.{list_all}
@@ -27,7 +28,8 @@ too_many : (all : Bool) (v : ℕ) → 65535 < v → by_value all v ≡ None
 too_many false v lt = refl
 too_many true v lt = grind (arith, nat_tests)
 
-one_test : (digit all : Bool) (v k : ℕ) (rest : Option ℕ) → (k ≤ 65535 → by_value all v ≡ rest) → k ≤ v → by_value (digit && all) v ≡ cond digit (cond (nat_le k 65535) rest None) None
+one_test : (digit all : Bool) (v k : ℕ) (rest : Option ℕ) → (k ≤ 65535 → by_value all v ≡ rest) → k ≤ v
+    → by_value (digit && all) v ≡ cond digit (cond (nat_le k 65535) rest None) None
 one_test false all v k rest is le = refl
 one_test true all v k rest is le = by_size (nat_le k 65535) refl
   where
@@ -60,7 +62,8 @@ all_more : (xs : List ℕ) (b : ℕ) → list_all is_ascii_digit xs ≡ true →
 all_more [] b all is = rw is refl
 all_more (x ∷ xs) b all is = both (is_ascii_digit x) (list_all is_ascii_digit xs) all (all_more xs b)
   where
-    both : (s t : Bool) → (s && t) ≡ true → (t ≡ true → is_ascii_digit b ≡ true → list_all is_ascii_digit (xs ++ b ∷ []) ≡ true) → (s && list_all is_ascii_digit (xs ++ b ∷ [])) ≡ true
+    both : (s t : Bool) → (s && t) ≡ true → (t ≡ true → is_ascii_digit b ≡ true → list_all is_ascii_digit (xs ++ b ∷ []) ≡ true)
+        → (s && list_all is_ascii_digit (xs ++ b ∷ [])) ≡ true
     both true true e later = later refl is
     both true false e later = absurd cc
     both false t e later = absurd cc
@@ -69,7 +72,8 @@ value_more : (n : ℕ) (xs : List ℕ) (b : ℕ) → digits_value_after 10 n (xs
 value_more n [] b = refl
 value_more n (x ∷ xs) b = value_more (n * 10 + digit_value x) xs b
 
-pub one_more : (text : List ℕ) (at n : ℕ) → at < length text → is_ascii_digit (get_or text at 0) ≡ true → WritesAt text at n → n * 10 + digit_value (get_or text at 0) ≤ 65535
+pub one_more : (text : List ℕ) (at n : ℕ) → at < length text → is_ascii_digit (get_or text at 0) ≡ true → WritesAt text at n
+    → n * 10 + digit_value (get_or text at 0) ≤ 65535
     → WritesAt text (at + 1) (n * 10 + digit_value (get_or text at 0))
 one_more text at n within is before le =
     let longer : take (at + 1) text ≡ take at text ++ get_or text at 0 ∷ [] = take_more text at 0 within in

@@ -15,11 +15,14 @@ use Rattle.sip_uri.specs.declared.uri.Uri.{Uri}
 use Rattle.sip_uri.specs.Scheme.{scheme_text, scheme_of}
 use Rattle.sip_uri.specs.Uri.{behind_mark, userinfo_text, port_text, parameter_text, headers_text, rest_text, text_of, IsValid, IsWritten}
 use Rattle.sip_uri.specs.Host.{place_of, is_not}
-use Rattle.sip_uri.specs.Reading.{◌>>=◌, Gives, part_before, user_of, parameters_behind, headers_behind, before_headers, header_text_of, before_parameters, parameter_text_of, rest_of, reading_of}
+use Rattle.sip_uri.specs.Reading.{◌>>=◌, Gives, part_before, user_of, parameters_behind, headers_behind, before_headers, header_text_of, before_parameters}
+use Rattle.sip_uri.specs.Reading.{parameter_text_of, rest_of, reading_of}
 use Rattle.sip_text.specs.Splits.{split_at_byte}
 use Rattle.sip_uri.proofs.Tests.{all_join, split_is, split_again, part_whole, part_again}
-use Rattle.sip_uri.proofs.PartLaws.{scheme_is, scheme_again, scheme_others, same_scheme, IsUserCut, user_is, user_again, IsPlace, place_is, place_again, IsNoPlaceByte, place_others}
-use Rattle.sip_uri.proofs.ListLaws.{AreParameters, parameters_are, parameter_texts, parameters_whole, parameters_again, parameters_others, AreHeaders, headers_are, header_texts, headers_whole, headers_again, headers_others}
+use Rattle.sip_uri.proofs.PartLaws.{scheme_is, scheme_again, scheme_others, same_scheme, IsUserCut, user_is, user_again, IsPlace, place_is, place_again, IsNoPlaceByte}
+use Rattle.sip_uri.proofs.PartLaws.{place_others}
+use Rattle.sip_uri.proofs.ListLaws.{AreParameters, parameters_are, parameter_texts, parameters_whole, parameters_again, parameters_others, AreHeaders, headers_are}
+use Rattle.sip_uri.proofs.ListLaws.{header_texts, headers_whole, headers_again, headers_others}
 
 ok_is : {A : Type 0} (x y : A) → ◌≡◌ {A = Result A UriError} (Ok x) (Ok y) → x ≡ y
 ok_is x y e = cc
@@ -42,8 +45,10 @@ behind_user text =
 regrouped : (host port parameters headers : List ℕ) → (host ++ port) ++ (parameters ++ headers) ≡ host ++ (port ++ (parameters ++ headers))
 regrouped host port parameters headers = append_assoc host port (parameters ++ headers)
 
-with_parts : (scheme : Scheme) (text rest host : List ℕ) (userinfo : Option UserInfo) (port : Option (List ℕ)) (parameters : List Parameter) (headers : List UriHeader) (u : Uri)
-    → IsUserCut text userinfo rest → IsPlace (before_parameters rest) host port → AreParameters (parameter_text_of rest) parameters → AreHeaders (header_text_of rest) headers
+with_parts : (scheme : Scheme) (text rest host : List ℕ) (userinfo : Option UserInfo) (port : Option (List ℕ)) (parameters : List Parameter) (headers : List UriHeader)
+    (u : Uri)
+    → IsUserCut text userinfo rest → IsPlace (before_parameters rest) host port → AreParameters (parameter_text_of rest) parameters
+    → AreHeaders (header_text_of rest) headers
     → record { scheme = scheme; userinfo = userinfo; host = host; port = port; parameters = parameters; headers = headers } ≡ u → IsRest scheme text u
 with_parts scheme text rest host userinfo port parameters headers u is_user is_place are_parameters are_headers e =
     subst (IsRest scheme text) e (record {
@@ -54,12 +59,26 @@ with_parts scheme text rest host userinfo port parameters headers u is_user is_p
           ∙ ap (λ (w : List ℕ). (host ++ port_text port) ++ (w ++ behind_mark 63 (header_text_of rest))) are_parameters.whole
           ∙ ap (λ (w : List ℕ). (host ++ port_text port) ++ (flat_map parameter_text parameters ++ w)) are_headers.whole
           ∙ regrouped host (port_text port) (flat_map parameter_text parameters) (headers_text headers));
-      valid = record { userinfo = is_user.valid; host = is_place.is_one; port = is_place.has_port; parameters = are_parameters.valid; names = are_parameters.differ; headers = are_headers.valid };
+      valid = record {
+        userinfo = is_user.valid;
+        host = is_place.is_one;
+        port = is_place.has_port;
+        parameters = are_parameters.valid;
+        names = are_parameters.differ;
+        headers = are_headers.valid;
+      };
     })
 
 -- the URI of its parts
 abbrev uri_of : Scheme → Option UserInfo → List ℕ × Option (List ℕ) → List Parameter → List UriHeader → Uri
-uri_of scheme userinfo place parameters headers = record { scheme = scheme; userinfo = userinfo; host = place.0; port = place.1; parameters = parameters; headers = headers }
+uri_of scheme userinfo place parameters headers = record {
+  scheme = scheme;
+  userinfo = userinfo;
+  host = place.0;
+  port = place.1;
+  parameters = parameters;
+  headers = headers;
+}
 
 abbrev from_parameters : Scheme → Option UserInfo × List ℕ → List ℕ × Option (List ℕ) → List Parameter → Result Uri UriError
 from_parameters scheme user place parameters = ok_or (headers_behind (header_text_of user.1)) Syntax >>= λ headers. Ok (uri_of scheme user.0 place parameters headers)
@@ -70,18 +89,23 @@ from_place scheme user place = ok_or (parameters_behind (parameter_text_of user.
 abbrev from_user : Scheme → Option UserInfo × List ℕ → Result Uri UriError
 from_user scheme user = ok_or (place_of (before_parameters user.1)) Syntax >>= from_place scheme user
 
-headers_by : (scheme : Scheme) (text : List ℕ) (user : Option UserInfo × List ℕ) (place : List ℕ × Option (List ℕ)) (parameters : List Parameter) (u : Uri) (o : Option (List UriHeader))
-    → IsUserCut text user.0 user.1 → IsPlace (before_parameters user.1) place.0 place.1 → AreParameters (parameter_text_of user.1) parameters → headers_behind (header_text_of user.1) ≡ o
+headers_by : (scheme : Scheme) (text : List ℕ) (user : Option UserInfo × List ℕ) (place : List ℕ × Option (List ℕ)) (parameters : List Parameter) (u : Uri)
+    (o : Option (List UriHeader))
+    → IsUserCut text user.0 user.1 → IsPlace (before_parameters user.1) place.0 place.1 → AreParameters (parameter_text_of user.1) parameters
+    → headers_behind (header_text_of user.1) ≡ o
     → (ok_or o Syntax >>= λ headers. Ok (uri_of scheme user.0 place parameters headers)) ≡ Ok u → IsRest scheme text u
 headers_by scheme text user place parameters u None is_user is_place are_parameters is e = absurd cc
 headers_by scheme text user place parameters u (Some headers) is_user is_place are_parameters is e =
-    with_parts scheme text user.1 place.0 user.0 place.1 parameters headers u is_user is_place are_parameters (headers_are (header_text_of user.1) headers is) (ok_is (uri_of scheme user.0 place parameters headers) u e)
+    with_parts scheme text user.1 place.0 user.0 place.1 parameters headers u is_user is_place are_parameters (headers_are (header_text_of user.1) headers is)
+    (ok_is (uri_of scheme user.0 place parameters headers) u e)
 
 parameters_by : (scheme : Scheme) (text : List ℕ) (user : Option UserInfo × List ℕ) (place : List ℕ × Option (List ℕ)) (u : Uri) (o : Option (List Parameter))
-    → IsUserCut text user.0 user.1 → IsPlace (before_parameters user.1) place.0 place.1 → parameters_behind (parameter_text_of user.1) ≡ o → (ok_or o Syntax >>= from_parameters scheme user place) ≡ Ok u → IsRest scheme text u
+    → IsUserCut text user.0 user.1 → IsPlace (before_parameters user.1) place.0 place.1 → parameters_behind (parameter_text_of user.1) ≡ o
+    → (ok_or o Syntax >>= from_parameters scheme user place) ≡ Ok u → IsRest scheme text u
 parameters_by scheme text user place u None is_user is_place is e = absurd cc
 parameters_by scheme text user place u (Some parameters) is_user is_place is e =
-    headers_by scheme text user place parameters u (headers_behind (header_text_of user.1)) is_user is_place (parameters_are (parameter_text_of user.1) parameters is) refl e
+    headers_by scheme text user place parameters u (headers_behind (header_text_of user.1)) is_user is_place (parameters_are (parameter_text_of user.1) parameters is)
+    refl e
 
 place_by : (scheme : Scheme) (text : List ℕ) (user : Option UserInfo × List ℕ) (u : Uri) (o : Option (List ℕ × Option (List ℕ)))
     → IsUserCut text user.0 user.1 → place_of (before_parameters user.1) ≡ o → (ok_or o Syntax >>= from_place scheme user) ≡ Ok u → IsRest scheme text u
@@ -89,7 +113,8 @@ place_by scheme text user u None is_user is e = absurd cc
 place_by scheme text user u (Some place) is_user is e =
     parameters_by scheme text user place u (parameters_behind (parameter_text_of user.1)) is_user (place_is (before_parameters user.1) place is) refl e
 
-user_by : (scheme : Scheme) (text : List ℕ) (u : Uri) (r : Result (Option UserInfo × List ℕ) UriError) → user_of text ≡ r → (r >>= from_user scheme) ≡ Ok u → IsRest scheme text u
+user_by : (scheme : Scheme) (text : List ℕ) (u : Uri) (r : Result (Option UserInfo × List ℕ) UriError) → user_of text ≡ r → (r >>= from_user scheme) ≡ Ok u
+    → IsRest scheme text u
 user_by scheme text u (Err fault) is e = absurd cc
 user_by scheme text u (Ok user) is e = place_by scheme text user u (place_of (before_parameters user.1)) (user_is text user is) refl e
 
@@ -97,7 +122,8 @@ rest_is : (scheme : Scheme) (text : List ℕ) (u : Uri) → rest_of scheme text 
 unfolding rest_of
 rest_is scheme text u e = user_by scheme text u (user_of text) refl e
 
-scheme_by : (bytes name rest : List ℕ) (u : Uri) (r : Result Scheme UriError) → bytes ≡ name ++ 58 ∷ rest → scheme_of name ≡ r → (r >>= λ scheme. rest_of scheme rest) ≡ Ok u → IsWritten bytes u
+scheme_by : (bytes name rest : List ℕ) (u : Uri) (r : Result Scheme UriError) → bytes ≡ name ++ 58 ∷ rest → scheme_of name ≡ r
+    → (r >>= λ scheme. rest_of scheme rest) ≡ Ok u → IsWritten bytes u
 scheme_by bytes name rest u (Err fault) whole is e = absurd cc
 scheme_by bytes name rest u (Ok scheme) whole is e =
     let r : IsRest scheme rest u = rest_is scheme rest u e in
@@ -108,7 +134,8 @@ scheme_by bytes name rest u (Ok scheme) whole is e =
       valid = r.valid;
     }
 
-split_by : (bytes : List ℕ) (u : Uri) (o : Option (List ℕ × List ℕ)) → split_at_byte 58 bytes ≡ o → (ok_or o Syntax >>= λ parts. scheme_of parts.0 >>= λ scheme. rest_of scheme parts.1) ≡ Ok u → IsWritten bytes u
+split_by : (bytes : List ℕ) (u : Uri) (o : Option (List ℕ × List ℕ)) → split_at_byte 58 bytes ≡ o
+    → (ok_or o Syntax >>= λ parts. scheme_of parts.0 >>= λ scheme. rest_of scheme parts.1) ≡ Ok u → IsWritten bytes u
 split_by bytes u None is e = absurd cc
 split_by bytes u (Some parts) is e = scheme_by bytes parts.0 parts.1 u (scheme_of parts.0) (split_is 58 bytes parts.0 parts.1 is) refl e
 
@@ -132,7 +159,8 @@ front_text u = place_text u ++ flat_map parameter_text u.parameters
 
 behind_user_text : (u : Uri) → u.host ++ (port_text u.port ++ (flat_map parameter_text u.parameters ++ headers_text u.headers)) ≡ front_text u ++ headers_text u.headers
 behind_user_text u =
-    sym (append_assoc (place_text u) (flat_map parameter_text u.parameters) (headers_text u.headers) ∙ regrouped u.host (port_text u.port) (flat_map parameter_text u.parameters) (headers_text u.headers))
+    sym (append_assoc (place_text u) (flat_map parameter_text u.parameters) (headers_text u.headers)
+    ∙ regrouped u.host (port_text u.port) (flat_map parameter_text u.parameters) (headers_text u.headers))
 
 -- no byte of host and port is `;`, `?` or `@`
 no_semicolon : IsNoPlaceByte 59
@@ -146,12 +174,14 @@ no_at = record { name = refl; address = refl; opening = refl; closing = refl; di
 
 front_others : (u : Uri) → IsValid u → list_all (is_not 63) (front_text u) ≡ true
 front_others u valid =
-    all_join (is_not 63) (place_text u) (flat_map parameter_text u.parameters) (place_others 63 no_question u.host u.port valid.host valid.port) (parameters_others 63 refl refl refl refl refl u.parameters valid.parameters)
+    all_join (is_not 63) (place_text u) (flat_map parameter_text u.parameters) (place_others 63 no_question u.host u.port valid.host valid.port)
+    (parameters_others 63 refl refl refl refl refl u.parameters valid.parameters)
 
 rest_others : (u : Uri) → IsValid u → list_all (is_not 64) (front_text u ++ headers_text u.headers) ≡ true
 rest_others u valid =
     let place = place_others 64 no_at u.host u.port valid.host valid.port in
-    let front = all_join (is_not 64) (place_text u) (flat_map parameter_text u.parameters) place (parameters_others 64 refl refl refl refl refl u.parameters valid.parameters) in
+    let front = all_join (is_not 64) (place_text u) (flat_map parameter_text u.parameters) place
+    (parameters_others 64 refl refl refl refl refl u.parameters valid.parameters) in
     all_join (is_not 64) (front_text u) (headers_text u.headers) front (headers_others u.headers valid.headers)
 
 headers_cut : (u : Uri) → IsValid u → part_before 63 (front_text u ++ headers_text u.headers) ≡ (front_text u, header_texts u.headers)
@@ -160,12 +190,14 @@ headers_cut u valid =
 
 parameters_cut : (u : Uri) → IsValid u → part_before 59 (front_text u) ≡ (place_text u, parameter_texts u.parameters)
 parameters_cut u valid =
-    ap (λ (w : List ℕ). part_before 59 (place_text u ++ w)) (parameters_whole u.parameters) ∙ part_again 59 (place_text u) (parameter_texts u.parameters) (place_others 59 no_semicolon u.host u.port valid.host valid.port) refl
+    ap (λ (w : List ℕ). part_before 59 (place_text u ++ w)) (parameters_whole u.parameters)
+    ∙ part_again 59 (place_text u) (parameter_texts u.parameters) (place_others 59 no_semicolon u.host u.port valid.host valid.port) refl
 
 -- the URI of a place with its parameters, and of the headers behind it
 abbrev from_cuts : Scheme → Option UserInfo → List ℕ × Option (List ℕ) → Option (List ℕ) → Result Uri UriError
 from_cuts scheme userinfo front after =
-    ok_or (place_of front.0) Syntax >>= λ place. ok_or (parameters_behind front.1) Syntax >>= λ parameters. ok_or (headers_behind after) Syntax >>= λ headers. Ok (uri_of scheme userinfo place parameters headers)
+    ok_or (place_of front.0) Syntax >>= λ place. ok_or (parameters_behind front.1) Syntax >>= λ parameters. ok_or (headers_behind after) Syntax >>=
+    λ headers. Ok (uri_of scheme userinfo place parameters headers)
 
 from_user_again : (u : Uri) → IsValid u → from_user u.scheme (u.userinfo, front_text u ++ headers_text u.headers) ≡ Ok u
 from_user_again u valid =
@@ -176,13 +208,16 @@ from_user_again u valid =
 rest_again : (u : Uri) → IsValid u → rest_of u.scheme (rest_text u) ≡ Ok u
 unfolding rest_of
 rest_again u valid =
-    let user : user_of (userinfo_text u.userinfo ++ (front_text u ++ headers_text u.headers)) ≡ Ok (u.userinfo, front_text u ++ headers_text u.headers) = user_again u.userinfo (front_text u ++ headers_text u.headers) valid.userinfo (rest_others u valid) in
-    ap (λ (w : List ℕ). user_of (userinfo_text u.userinfo ++ w) >>= from_user u.scheme) (behind_user_text u) ∙ ap (λ r. r >>= from_user u.scheme) user ∙ from_user_again u valid
+    let user : user_of (userinfo_text u.userinfo ++ (front_text u ++ headers_text u.headers)) ≡ Ok (u.userinfo, front_text u ++ headers_text u.headers) =
+    user_again u.userinfo (front_text u ++ headers_text u.headers) valid.userinfo (rest_others u valid) in
+    ap (λ (w : List ℕ). user_of (userinfo_text u.userinfo ++ w) >>= from_user u.scheme) (behind_user_text u) ∙ ap (λ r. r >>= from_user u.scheme) user
+    ∙ from_user_again u valid
 
 pub reading_is : (bytes : List ℕ) (u : Uri) → IsWritten bytes u → reading_of bytes ≡ Ok u
 unfolding reading_of
 reading_is bytes u written =
-    let split : split_at_byte 58 bytes ≡ Some (written.scheme, rest_text u) = ap (split_at_byte 58) written.whole ∙ split_again 58 written.scheme (rest_text u) (scheme_others written.scheme u.scheme written.in_any_case) refl in
+    let split : split_at_byte 58 bytes ≡ Some (written.scheme, rest_text u) = ap (split_at_byte 58) written.whole
+    ∙ split_again 58 written.scheme (rest_text u) (scheme_others written.scheme u.scheme written.in_any_case) refl in
     rw (split, scheme_again written.scheme u.scheme written.in_any_case) (rest_again u written.valid)
 
 -- the text of a URI of the grammar is read back

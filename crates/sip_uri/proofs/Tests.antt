@@ -63,7 +63,8 @@ all_join p (x ∷ xs) ys e f =
 
 -- ---- at the first of a byte
 
-pub split_again : (mark : ℕ) (front back : List ℕ) → list_all (is_not mark) front ≡ true → (mark == mark) ≡ true → split_at_byte mark (front ++ mark ∷ back) ≡ Some (front, back)
+pub split_again : (mark : ℕ) (front back : List ℕ) → list_all (is_not mark) front ≡ true → (mark == mark) ≡ true
+    → split_at_byte mark (front ++ mark ∷ back) ≡ Some (front, back)
 split_again mark [] back e same = rw same refl
 split_again mark (b ∷ front) back e same =
     let both = and_both (is_not mark b) (list_all (is_not mark) front) e in
@@ -75,13 +76,15 @@ never_split mark (b ∷ bs) e =
     let both = and_both (is_not mark b) (list_all (is_not mark) bs) e in
     rw (not_is (b == mark) both.0, never_split mark bs both.1) refl
 
-split_longer : (mark b : ℕ) (bytes front back : List ℕ) (o : Option (List ℕ × List ℕ)) → in_front (b ∷ []) o ≡ Some (front, back) → ((f g : List ℕ) → o ≡ Some (f, g) → bytes ≡ f ++ mark ∷ g) → b ∷ bytes ≡ front ++ mark ∷ back
+split_longer : (mark b : ℕ) (bytes front back : List ℕ) (o : Option (List ℕ × List ℕ)) → in_front (b ∷ []) o ≡ Some (front, back)
+    → ((f g : List ℕ) → o ≡ Some (f, g) → bytes ≡ f ++ mark ∷ g) → b ∷ bytes ≡ front ++ mark ∷ back
 split_longer mark b bytes front back None e is = absurd cc
 split_longer mark b bytes front back (Some x) e is =
     let p = pair_is (b ∷ x.0, x.1) (front, back) e in
     rw (← p.0, ← p.1) (ap (λ (w : List ℕ). b ∷ w) (is x.0 x.1 refl))
 
-split_either : (mark b : ℕ) (bytes front back : List ℕ) (t : Bool) → (b == mark) ≡ t → split_at_byte mark (b ∷ bytes) ≡ Some (front, back) → ((f g : List ℕ) → split_at_byte mark bytes ≡ Some (f, g) → bytes ≡ f ++ mark ∷ g) → b ∷ bytes ≡ front ++ mark ∷ back
+split_either : (mark b : ℕ) (bytes front back : List ℕ) (t : Bool) → (b == mark) ≡ t → split_at_byte mark (b ∷ bytes) ≡ Some (front, back)
+    → ((f g : List ℕ) → split_at_byte mark bytes ≡ Some (f, g) → bytes ≡ f ++ mark ∷ g) → b ∷ bytes ≡ front ++ mark ∷ back
 split_either mark b bytes front back true is e on =
     let got : Some ([], bytes) ≡ Some (front, back) = sym (rw is refl) ∙ e in
     let p = pair_is ([], bytes) (front, back) got in
@@ -102,7 +105,8 @@ part_by mark text (Some x) is = split_is mark text x.0 x.1 is
 pub part_whole : (mark : ℕ) (text : List ℕ) → text ≡ (part_before mark text).0 ++ behind_mark mark (part_before mark text).1
 part_whole mark text = part_by mark text (split_at_byte mark text) refl
 
-pub part_again : (mark : ℕ) (front : List ℕ) (after : Option (List ℕ)) → list_all (is_not mark) front ≡ true → (mark == mark) ≡ true → part_before mark (front ++ behind_mark mark after) ≡ (front, after)
+pub part_again : (mark : ℕ) (front : List ℕ) (after : Option (List ℕ)) → list_all (is_not mark) front ≡ true → (mark == mark) ≡ true
+    → part_before mark (front ++ behind_mark mark after) ≡ (front, after)
 part_again mark front None e same = ap (part_before mark) (append-nil front) ∙ ap (first_part front) (never_split mark front e)
 part_again mark front (Some back) e same = ap (first_part (front ++ mark ∷ back)) (split_again mark front back e same)
 

@@ -1,5 +1,5 @@
 -- The texts that a URI is made of.
-use Rattle.std.specs.Prelude.{ℕ, Bool, true, false, ◌||◌, ◌&&◌, ◌==◌, List, [], ◌∷◌, codes, if◌then◌else◌}
+use Rattle.std.specs.Prelude.{ℕ, Bool, true, false, not, ◌||◌, ◌&&◌, ◌==◌, List, [], ◌∷◌, codes, if◌then◌else◌}
 use Rattle.std.specs.List.{list_any}
 use Rattle.std.specs.Str.{byte}
 use Rattle.std.specs.Char.{is_ascii_alphanumeric, is_ascii_hexdigit}
@@ -66,3 +66,7 @@ is_of User = is_user_byte
 is_of Password = is_password_byte
 is_of Parameter = is_parameter_byte
 is_of Header = is_header_byte
+
+-- a byte that ends no address and begins no quoted text: neither a blank nor `"`, `<` or `>`
+abbrev pub is_unmarked : ℕ → Bool
+is_unmarked b = not (list_any (λ c. b == c) (codes "\"<> \t"))

@@ -2,7 +2,7 @@
 use Rattle.std.specs.Prelude.{◌≡◌, ◌⊎◌, ℕ, Bool, true, ◌||◌, ◌==◌, List, [], ◌∷◌, ◌++◌, codes, Option, Some, None, option_map, Ok}
 use Rattle.std.specs.Str.{byte}
 use Rattle.std.specs.List.{list_all}
-use Rattle.sip_uri.specs.Host.{is_host_byte, is_place_byte}
+use Rattle.sip_uri.specs.Host.{is_place_byte}
 use Rattle.sip_uri.specs.Port.{port_value}
 use Rattle.sip_uri.specs.declared.user.UserInfo.{UserInfo}
 use Rattle.sip_uri.specs.declared.parameters.Parameter.{Parameter}
@@ -28,12 +28,6 @@ pub record IsPlain (text host : List ℕ) (port : Option ℕ) : Type 0 where
   pub has_port : option_map port_value uri.port ≡ option_map (λ n. Some n) port
   pub parameters : (uri.parameters ≡ []) ⊎ (uri.parameters ≡ loose_routing)
 
--- A text is a `sip` URI with this host and this user, which is of bytes of a host name. It has neither parameters nor headers.
-pub record HasNames (text user host : List ℕ) : Type 0 where
-  pub plain : list_all is_host_byte user ≡ true
-  pub digits : Option (List ℕ)
-  pub is_read : reading_of text ≡ Ok (record { scheme = Scheme.Sip; userinfo = Some (record { user = user; password = None }); host = host; port = digits; parameters = []; headers = [] })
-
 -- a byte of a URI without parameters and headers, whose user is of bytes of a host name
 abbrev pub is_plain_byte : ℕ → Bool
 is_plain_byte b = is_place_byte b || b == byte "@"
@@ -48,4 +42,11 @@ pub record IsUriAt (text host : List ℕ) (port : Option ℕ) (rest : List ℕ) 
   pub digits : Option (List ℕ)
   pub numbered : option_map port_value digits ≡ option_map (λ n. Some n) port
   pub alone : reading_of front ≡ Ok (record { scheme = Scheme.Sip; userinfo = info; host = host; port = digits; parameters = []; headers = [] })
-  pub loose : reading_of (front ++ codes ";lr") ≡ Ok (record { scheme = Scheme.Sip; userinfo = info; host = host; port = digits; parameters = loose_routing; headers = [] })
+  pub loose : reading_of (front ++ codes ";lr") ≡ Ok (record {
+    scheme = Scheme.Sip;
+    userinfo = info;
+    host = host;
+    port = digits;
+    parameters = loose_routing;
+    headers = [];
+  })

@@ -1,5 +1,5 @@
-//! Addresses of record (RFC 3261 10.3): of a URI, of the text of a plain one without making the URI, and whether two are the same.
-ghost use Rattle.std.specs.Prelude.{◌≡◌, ◌↔◌, IfOk, IfSome, IsTrue, ◌++◌};
+//! Addresses of record (RFC 3261 10.3): of a URI, and whether two are the same.
+ghost use Rattle.std.specs.Prelude.{◌≡◌, ◌↔◌, IfOk, IsTrue, ◌++◌};
 ghost use Rattle.std.specs.Option.{unwrap_or};
 ghost use Rattle.sip_text.specs.Escapes.{unescaped};
 ghost use Rattle.sip_uri.specs.Aor as Definitions;
@@ -7,7 +7,6 @@ ghost use Rattle.std.specs.Hash as fed;
 ghost use Rattle.std.specs.Cmp.Rules.{comparing, hashing};
 ghost use Rattle.std.proofs.Common.{rules};
 
-use crate::plain::plain_names;
 use crate::uri::Uri;
 use crate::user::UserInfo;
 use sip_text::{Bytes, TextError, lower_case, same_bytes, unescape};
@@ -90,21 +89,6 @@ pub fn aor_of(alloc: Global, uri: &Uri) -> Result<Aor, AllocError>
     let user = user_of(alloc, &uri.userinfo)?;
     let host = lower_case(alloc, uri.host.as_slice())?;
     Ok(Aor { user, host })
-}
-
-/// The address of record that the text of a `sip` URI names which has neither parameters nor headers, and in whose user stand
-/// bytes of a host name alone: nothing is made of the URI. None says nothing: `aor_of` takes every URI. `AllocError` is the
-/// only refusal.
-#[tactic(auto, using(crate::proofs::PlainPlaces::named_aor))]
-pub fn plain_aor(alloc: Global, text: &[u8]) -> Result<Option<Aor>, AllocError>
-    ensures { IfOk result (λ aor. IfSome aor (λ a. Definitions.IsAorIn text.now a)) }
-{
-    let Some((user, host)) = plain_names(text) else {
-        return Ok(None);
-    };
-    let user = Bytes::copy(alloc, user)?;
-    let host = lower_case(alloc, host)?;
-    Ok(Some(Aor { user, host }))
 }
 
 /// Whether two addresses of record are the same, byte by byte.

@@ -1,7 +1,8 @@
-//! URIs of the plainest forms: their host and port, or their user and host, where they stand, so that no URI is made.
+//! URIs of the plainest forms: their user, host and port where they stand, so that no URI is made.
 //! `parse_uri` reads every form.
 ghost use Rattle.std.specs.Prelude.{◌≡◌, ◌⊎◌, true, codes, option_map, IfSome, Some, None};
-ghost use Rattle.sip_uri.specs.PlainPlace.{HasNames, HasUser, IsPlain, IsUriAt};
+ghost use Rattle.sip_uri.specs.PlainPlace.{HasUser, IsPlain, IsUriAt};
+ghost use Rattle.sip_uri.specs.PlainUri.{IsUriOf};
 
 use crate::host::{place_at, place_by, split_name};
 use crate::parts::behind_place;
@@ -59,44 +60,33 @@ pub fn plain_place(text: &[u8]) -> Option<(&[u8], Option<u16>)>
     Some((host, number_of(port)))
 }
 
-/// The host, the number of the port, if one is written, and what follows, of a `sip` URI at the front of a text that has
-/// neither parameters nor headers, and whose user, if it has one, is of bytes of a host name: so each byte is read once.
-/// None says nothing. Takes no memory.
+/// The user, which is empty where there is none, the host, the number of the port, if one is written, and what follows, of a
+/// `sip` URI at the front of a text that has neither parameters nor headers, and whose user, if it has one, is of bytes of a
+/// host name: so each byte is read once. None says nothing.
 #[inline]
-pub fn plain_uri_at(text: &[u8]) -> Option<(&[u8], Option<u16>, &[u8])>
-    ensures { IfSome result (λ x. IsUriAt text.now x.0.now x.1 x.2.now) }
+pub(crate) fn plain_parts(text: &[u8]) -> Option<(&[u8], &[u8], Option<u16>, &[u8])>
+    ensures { IfSome result (λ x. IsUriOf text.now x.0.now x.1.now x.2 x.3.now) }
 {
     let text = behind_sip(text)?;
     let (name, rest) = split_name(text);
     let Some((b'@', place)) = rest.split_first() else {
         let (host, port, rest) = place_by(name, rest)?;
-        return Some((host, number_of(port), rest));
+        return Some((b"".as_slice(), host, number_of(port), rest));
     };
     if name.is_empty() {
         return None;
     }
     let (host, rest) = split_name(place);
     let (host, port, rest) = place_by(host, rest)?;
-    Some((host, number_of(port), rest))
+    Some((name, host, number_of(port), rest))
 }
 
-/// The user and the host of a `sip` URI that has a user of bytes of a host name, and neither parameters nor headers: where
-/// they stand, so that nothing is made of the URI. None says nothing.
-pub(crate) fn plain_names(text: &[u8]) -> Option<(&[u8], &[u8])>
-    ensures { IfSome result (λ x. HasNames text.now x.0.now x.1.now) }
+/// The host, the number of the port, if one is written, and what follows, of such a URI at the front of a text, as
+/// [`crate::UriRef::plain_at`] keeps it. None says nothing. Takes no memory.
+#[inline]
+pub fn plain_uri_at(text: &[u8]) -> Option<(&[u8], Option<u16>, &[u8])>
+    ensures { IfSome result (λ x. IsUriAt text.now x.0.now x.1 x.2.now) }
 {
-    let text = behind_sip(text)?;
-    let (name, rest) = split_name(text);
-    let Some((b'@', place)) = rest.split_first() else {
-        return None;
-    };
-    if name.is_empty() {
-        return None;
-    }
-    let (host, rest) = split_name(place);
-    let (host, _, rest) = place_by(host, rest)?;
-    if !rest.is_empty() {
-        return None;
-    }
-    Some((name, host))
+    let (_, host, port, rest) = plain_parts(text)?;
+    Some((host, port, rest))
 }

@@ -13,7 +13,9 @@ use Rattle.sip_uri.specs.declared.headers.UriHeader.{UriHeader}
 use Rattle.sip_uri.specs.declared.uri.Uri.{Uri}
 use Rattle.sip_uri_equality.specs.declared.symbols.Symbol.{Symbol}
 use Rattle.sip_uri_equality.specs.declared.symbols.Symbol.TheVariants.{Plain, EscapedReserved}
-use Rattle.sip_uri_equality.specs.Equality.{symbols, small, is_same_symbol, says_same, says_same_no_case, both_or_none, is_same_scheme, is_same_userinfo, agrees, is_never_ignored, is_answered, are_same_parameters, is_same_header, stands_as_often, are_same_headers, same, names_say_different}
+use Rattle.sip_uri_equality.specs.Equality.{symbols, small, is_same_symbol, says_same, says_same_no_case, both_or_none, is_same_scheme, is_same_userinfo, agrees}
+use Rattle.sip_uri_equality.specs.Equality.{is_never_ignored, is_answered, are_same_parameters, is_same_header, stands_as_often, are_same_headers, same}
+use Rattle.sip_uri_equality.specs.Equality.{names_say_different}
 use Rattle.sip_uri.proofs.Tests.{and_both, and_is}
 
 -- ---- texts
@@ -139,7 +141,8 @@ agrees_own p = rw (part_own p.name, optional_own says_same_no_case part_own p.va
 
 pub parameters_sym : (ps qs : List Parameter) → are_same_parameters ps qs ≡ are_same_parameters qs ps
 parameters_sym ps qs =
-    let pairs : list_all (λ p. list_all (λ q. agrees p q) qs) ps ≡ list_all (λ q. list_all (λ p. agrees q p) ps) qs = pairs_swap agrees ps qs ∙ all_same _ _ (λ q. all_same _ _ (λ p. agrees_sym p q) ps) qs in
+    let pairs : list_all (λ p. list_all (λ q. agrees p q) qs) ps ≡ list_all (λ q. list_all (λ p. agrees q p) ps) qs = pairs_swap agrees ps qs
+    ∙ all_same _ _ (λ q. all_same _ _ (λ p. agrees_sym p q) ps) qs in
     rw (pairs, and_sym (list_all (is_answered qs) ps) (list_all (is_answered ps) qs)) refl
 
 -- one whose name stands nowhere in others agrees with them
@@ -155,15 +158,18 @@ pairs_own (p ∷ ps) differ =
     let both = and_both (not (list_any (λ q. says_same_no_case p.name q.name) ps)) (names_say_different ps) differ in
     let front : list_all (λ q. agrees p q) ps ≡ true = apart p ps (not-true (list_any (λ q. says_same_no_case p.name q.name) ps) both.0) in
     let back : list_all (λ q. agrees q p) ps ≡ true = all_same _ _ (λ q. agrees_sym q p) ps ∙ front in
-    let others : list_all (λ q. agrees q p && list_all (λ r. agrees q r) ps) ps ≡ true = all_both (λ q. agrees q p) (λ q. list_all (λ r. agrees q r) ps) ps ∙ and_is _ _ back (pairs_own ps both.1) in
+    let others : list_all (λ q. agrees q p && list_all (λ r. agrees q r) ps) ps ≡ true = all_both (λ q. agrees q p) (λ q. list_all (λ r. agrees q r) ps) ps
+    ∙ and_is _ _ back (pairs_own ps both.1) in
     rw (agrees_own p, front, others) refl
 
 answered_own : (before ps : List Parameter) → list_all (is_answered (before ++ ps)) ps ≡ true
 answered_own before [] = refl
 answered_own before (p ∷ ps) =
     let here : list_any (λ q. says_same_no_case p.name q.name) (before ++ p ∷ ps) ≡ true =
-    list_any-append (λ q. says_same_no_case p.name q.name) before (p ∷ ps) ∙ or_right (list_any (λ q. says_same_no_case p.name q.name) before) _ (or_left (says_same_no_case p.name p.name) _ (part_own p.name)) in
-    let later : list_all (is_answered (before ++ p ∷ ps)) ps ≡ true = subst (λ (w : List Parameter). list_all (is_answered w) ps ≡ true) (append_assoc before (p ∷ []) ps) (answered_own (before ++ p ∷ []) ps) in
+    list_any-append (λ q. says_same_no_case p.name q.name) before (p ∷ ps) ∙ or_right (list_any (λ q. says_same_no_case p.name q.name) before) _
+    (or_left (says_same_no_case p.name p.name) _ (part_own p.name)) in
+    let later : list_all (is_answered (before ++ p ∷ ps)) ps ≡ true = subst (λ (w : List Parameter). list_all (is_answered w) ps ≡ true) (append_assoc before (p ∷ []) ps)
+    (answered_own (before ++ p ∷ []) ps) in
     and_is _ _ (or_right (not (is_never_ignored p.name)) _ here) later
 
 parameters_own : (ps : List Parameter) → names_say_different ps ≡ true → are_same_parameters ps ps ≡ true

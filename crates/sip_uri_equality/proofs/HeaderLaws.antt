@@ -1,5 +1,6 @@
 -- The same headers in any order: as often in one list as in another, and pairwise the same where both are in order.
-use Rattle.std.proofs.Common.{◌≡◌, ℕ, ◌+◌, Bool, true, false, cond, List, [], ◌∷◌, Bor, Ordering, Less, Equal, Greater, IsPermutation, is_eq, is_lt, count_by, refl, sym, ap, ap₂, ◌∙◌, eq-eqb, arith}
+use Rattle.std.proofs.Common.{◌≡◌, ℕ, ◌+◌, Bool, true, false, cond, List, [], ◌∷◌, Bor, Ordering, Less, Equal, Greater, IsPermutation, is_eq, is_lt, count_by, refl, sym}
+use Rattle.std.proofs.Common.{ap, ap₂, ◌∙◌, eq-eqb, arith}
 use Rattle.std.specs.Prelude.{◌&&◌}
 use Rattle.std.specs.Cmp.{IsTotalOrder, IsStrictWeakOrder, IsEquivalence}
 use Rattle.std.specs.Cmp.Lexicographic.{pointwise}
@@ -87,9 +88,11 @@ some_of p q (h ∷ hs) e f = by_first (q h) refl (λ k g. some_of p q hs k g)
     by_first true is on = record { header = h; first = both.0; second = is }
     by_first false is on = on both.1 (sym (rw is refl) ∙ f)
 
-by_witness : (hs gs : List UriHeader) (x : UriHeader) → Witness (stands_as_often hs gs) (is_same_header x) → count_by (is_same_header x) hs ≡ count_by (is_same_header x) gs
+by_witness : (hs gs : List UriHeader) (x : UriHeader) → Witness (stands_as_often hs gs) (is_same_header x)
+    → count_by (is_same_header x) hs ≡ count_by (is_same_header x) gs
 by_witness hs gs x w =
-    let like : (ks : List UriHeader) → count_by (is_same_header x) ks ≡ count_by (is_same_header w.header) ks = λ ks. count_alike (is_same_header x) (is_same_header w.header) (λ y. congr x w.header y w.second) ks in
+    let like : (ks : List UriHeader) → count_by (is_same_header x) ks ≡ count_by (is_same_header w.header) ks =
+    λ ks. count_alike (is_same_header x) (is_same_header w.header) (λ y. congr x w.header y w.second) ks in
     like hs ∙ eqb-true (count_by (is_same_header w.header) hs) (count_by (is_same_header w.header) gs) w.first ∙ sym (like gs)
 
 stand_alike : (hs gs : List UriHeader) → are_same_headers hs gs ≡ true → StandAlike hs gs
@@ -115,7 +118,8 @@ count_moved x hs gs moved = sum_by-IsPermutation (λ h. cond (is_same_header x h
 
 none_here : (x : UriHeader) (hs : List UriHeader) → AllByRecursion (λ h. order_of_headers x h ≡ Less) hs → count_by (is_same_header x) hs ≡ 0
 none_here x [] all = refl
-none_here x (h ∷ hs) all = counted (is_same_header x) h hs ∙ ap₂ (λ (b : Bool) (n : ℕ). cond {A = ℕ} b 1 0 + n) (sym (header_tie x h) ∙ ap is_eq all.0) (none_here x hs all.1)
+none_here x (h ∷ hs) all = counted (is_same_header x) h hs ∙ ap₂ (λ (b : Bool) (n : ℕ). cond {A = ℕ} b 1 0 + n) (sym (header_tie x h) ∙ ap is_eq all.0)
+    (none_here x hs all.1)
 
 alike_from_pairs : (hs gs : List UriHeader) → pointwise is_same_header hs gs ≡ true → StandAlike hs gs
 alike_from_pairs [] [] e x = refl
@@ -123,7 +127,8 @@ alike_from_pairs [] (g ∷ gs) e x = absurd cc
 alike_from_pairs (h ∷ hs) [] e x = absurd cc
 alike_from_pairs (h ∷ hs) (g ∷ gs) e x =
     let both = and_both (is_same_header h g) (pointwise is_same_header hs gs) e in
-    counted (is_same_header x) h hs ∙ ap₂ (λ (b : Bool) (n : ℕ). cond {A = ℕ} b 1 0 + n) (congr_right h g x both.0) (alike_from_pairs hs gs both.1 x) ∙ sym (counted (is_same_header x) g gs)
+    counted (is_same_header x) h hs ∙ ap₂ (λ (b : Bool) (n : ℕ). cond {A = ℕ} b 1 0 + n) (congr_right h g x both.0) (alike_from_pairs hs gs both.1 x)
+    ∙ sym (counted (is_same_header x) g gs)
 
 one_more : (x h : UriHeader) (hs : List UriHeader) → is_same_header x h ≡ true → count_by (is_same_header x) (h ∷ hs) ≡ 1 + count_by (is_same_header x) hs
 one_more x h hs e = counted (is_same_header x) h hs ∙ ap (λ (b : Bool). cond {A = ℕ} b 1 0 + count_by (is_same_header x) hs) e
@@ -150,13 +155,16 @@ pairs_from_alike (h ∷ hs) (g ∷ gs) up down counts = by_order (order_of_heade
         let here : is_same_header h g ≡ true = sym (header_tie h g) ∙ ap is_eq is in
         and_is _ _ here (on (λ x. fewer x (is_same_header x h) refl (sym (congr_right h g x here))))
       where
-        fewer : (x : UriHeader) (b : Bool) → is_same_header x h ≡ b → is_same_header x g ≡ is_same_header x h → count_by (is_same_header x) hs ≡ count_by (is_same_header x) gs
+        fewer : (x : UriHeader) (b : Bool) → is_same_header x h ≡ b → is_same_header x g ≡ is_same_header x h
+            → count_by (is_same_header x) hs ≡ count_by (is_same_header x) gs
         fewer x true p q = let e = one_more x h hs p in let f = one_more x g gs (q ∙ p) in omega (arith, counts x, e, f)
         fewer x false p q = let e = no_more x h hs p in let f = no_more x g gs (q ∙ p) in omega (arith, counts x, e, f)
 
 -- ---- the whole
 
-pub in_order_pairs : (hs gs ks ls : List UriHeader) → IsPermutation hs ks → IsPermutation gs ls → AreInOrder order_of_headers ks → AreInOrder order_of_headers ls → pointwise is_same_header ks ls ≡ are_same_headers hs gs
+pub in_order_pairs : (hs gs ks ls : List UriHeader) → IsPermutation hs ks → IsPermutation gs ls → AreInOrder order_of_headers ks → AreInOrder order_of_headers ls
+    → pointwise is_same_header ks ls ≡ are_same_headers hs gs
 in_order_pairs hs gs ks ls left right up down =
-    alike (pointwise is_same_header ks ls) (are_same_headers hs gs) (λ e. same_from_alike hs gs (λ x. sym (count_moved x hs ks left) ∙ alike_from_pairs ks ls e x ∙ count_moved x gs ls right))
+    alike (pointwise is_same_header ks ls) (are_same_headers hs gs) (λ e. same_from_alike hs gs
+    (λ x. sym (count_moved x hs ks left) ∙ alike_from_pairs ks ls e x ∙ count_moved x gs ls right))
     (λ e. pairs_from_alike ks ls up down (λ x. count_moved x hs ks left ∙ stand_alike hs gs e x ∙ sym (count_moved x gs ls right)))

@@ -1,5 +1,6 @@
 -- Lists in an order, and lists in another order.
-use Rattle.std.proofs.Common.{◌≡◌, ℕ, suc, ◌+◌, Bool, true, false, List, [], ◌∷◌, get_or, Bor, Ordering, Less, Equal, Greater, IsPermutation, IsSorted, is_lt, is_gt, refl, sym, ap, subst, ◌∙◌, arith}
+use Rattle.std.proofs.Common.{◌≡◌, ℕ, suc, ◌+◌, Bool, true, false, List, [], ◌∷◌, get_or, Bor, Ordering, Less, Equal, Greater, IsPermutation, IsSorted, is_lt, is_gt}
+use Rattle.std.proofs.Common.{refl, sym, ap, subst, ◌∙◌, arith}
 use Rattle.std.specs.Prelude.{◌&&◌, ◌||◌, not}
 use Rattle.std.specs.Cmp.{IsTotalOrder}
 use Rattle.std.specs.List.{AllByRecursion, list_all, list_any}
@@ -78,7 +79,8 @@ all_in_any_order p xs ys moved = none_fails p xs ∙ ap not (list_any-IsPermutat
 
 -- ---- behind references
 
-pub behind_references : {X : Type 0} (order : X → X → Ordering) (xs : List (Bor X)) → AreInOrder (λ (a : Bor X) (b : Bor X). order a.now b.now) xs → AreInOrder order (those_of xs)
+pub behind_references : {X : Type 0} (order : X → X → Ordering) (xs : List (Bor X)) → AreInOrder (λ (a : Bor X) (b : Bor X). order a.now b.now) xs
+    → AreInOrder order (those_of xs)
 behind_references order [] up = tt
 behind_references {X = X} order (x ∷ xs) up = (all xs up.0, behind_references order xs up.1)
   where
@@ -86,5 +88,7 @@ behind_references {X = X} order (x ∷ xs) up = (all xs up.0, behind_references 
     all [] a = tt
     all (y ∷ ys) a = (a.0, all ys a.1)
 
-pub moved_behind_references : {X : Type 0} (items : List X) (places moved : List (Bor X)) → those_of places ≡ items → IsPermutation places moved → IsPermutation items (those_of moved)
-moved_behind_references {X = X} items places moved are perm = subst (λ (xs : List X). IsPermutation xs (those_of moved)) are (IsPermutation-map (λ (x : Bor X). x.now) places moved perm)
+pub moved_behind_references : {X : Type 0} (items : List X) (places moved : List (Bor X)) → those_of places ≡ items → IsPermutation places moved
+    → IsPermutation items (those_of moved)
+moved_behind_references {X = X} items places moved are perm = subst (λ (xs : List X). IsPermutation xs (those_of moved)) are
+    (IsPermutation-map (λ (x : Bor X). x.now) places moved perm)

@@ -3,14 +3,16 @@ use Rattle.std.proofs.Common.{◌≡◌, Bool, true, false, refl}
 use Rattle.std.specs.Prelude.{◌&&◌}
 
 -- the place, the parameters and the headers decide
-pub by_place : (scheme user host port parameters headers : Bool) → (scheme && user && host && port) ≡ false → false ≡ (scheme && user && host && port && parameters && headers)
+pub by_place : (scheme user host port parameters headers : Bool) → (scheme && user && host && port) ≡ false
+    → false ≡ (scheme && user && host && port && parameters && headers)
 by_place true true true true parameters headers differ = absurd cc
 by_place true true true false parameters headers differ = refl
 by_place true true false port parameters headers differ = refl
 by_place true false host port parameters headers differ = refl
 by_place false user host port parameters headers differ = refl
 
-pub by_parameters : (scheme user host port parameters headers : Bool) → (scheme && user && host && port) ≡ true → parameters ≡ false → false ≡ (scheme && user && host && port && parameters && headers)
+pub by_parameters : (scheme user host port parameters headers : Bool) → (scheme && user && host && port) ≡ true → parameters ≡ false
+    → false ≡ (scheme && user && host && port && parameters && headers)
 by_parameters true true true true false headers same differ = refl
 by_parameters true true true true true headers same differ = absurd cc
 by_parameters true true true false parameters headers same differ = absurd cc
@@ -18,7 +20,8 @@ by_parameters true true false port parameters headers same differ = absurd cc
 by_parameters true false host port parameters headers same differ = absurd cc
 by_parameters false user host port parameters headers same differ = absurd cc
 
-pub by_headers : (scheme user host port parameters headers : Bool) → (scheme && user && host && port) ≡ true → parameters ≡ true → headers ≡ (scheme && user && host && port && parameters && headers)
+pub by_headers : (scheme user host port parameters headers : Bool) → (scheme && user && host && port) ≡ true → parameters ≡ true
+    → headers ≡ (scheme && user && host && port && parameters && headers)
 by_headers true true true true true headers same also = refl
 by_headers true true true true false headers same also = absurd cc
 by_headers true true true false parameters headers same also = absurd cc

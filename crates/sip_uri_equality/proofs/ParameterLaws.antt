@@ -1,5 +1,6 @@
 -- Parameters that both URIs have, or one alone.
-use Rattle.std.proofs.Common.{◌≡◌, ℕ, Bool, true, false, List, [], ◌∷◌, Option, Some, None, Bor, Ordering, Less, Equal, Greater, IsPermutation, is_eq, is_gt, is_lt, refl, sym, ap, ◌∙◌}
+use Rattle.std.proofs.Common.{◌≡◌, ℕ, Bool, true, false, List, [], ◌∷◌, Option, Some, None, Bor, Ordering, Less, Equal, Greater, IsPermutation, is_eq, is_gt, is_lt, refl}
+use Rattle.std.proofs.Common.{sym, ap, ◌∙◌}
 use Rattle.std.specs.Prelude.{◌&&◌, ◌||◌, not, codes}
 use Rattle.std.specs.Cmp.{IsTotalOrder, IsStrictWeakOrder}
 use Rattle.std.specs.List.{AllByRecursion, list_all, list_any}
@@ -17,7 +18,8 @@ or_behind : (a b : Bool) → a ≡ true → b ≡ (not a || b)
 or_behind a b e = rw e refl
 
 -- a parameter that counts is answered where its name stands
-pub counts : (others : List Parameter) (p : Parameter) (name : List ℕ) (r : Bool) → name ≡ p.name → is_never_ignored name ≡ true → r ≡ list_any (λ (q : Parameter). says_same_no_case name q.name) others → r ≡ is_answered others p
+pub counts : (others : List Parameter) (p : Parameter) (name : List ℕ) (r : Bool) → name ≡ p.name → is_never_ignored name ≡ true
+    → r ≡ list_any (λ (q : Parameter). says_same_no_case name q.name) others → r ≡ is_answered others p
 counts others p name r e never is =
     is ∙ or_behind (is_never_ignored name) (list_any (λ (q : Parameter). says_same_no_case name q.name) others) never
     ∙ ap (λ (n : List ℕ). not (is_never_ignored n) || list_any (λ (q : Parameter). says_same_no_case n q.name) others) e
@@ -43,14 +45,13 @@ any_same p q same (x ∷ xs) = rw (same x, any_same p q same xs) refl
 
 -- ---- in any order
 
-pairs_of : List Parameter → List Parameter → Bool
-pairs_of ps qs = list_all (λ p. list_all (λ q. agrees p q) qs) ps
-
 right_in_any_order : (ps qs rs : List Parameter) → IsPermutation qs rs → are_same_parameters ps qs ≡ are_same_parameters ps rs
 right_in_any_order ps qs rs moved =
-    let pairs : list_all (λ p. list_all (λ q. agrees p q) qs) ps ≡ list_all (λ p. list_all (λ q. agrees p q) rs) ps = all_same _ _ (λ p. all_in_any_order (λ q. agrees p q) qs rs moved) ps in
+    let pairs : list_all (λ p. list_all (λ q. agrees p q) qs) ps ≡ list_all (λ p. list_all (λ q. agrees p q) rs) ps =
+    all_same _ _ (λ p. all_in_any_order (λ q. agrees p q) qs rs moved) ps in
     let forth : list_all (is_answered qs) ps ≡ list_all (is_answered rs) ps =
-    all_same _ _ (λ p. ap (λ (t : Bool). not (is_never_ignored p.name) || t) (list_any-IsPermutation (λ (q : Parameter). says_same_no_case p.name q.name) qs rs moved)) ps in
+    all_same _ _ (λ p. ap (λ (t : Bool). not (is_never_ignored p.name) || t) (list_any-IsPermutation (λ (q : Parameter). says_same_no_case p.name q.name) qs rs moved)) ps
+    in
     let back : list_all (is_answered ps) qs ≡ list_all (is_answered ps) rs = all_in_any_order (is_answered ps) qs rs moved in
     rw (pairs, forth, back) refl
 
@@ -98,15 +99,18 @@ shuffle false n y z = by_first n
 pub skips : (p : Parameter) (ps qs : List Parameter) → IsApart p qs → are_same_parameters (p ∷ ps) qs ≡ (not (is_never_ignored p.name) && are_same_parameters ps qs)
 skips p ps qs none =
     let row : list_all (λ q. agrees p q) qs ≡ true = apart p qs none in
-    let here : is_answered qs p ≡ not (is_never_ignored p.name) = or_none (not (is_never_ignored p.name)) (list_any (λ (q : Parameter). says_same_no_case p.name q.name) qs) none in
-    rw (row, here, answered_past p ps qs none) (shuffle (list_all (λ p. list_all (λ q. agrees p q) qs) ps) (not (is_never_ignored p.name)) (list_all (is_answered qs) ps) (list_all (is_answered ps) qs))
+    let here : is_answered qs p ≡ not (is_never_ignored p.name) = or_none (not (is_never_ignored p.name))
+    (list_any (λ (q : Parameter). says_same_no_case p.name q.name) qs) none in
+    rw (row, here, answered_past p ps qs none) (shuffle (list_all (λ p. list_all (λ q. agrees p q) qs) ps) (not (is_never_ignored p.name)) (list_all (is_answered qs) ps)
+    (list_all (is_answered ps) qs))
 
 -- ---- two of one name and value, and no other of that name
 
 column : (q : Parameter) (ps : List Parameter) → IsApart q ps → list_all (λ p. agrees p q) ps ≡ true
 column q ps none = all_same _ _ (λ p. agrees_sym p q) ps ∙ apart q ps none
 
-pub both_go : (p q : Parameter) (ps qs : List Parameter) → says_same_no_case p.name q.name ≡ true → both_or_none says_same_no_case p.value q.value ≡ true → IsApart p qs → IsApart q ps → are_same_parameters (p ∷ ps) (q ∷ qs) ≡ are_same_parameters ps qs
+pub both_go : (p q : Parameter) (ps qs : List Parameter) → says_same_no_case p.name q.name ≡ true → both_or_none says_same_no_case p.value q.value ≡ true → IsApart p qs
+    → IsApart q ps → are_same_parameters (p ∷ ps) (q ∷ qs) ≡ are_same_parameters ps qs
 both_go p q ps qs name value none_right none_left =
     let agree : agrees p q ≡ true = rw (name, value) refl in
     let row : list_all (λ q. agrees p q) qs ≡ true = apart p qs none_right in
@@ -134,27 +138,34 @@ or_again true r n = refl
 or_again false r n = refl
 
 -- one like the next says nothing more
-doubled : (p o : Parameter) (ps qs : List Parameter) → says_same_no_case p.name o.name ≡ true → both_or_none says_same_no_case p.value o.value ≡ true → are_same_parameters (p ∷ o ∷ ps) qs ≡ are_same_parameters (o ∷ ps) qs
+doubled : (p o : Parameter) (ps qs : List Parameter) → says_same_no_case p.name o.name ≡ true → both_or_none says_same_no_case p.value o.value ≡ true
+    → are_same_parameters (p ∷ o ∷ ps) qs ≡ are_same_parameters (o ∷ ps) qs
 doubled p o ps qs name value =
     let row : list_all (λ q. agrees p q) qs ≡ list_all (λ q. agrees o q) qs = all_same _ _ (λ q. agrees_congr p o q name value) qs in
-    let names : list_any (λ (q : Parameter). says_same_no_case p.name q.name) qs ≡ list_any (λ (q : Parameter). says_same_no_case o.name q.name) qs = any_same _ _ (λ (q : Parameter). text_congr p.name o.name q.name name) qs in
+    let names : list_any (λ (q : Parameter). says_same_no_case p.name q.name) qs ≡ list_any (λ (q : Parameter). says_same_no_case o.name q.name) qs =
+    any_same _ _ (λ (q : Parameter). text_congr p.name o.name q.name name) qs in
     let here : is_answered qs p ≡ is_answered qs o = rw (never_congr p.name o.name name, names) refl in
     let back : list_all (is_answered (p ∷ o ∷ ps)) qs ≡ list_all (is_answered (o ∷ ps)) qs =
-    all_same _ _ (λ (q : Parameter). rw (text_congr_right p.name o.name q.name name) (or_again (says_same_no_case q.name o.name) (list_any (λ (r : Parameter). says_same_no_case q.name r.name) ps) (not (is_never_ignored q.name)))) qs in
-    rw (row, here) (twice (list_all (λ q. agrees o q) qs) (list_all (λ p. list_all (λ q. agrees p q) qs) ps) (is_answered qs o) (list_all (is_answered qs) ps) (list_all (is_answered (p ∷ o ∷ ps)) qs) (list_all (is_answered (o ∷ ps)) qs) back)
+    all_same _ _ (λ (q : Parameter). rw (text_congr_right p.name o.name q.name name) (or_again (says_same_no_case q.name o.name)
+    (list_any (λ (r : Parameter). says_same_no_case q.name r.name) ps) (not (is_never_ignored q.name)))) qs in
+    rw (row, here) (twice (list_all (λ q. agrees o q) qs) (list_all (λ p. list_all (λ q. agrees p q) qs) ps) (is_answered qs o) (list_all (is_answered qs) ps)
+    (list_all (is_answered (p ∷ o ∷ ps)) qs) (list_all (is_answered (o ∷ ps)) qs) back)
 
 and_false : (a : Bool) → (a && false) ≡ false
 and_false true = refl
 and_false false = refl
 
 -- one that differs from its like refuses the whole
-refused : (p q : Parameter) (ps qs : List Parameter) → says_same_no_case p.name q.name ≡ true → both_or_none says_same_no_case p.value q.value ≡ false → are_same_parameters (p ∷ ps) (q ∷ qs) ≡ false
+refused : (p q : Parameter) (ps qs : List Parameter) → says_same_no_case p.name q.name ≡ true → both_or_none says_same_no_case p.value q.value ≡ false
+    → are_same_parameters (p ∷ ps) (q ∷ qs) ≡ false
 refused p q ps qs name value = rw (name, value) refl
 
-refused_later : (p o q : Parameter) (ps qs : List Parameter) → says_same_no_case o.name q.name ≡ true → both_or_none says_same_no_case o.value q.value ≡ false → are_same_parameters (p ∷ o ∷ ps) (q ∷ qs) ≡ false
+refused_later : (p o q : Parameter) (ps qs : List Parameter) → says_same_no_case o.name q.name ≡ true → both_or_none says_same_no_case o.value q.value ≡ false
+    → are_same_parameters (p ∷ o ∷ ps) (q ∷ qs) ≡ false
 refused_later p o q ps qs name value = rw (name, value, and_false (agrees p q && list_all (λ x. agrees p x) qs)) refl
 
-left_goes : (p o q : Parameter) (ps qs : List Parameter) → says_same_no_case p.name q.name ≡ true → both_or_none says_same_no_case p.value q.value ≡ true → says_same_no_case p.name o.name ≡ true → are_same_parameters (p ∷ o ∷ ps) (q ∷ qs) ≡ are_same_parameters (o ∷ ps) (q ∷ qs)
+left_goes : (p o q : Parameter) (ps qs : List Parameter) → says_same_no_case p.name q.name ≡ true → both_or_none says_same_no_case p.value q.value ≡ true
+    → says_same_no_case p.name o.name ≡ true → are_same_parameters (p ∷ o ∷ ps) (q ∷ qs) ≡ are_same_parameters (o ∷ ps) (q ∷ qs)
 left_goes p o q ps qs name value next = by_value (both_or_none says_same_no_case o.value q.value) refl
   where
     same_name : says_same_no_case o.name q.name ≡ true
@@ -162,7 +173,8 @@ left_goes p o q ps qs name value next = by_value (both_or_none says_same_no_case
 
     by_value : (t : Bool) → both_or_none says_same_no_case o.value q.value ≡ t → are_same_parameters (p ∷ o ∷ ps) (q ∷ qs) ≡ are_same_parameters (o ∷ ps) (q ∷ qs)
     by_value true is =
-        let like : both_or_none says_same_no_case p.value o.value ≡ true = value_congr p.value q.value o.value value ∙ optional_sym says_same_no_case part_sym q.value o.value ∙ is in
+        let like : both_or_none says_same_no_case p.value o.value ≡ true = value_congr p.value q.value o.value value
+        ∙ optional_sym says_same_no_case part_sym q.value o.value ∙ is in
         doubled p o ps (q ∷ qs) next like
     by_value false is = refused_later p o q ps qs same_name is ∙ sym (refused o q ps qs same_name is)
 
@@ -198,25 +210,31 @@ module _ (p q : Parameter) (ps qs : List Parameter) where
   abbrev Same : List Parameter → List Parameter → Type 0
   Same rs ss = are_same_parameters (p ∷ ps) (q ∷ qs) ≡ are_same_parameters rs ss
 
-  pub less_counts : (n m : List ℕ) → n ≡ p.name → m ≡ q.name → Less ≡ order_of_texts n m → is_never_ignored n ≡ true → AreInOrder order_of_names (q ∷ qs) → are_same_parameters (p ∷ ps) (q ∷ qs) ≡ false
+  pub less_counts : (n m : List ℕ) → n ≡ p.name → m ≡ q.name → Less ≡ order_of_texts n m → is_never_ignored n ≡ true → AreInOrder order_of_names (q ∷ qs)
+      → are_same_parameters (p ∷ ps) (q ∷ qs) ≡ false
   less_counts n m en em e never up =
       let less : order_of_names p q ≡ Less = sym (e ∙ ap (λ (a : List ℕ). order_of_texts a m) en ∙ ap (order_of_texts p.name) em) in
       skips p ps (q ∷ qs) (in_front p q qs less up) ∙ rw (ap is_never_ignored (sym en) ∙ never) refl
 
-  pub less_goes : (n m : List ℕ) → n ≡ p.name → m ≡ q.name → Less ≡ order_of_texts n m → is_never_ignored n ≡ false → AreInOrder order_of_names (q ∷ qs) → Same ps (q ∷ qs)
+  pub less_goes : (n m : List ℕ) → n ≡ p.name → m ≡ q.name → Less ≡ order_of_texts n m → is_never_ignored n ≡ false → AreInOrder order_of_names (q ∷ qs)
+      → Same ps (q ∷ qs)
   less_goes n m en em e never up =
       let less : order_of_names p q ≡ Less = sym (e ∙ ap (λ (a : List ℕ). order_of_texts a m) en ∙ ap (order_of_texts p.name) em) in
       skips p ps (q ∷ qs) (in_front p q qs less up) ∙ rw (ap is_never_ignored (sym en) ∙ never) refl
 
-  pub greater_counts : (n m : List ℕ) → n ≡ p.name → m ≡ q.name → Greater ≡ order_of_texts n m → is_never_ignored m ≡ true → AreInOrder order_of_names (p ∷ ps) → are_same_parameters (p ∷ ps) (q ∷ qs) ≡ false
+  pub greater_counts : (n m : List ℕ) → n ≡ p.name → m ≡ q.name → Greater ≡ order_of_texts n m → is_never_ignored m ≡ true → AreInOrder order_of_names (p ∷ ps)
+      → are_same_parameters (p ∷ ps) (q ∷ qs) ≡ false
   greater_counts n m en em e never up =
       let greater : order_of_names p q ≡ Greater = sym (e ∙ ap (λ (a : List ℕ). order_of_texts a m) en ∙ ap (order_of_texts p.name) em) in
-      parameters_sym (p ∷ ps) (q ∷ qs) ∙ skips q qs (p ∷ ps) (none_named q (p ∷ ps) (all_behind_other names_total q p ps greater up)) ∙ rw (ap is_never_ignored (sym em) ∙ never) refl
+      parameters_sym (p ∷ ps) (q ∷ qs) ∙ skips q qs (p ∷ ps) (none_named q (p ∷ ps) (all_behind_other names_total q p ps greater up))
+      ∙ rw (ap is_never_ignored (sym em) ∙ never) refl
 
-  pub greater_goes : (n m : List ℕ) → n ≡ p.name → m ≡ q.name → Greater ≡ order_of_texts n m → is_never_ignored m ≡ false → AreInOrder order_of_names (p ∷ ps) → Same (p ∷ ps) qs
+  pub greater_goes : (n m : List ℕ) → n ≡ p.name → m ≡ q.name → Greater ≡ order_of_texts n m → is_never_ignored m ≡ false → AreInOrder order_of_names (p ∷ ps)
+      → Same (p ∷ ps) qs
   greater_goes n m en em e never up =
       let greater : order_of_names p q ≡ Greater = sym (e ∙ ap (λ (a : List ℕ). order_of_texts a m) en ∙ ap (order_of_texts p.name) em) in
-      parameters_sym (p ∷ ps) (q ∷ qs) ∙ skips q qs (p ∷ ps) (none_named q (p ∷ ps) (all_behind_other names_total q p ps greater up)) ∙ rw (ap is_never_ignored (sym em) ∙ never) (parameters_sym qs (p ∷ ps))
+      parameters_sym (p ∷ ps) (q ∷ qs) ∙ skips q qs (p ∷ ps) (none_named q (p ∷ ps) (all_behind_other names_total q p ps greater up))
+      ∙ rw (ap is_never_ignored (sym em) ∙ never) (parameters_sym qs (p ∷ ps))
 
   pub same_name : (n m : List ℕ) → n ≡ p.name → m ≡ q.name → Equal ≡ order_of_texts n m → says_same_no_case p.name q.name ≡ true
   same_name n m en em e = sym (tie_is_same p.name q.name) ∙ ap is_eq (sym (e ∙ ap (λ (a : List ℕ). order_of_texts a m) en ∙ ap (order_of_texts p.name) em))
@@ -241,7 +259,8 @@ module _ (p q : Parameter) (ps qs : List Parameter) where
 
     pub goes_both : AreInOrder order_of_names (p ∷ ps) → AreInOrder order_of_names (q ∷ qs) → begins_with p.name ps ≡ false → begins_with q.name qs ≡ false → Same ps qs
     goes_both left right no_left no_right =
-        both_go p q ps qs name value (apart_from_like q p qs (part_sym q.name p.name ∙ name) (none_more q qs right no_right)) (apart_from_like p q ps name (none_more p ps left no_left))
+        both_go p q ps qs name value (apart_from_like q p qs (part_sym q.name p.name ∙ name) (none_more q qs right no_right))
+        (apart_from_like p q ps name (none_more p ps left no_left))
 
 -- ---- where one list ends
 

@@ -26,4 +26,5 @@ fails f (x ∷ xs) (suc i) d within e = later (f x.now) (fails f xs i d (omega (
 pub differ_there : (ps qs : List (Bor Parameter)) (i : ℕ) (d e : Bor Parameter) → i < length ps → i < length qs → agrees (get_or ps i d).now (get_or qs i e).now ≡ false
     → are_same_parameters (those_of ps) (those_of qs) ≡ false
 differ_there ps qs i d e left right differ =
-    and_left _ _ (fails (λ (p : Parameter). list_all (λ (q : Parameter). agrees p q) (those_of qs)) ps i d left (fails (λ (q : Parameter). agrees (get_or ps i d).now q) qs i e right differ))
+    and_left _ _ (fails (λ (p : Parameter). list_all (λ (q : Parameter). agrees p q) (those_of qs)) ps i d left
+    (fails (λ (q : Parameter). agrees (get_or ps i d).now q) qs i e right differ))

@@ -28,7 +28,8 @@ symbols_tie [] (t ∷ ts) = refl
 symbols_tie (s ∷ ss) [] = refl
 symbols_tie (s ∷ ss) (t ∷ ts) = by_rank (nat_lt (rank s) (rank t)) (rank s == rank t) refl refl (symbols_tie ss ts)
   where
-    by_rank : (a b : Bool) → nat_lt (rank s) (rank t) ≡ a → (rank s == rank t) ≡ b → is_eq (slice_cmp order_of_symbols ss ts) ≡ pointwise is_same_symbol ss ts → is_eq (slice_cmp order_of_symbols (s ∷ ss) (t ∷ ts)) ≡ pointwise is_same_symbol (s ∷ ss) (t ∷ ts)
+    by_rank : (a b : Bool) → nat_lt (rank s) (rank t) ≡ a → (rank s == rank t) ≡ b → is_eq (slice_cmp order_of_symbols ss ts) ≡ pointwise is_same_symbol ss ts
+        → is_eq (slice_cmp order_of_symbols (s ∷ ss) (t ∷ ts)) ≡ pointwise is_same_symbol (s ∷ ss) (t ∷ ts)
     by_rank true true p q rest = let never : ⊥ = grind arith in absurd never
     by_rank true false p q rest = rw (p, sym (same_ranks s t) ∙ q) refl
     by_rank false true p q rest = rw (p, q, sym (same_ranks s t) ∙ q) rest

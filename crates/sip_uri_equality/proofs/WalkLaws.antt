@@ -1,5 +1,6 @@
 -- Two lists of parameters in order, walked side by side by their places.
-use Rattle.std.proofs.Common.{◌≡◌, ℕ, zero, suc, ◌+◌, ◌-◌, ◌<◌, ◌≤◌, Bool, false, List, [], ◌∷◌, length, take, drop, Bor, Ordering, refl, sym, ap, ap₂, subst, ◌∙◌, length-drop, arith}
+use Rattle.std.proofs.Common.{◌≡◌, ℕ, zero, suc, ◌+◌, ◌-◌, ◌<◌, ◌≤◌, Bool, false, List, [], ◌∷◌, length, take, drop, Bor, Ordering, refl, sym, ap, ap₂, subst, ◌∙◌}
+use Rattle.std.proofs.Common.{length-drop, arith}
 use Rattle.std.specs.Prelude.{not}
 use Rattle.std.specs.List.{list_all}
 use Rattle.std.proofs.lemmas.List.{take_all, drop_all}
@@ -33,9 +34,11 @@ next i xs =
     ap (λ (n : ℕ). those_of (drop n xs)) one ∙ next_suc i xs
 
 -- what a call at the rest asks
-pub rest_in_order : (xs : List (Bor Parameter)) (i : ℕ) → i < length xs → AreInOrder order_of_names (those_of xs) → (0 < length (take (length xs - i) (drop i xs))) × AreInOrder order_of_names (those_of (take (length xs - i) (drop i xs)))
+pub rest_in_order : (xs : List (Bor Parameter)) (i : ℕ) → i < length xs → AreInOrder order_of_names (those_of xs)
+    → (0 < length (take (length xs - i) (drop i xs))) × AreInOrder order_of_names (those_of (take (length xs - i) (drop i xs)))
 rest_in_order xs i within up =
-    subst (λ (ys : List (Bor Parameter)). (0 < length ys) × AreInOrder order_of_names (those_of ys)) (sym (rest_is xs i)) (omega (arith, length-drop i xs), drop_in_order order_of_names i xs up)
+    subst (λ (ys : List (Bor Parameter)). (0 < length ys) × AreInOrder order_of_names (those_of ys)) (sym (rest_is xs i))
+    (omega (arith, length-drop i xs), drop_in_order order_of_names i xs up)
 
 -- ---- a step, over any lists
 
@@ -61,24 +64,31 @@ module _ (left right : List (Bor Parameter)) (i j : ℕ) (total : Bool) (so_far 
   right_rest : those_of (take (length right - j) (drop j right)) ≡ those_of (drop j right)
   right_rest = ap those_of (rest_is right j)
 
-  pub past_left : IsAdvance Left (those_of (take (length left - i) (drop i left))) (those_of (take (length right - j) (drop j right))) → are_same_parameters (those_of (drop (i + 1) left)) (those_of (drop j right)) ≡ total
+  pub past_left : IsAdvance Left (those_of (take (length left - i) (drop i left))) (those_of (take (length right - j) (drop j right)))
+      → are_same_parameters (those_of (drop (i + 1) left)) (those_of (drop j right)) ≡ total
   past_left step = step_left (those_of (drop i left)) (those_of (drop j right)) _ _ total left_rest right_rest so_far (those_of (drop (i + 1) left)) (next i left) step
 
-  pub past_right : IsAdvance Right (those_of (take (length left - i) (drop i left))) (those_of (take (length right - j) (drop j right))) → are_same_parameters (those_of (drop i left)) (those_of (drop (j + 1) right)) ≡ total
-  past_right step = step_right (those_of (drop i left)) (those_of (drop j right)) _ _ total left_rest right_rest so_far (those_of (drop (j + 1) right)) (next j right) step
+  pub past_right : IsAdvance Right (those_of (take (length left - i) (drop i left))) (those_of (take (length right - j) (drop j right)))
+      → are_same_parameters (those_of (drop i left)) (those_of (drop (j + 1) right)) ≡ total
+  past_right step = step_right (those_of (drop i left)) (those_of (drop j right)) _ _ total left_rest right_rest so_far (those_of (drop (j + 1) right)) (next j right)
+      step
 
-  pub past_both : IsAdvance Both (those_of (take (length left - i) (drop i left))) (those_of (take (length right - j) (drop j right))) → are_same_parameters (those_of (drop (i + 1) left)) (those_of (drop (j + 1) right)) ≡ total
-  past_both step = step_both (those_of (drop i left)) (those_of (drop j right)) _ _ total left_rest right_rest so_far (those_of (drop (i + 1) left)) (those_of (drop (j + 1) right)) (next i left) (next j right) step
+  pub past_both : IsAdvance Both (those_of (take (length left - i) (drop i left))) (those_of (take (length right - j) (drop j right)))
+      → are_same_parameters (those_of (drop (i + 1) left)) (those_of (drop (j + 1) right)) ≡ total
+  past_both step = step_both (those_of (drop i left)) (those_of (drop j right)) _ _ total left_rest right_rest so_far (those_of (drop (i + 1) left))
+      (those_of (drop (j + 1) right)) (next i left) (next j right) step
 
   pub differ_there : IsAdvance Differ (those_of (take (length left - i) (drop i left))) (those_of (take (length right - j) (drop j right))) → false ≡ total
   differ_there step = sym step ∙ ap₂ are_same_parameters left_rest right_rest ∙ so_far
 
-  pub right_ended : (r : Bool) → length right ≤ j → r ≡ list_all (λ (p : Parameter). not (is_never_ignored p.name)) (those_of (take (length left - i) (drop i left))) → r ≡ total
+  pub right_ended : (r : Bool) → length right ≤ j → r ≡ list_all (λ (p : Parameter). not (is_never_ignored p.name)) (those_of (take (length left - i) (drop i left)))
+      → r ≡ total
   right_ended r ended is =
       is ∙ ap (list_all (λ (p : Parameter). not (is_never_ignored p.name))) left_rest ∙ sym (right_ends (those_of (drop i left)))
       ∙ ap (λ (ys : List (Bor Parameter)). are_same_parameters (those_of (drop i left)) (those_of ys)) (sym (drop_all j right ended)) ∙ so_far
 
-  pub left_ended : (r : Bool) → length left ≤ i → r ≡ list_all (λ (p : Parameter). not (is_never_ignored p.name)) (those_of (take (length right - j) (drop j right))) → r ≡ total
+  pub left_ended : (r : Bool) → length left ≤ i → r ≡ list_all (λ (p : Parameter). not (is_never_ignored p.name)) (those_of (take (length right - j) (drop j right)))
+      → r ≡ total
   left_ended r ended is =
       is ∙ ap (list_all (λ (p : Parameter). not (is_never_ignored p.name))) right_rest ∙ sym (left_ends (those_of (drop j right)))
       ∙ ap (λ (ys : List (Bor Parameter)). are_same_parameters (those_of ys) (those_of (drop j right))) (sym (drop_all i left ended)) ∙ so_far

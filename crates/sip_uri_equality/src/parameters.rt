@@ -1,6 +1,6 @@
 //! Whether the parameters of two URIs are the same (RFC 3261 19.1.4): which ones count where only one URI has them.
 //! Where both lists are long they are compared in `parameter_order`.
-ghost use Rattle.std.specs.Prelude.{◌≡◌, option_map};
+ghost use Rattle.std.specs.Prelude.{◌≡◌};
 ghost use Rattle.std.specs.List.{list_all, list_any};
 ghost use Rattle.sip_uri_equality.specs.Equality as Definitions;
 

@@ -8,7 +8,8 @@ use Rattle.sip_header.specs.Via.{via_of}
 use Rattle.sip_header.specs.Route.{route_of}
 use Rattle.sip_header.specs.ContactItem.{contact_of}
 use Rattle.sip_validate.specs.Candidate.{Candidate}
-use Rattle.sip_validate.specs.Faults.{has_short_body, lacks_core_field, has_other_cseq_method, has_bad_max_forwards, has_bad_uri, has_bad_item, registers_other_scheme, binds_other_contact, is_bad}
+use Rattle.sip_validate.specs.Faults.{has_short_body, lacks_core_field, has_other_cseq_method, has_bad_max_forwards, has_bad_uri, has_bad_item, registers_other_scheme}
+use Rattle.sip_validate.specs.Faults.{binds_other_contact, is_bad}
 
 pub by_short : (r : Candidate) → has_short_body r ≡ true → is_bad r ≡ true
 by_short r h = or_left (has_short_body r) _ h
@@ -21,11 +22,13 @@ by_hops r h = or_right (has_short_body r) _ (or_right (lacks_core_field r) _ (or
 
 pub by_uri : (r : Candidate) → has_bad_uri r ≡ true → is_bad r ≡ true
 by_uri r h =
-    or_right (has_short_body r) _ (or_right (lacks_core_field r) _ (or_right (has_other_cseq_method r) _ (or_right (has_bad_max_forwards r) _ (or_left (has_bad_uri r) _ h))))
+    or_right (has_short_body r) _ (or_right (lacks_core_field r) _ (or_right (has_other_cseq_method r) _
+    (or_right (has_bad_max_forwards r) _ (or_left (has_bad_uri r) _ h))))
 
 pub by_scheme : (r : Candidate) → registers_other_scheme r ≡ true → is_bad r ≡ true
 by_scheme r h =
-    or_right (has_short_body r) _ (or_right (lacks_core_field r) _ (or_right (has_other_cseq_method r) _ (or_right (has_bad_max_forwards r) _ (or_right (has_bad_uri r) _ (or_right (has_bad_item r) _ (or_left (registers_other_scheme r) _ h))))))
+    or_right (has_short_body r) _ (or_right (lacks_core_field r) _ (or_right (has_other_cseq_method r) _
+    (or_right (has_bad_max_forwards r) _ (or_right (has_bad_uri r) _ (or_right (has_bad_item r) _ (or_left (registers_other_scheme r) _ h))))))
 
 -- a test that fails leaves the others
 passed : (a b : Bool) → a ≡ false → (a || b) ≡ b
@@ -66,4 +69,6 @@ pub no_bad_item : (r : Candidate) → list_all (λ value. is_some (via_of value)
     → (list_all (λ value. is_some (contact_of value)) (values_of Name.Contact r.fields) && not (binds_other_contact r)) ≡ true
     → true ≡ not (has_bad_item r || binds_other_contact r)
 no_bad_item r vias routes record_routes contacts =
-    no_item (list_all (λ value. is_some (via_of value)) (values_of Name.Via r.fields)) (list_all (λ value. is_some (route_of value)) (values_of Name.Route r.fields)) (list_all (λ value. is_some (route_of value)) (values_of Name.RecordRoute r.fields)) (list_all (λ value. is_some (contact_of value)) (values_of Name.Contact r.fields)) (binds_other_contact r) vias routes record_routes contacts
+    no_item (list_all (λ value. is_some (via_of value)) (values_of Name.Via r.fields)) (list_all (λ value. is_some (route_of value)) (values_of Name.Route r.fields))
+    (list_all (λ value. is_some (route_of value)) (values_of Name.RecordRoute r.fields))
+    (list_all (λ value. is_some (contact_of value)) (values_of Name.Contact r.fields)) (binds_other_contact r) vias routes record_routes contacts

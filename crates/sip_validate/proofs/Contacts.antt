@@ -39,11 +39,13 @@ pub of_register : (r : Candidate) → is_register r ≡ true
     ≡ (list_all (λ value. is_some (contact_of value)) (values_of Name.Contact r.fields) && not (binds_other_contact r))
 of_register r h =
     both_of_all (λ (value : List ℕ). is_some (contact_of value)) (λ (value : List ℕ). is_bindable (contact_of value)) (values_of Name.Contact r.fields)
-    ∙ by_register (is_register r) (list_all (λ value. is_bindable (contact_of value)) (values_of Name.Contact r.fields)) (list_all (λ value. is_some (contact_of value)) (values_of Name.Contact r.fields)) h
+    ∙ by_register (is_register r) (list_all (λ value. is_bindable (contact_of value)) (values_of Name.Contact r.fields))
+    (list_all (λ value. is_some (contact_of value)) (values_of Name.Contact r.fields)) h
 
 -- those of another request
 pub of_other : (r : Candidate) → is_register r ≡ false
     → list_all (λ value. is_some (contact_of value)) (values_of Name.Contact r.fields)
     ≡ (list_all (λ value. is_some (contact_of value)) (values_of Name.Contact r.fields) && not (binds_other_contact r))
 of_other r h =
-    by_other (is_register r) (list_all (λ value. is_bindable (contact_of value)) (values_of Name.Contact r.fields)) (list_all (λ value. is_some (contact_of value)) (values_of Name.Contact r.fields)) h
+    by_other (is_register r) (list_all (λ value. is_bindable (contact_of value)) (values_of Name.Contact r.fields))
+    (list_all (λ value. is_some (contact_of value)) (values_of Name.Contact r.fields)) h

@@ -53,7 +53,15 @@ uri_length text (Other kept) u is e = absurd cc
 
 address_length : (value : List ℕ) (address : NameAddr) (u : Uri) → IsNameAddr value address → address.uri ≡ Sip u → length (text_of u) ≤ length value
 address_length value address u (inl b) e =
-    omega (arith, uri_length (trimmed b.inner) address.uri u b.is_uri e, trimmed_length b.inner, ap length b.begins.whole, length-append b.display (60 ∷ b.rest), ap length b.ends.whole, length-append b.inner (62 ∷ b.behind))
+    omega (
+      arith,
+      uri_length (trimmed b.inner) address.uri u b.is_uri e,
+      trimmed_length b.inner,
+      ap length b.begins.whole,
+      length-append b.display (60 ∷ b.rest),
+      ap length b.ends.whole,
+      length-append b.inner (62 ∷ b.behind),
+    )
 address_length value address u (inr b) e =
     omega (arith, uri_length (trimmed b.first) address.uri u b.is_uri e, trimmed_length b.first, ap length b.parted.whole, first_length 59 b.first b.texts)
 
@@ -71,8 +79,10 @@ pub short_bound : (value : List ℕ) (address : NameAddr) → contact_of value �
 short_bound value address is le = by_uri value address address.uri (written_contact value (Address address) is) refl le
 
 -- an address in brackets and nothing else, of at most 512 bytes, may be bound
-pub plain_bound : (value host : List ℕ) (port : Option ℕ) → IsBracketedPlace value host port → length value ≤ 512 → (is_some (contact_of value) && is_bindable (contact_of value)) ≡ true
-plain_bound value host port place le = ap (λ item. is_some item && is_bindable item) place.is_contact ∙ short_bound value place.address place.is_contact le ∙ ap is_sip place.has_uri
+pub plain_bound : (value host : List ℕ) (port : Option ℕ) → IsBracketedPlace value host port → length value ≤ 512
+    → (is_some (contact_of value) && is_bindable (contact_of value)) ≡ true
+plain_bound value host port place le = ap (λ item. is_some item && is_bindable item) place.is_contact ∙ short_bound value place.address place.is_contact le
+    ∙ ap is_sip place.has_uri
 
 -- ---- a value that is an address in brackets
 

@@ -30,19 +30,22 @@ all_join p (x ∷ xs) ys e f =
     and_is (p x) (list_all p (xs ++ ys)) both.0 (all_join p xs ys both.1 f)
 
 -- one that names this server was read
-own_read : (own : Own) (value : List ℕ) (o : Option NameAddr) → route_of value ≡ o → option_map_or (λ route. names_own_place own route.uri) o false ≡ true → is_route value ≡ true
+own_read : (own : Own) (value : List ℕ) (o : Option NameAddr) → route_of value ≡ o → option_map_or (λ route. names_own_place own route.uri) o false ≡ true
+    → is_route value ≡ true
 own_read own value None is e = absurd cc
 own_read own value (Some route) is e = ap is_some is
 
 -- where none is left without a first one of this server
-none_left : (own : Own) (routes : List (List ℕ)) (t : Bool) → begins_with_own own routes ≡ t → length (cond t (drop 1 routes) routes) ≡ 0 → list_all is_route routes ≡ true
+none_left : (own : Own) (routes : List (List ℕ)) (t : Bool) → begins_with_own own routes ≡ t → length (cond t (drop 1 routes) routes) ≡ 0
+    → list_all is_route routes ≡ true
 none_left own [] t is e = refl
 none_left own (x ∷ []) true is e = and_is (is_route x) true (own_read own x (route_of x) refl is) refl
 none_left own (x ∷ y ∷ ys) true is e = absurd (omega (arith, e))
 none_left own (x ∷ xs) false is e = absurd (omega (arith, e))
 
 -- where the last takes the place of the Request-URI
-by_last : (own : Own) (routes turned : List (List ℕ)) (route : NameAddr) → reverse routes ≡ turned → first_route turned ≡ Some route → length (without_own own (reverse (drop 1 turned))) ≡ 0
+by_last : (own : Own) (routes turned : List (List ℕ)) (route : NameAddr) → reverse routes ≡ turned → first_route turned ≡ Some route
+    → length (without_own own (reverse (drop 1 turned))) ≡ 0
     → list_all is_route routes ≡ true
 by_last own routes [] route is last e = absurd cc
 by_last own routes (x ∷ xs) route is last e =
@@ -50,11 +53,13 @@ by_last own routes (x ∷ xs) route is last e =
     let front : list_all is_route (reverse xs) ≡ true = none_left own (reverse xs) (begins_with_own own (reverse xs)) refl e in
     ap (list_all is_route) whole ∙ all_join is_route (reverse xs) (x ∷ []) front (and_is (is_route x) true (ap is_some last) refl)
 
-by_restored : (own : Own) (routes : List (List ℕ)) (o : Option NameAddr) → last_route routes ≡ o → length (without_own own (others_than o routes)) ≡ 0 → list_all is_route routes ≡ true
+by_restored : (own : Own) (routes : List (List ℕ)) (o : Option NameAddr) → last_route routes ≡ o → length (without_own own (others_than o routes)) ≡ 0
+    → list_all is_route routes ≡ true
 by_restored own routes None is e = none_left own routes (begins_with_own own routes) refl e
 by_restored own routes (Some route) is e = by_last own routes (reverse routes) route refl is e
 
-by_came : (own : Own) (routes : List (List ℕ)) (t : Bool) → length (without_own own (others_than (cond t (last_route routes) None) routes)) ≡ 0 → list_all is_route routes ≡ true
+by_came : (own : Own) (routes : List (List ℕ)) (t : Bool) → length (without_own own (others_than (cond t (last_route routes) None) routes)) ≡ 0
+    → list_all is_route routes ≡ true
 by_came own routes true e = by_restored own routes (last_route routes) refl e
 by_came own routes false e = none_left own routes (begins_with_own own routes) refl e
 
@@ -64,7 +69,8 @@ all_read own uri fields way is none =
     by_came own (values_of Name.Route fields) (came_strictly own uri) (sym (ap (λ (w : Way). length w.routes) (is ∙ way_is own uri fields)) ∙ none)
 
 -- the way of a message is that of the request that it is
-pub of_candidate : (start : Start) (own : Own) (fields : List Field) (short : Bool) (core : Option CoreFields) (r : Candidate) → Some r ≡ candidate_with core own fields short start
+pub of_candidate : (start : Start) (own : Own) (fields : List Field) (short : Bool) (core : Option CoreFields) (r : Candidate)
+    → Some r ≡ candidate_with core own fields short start
     → way_from own (request_uri start) fields ≡ way_from r.own r.uri r.fields
 of_candidate (Request method uri version) own fields short core r is =
     let same : record { own = own; method = method; uri = uri; version = version; fields = fields; short = short; core = core; way = way_from own uri fields } ≡ r = cc in

@@ -3,7 +3,8 @@ use Rattle.std.proofs.Common.{◌≡◌, ℕ, Bool, true, false, cond, List, [],
 use Rattle.sip_route.specs.declared.way.Way.{Way}
 use Rattle.sip_validate.specs.Candidate.{Candidate, on_way}
 use Rattle.sip_validate.specs.Faults.{is_bad}
-use Rattle.sip_validate.specs.Refusal.{Row, refused, refusal, has_other_version, has_other_scheme, has_no_hops, has_own_via, needs_extension, unsupported, has_other_route}
+use Rattle.sip_validate.specs.Refusal.{Row, refused, refusal, has_other_version, has_other_scheme, has_no_hops, has_own_via, needs_extension, unsupported}
+use Rattle.sip_validate.specs.Refusal.{has_other_route}
 
 -- what a row says of a request, if there is one
 abbrev pub said : Candidate → Option Row → Option (ℕ × List ℕ)

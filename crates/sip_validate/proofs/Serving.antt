@@ -23,7 +23,8 @@ use Rattle.sip_validate.specs.Checked.{checked_with, checked_of, validation_by, 
 -- ---- what is served
 
 -- where validation gives what was read, nothing refuses
-served_by : (read : Option Checked) (refused : Option (ℕ × List ℕ)) (checked : Checked) → validation_by read refused ≡ Ok checked → (refused ≡ None) × (read ≡ Some checked)
+served_by : (read : Option Checked) (refused : Option (ℕ × List ℕ)) (checked : Checked) → validation_by read refused ≡ Ok checked
+    → (refused ≡ None) × (read ≡ Some checked)
 served_by read (Some x) checked h = cc
 served_by None None checked h = cc
 served_by (Some c) None checked h = (refl, cc)
@@ -32,7 +33,8 @@ served_by (Some c) None checked h = (refl, cc)
 read_by : (read : Option Checked) (refused : Option (ℕ × List ℕ)) (checked : Checked) → (refused ≡ None) × (read ≡ Some checked) → validation_by read refused ≡ Ok checked
 read_by read refused checked h = ap (validation_by read) h.0 ∙ ap (λ c. ok_or c (Refused.Status 400 [])) h.1
 
-pub served_is : (own : Own) (m : Message) (short : Bool) (checked : Checked) → ((validation_of own m short ≡ Ok checked) ↔ ((refusal_of own m short ≡ None) × (checked_of own m ≡ Some checked)))
+pub served_is : (own : Own) (m : Message) (short : Bool) (checked : Checked) → ((validation_of own m short ≡ Ok checked) ↔
+    ((refusal_of own m short ≡ None) × (checked_of own m ≡ Some checked)))
 served_is own m short checked =
     (served_by (checked_of own m) (refusal_of own m short) checked, read_by (checked_of own m) (refusal_of own m short) checked)
 
@@ -54,7 +56,16 @@ pub lacking_refused : (own : Own) (m : Message) (short : Bool) (method uri versi
     → refusal_of own m short ≡ Some (400, [])
 lacking_refused own m true method uri version is_request none = ap (λ start. option_map_or refusal (candidate_by own m.fields true start) None) is_request
 lacking_refused own m false method uri version is_request none =
-    let r : Candidate = record { own = own; method = method; uri = uri; version = version; fields = m.fields; short = false; core = result_ok (core_of m); way = way_from own uri m.fields } in
+    let r : Candidate = record {
+      own = own;
+      method = method;
+      uri = uri;
+      version = version;
+      fields = m.fields;
+      short = false;
+      core = result_ok (core_of m);
+      way = way_from own uri m.fields;
+    } in
     let lacks : lacks_core_field r ≡ true = ap (λ (core : Option CoreFields). not (is_some core)) none in
     let bad : is_bad r ≡ true = first_test (lacks_core_field r) _ lacks in
     ap (λ start. option_map_or refusal (candidate_by own m.fields false start) None) is_request ∙ first_row (is_bad r) (refused 400 is_bad) _ r bad
@@ -82,15 +93,18 @@ refused_by (Some c) None status extra either h = cc
 
 pub refused_is : (own : Own) (m : Message) (short : Bool) (method uri version : List ℕ) (status : ℕ) (extra : List ℕ) → m.start ≡ Request method uri version
     → ((validation_of own m short ≡ Err (Refused.Status status extra)) ↔ (refusal_of own m short ≡ Some (status, extra)))
-refused_is own m short method uri version status extra is_request =
-    (refused_by (checked_of own m) (refusal_of own m short) status extra (read_or_refused own m short method uri version is_request), λ h. ap (validation_by (checked_of own m)) h)
+refused_is own m short method uri version status extra is_request = (
+  refused_by (checked_of own m) (refusal_of own m short) status extra (read_or_refused own m short method uri version is_request),
+  λ h. ap (validation_by (checked_of own m)) h,
+)
 
 -- ---- with what was read
 
 -- what the table says of a request with the core fields and on the way that were read, is what it says of it
 tabled_by : (start : Start) (own : Own) (fields : List Field) (short : Bool) (core : CoreFields) (way : Way) → Some core ≡ result_ok (core_in fields)
     → way ≡ way_from own (request_uri start) fields
-    → option_map_or (λ r. refusal (on_way way r)) (candidate_with (Some core) own fields short start) None ≡ option_map_or refusal (candidate_by own fields short start) None
+    → option_map_or (λ r. refusal (on_way way r)) (candidate_with (Some core) own fields short start) None
+    ≡ option_map_or refusal (candidate_by own fields short start) None
 tabled_by (Request method uri version) own fields short core way is_core is_way =
     let by_core : Option CoreFields → Option (ℕ × List ℕ) = λ (c : Option CoreFields).
     refusal (record { own = own; method = method; uri = uri; version = version; fields = fields; short = short; core = c; way = way })
@@ -107,7 +121,8 @@ lacking_by : (start : Start) (own : Own) (m : Message) (short : Bool) → m.star
 lacking_by (Request method uri version) own m short is none =
     ap (validation_by (checked_of own m)) (lacking_refused own m short method uri version is (sym none))
 lacking_by (Status code reason) own m short is none =
-    let by_start : Start → Result Checked Refused = λ (start : Start). validation_by (checked_of own m) (option_map_or refusal (candidate_by own m.fields short start) None) in
+    let by_start : Start → Result Checked Refused = λ (start : Start). validation_by (checked_of own m)
+    (option_map_or refusal (candidate_by own m.fields short start) None) in
     let by_core : Option CoreFields → Result Checked Refused = λ (c : Option CoreFields). ok_or (option_map (checked_with own m) c) (Refused.Status 400 []) in
     ap by_start is ∙ ap by_core (sym none)
 

@@ -21,7 +21,8 @@ abbrev first : List (List ℕ) → Option (List ℕ)
 first [] = None
 first (value ∷ values) = Some value
 
-by_test : (t : Bool) (field : Field) (o : Option Field) (fields : List Field) → option_map (λ f. f.value) o ≡ first (map (λ f. f.value) fields) → option_map (λ f. f.value) (cond t (Some field) o) ≡ first (map (λ f. f.value) (cond t (field ∷ fields) fields))
+by_test : (t : Bool) (field : Field) (o : Option Field) (fields : List Field) → option_map (λ f. f.value) o ≡ first (map (λ f. f.value) fields)
+    → option_map (λ f. f.value) (cond t (Some field) o) ≡ first (map (λ f. f.value) (cond t (field ∷ fields) fields))
 by_test true field o fields e = refl
 by_test false field o fields e = e
 
@@ -46,10 +47,12 @@ any_by : (own : Own) (values : List (List ℕ)) (via : Via) → option_and_then 
 any_by own [] via is = absurd cc
 any_by own (value ∷ values) via is = ap (λ (o : Option Via). option_map_or (is_own_via own) o false || list_any (is_own own) values) is
 
-on_top : (fields : List Field) (via : Via) → option_and_then via_of (first_value Name.Via fields) ≡ Some via → option_and_then via_of (first (values_of Name.Via fields)) ≡ Some via
+on_top : (fields : List Field) (via : Via) → option_and_then via_of (first_value Name.Via fields) ≡ Some via
+    → option_and_then via_of (first (values_of Name.Via fields)) ≡ Some via
 on_top fields via is = sym (ap (option_and_then via_of) (first_is Name.Via fields)) ∙ is
 
-pub all_read : (fields behind : List Field) (via : Via) → option_and_then via_of (first_value Name.Via fields) ≡ Some via → values_of Name.Via behind ≡ drop 1 (values_of Name.Via fields)
+pub all_read : (fields behind : List Field) (via : Via) → option_and_then via_of (first_value Name.Via fields) ≡ Some via
+    → values_of Name.Via behind ≡ drop 1 (values_of Name.Via fields)
     → list_all (λ value. is_some (via_of value)) (values_of Name.Via behind) ≡ list_all (λ value. is_some (via_of value)) (values_of Name.Via fields)
 all_read fields behind via is left = ap (list_all is_read) left ∙ sym (all_by (values_of Name.Via fields) via (on_top fields via is))
 
@@ -66,12 +69,14 @@ own_on_top own fields via is test = some_own own fields via true is test
 -- it isn't
 pub own_behind : (own : Own) (fields behind : List Field) (via : Via) → option_and_then via_of (first_value Name.Via fields) ≡ Some via → is_own_via own via ≡ false
     → values_of Name.Via behind ≡ drop 1 (values_of Name.Via fields)
-    → list_any (λ value. option_map_or (is_own_via own) (via_of value) false) (values_of Name.Via behind) ≡ list_any (λ value. option_map_or (is_own_via own) (via_of value) false) (values_of Name.Via fields)
+    → list_any (λ value. option_map_or (is_own_via own) (via_of value) false) (values_of Name.Via behind)
+    ≡ list_any (λ value. option_map_or (is_own_via own) (via_of value) false) (values_of Name.Via fields)
 own_behind own fields behind via is test left = ap (list_any (is_own own)) left ∙ some_own own fields via false is test
 
 -- what is found of the parts of a request is found of it
 pub own_seen : (result : Result (Option Bool) AllocError) (r : Candidate) (own : Own) (fields : List Field) → own ≡ r.own → fields ≡ r.fields
-    → IfOk result (λ (some : Option Bool). IfSome some (λ (t : Bool). t ≡ list_any (λ value. option_map_or (is_own_via own) (via_of value) false) (values_of Name.Via fields)))
+    → IfOk result (λ (some : Option Bool). IfSome some (λ (t : Bool). t ≡ list_any (λ value. option_map_or (is_own_via own) (via_of value) false)
+    (values_of Name.Via fields)))
     → IfOk result (λ (some : Option Bool). IfSome some (λ (t : Bool). t ≡ has_own_via r))
 own_seen result r own fields same_own same_fields h =
     subst (λ (list : List Field). IfOk result (λ (some : Option Bool). IfSome some (λ (t : Bool). t ≡ list_any (is_own r.own) (values_of Name.Via list)))) same_fields

@@ -15,7 +15,8 @@ use Rattle.sipd_exit.specs.declared.exit.Exit.TheVariants.{Usage, Memory}
 use Rattle.sipd_arguments.specs.declared.misuse.Misuse.{Misuse}
 
 -- an error of the parse
-by_error : (kinds : Kinds) (named : Option (Text × List Row)) (e : Error) (result : Result Parsed Exit) → HasKind kinds e → Answers (kind_of e) result → EndsBy kinds named result
+by_error : (kinds : Kinds) (named : Option (Text × List Row)) (e : Error) (result : Result Parsed Exit) → HasKind kinds e → Answers (kind_of e) result
+    → EndsBy kinds named result
 by_error kinds named e (Ok (parsed.Text text)) (inl memory) is = absurd (true≢false (sym is ∙ ap asks_text memory))
 by_error kinds named e (Ok (parsed.Text text)) (inr among) is = record { kind = kind_of e; among = among; is_so = is }
 by_error kinds named e (Ok (parsed.Call call)) has is = absurd is

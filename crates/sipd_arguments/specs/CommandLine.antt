@@ -1,5 +1,6 @@
 -- The command line: the commands that the program knows, with their options, and what each asks for (this project's profile).
-use Rattle.std.specs.Prelude.{◌≡◌, ◌⊎◌, ⊤, ℕ, pos, ◌^◌, Bool, true, false, ◌&&◌, ◌||◌, not, nat_lt, if◌then◌else◌, List, [], ◌∷◌, ◌++◌, codes, Option, Some, None, find, unwrap_or, option_map, option_and_then, is_some, string_bytes, Result, Ok, Err}
+use Rattle.std.specs.Prelude.{◌≡◌, ◌⊎◌, ⊤, ℕ, pos, ◌^◌, Bool, true, false, ◌&&◌, ◌||◌, not, nat_lt, if◌then◌else◌, List, [], ◌∷◌, ◌++◌, codes, Option, Some, None, find}
+use Rattle.std.specs.Prelude.{unwrap_or, option_map, option_and_then, is_some, string_bytes, Result, Ok, Err}
 use Rattle.std.specs.List.{list_any}
 use Rattle.std.specs.Str.{bytes_eq}
 use Rattle.std.specs.Str.Parse.{digits_value, without_leading_plus}
@@ -59,7 +60,7 @@ abbrev pub command : Text → List Rule → Shape
 command name rules = record (new_app name).top { rules = rules }
 
 abbrev pub check_command : Shape
-check_command = command (codes "check") (needed (option (codes "config")) ∷ flag (codes "show") ∷ option (codes "against") ∷ [])
+check_command = command (codes "check") (needed (option (codes "config")) ∷ flag (codes "show") ∷ option (codes "against") ∷ option (codes "expect") ∷ [])
 
 abbrev pub replay_command : Shape
 replay_command = command (codes "replay") (option (codes "config") ∷ option (codes "record") ∷ [])
@@ -151,6 +152,7 @@ pub record IsCheck (rows : List Row) (call : CheckCall) : Type 0 where
   pub config : string_bytes call.config ≡ needed_text (codes "config") rows
   pub show : call.show ≡ is_on (codes "show") rows
   pub against : option_map string_bytes call.against ≡ text_at (codes "against") rows
+  pub expect : option_map string_bytes call.expect ≡ text_at (codes "expect") rows
 
 -- `replay`: a script, or a record
 abbrev pub IsReplay : List Row → ReplayCall → Type 0

@@ -28,6 +28,7 @@ misuse_in_line words = misuse_of (subcommand_of program words)
 -- what is taken, and what isn't
 pub record AreLines : Type 0 where
   pub check : faults_in (line (codes "check" ∷ codes "--config" ∷ codes "a.toml" ∷ codes "--show" ∷ [])) ≡ []
+  pub expect : faults_in (line (codes "check" ∷ codes "--config" ∷ codes "a.toml" ∷ codes "--expect" ∷ codes "b" ∷ [])) ≡ []
   pub joined : faults_in (line (codes "replay" ∷ codes "--config=a.toml" ∷ [])) ≡ []
   pub serve : faults_in (serving (codes "--turns" ∷ codes "3" ∷ codes "--record" ∷ codes "day" ∷ [])) ≡ []
   pub decide : faults_in (line (codes "decide" ∷ codes "INVITE" ∷ codes "--config" ∷ codes "a.toml" ∷ codes "a@b" ∷ [])) ≡ []

@@ -21,6 +21,8 @@ pub struct CheckCall {
     pub show: bool,
     /// The file of the configuration from which a change to it is told; nothing is told of a change, where none is named.
     pub against: Option<String>,
+    /// The file of what is expected of its policy; nothing is, where none is named.
+    pub expect: Option<String>,
 }
 
 /// `replay`: what is replayed.

@@ -78,11 +78,13 @@ fn check_command<'a>(alloc: Global) -> Result<Command<'a>, AllocError>
 {
     let show = "Print what was understood, or what is wrong and where";
     let against = "Tell what a change from this file or record would do";
+    let expect = "Tell which lines of this file the policy isn't as";
     Command::new(alloc, "check")
         .about("Checks a configuration")
         .arg(config_argument(alloc).required(true))?
         .arg(flag(alloc, "show", show))?
-        .arg(option(alloc, "against", "OLD", against))
+        .arg(option(alloc, "against", "OLD", against))?
+        .arg(option(alloc, "expect", "FILE", expect))
 }
 
 /// `--record FILE`, of a record that is there.

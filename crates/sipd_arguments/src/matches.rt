@@ -94,6 +94,7 @@ fn check_call(alloc: Global, matches: &ArgMatches<'_>) -> Result<CheckCall, Allo
         config: needed_text(alloc, matches, "config")?,
         show: is_on(matches, "show"),
         against: text_of(alloc, matches, "against")?,
+        expect: text_of(alloc, matches, "expect")?,
     })
 }
 

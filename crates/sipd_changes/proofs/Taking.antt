@@ -20,7 +20,9 @@ use Rattle.sipd_changes.specs.declared.difference.DigestKey.TheVariants.{A1, A1S
 use Rattle.sipd_changes.specs.declared.difference.Difference.{Difference}
 use Rattle.sipd_changes.specs.declared.difference.Difference.TheVariants.{Frame, BoundPort, Offset, UserGoes, Digest, Joins, Leaves, NumberAgain, Order}
 use Rattle.sipd_changes.specs.declared.difference.Difference.TheVariants as Changed
-use Rattle.sipd_changes.specs.Changes.{unless, frame_changes, head_changes, same_sha256, digest_changes, group_changes, user_now, user_changes, is_same_address, is_hop, hop_now, hop_changes, is_row, row_now, row_changes, is_number, rule_now, rules_now, rules_gone, numbers_in, order_changes, rule_changes, changes_of, needs_restart, can_be_taken}
+use Rattle.sipd_changes.specs.Changes.{unless, frame_changes, head_changes, same_sha256, digest_changes, group_changes, user_now, user_changes, is_same_address, is_hop}
+use Rattle.sipd_changes.specs.Changes.{hop_now, hop_changes, is_row, row_now, row_changes, is_number, rule_now, rules_now, rules_gone, numbers_in, order_changes}
+use Rattle.sipd_changes.specs.Changes.{rule_changes, changes_of, needs_restart, can_be_taken}
 
 -- whether some change of a list needs a restart
 abbrev any : List Difference → Bool
@@ -54,8 +56,10 @@ user_quiet now (Some before) =
     (quiet (same_sha256 before.a1_sha256 now.a1_sha256) (Digest now.name A1Sha256) refl))
     (both (flat_map (λ group. unless (list_any (bytes_eq group) now.groups) (Leaves now.name group)) before.groups)
     (flat_map (λ group. unless (list_any (bytes_eq group) before.groups) (Joins now.name group)) now.groups)
-    (each (λ group. unless (list_any (bytes_eq group) now.groups) (Leaves now.name group)) (λ group. quiet (list_any (bytes_eq group) now.groups) (Leaves now.name group) refl) before.groups)
-    (each (λ group. unless (list_any (bytes_eq group) before.groups) (Joins now.name group)) (λ group. quiet (list_any (bytes_eq group) before.groups) (Joins now.name group) refl) now.groups))
+    (each (λ group. unless (list_any (bytes_eq group) now.groups) (Leaves now.name group))
+    (λ group. quiet (list_any (bytes_eq group) now.groups) (Leaves now.name group) refl) before.groups)
+    (each (λ group. unless (list_any (bytes_eq group) before.groups) (Joins now.name group))
+    (λ group. quiet (list_any (bytes_eq group) before.groups) (Joins now.name group) refl) now.groups))
 
 users_quiet : (old new : List User) → any (user_changes old new) ≡ false
 users_quiet old new =
@@ -90,7 +94,8 @@ rows_quiet old new =
 rule_quiet : (old_hops new_hops : List Hop) (place : Option ℕ) (now : Rule) (before : Option Rule) → any (rule_now old_hops new_hops place now before) ≡ false
 rule_quiet old_hops new_hops place now None = refl
 rule_quiet old_hops new_hops place now (Some before) =
-    both (unless (bytes_eq (rule_text old_hops before) (rule_text new_hops now)) (Changed.Rule now.id (Revised.Says (rule_text old_hops before) (rule_text new_hops now))))
+    both (unless (bytes_eq (rule_text old_hops before) (rule_text new_hops now)) (Changed.Rule now.id
+    (Revised.Says (rule_text old_hops before) (rule_text new_hops now))))
     (unless (bytes_eq (patterns_text before) (patterns_text now)) (NumberAgain now.id))
     (quiet (bytes_eq (rule_text old_hops before) (rule_text new_hops now)) (Changed.Rule now.id (Revised.Says (rule_text old_hops before) (rule_text new_hops now))) refl)
     (quiet (bytes_eq (patterns_text before) (patterns_text now)) (NumberAgain now.id) refl)
@@ -140,7 +145,8 @@ all_any old new =
     ∙ behind (head ++ users ++ hops) rows (rows_quiet old.addresses new.addresses)
     ∙ behind (head ++ users) hops (hops_quiet old.hops new.hops)
     ∙ behind head users (users_quiet old.users new.users)
-    ∙ behind (frame_changes old new ++ port) (unless (int_eq old.offset new.offset) (Offset old.offset new.offset)) (quiet (int_eq old.offset new.offset) (Offset old.offset new.offset) refl)
+    ∙ behind (frame_changes old new ++ port) (unless (int_eq old.offset new.offset) (Offset old.offset new.offset))
+    (quiet (int_eq old.offset new.offset) (Offset old.offset new.offset) refl)
     ∙ port_any (frame_changes old new) (old.bound_port == new.bound_port) old.bound_port new.bound_port
     ∙ ap (λ b. b || not (old.bound_port == new.bound_port)) (frame_any (is_kept old new) frame_keys)
 

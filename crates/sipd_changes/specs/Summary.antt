@@ -6,7 +6,8 @@ use Rattle.sip_config_change.specs.FrameKey.{name_of}
 use Rattle.sipd_questions.specs.Decide.{numbered}
 use Rattle.sipd_changes.specs.declared.difference.Revision.TheVariants.{Comes, Goes, Says}
 use Rattle.sipd_changes.specs.declared.difference.Difference.{Difference}
-use Rattle.sipd_changes.specs.declared.difference.Difference.TheVariants.{Frame, BoundPort, Offset, UserComes, UserGoes, Digest, Joins, Leaves, Hop, Host, Rule, NumberAgain, Order}
+use Rattle.sipd_changes.specs.declared.difference.Difference.TheVariants.{Frame, BoundPort, Offset, UserComes, UserGoes, Digest, Joins, Leaves, Hop, Host, Rule}
+use Rattle.sipd_changes.specs.declared.difference.Difference.TheVariants.{NumberAgain, Order}
 use Rattle.sipd_changes.specs.declared.fate.Fate.{Fate}
 use Rattle.sipd_changes.specs.declared.fate.Fate.TheVariants.{More, Fewer, Changed}
 

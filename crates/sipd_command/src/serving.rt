@@ -19,13 +19,13 @@ use sip_text::Bytes;
 use sip_timers::Timers;
 use sip_uri::Addr;
 use sipd_arguments::ServeCall;
-use sipd_boot::{new_boot, secret};
+use sipd_boot::secret;
 use sipd_exit::{DeviceFault, Exit, Stated, config_of_bytes, stated_in};
 use sipd_journal::WatchedJournal;
 use sipd_reload::{PathFile, Watch, WatchedFile};
 use sipd_service::engine::Engine;
 use sipd_service::{LinePrinter, Said, Service, Serving, hops_of, serve_turns};
-use sipd_start::{Beginning, Begun, begin, check_stack};
+use sipd_start::{Beginning, Begun, begin, begin_unrecorded, check_stack};
 use std::alloc::{AllocError, Global};
 use std::io::{ErrorKind, Read, Write};
 use std::net::Net;
@@ -301,16 +301,16 @@ fn serve_unrecorded<
 >(
     rt: &R,
     call: &ServeCall,
-    config: Config,
+    config: &Config,
+    stated: &Stated,
     words: StdRng,
     watch: Option<Watch<F>>,
     printer: &mut LinePrinter<W>,
     complaints: &mut M,
 ) -> Result<(), Exit> {
-    let alloc = rt.alloc();
-    let link = bind(rt, address_of(&config))?;
-    let mut start = start_of(alloc, call, &config, link, words)?;
-    let engine = Engine::<T, P>::open(alloc, config, new_boot(&mut start.words))?;
+    let link = bind(rt, address_of(config))?;
+    let mut start = start_of(rt.alloc(), call, config, link, words)?;
+    let engine = begin_unrecorded::<T, P, _, _>(rt, stated, &mut start.words)?;
     serve_with(
         rt,
         start,
@@ -342,7 +342,7 @@ pub fn serve_file<
     let printer = &mut printer;
     let Some(place) = &call.record else {
         return serve_unrecorded::<T, P, R, _, _, M>(
-            rt, call, config, words, watch, printer, complaints,
+            rt, call, &config, &stated, words, watch, printer, complaints,
         );
     };
     let beginning = Beginning::new(rt, &stated, place, call.record_fault)?;

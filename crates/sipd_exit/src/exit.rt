@@ -42,6 +42,8 @@ pub enum Exit {
     NewRecord,
     /// A record couldn't be written, and the server was to end then.
     Recording,
+    /// A policy isn't as it is expected to be.
+    Unexpected,
 }
 
 impl Exit {
@@ -51,7 +53,7 @@ impl Exit {
     {
         match self {
             Exit::Usage(_) | Exit::Question(_) => 1,
-            Exit::Configuration(_) | Exit::LongConfiguration => 2,
+            Exit::Configuration(_) | Exit::LongConfiguration | Exit::Unexpected => 2,
             Exit::Script(_)
             | Exit::NoRecord
             | Exit::OtherConfiguration
@@ -96,6 +98,7 @@ impl fmt::Display for Exit {
                 "sipd: the record can't be made: its file is there already, or its folder isn't, or may not be written, or has no hard links"
             ),
             Exit::Recording => write!(f, "sipd: the record can't be written"),
+            Exit::Unexpected => write!(f, "sipd: the policy isn't as expected"),
         }
     }
 }

@@ -1,20 +1,17 @@
 -- What stands in a cell: the rule that decides, and what comes of it.
 use Rattle.std.specs.Prelude.{ℕ, Bool, true, false, not, ◌&&◌, ◌==◌, if◌then◌else◌, List, [], ◌∷◌, ◌++◌, codes, decimal, Option, Some, None}
-use Rattle.std.specs.List.{flat_map, list_any, slice_get}
-use Rattle.std.specs.Str.{bytes_eq}
+use Rattle.std.specs.List.{flat_map, slice_get}
 use Rattle.sip_policy.specs.declared.decision.Decision.{Decision}
 use Rattle.sip_policy.specs.declared.operation.Operation.{Operation}
 use Rattle.sip_policy.specs.declared.rule.Rule.{Rule}
 use Rattle.sip_policy.specs.Decision.{decision_with}
-use Rattle.sip_policy.specs.User.{is_users_address}
 use Rattle.sip_hops.specs.declared.hop.Hop.{Hop}
 use Rattle.sip_config_types.specs.declared.config.Config.{Config}
 use Rattle.sip_matrix.specs.declared.column.Column.{Column}
-use Rattle.sip_matrix.specs.declared.column.Column.TheVariants.{Named, Begins, Elsewhere}
 use Rattle.sip_matrix.specs.declared.table.Table.{Table}
-use Rattle.sip_matrix.specs.Asker.{ask_alike}
-use Rattle.sip_matrix.specs.Column.{are_asked_alike, is_known}
+use Rattle.sip_matrix.specs.Column.{is_known}
 use Rattle.sip_matrix.specs.Cell.{rule_in}
+use Rattle.sip_matrix.specs.Own as Owned
 
 -- ---- what comes of a decision
 
@@ -67,23 +64,19 @@ value_text config operation row column own piece =
 
 -- whether a column is the address of a configured user of this name
 abbrev pub is_address_of : Config → List ℕ → Column → Bool
-is_address_of config name (Named aor) = bytes_eq aor.user name && is_users_address config.users config.own.domains aor
-is_address_of config name (Begins aor) = false
-is_address_of config name Elsewhere = false
+is_address_of config name column = Owned.is_address_of config.users config.own.domains name column
 
 -- whether a class has an address of a user of this name
 abbrev pub has_address_of : Config → List Column → Column → List ℕ → Bool
-has_address_of config columns class name =
-    list_any (λ column. is_address_of config name column && are_asked_alike config.rules config.users config.own.domains class column) columns
+has_address_of config columns class name = Owned.has_address_of config.rules config.users config.own.domains columns class name
 
 -- whether some user of a row has an address in a class
 abbrev pub has_address_of_row : Config → List Column → Column → List ℕ → Bool
-has_address_of_row config columns class row =
-    list_any (λ user. ask_alike config.rules config.users row user.name && has_address_of config columns class user.name) config.users
+has_address_of_row config columns class row = Owned.has_address_of_row config.rules config.users config.own.domains columns class row
 
 -- whether a user of a row may ask for his own address in a class, which is known then
 abbrev pub has_own : Config → List Column → Column → List ℕ → Bool
-has_own config columns class row = are_known config class && has_address_of_row config columns class row
+has_own config columns class row = Owned.has_own config.rules config.users config.own.domains columns class row
 
 -- whether a cell has a second value, for the asker's own address
 abbrev pub has_second : Config → Operation → List Column → Column → List ℕ → ℕ → Bool

@@ -1,3 +1,4 @@
 pub mod Cells
+pub mod Unused
 pub mod Text
 pub mod Examples

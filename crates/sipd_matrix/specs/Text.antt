@@ -12,6 +12,7 @@ use Rattle.sip_matrix.specs.Asker.{ask_alike}
 use Rattle.sip_matrix.specs.Column.{are_asked_alike}
 use Rattle.sip_matrix.specs.Table.{table_of}
 use Rattle.sipd_matrix.specs.Cells.{cell_text, numbers_of}
+use Rattle.sipd_matrix.specs.Unused.{hop_line, user_lines}
 
 -- ---- words
 
@@ -104,9 +105,14 @@ legend =
 abbrev pub title : Config → Operation → List ℕ
 title config operation = operation_word operation ++ codes ", offset " ++ signed config.offset ++ codes "\n"
 
--- the users of each row, and the rules that decide nothing
+-- the hops by which no rule sends, and the groups that none names
+abbrev pub unnamed : Config → List ℕ
+unnamed config = flat_map (hop_line config.hops config.rules) config.hops ++ flat_map (user_lines config.rules) config.users
+
+-- the users of each row, and the rules, the hops and the groups that decide nothing
 abbrev pub foot : Config → Table → List ℕ → List ℕ
-foot config table numbers = codes "\n" ++ flat_map (row_line config) table.rows ++ flat_map (unused_line numbers) config.rules
+foot config table numbers =
+    codes "\n" ++ flat_map (row_line config) table.rows ++ flat_map (unused_line numbers) config.rules ++ unnamed config
 
 abbrev pub text_of : Config → Operation → Table → List ℕ
 text_of config operation table =

@@ -30,7 +30,7 @@ fn put_hop(text: &mut Bytes, hop: Option<&Hop>) -> Result<(), AllocError>
 }
 
 /// The hop at a place of a list, counted from 0.
-fn hop_at(hops: &[Hop], place: usize) -> Option<&Hop>
+pub(crate) fn hop_at(hops: &[Hop], place: usize) -> Option<&Hop>
     ensures { option_copied result ≡ slice_get hops.now place }
 {
     hops.get(place)

@@ -10,6 +10,7 @@ mod cells;
 pub mod examples;
 mod numbers;
 mod text;
+mod unused;
 mod words;
 
 pub use text::matrix_text;

@@ -7,6 +7,7 @@ ghost use Rattle.sipd_matrix.specs.Cells.{cell_text};
 
 use crate::cells::{are_of_class, are_of_row, put_cell};
 use crate::numbers::numbers_of;
+use crate::unused::{put_all_groups, put_hops};
 use crate::words::{operation_word, put_both, put_clock, put_column, put_padded, put_signed};
 use sip_config_types::Config;
 use sip_matrix::{Column, Table, table_of};
@@ -281,7 +282,17 @@ fn put_title(text: &mut Bytes, config: &Config, operation: &Operation) -> Result
     text.push(b'\n')
 }
 
-/// Adds what stands under the cells: the users of each row, and the rules that decide nothing.
+/// Adds the hops by which no rule sends, and the groups that none names.
+fn put_unnamed(text: &mut Bytes, config: &Config) -> Result<(), AllocError>
+    ensures { OnOk result (text.new ≡ text.old ++ Definitions.unnamed config.now) }
+{
+    let hops = config.hops.as_slice();
+    let rules = config.rules.as_slice();
+    put_hops(text, hops, rules, hops)?;
+    put_all_groups(text, rules, config.users.as_slice())
+}
+
+/// Adds what stands under the cells: the users of each row, and the rules, the hops and the groups that decide nothing.
 fn put_foot(
     text: &mut Bytes,
     config: &Config,
@@ -292,7 +303,8 @@ fn put_foot(
 {
     text.push(b'\n')?;
     put_rows(text, config, table.rows.as_slice())?;
-    put_all_unused(text, numbers.as_slice(), config.rules.as_slice())
+    put_all_unused(text, numbers.as_slice(), config.rules.as_slice())?;
+    put_unnamed(text, config)
 }
 
 /// Adds what the signs in the cells mean.

@@ -14,10 +14,11 @@ use Rattle.sip_uri.specs.declared.error.UriError.TheVariants.{NoMemory, Syntax}
 use Rattle.sip_uri.specs.declared.error.UriError.TheVariants as Refusal
 use Rattle.sip_uri.specs.Scheme.{scheme_of}
 use Rattle.sip_uri.specs.Host.{place_of}
-use Rattle.sip_uri.specs.Reading.{◌>>=◌, userinfo_of, user_from, user_of, before_parameters, parameters_behind, parameter_text_of, headers_behind, header_text_of, rest_of, reading_of}
+use Rattle.sip_uri.specs.Reading.{◌>>=◌, userinfo_of, user_from, user_of, before_parameters, parameters_behind, parameter_text_of, headers_behind, header_text_of}
+use Rattle.sip_uri.specs.Reading.{rest_of, reading_of}
 use Rattle.sip_policy.specs.declared.operation.Operation.{Operation}
 use Rattle.sip_validate.specs.Faults.{has_sip_scheme}
-use Rattle.sipd_questions.specs.Decide.{is_bad_before, is_of_scheme, is_refused_before}
+use Rattle.sipd_questions.specs.Decide.{is_bad_before, is_refused_before}
 
 -- what isn't refused for its scheme, and then what isn't
 then_never : {A B : Type 0} (first : Result A UriError) (next : A → Result B UriError) → (first ≡ Err Refusal.Scheme → ⊥)

@@ -25,8 +25,8 @@ use std::alloc::{AllocError, Global};
 /// The minutes of a day.
 const DAY: u16 = 1_440;
 
-/// What the server decides of a request for an address of record at a minute, as a line.
-fn line_for(
+/// What the server decides of a request for an address of record at a minute, as a line. `AllocError` is the only refusal.
+pub fn line_for(
     alloc: Global,
     config: &Config,
     proven: Option<&[u8]>,

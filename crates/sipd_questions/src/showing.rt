@@ -31,8 +31,8 @@ pub fn put_signed(text: &mut Bytes, number: i16) -> Result<(), AllocError>
     text.push_decimal(u64::from(number.unsigned_abs()))
 }
 
-/// Adds a minute of the day.
-fn put_clock(text: &mut Bytes, minute: u16) -> Result<(), AllocError>
+/// Adds a minute of the day. `AllocError` is the only refusal.
+pub fn put_clock(text: &mut Bytes, minute: u16) -> Result<(), AllocError>
     ensures { OnOk result (text.new ≡ text.old ++ Definitions.clock_text minute) }
 {
     put_number(text, b"", u64::from(minute / 60), b":")?;

@@ -51,10 +51,12 @@ no_offer watch fault = by_told (same_fault watch.fault fault) refl where
   by_told true e = rw e refl
   by_told false e = rw e refl
 
-stays_failed : (watch : WatchState) (bytes : List ℕ) (fault : FileFault) → Knows watch bytes → Stays (look_of watch (sights.Failed fault)) (noted watch (sights.Failed fault)) bytes
+stays_failed : (watch : WatchState) (bytes : List ℕ) (fault : FileFault) → Knows watch bytes
+    → Stays (look_of watch (sights.Failed fault)) (noted watch (sights.Failed fault)) bytes
 stays_failed watch bytes fault knows = record { none = no_offer watch fault; knows = knows_failed watch bytes fault knows }
 
-stays_of : (watch : WatchState) (bytes : List ℕ) (stamp : Result Stamp FileFault) (held : Result (List ℕ) FileFault) → Knows watch bytes → IfOk held (λ found. found ≡ bytes)
+stays_of : (watch : WatchState) (bytes : List ℕ) (stamp : Result Stamp FileFault) (held : Result (List ℕ) FileFault) → Knows watch bytes
+    → IfOk held (λ found. found ≡ bytes)
     → Stays (look_of watch (sight_of_stamp watch.seen stamp held)) (noted watch (sight_of_stamp watch.seen stamp held)) bytes
 stays_of watch bytes (Err fault) held knows no_other = stays_failed watch bytes fault knows
 stays_of watch bytes (Ok stamp) held knows no_other = by_read (is_read watch.seen stamp) held refl no_other where
@@ -79,19 +81,23 @@ stays_at watch bytes now answers knows no_other = by_due (is_due watch now) refl
     moved (inr e) = inr e
 
   by_due : (due : Bool) → is_due watch now ≡ due → Stays (look_at watch now answers) (looked_at watch now answers) bytes
-  by_due true e = rw e (with_moment (noted watch (sight_of watch.seen answers)) (look_of watch (sight_of watch.seen answers)) now (stays_of watch bytes answers.stamp answers.bytes knows no_other))
+  by_due true e = rw e (with_moment (noted watch (sight_of watch.seen answers)) (look_of watch (sight_of watch.seen answers)) now
+      (stays_of watch bytes answers.stamp answers.bytes knows no_other))
   by_due false e = rw e (with_moment watch looks.Nothing (min watch.looked now) (record { none = refl; knows = knows }))
 
-none_offered : (watch : WatchState) (bytes : List ℕ) (turns : List Turn) → Knows watch bytes → HoldNoOther bytes turns → list_any is_offer (looks_over watch turns) ≡ false
+none_offered : (watch : WatchState) (bytes : List ℕ) (turns : List Turn) → Knows watch bytes → HoldNoOther bytes turns
+    → list_any is_offer (looks_over watch turns) ≡ false
 none_offered watch bytes [] knows hold = refl
 none_offered watch bytes (turn ∷ rest) knows hold =
     let stays = stays_at watch bytes turn.at turn.answers knows hold.0 in
     rw stays.none (none_offered (looked_at watch turn.at turn.answers) bytes rest stays.knows hold.1)
 
-pub taken_stays : (watch : WatchState) (bytes : List ℕ) (turns : List Turn) → HoldNoOther bytes turns → list_any is_offer (looks_over (with_taken watch bytes) turns) ≡ false
+pub taken_stays : (watch : WatchState) (bytes : List ℕ) (turns : List Turn) → HoldNoOther bytes turns
+    → list_any is_offer (looks_over (with_taken watch bytes) turns) ≡ false
 taken_stays watch bytes turns hold = none_offered (with_taken watch bytes) bytes turns (inl refl) hold
 
-pub refused_stays : (watch : WatchState) (bytes : List ℕ) (turns : List Turn) → HoldNoOther bytes turns → list_any is_offer (looks_over (with_refused watch bytes) turns) ≡ false
+pub refused_stays : (watch : WatchState) (bytes : List ℕ) (turns : List Turn) → HoldNoOther bytes turns
+    → list_any is_offer (looks_over (with_refused watch bytes) turns) ≡ false
 refused_stays watch bytes turns hold = none_offered (with_refused watch bytes) bytes turns (inr refl) hold
 
 -- ---- what was held before
@@ -131,7 +137,8 @@ record Follows (watch behind : WatchState) (now : ℕ) (answers : Answers) : Typ
 
 follows : (watch : WatchState) (now : ℕ) (answers : Answers) → watch.looked ≤ now → Follows watch (looked_at watch now answers) now answers
 follows watch now answers rising = by_due (is_due watch now) refl where
-  at_moment : (bytes : List ℕ) → (watch.seen ≡ seens.Other bytes) ⊎ (answers.bytes ≡ Ok bytes) → (watch.seen ≡ seens.Other bytes) ⊎ ((answers.bytes ≡ Ok bytes) × (now ≤ now))
+  at_moment : (bytes : List ℕ) → (watch.seen ≡ seens.Other bytes) ⊎ (answers.bytes ≡ Ok bytes)
+      → (watch.seen ≡ seens.Other bytes) ⊎ ((answers.bytes ≡ Ok bytes) × (now ≤ now))
   at_moment bytes (inl e) = inl e
   at_moment bytes (inr e) = inr (e, omega arith)
 

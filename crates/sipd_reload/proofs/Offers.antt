@@ -20,7 +20,8 @@ pub record WaitsFor (watch : WatchState) (bytes : List ℕ) : Type 0 where
 -- a fault is nothing, or is told
 failed_is : (watch : WatchState) (fault : FileFault) → (look_of watch (sights.Failed fault) ≡ looks.Nothing) ⊎ (look_of watch (sights.Failed fault) ≡ looks.Unread fault)
 failed_is watch fault = by_told (same_fault watch.fault fault) refl where
-  by_told : (told : Bool) → same_fault watch.fault fault ≡ told → (look_of watch (sights.Failed fault) ≡ looks.Nothing) ⊎ (look_of watch (sights.Failed fault) ≡ looks.Unread fault)
+  by_told : (told : Bool) → same_fault watch.fault fault ≡ told → (look_of watch (sights.Failed fault) ≡ looks.Nothing)
+      ⊎ (look_of watch (sights.Failed fault) ≡ looks.Unread fault)
   by_told true e = inl (rw e refl)
   by_told false e = inr (rw e refl)
 
@@ -71,7 +72,8 @@ other_seen watch now answers bytes reads unknown = by_other (has_other watch.see
   by_other false e = inl (rw (reads.due, reads.held, unknown, e) refl)
 
 -- and a look a second later that finds them still offers them
-pub other_offered : (watch : WatchState) (first later : ℕ) (one two : Answers) (bytes : List ℕ) (stamp : Stamp) → look_at watch first one ≡ looks.Unsettled → one.bytes ≡ Ok bytes
+pub other_offered : (watch : WatchState) (first later : ℕ) (one two : Answers) (bytes : List ℕ) (stamp : Stamp) → look_at watch first one ≡ looks.Unsettled
+    → one.bytes ≡ Ok bytes
     → first + second ≤ later → two.stamp ≡ Ok stamp → two.bytes ≡ Ok bytes → look_at (looked_at watch first one) later two ≡ looks.Settled bytes
 other_offered watch first later one two bytes stamp h held apart stamped still = by_due (is_due watch first) refl where
   by_due : (due : Bool) → is_due watch first ≡ due → look_at (looked_at watch first one) later two ≡ looks.Settled bytes
@@ -107,7 +109,8 @@ held_offers watch stamp held bytes h = by_tests (is_known watch held) (has_other
       let same : held ≡ bytes = settled_is held bytes h' in
       (same, rw (sym same) k, rw (sym same) (other_is watch.seen held o))
 
-offers : (watch : WatchState) (stamp : Result Stamp FileFault) (held : Result (List ℕ) FileFault) (bytes : List ℕ) → look_of watch (sight_of_stamp watch.seen stamp held) ≡ looks.Settled bytes
+offers : (watch : WatchState) (stamp : Result Stamp FileFault) (held : Result (List ℕ) FileFault) (bytes : List ℕ)
+    → look_of watch (sight_of_stamp watch.seen stamp held) ≡ looks.Settled bytes
     → (held ≡ Ok bytes) × (is_known watch bytes ≡ false) × (watch.seen ≡ seens.Other bytes)
 offers watch (Err fault) held bytes h = absurd (failed_offers watch fault bytes h)
 offers watch (Ok stamp) held bytes h = by_read (is_read watch.seen stamp) held refl refl where
@@ -143,5 +146,6 @@ not_le a b false e less = refl
 not_le a b true e less = absurd (omega (arith, leb-true a b e, less))
 
 -- within a second behind a look none is due
-pub not_due : (watch : WatchState) (now later : ℕ) (answers : Answers) → is_due watch now ≡ true → later < now + second → is_due (looked_at watch now answers) later ≡ false
+pub not_due : (watch : WatchState) (now later : ℕ) (answers : Answers) → is_due watch now ≡ true → later < now + second
+    → is_due (looked_at watch now answers) later ≡ false
 not_due watch now later answers due less = rw due (not_le (now + second) later (nat_le (now + second) later) refl less)

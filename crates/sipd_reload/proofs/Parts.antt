@@ -22,7 +22,8 @@ consumes_nothing a = Consumes-nil a
 pub consumes_both : (a b c : Option (List ℕ)) (front back : List ℕ) → Consumes a b front → Consumes b c back → Consumes a c (front ++ back)
 consumes_both a b c front back first second = Consumes-trans a b c front back first second
 
-pub grows : (a b : Option (List ℕ)) (old new part : List ℕ) → Consumes a b part → new ≡ old ++ part → 0 < length part → length old + length part ≤ most_bytes + 1 → Grows a b old new
+pub grows : (a b : Option (List ℕ)) (old new part : List ℕ) → Consumes a b part → new ≡ old ++ part → 0 < length part → length old + length part ≤ most_bytes + 1
+    → Grows a b old new
 grows a b old new part given grown some few = record {
   part = part;
   given = given;
@@ -42,7 +43,8 @@ nothing_behind : (a b c : Option (List ℕ)) (bytes : List ℕ) → Consumes a b
 nothing_behind a b c bytes given none = subst (λ (l : List ℕ). Consumes a c l) (append-nil bytes) (consumes_both a b c bytes [] given none)
 
 pub is_all : (a b c : Option (List ℕ)) (bytes all : List ℕ) → Consumes a b bytes → Consumes b c [] → IsAtEnd c → all ≡ bytes → length bytes ≤ most_bytes → IsAll a c all
-is_all a b c bytes all given none over same short = subst (λ (l : List ℕ). IsAll a c l) (sym same) (record { given = nothing_behind a b c bytes given none; over = over; short = short })
+is_all a b c bytes all given none over same short = subst (λ (l : List ℕ). IsAll a c l) (sym same)
+    (record { given = nothing_behind a b c bytes given none; over = over; short = short })
 
 -- one byte more was given than is read
 pub is_longer : (a b c : Option (List ℕ)) (old new : List ℕ) → Consumes a b old → Grows b c old new → most_bytes < length new → IsLonger a c

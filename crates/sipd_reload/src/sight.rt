@@ -1,4 +1,3 @@
-ghost use Rattle.std.specs.Prelude.{◌≡◌};
 ghost use Rattle.sipd_reload.specs.Watch.{Sees};
 
 use crate::file_fault::FileFault;

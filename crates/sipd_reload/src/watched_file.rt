@@ -1,4 +1,4 @@
-ghost use Rattle.std.specs.Prelude.{◌≡◌, ◌≤◌, List, Option, length, IfOk};
+ghost use Rattle.std.specs.Prelude.{◌≤◌, List, Option, length, IfOk};
 ghost use Rattle.sipd_reload.specs.File.{GrewBy, most_bytes};
 ghost use Rattle.sipd_reload.specs.declared.told.Told.{Told};
 ghost use Rattle.sipd_reload.specs.declared.told.Told.TheVariants.{Stamped, Gave};

@@ -1,5 +1,6 @@
 -- One more of a text.
-use Rattle.std.proofs.Common.{◌≡◌, ℕ, zero, suc, ◌+◌, Bool, true, false, cond, List, [], ◌∷◌, ◌++◌, map, Some, Vec, refl, sym, ◌∙◌, ap, if◌then◌else◌, take, slice_get, option_map, append-nil, append_assoc, arith}
+use Rattle.std.proofs.Common.{◌≡◌, ℕ, zero, suc, ◌+◌, Bool, true, false, cond, List, [], ◌∷◌, ◌++◌, map, Some, Vec, refl, sym, ◌∙◌, ap, if◌then◌else◌, take, slice_get}
+use Rattle.std.proofs.Common.{option_map, append-nil, append_assoc, arith}
 use Rattle.std.specs.List.{flat_map}
 use Rattle.std.specs.Str.{bytes_eq}
 use Rattle.std.specs.Map.{lookup}
@@ -47,7 +48,8 @@ total_more [] (suc i) = ap (λ n. flat_map total_text (take n [])) same
 total_more (x ∷ xs) zero = sym (append-nil (total_text x))
 total_more (x ∷ xs) (suc i) =
     let same : suc (i + 1) ≡ suc i + 1 = omega arith in
-    append_assoc (total_text x) (flat_map total_text (take i xs)) (total_at (slice_get xs i)) ∙ ap (λ l. total_text x ++ l) (total_more xs i) ∙ ap (λ n. flat_map total_text (take n (x ∷ xs))) same
+    append_assoc (total_text x) (flat_map total_text (take i xs)) (total_at (slice_get xs i)) ∙ ap (λ l. total_text x ++ l) (total_more xs i)
+    ∙ ap (λ n. flat_map total_text (take n (x ∷ xs))) same
 
 -- the total of an entry
 pub total_of_entry : {A : Type 0} (entries : List (Vec ℕ A × ℕ)) (i : ℕ) → slice_get (map shown_row entries) i ≡ option_map shown_row (slice_get entries i)

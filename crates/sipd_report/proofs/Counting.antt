@@ -1,5 +1,6 @@
 -- What one line more changes of what is counted.
-use Rattle.std.proofs.Common.{◌≡◌, ℕ, suc, ◌+◌, ◌<◌, ◌≤◌, Bool, true, false, cond, List, [], ◌∷◌, ◌++◌, length, take, map, filter, Option, None, Some, is_none, refl, sym, ◌∙◌, ap, arith, append-nil, if◌then◌else◌}
+use Rattle.std.proofs.Common.{◌≡◌, ℕ, suc, ◌+◌, ◌<◌, ◌≤◌, Bool, true, false, cond, List, [], ◌∷◌, ◌++◌, length, take, map, filter, Option, None, Some, is_none, refl, sym}
+use Rattle.std.proofs.Common.{◌∙◌, ap, arith, append-nil, if◌then◌else◌}
 use Rattle.std.specs.Prelude.{count_by, nat_lt}
 use Rattle.std.specs.List.{flat_map, filter_map, cons_option}
 use Rattle.std.proofs.lemmas.Bool.{ltb-true, ltb-false}
@@ -34,13 +35,16 @@ keys_more key asked r = totals_more (map key asked) (key r) ∙ ap totals_of (sy
 length_more : {X : Type 0} (xs : List X) (x : X) → capped (capped (length xs) + 1) ≡ capped (length (xs ++ x ∷ []))
 length_more xs x = capped_more (length xs) ∙ ap capped (sym (length_push xs x))
 
-line_more : (asked : List Record) (lines filled : ℕ) (none : List (ℕ × List ℕ)) → with_line (tally_from asked lines filled none) ≡ tally_from asked (lines + 1) filled none
+line_more : (asked : List Record) (lines filled : ℕ) (none : List (ℕ × List ℕ)) → with_line (tally_from asked lines filled none)
+    ≡ tally_from asked (lines + 1) filled none
 line_more asked lines filled none = ap (λ n. record (tally_from asked lines filled none) { lines = n }) (capped_more lines)
 
-filled_more : (asked : List Record) (lines filled : ℕ) (none : List (ℕ × List ℕ)) → with_filled (tally_from asked lines filled none) ≡ tally_from asked lines (filled + 1) none
+filled_more : (asked : List Record) (lines filled : ℕ) (none : List (ℕ × List ℕ)) → with_filled (tally_from asked lines filled none)
+    ≡ tally_from asked lines (filled + 1) none
 filled_more asked lines filled none = ap (λ n. record (tally_from asked lines filled none) { filled = n }) (capped_more filled)
 
-record_more : (asked : List Record) (lines filled : ℕ) (none : List (ℕ × List ℕ)) (r : Record) → with_record r (tally_from asked lines filled none) ≡ tally_from (asked ++ r ∷ []) lines filled none
+record_more : (asked : List Record) (lines filled : ℕ) (none : List (ℕ × List ℕ)) (r : Record)
+    → with_record r (tally_from asked lines filled none) ≡ tally_from (asked ++ r ∷ []) lines filled none
 record_more asked lines filled none r =
     let users = keys_more (λ q. who_text q.who) asked r in
     let rules = keys_more (λ q. ruling_text (ruling_of q.outcome)) asked r in
@@ -51,11 +55,13 @@ record_more asked lines filled none r =
 -- ---- the lines that are no audit lines
 
 shown_more : (none : List (ℕ × List ℕ)) (line : ℕ × List ℕ)
-    → (if nat_lt (capped (length none)) 20 then flat_map no_entry_text (take 20 none) ++ no_entry_text line else flat_map no_entry_text (take 20 none)) ≡ flat_map no_entry_text (take 20 (none ++ line ∷ []))
+    → (if nat_lt (capped (length none)) 20 then flat_map no_entry_text (take 20 none) ++ no_entry_text line else flat_map no_entry_text (take 20 none))
+    ≡ flat_map no_entry_text (take 20 (none ++ line ∷ []))
 shown_more none line = by (nat_lt (capped (length none)) 20) refl
   where
     by : (few : Bool) → nat_lt (capped (length none)) 20 ≡ few
-        → (if few then flat_map no_entry_text (take 20 none) ++ no_entry_text line else flat_map no_entry_text (take 20 none)) ≡ flat_map no_entry_text (take 20 (none ++ line ∷ []))
+        → (if few then flat_map no_entry_text (take 20 none) ++ no_entry_text line else flat_map no_entry_text (take 20 none))
+        ≡ flat_map no_entry_text (take 20 (none ++ line ∷ []))
     by true is =
         let few : capped (length none) < 20 = ltb-true (capped (length none)) 20 is in
         let size : length (none ++ line ∷ []) ≡ length none + 1 = length_push none line in
@@ -67,18 +73,21 @@ shown_more none line = by (nat_lt (capped (length none)) 20) refl
         let many : 20 ≤ capped (length none) = ltb-false (capped (length none)) 20 is in
         ap (flat_map no_entry_text) (sym (take-append-le 20 none (line ∷ []) (omega (arith, many))))
 
-no_entry_more : (asked : List Record) (lines filled : ℕ) (none : List (ℕ × List ℕ)) (line : List ℕ) → with_no_entry line (tally_from asked lines filled none) ≡ tally_from asked lines filled (none ++ (lines, line) ∷ [])
+no_entry_more : (asked : List Record) (lines filled : ℕ) (none : List (ℕ × List ℕ)) (line : List ℕ)
+    → with_no_entry line (tally_from asked lines filled none) ≡ tally_from asked lines filled (none ++ (lines, line) ∷ [])
 no_entry_more asked lines filled none line =
     let count = length_more none (lines, line) in
     let shown = shown_more none (lines, line) in
     λ i. record (tally_from asked lines filled none) { none = count i; shown = shown i }
 
-no_entries_more : (n : ℕ) (lines : List (List ℕ)) (line : List ℕ) → no_entries n (lines ++ line ∷ []) ≡ no_entries n lines ++ (if is_no_entry line then (n + length lines, line) ∷ [] else [])
+no_entries_more : (n : ℕ) (lines : List (List ℕ)) (line : List ℕ) → no_entries n (lines ++ line ∷ []) ≡ no_entries n lines
+    ++ (if is_no_entry line then (n + length lines, line) ∷ [] else [])
 no_entries_more n [] line = ap (λ m. if is_no_entry line then (m, line) ∷ [] else []) same
   where
     same : n ≡ n + 0
     same = omega arith
-no_entries_more n (l ∷ ls) line = by (is_no_entry l) (no_entries_more (n + 1) ls line ∙ ap (λ m. no_entries (n + 1) ls ++ (if is_no_entry line then (m, line) ∷ [] else [])) same)
+no_entries_more n (l ∷ ls) line = by (is_no_entry l) (no_entries_more (n + 1) ls line
+    ∙ ap (λ m. no_entries (n + 1) ls ++ (if is_no_entry line then (m, line) ∷ [] else [])) same)
   where
     same : (n + 1) + length ls ≡ n + suc (length ls)
     same = omega arith
@@ -92,7 +101,8 @@ no_entries_more n (l ∷ ls) line = by (is_no_entry l) (no_entries_more (n + 1) 
 -- ---- the records that are asked for
 
 pub asked_more : (q : Query) (lines : List (List ℕ)) (line : List ℕ) → asked_of q (lines ++ line ∷ []) ≡ asked_of q lines ++ asked_of q (line ∷ [])
-asked_more q lines line = ap (filter (is_asked q)) (filter_map-append entry_of lines (line ∷ [])) ∙ filter-append (is_asked q) (filter_map entry_of lines) (filter_map entry_of (line ∷ []))
+asked_more q lines line = ap (filter (is_asked q)) (filter_map-append entry_of lines (line ∷ []))
+    ∙ filter-append (is_asked q) (filter_map entry_of lines) (filter_map entry_of (line ∷ []))
 
 -- what one entry adds
 abbrev asked_from : Query → Option Record → List Record
@@ -117,13 +127,15 @@ with_none : {X : Type 0} (xs : List X) → xs ≡ xs ++ []
 with_none xs = sym (append-nil xs)
 
 asked_if : (q : Query) (asked : List Record) (lines filled : ℕ) (none : List (ℕ × List ℕ)) (r : Record) (b : Bool)
-    → (if b then with_record r (tally_from asked lines filled none) else tally_from asked lines filled none) ≡ tally_from (asked ++ (if b then r ∷ [] else [])) lines filled (none ++ [])
+    → (if b then with_record r (tally_from asked lines filled none) else tally_from asked lines filled none)
+    ≡ tally_from (asked ++ (if b then r ∷ [] else [])) lines filled (none ++ [])
 asked_if q asked lines filled none r true = record_more asked lines filled none r ∙ ap (tally_from (asked ++ r ∷ []) lines filled) (with_none none)
 asked_if q asked lines filled none r false = (λ i. tally_from (with_none asked i) lines filled (with_none none i))
 
 -- what an entry adds
 entry_more : (q : Query) (asked : List Record) (lines filled : ℕ) (none : List (ℕ × List ℕ)) (line : List ℕ) (entry : Option Record)
-    → with_entry q line entry (tally_from asked lines filled none) ≡ tally_from (asked ++ asked_from q entry) lines filled (none ++ (if is_none entry then (lines, line) ∷ [] else []))
+    → with_entry q line entry (tally_from asked lines filled none) ≡ tally_from (asked ++ asked_from q entry) lines filled
+    (none ++ (if is_none entry then (lines, line) ∷ [] else []))
 entry_more q asked lines filled none line None =
     no_entry_more asked lines filled none line ∙ ap (λ a. tally_from a lines filled (none ++ (lines, line) ∷ [])) (with_none asked)
 entry_more q asked lines filled none line (Some r) = asked_if q asked lines filled none r (is_asked q r)
@@ -138,7 +150,8 @@ filled_count lines line =
 -- what a line adds to all that is counted
 added : (q : Query) (asked : List Record) (lines filled : ℕ) (none : List (ℕ × List ℕ)) (line : List ℕ)
     → after_line q line (tally_from asked lines filled none)
-    ≡ tally_from (asked ++ asked_from q (entry_of line)) (lines + 1) (filled + cond (is_filled line) 1 0) (none ++ (if is_no_entry line then (lines + 1, line) ∷ [] else []))
+    ≡ tally_from (asked ++ asked_from q (entry_of line)) (lines + 1) (filled + cond (is_filled line) 1 0)
+    (none ++ (if is_no_entry line then (lines + 1, line) ∷ [] else []))
 added q asked lines filled none [] =
     let nobody : asked ≡ asked ++ asked_from q (entry_of []) = with_none asked ∙ ap (λ e. asked ++ asked_from q e) (sym empty_line) in
     let same : filled ≡ filled + 0 = omega arith in
@@ -151,7 +164,8 @@ added q asked lines filled none (b ∷ bs) =
 -- what is counted of one line more
 pub tally_more : (q : Query) (lines : List (List ℕ)) (line : List ℕ) → after_line q line (tally_of q lines) ≡ tally_of q (lines ++ line ∷ [])
 tally_more q lines line =
-    let asked : asked_of q (lines ++ line ∷ []) ≡ asked_of q lines ++ asked_from q (entry_of line) = asked_more q lines line ∙ ap (λ l. asked_of q lines ++ l) (asked_line q line) in
+    let asked : asked_of q (lines ++ line ∷ []) ≡ asked_of q lines ++ asked_from q (entry_of line) = asked_more q lines line
+    ∙ ap (λ l. asked_of q lines ++ l) (asked_line q line) in
     let number : 1 + length lines ≡ length lines + 1 = omega arith in
     let none : no_entries 1 (lines ++ line ∷ []) ≡ no_entries 1 lines ++ (if is_no_entry line then (length lines + 1, line) ∷ [] else []) =
     no_entries_more 1 lines line ∙ ap (λ n. no_entries 1 lines ++ (if is_no_entry line then (n, line) ∷ [] else [])) number in

@@ -1,5 +1,6 @@
 -- Lines that are read in parts.
-use Rattle.std.proofs.Common.{◌≡◌, ℕ, zero, suc, ◌+◌, ◌-◌, ◌<◌, ◌≤◌, List, ◌∷◌, ◌++◌, length, take, drop, get_or, Bool, true, false, cond, map, Option, None, Some, MatchOption, refl, sym, ◌∙◌, ap, subst, arith, append-nil, append_assoc, length-append, [], add-one, take-append-drop, slice_range, min}
+use Rattle.std.proofs.Common.{◌≡◌, ℕ, zero, suc, ◌+◌, ◌-◌, ◌<◌, ◌≤◌, List, ◌∷◌, ◌++◌, length, take, drop, get_or, Bool, true, false, cond, map, Option, None, Some}
+use Rattle.std.proofs.Common.{MatchOption, refl, sym, ◌∙◌, ap, subst, arith, append-nil, append_assoc, length-append, [], add-one, take-append-drop, slice_range, min}
 use Rattle.std.specs.Prelude.{count_by, if◌then◌else◌, ◌==◌}
 use Rattle.std.specs.Io.KnownBytes.{Consumes, Keeps, IsAtEnd}
 use Rattle.std.proofs.KnownBytes.{Keeps-refl, Keeps-trans}
@@ -46,12 +47,14 @@ ends_at : (text : List ℕ) (place : ℕ) → place < length text → ((k : ℕ)
 ends_at text place lt before is = record {
   inside = lt;
   single = none_before text place (omega arith) before;
-  cut = sym (take-append-drop place text) ∙ ap (λ l. take place text ++ l) (drop-cons text place 0 lt ∙ ap (λ b. b ∷ drop (suc place) text) is ∙ ap (λ n. 10 ∷ drop n text) (sym (add-one place)));
+  cut = sym (take-append-drop place text) ∙ ap (λ l. take place text ++ l) (drop-cons text place 0 lt ∙ ap (λ b. b ∷ drop (suc place) text) is
+      ∙ ap (λ n. 10 ∷ drop n text) (sym (add-one place)));
 }
 
 pub first_end : (text : List ℕ) (place : Option ℕ) → IsFirstByte (is_byte 10) text place → MatchOption place (count_by is_end text ≡ 0) (λ i. EndsAt text i)
 first_end text None h =
-    subst (λ l. count_by is_end l ≡ 0) (take_all (length text) text (omega arith)) (none_before text (length text) (omega arith) (λ k b. not_true (is_end (get_or text k 0)) (h k (omega arith) b)))
+    subst (λ l. count_by is_end l ≡ 0) (take_all (length text) text (omega arith)) (none_before text (length text) (omega arith)
+    (λ k b. not_true (is_end (get_or text k 0)) (h k (omega arith) b)))
 first_end text (Some i) h =
     let first = h.0 in
     let is : get_or text i 0 ≡ 10 = grind (arith, nat_tests, h.1) in
@@ -64,7 +67,8 @@ range_rest xs start stop n le =
     ap (take (stop - (start + n))) (sym (drop-drop n start xs)) ∙ sym (drop-take n (stop - (start + n)) (drop start xs)) ∙ ap (λ m. drop n (take m (drop start xs))) sizes
 
 -- a line ends in a part
-pub part_ends : (xs ys : List ℕ) (start stop asks place : ℕ) (before after : List ℕ) → ys ≡ xs → EndsAt (slice_range ys start stop) place → after ≡ take 200001 (before ++ take place (slice_range ys start stop))
+pub part_ends : (xs ys : List ℕ) (start stop asks place : ℕ) (before after : List ℕ) → ys ≡ xs → EndsAt (slice_range ys start stop) place
+    → after ≡ take 200001 (before ++ take place (slice_range ys start stop))
     → EndsLine (record { unread = slice_range xs start stop; asks = asks }) (record { unread = slice_range xs (start + (place + 1)) stop; asks = asks }) before after
 part_ends xs ys start stop asks place before after same ends grown =
     let most : length (slice_range ys start stop) ≤ stop - start = omega (arith, length-take (stop - start) (drop start ys)) in
@@ -93,7 +97,8 @@ pub front_line : (front rest : List ℕ) → count_by is_end front ≡ 0 → lin
 front_line [] rest none = refl
 front_line (b ∷ bs) rest none = by (b == 10) (sym (count_cons b bs) ∙ none) (front_line bs rest)
   where
-    by : (is : Bool) → cond is 1 0 + count_by is_end bs ≡ 0 → (count_by is_end bs ≡ 0 → lines_of (bs ++ 10 ∷ rest) ≡ bs ∷ lines_of rest) → (if is then [] ∷ lines_of (bs ++ 10 ∷ rest) else in_first b (lines_of (bs ++ 10 ∷ rest))) ≡ (b ∷ bs) ∷ lines_of rest
+    by : (is : Bool) → cond is 1 0 + count_by is_end bs ≡ 0 → (count_by is_end bs ≡ 0 → lines_of (bs ++ 10 ∷ rest) ≡ bs ∷ lines_of rest)
+        → (if is then [] ∷ lines_of (bs ++ 10 ∷ rest) else in_first b (lines_of (bs ++ 10 ∷ rest))) ≡ (b ∷ bs) ∷ lines_of rest
     by true none more = absurd (omega (arith, none))
     by false none more = ap (in_first b) (more (omega (arith, none)))
 
@@ -159,16 +164,19 @@ gathers_more a c r s line more g goes = record {
 ends_known : (xs whole part rest zs line : List ℕ) → xs ≡ whole ++ ((part ++ 10 ∷ rest) ++ zs) → count_by is_end whole ≡ 0 → count_by is_end part ≡ 0
     → line ≡ take 200001 (whole ++ part) → fronts_of xs ≡ line ∷ fronts_of (rest ++ zs)
 ends_known xs whole part rest zs line is none none_more kept =
-    let cut : xs ≡ (whole ++ part) ++ 10 ∷ (rest ++ zs) = is ∙ ap (λ l. whole ++ l) (append_assoc part (10 ∷ rest) zs) ∙ sym (append_assoc whole part (10 ∷ (rest ++ zs))) in
+    let cut : xs ≡ (whole ++ part) ++ 10 ∷ (rest ++ zs) = is ∙ ap (λ l. whole ++ l) (append_assoc part (10 ∷ rest) zs) ∙ sym (append_assoc whole part (10 ∷ (rest ++ zs)))
+    in
     let sum : count_by is_end (whole ++ part) ≡ count_by is_end whole + count_by is_end part = sum_by-append (λ b. cond (is_end b) 1 0) whole part in
     let single : count_by is_end (whole ++ part) ≡ 0 = omega (arith, sum, none, none_more) in
     ap fronts_of cut ∙ ap (map (take 200001)) (front_line (whole ++ part) (rest ++ zs) single) ∙ ap (λ l. l ∷ fronts_of (rest ++ zs)) (sym kept)
 
-gives_by : (a c : Option (List ℕ)) (whole unread part rest line : List ℕ) → Consumes a (pending (record { unread = unread; asks = 0 }) c) whole → unread ≡ part ++ 10 ∷ rest
+gives_by : (a c : Option (List ℕ)) (whole unread part rest line : List ℕ) → Consumes a (pending (record { unread = unread; asks = 0 }) c) whole
+    → unread ≡ part ++ 10 ∷ rest
     → count_by is_end whole ≡ 0 → count_by is_end part ≡ 0 → line ≡ take 200001 (whole ++ part) → GivesFront a (pending (record { unread = rest; asks = 0 }) c) line
 gives_by None c whole unread part rest line h is none none_more kept = tt
 gives_by (Some xs) None whole unread part rest line h is none none_more kept = absurd h
-gives_by (Some xs) (Some zs) whole unread part rest line h is none none_more kept = ends_known xs whole part rest zs line (h ∙ ap (λ l. whole ++ (l ++ zs)) is) none none_more kept
+gives_by (Some xs) (Some zs) whole unread part rest line h is none none_more kept = ends_known xs whole part rest zs line (h ∙ ap (λ l. whole ++ (l ++ zs)) is) none
+    none_more kept
 
 pub gathers_end : (a c : Option (List ℕ)) (r s : Reading) (line more : List ℕ) → Gathers a (pending r c) line → EndsLine r s line more → GivesFront a (pending s c) more
 gathers_end a c r s line more g ends =
@@ -176,10 +184,12 @@ gathers_end a c r s line more g ends =
     (ends.grown ∙ ap (λ l. take 200001 (l ++ ends.part)) g.kept ∙ take_front 200001 g.whole ends.part)
 
 -- the input ends it
-last_known : (xs whole zs line : List ℕ) → xs ≡ whole ++ zs → zs ≡ [] → count_by is_end whole ≡ 0 → line ≡ take 200001 whole → 1 ≤ length line → fronts_of xs ≡ line ∷ fronts_of zs
+last_known : (xs whole zs line : List ℕ) → xs ≡ whole ++ zs → zs ≡ [] → count_by is_end whole ≡ 0 → line ≡ take 200001 whole → 1 ≤ length line
+    → fronts_of xs ≡ line ∷ fronts_of zs
 last_known xs [] zs line is end none kept some = absurd (omega (arith, some, ap length kept))
 last_known xs (b ∷ bs) zs line is end none kept some =
-    ap fronts_of (is ∙ ap (λ l. (b ∷ bs) ++ l) end ∙ append-nil (b ∷ bs)) ∙ ap (map (take 200001)) (last_line b bs none) ∙ ap (λ l. l ∷ []) (sym kept) ∙ ap (λ l. line ∷ fronts_of l) (sym end)
+    ap fronts_of (is ∙ ap (λ l. (b ∷ bs) ++ l) end ∙ append-nil (b ∷ bs)) ∙ ap (map (take 200001)) (last_line b bs none) ∙ ap (λ l. l ∷ []) (sym kept)
+    ∙ ap (λ l. line ∷ fronts_of l) (sym end)
 
 pub gathers_last : (a b : Option (List ℕ)) (line : List ℕ) → Gathers a b line → IsAtEnd b → 1 ≤ length line → GivesFront a b line
 gathers_last a b line g end some = by a b g.consumes end
@@ -233,7 +243,8 @@ pub front_of : (n : ℕ) (part : List ℕ) (count : ℕ) → count ≡ min n (le
 front_of n part count is = ap (λ m. take m part) is ∙ take_min n part
 
 -- as much of a part as there is room for
-pub put_kept : (line part grown : List ℕ) (count : ℕ) → count ≡ min (200001 - length line) (length part) → length line ≤ 200001 → grown ≡ line ++ take count part → grown ≡ take 200001 (line ++ part)
+pub put_kept : (line part grown : List ℕ) (count : ℕ) → count ≡ min (200001 - length line) (length part) → length line ≤ 200001 → grown ≡ line ++ take count part
+    → grown ≡ take 200001 (line ++ part)
 put_kept line part grown count is short h =
     h ∙ ap (λ l. line ++ l) (front_of (200001 - length line) part count is) ∙ take_room 200001 line part short
 
@@ -243,7 +254,8 @@ pub four_parts : (text a b c d t1 t2 t3 t4 : List ℕ) → t1 ≡ text ++ a → 
 four_parts text a b c d t1 t2 t3 t4 h1 h2 h3 h4 =
     h4 ∙ ap (λ l. l ++ d) (h3 ∙ ap (λ l. l ++ c) (h2 ∙ ap (λ l. l ++ b) h1 ∙ append_assoc text a b) ∙ append_assoc text (a ++ b) c) ∙ append_assoc text (a ++ b ++ c) d
 
-pub five_parts : (text a b c d e t1 t2 t3 t4 t5 : List ℕ) → t1 ≡ text ++ a → t2 ≡ t1 ++ b → t3 ≡ t2 ++ c → t4 ≡ t3 ++ d → t5 ≡ t4 ++ e → t5 ≡ text ++ (a ++ b ++ c ++ d ++ e)
+pub five_parts : (text a b c d e t1 t2 t3 t4 t5 : List ℕ) → t1 ≡ text ++ a → t2 ≡ t1 ++ b → t3 ≡ t2 ++ c → t4 ≡ t3 ++ d → t5 ≡ t4 ++ e
+    → t5 ≡ text ++ (a ++ b ++ c ++ d ++ e)
 five_parts text a b c d e t1 t2 t3 t4 t5 h1 h2 h3 h4 h5 =
     h5 ∙ ap (λ l. l ++ e) (four_parts text a b c d t1 t2 t3 t4 h1 h2 h3 h4) ∙ append_assoc text (a ++ b ++ c ++ d) e
 

@@ -16,7 +16,8 @@ quoted_first false b more e = plain_first b more e
 quoted_back : (text : List ℕ) → quoted_field (flat_map quoted_byte text ++ 34 ∷ []) ≡ text
 quoted_back [] = refl
 quoted_back (b ∷ bs) =
-    ap quoted_field (append_assoc (quoted_byte b) (flat_map quoted_byte bs) (34 ∷ [])) ∙ quoted_first (b == 34) b (flat_map quoted_byte bs ++ 34 ∷ []) refl ∙ ap (λ l. b ∷ l) (quoted_back bs)
+    ap quoted_field (append_assoc (quoted_byte b) (flat_map quoted_byte bs) (34 ∷ [])) ∙ quoted_first (b == 34) b (flat_map quoted_byte bs ++ 34 ∷ []) refl
+    ∙ ap (λ l. b ∷ l) (quoted_back bs)
 
 -- a text without such a byte begins with no quote
 unquoted_back : (text : List ℕ) → list_any is_special text ≡ false → field_of text ≡ text

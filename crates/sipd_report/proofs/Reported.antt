@@ -43,7 +43,8 @@ one_given (Some xs) None c done line h g = absurd h
 one_given (Some xs) (Some ys) None done line h g = absurd g
 one_given (Some xs) (Some ys) (Some zs) done line h g = h ∙ ap (λ l. done ++ l) g ∙ sym (append_assoc done (line ∷ []) (fronts_of zs))
 
-pub reported_more : (q : Query) (a before : Option (List ℕ)) (r s : Reading) (b c after more : Option (List ℕ)) (t u : Tally) → IsReported q a (pending r b) before after t
+pub reported_more : (q : Query) (a before : Option (List ℕ)) (r s : Reading) (b c after more : Option (List ℕ)) (t u : Tally)
+    → IsReported q a (pending r b) before after t
     → TakesLine q r s b c t u after more → IsReported q a (pending s c) before more u
 reported_more q a before r s b c after more t u h takes =
     let heading = row_text q.form column_names in

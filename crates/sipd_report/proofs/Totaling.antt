@@ -19,7 +19,8 @@ this_row : (b : Bool) (count rest : ℕ) → (if b then capped (count + 1) else 
 this_row true count rest = refl
 this_row false count rest = refl
 
-other_row : (text row other : List ℕ) (count total more : ℕ) (b : Bool) → bytes_eq text row ≡ b → bytes_eq other row ≡ false → more ≡ one_more_if (bytes_eq text other) total
+other_row : (text row other : List ℕ) (count total more : ℕ) (b : Bool) → bytes_eq text row ≡ b → bytes_eq other row ≡ false
+    → more ≡ one_more_if (bytes_eq text other) total
     → (if b then count else more) ≡ one_more_if (bytes_eq text other) (if b then count else total)
 other_row text row other count total more true f e rest =
     let is : text ≡ row = same_text text row (sym f) in
@@ -27,15 +28,18 @@ other_row text row other count total more true f e rest =
     ap (λ b. one_more_if b count) (sym none)
 other_row text row other count total more false f e rest = rest
 
-one_more_total : (text : List ℕ) (rows : List (List ℕ × ℕ)) (other : List ℕ) → total_for text (one_more rows other) ≡ one_more_if (bytes_eq text other) (total_for text rows)
+one_more_total : (text : List ℕ) (rows : List (List ℕ × ℕ)) (other : List ℕ) → total_for text (one_more rows other)
+    ≡ one_more_if (bytes_eq text other) (total_for text rows)
 one_more_total text [] other = first_row (bytes_eq text other)
 one_more_total text (row ∷ rows) other = by (bytes_eq other row.0) refl (one_more_total text rows other)
   where
     by : (same : Bool) → bytes_eq other row.0 ≡ same → total_for text (one_more rows other) ≡ one_more_if (bytes_eq text other) (total_for text rows)
-        → total_for text (if same then (row.0, capped (row.1 + 1)) ∷ rows else row ∷ one_more rows other) ≡ one_more_if (bytes_eq text other) (if bytes_eq text row.0 then row.1 else total_for text rows)
+        → total_for text (if same then (row.0, capped (row.1 + 1)) ∷ rows else row ∷ one_more rows other)
+        ≡ one_more_if (bytes_eq text other) (if bytes_eq text row.0 then row.1 else total_for text rows)
     by true e rest =
         let is : row.0 ≡ other = sym (same_text other row.0 (sym e)) in
-        subst (λ (o : List ℕ). (if bytes_eq text row.0 then capped (row.1 + 1) else total_for text rows) ≡ one_more_if (bytes_eq text o) (if bytes_eq text row.0 then row.1 else total_for text rows)) is
+        subst (λ (o : List ℕ). (if bytes_eq text row.0 then capped (row.1 + 1) else total_for text rows)
+        ≡ one_more_if (bytes_eq text o) (if bytes_eq text row.0 then row.1 else total_for text rows)) is
         (this_row (bytes_eq text row.0) row.1 (total_for text rows))
     by false e rest = other_row text row.0 other row.1 (total_for text rows) (total_for text (one_more rows other)) (bytes_eq text row.0) refl e rest
 
@@ -51,9 +55,11 @@ totals_from text [] rows n is = is ∙ ap capped same
     same : n ≡ n + 0
     same = omega arith
 totals_from text (t ∷ ts) rows n is =
-    let count : count_by (bytes_eq text) (t ∷ ts) ≡ (0 + cond (bytes_eq text t) 1 0) + count_by (bytes_eq text) ts = sum_by-append (λ u. cond (bytes_eq text u) 1 0) (t ∷ []) ts in
+    let count : count_by (bytes_eq text) (t ∷ ts) ≡ (0 + cond (bytes_eq text t) 1 0) + count_by (bytes_eq text) ts =
+    sum_by-append (λ u. cond (bytes_eq text u) 1 0) (t ∷ []) ts in
     let sum : (n + cond (bytes_eq text t) 1 0) + count_by (bytes_eq text) ts ≡ n + count_by (bytes_eq text) (t ∷ ts) = omega (arith, count) in
-    totals_from text ts (one_more rows t) (n + cond (bytes_eq text t) 1 0) (one_more_total text rows t ∙ capped_if (bytes_eq text t) (total_for text rows) n is) ∙ ap capped sum
+    totals_from text ts (one_more rows t) (n + cond (bytes_eq text t) 1 0) (one_more_total text rows t ∙ capped_if (bytes_eq text t) (total_for text rows) n is)
+    ∙ ap capped sum
 
 -- the total of each text is how often it stands in the list
 pub total_is_count : (text : List ℕ) (texts : List (List ℕ)) → total_for text (totals_of texts) ≡ capped (count_by (bytes_eq text) texts)

@@ -1,5 +1,6 @@
 -- The lines of an input, what of them is an audit line, and what a report is asked for.
-use Rattle.std.specs.Prelude.{ℕ, ◌==◌, Bool, true, false, ◌&&◌, ◌||◌, not, nat_le, if◌then◌else◌, List, [], ◌∷◌, length, take, map, filter, Option, Some, None, option_map, is_none}
+use Rattle.std.specs.Prelude.{ℕ, ◌==◌, Bool, true, false, ◌&&◌, ◌||◌, not, nat_le, if◌then◌else◌, List, [], ◌∷◌, length, take, map, filter, Option, Some, None}
+use Rattle.std.specs.Prelude.{option_map, is_none}
 use Rattle.std.specs.List.{filter_map}
 use Rattle.std.specs.Str.{bytes_eq}
 use Rattle.sip_audit.specs.declared.record.Record.{Record}

@@ -18,7 +18,8 @@ use Rattle.sipd_service.specs.Hops.{hop_addresses}
 use Rattle.sipd_service.specs.Reloads.{FollowsHops, HearsHops, IsUnnoted, always_of}
 
 -- what was taken has the same frame
-pub not_other : (old config : Config) (answer : Result (Unit {0}) ChangeError) → IfSome (frame_key_of old config) (λ key. answer ≡ Err (OtherFrame key)) → answer ≡ Ok tt → frame_key_of old config ≡ None
+pub not_other : (old config : Config) (answer : Result (Unit {0}) ChangeError) → IfSome (frame_key_of old config) (λ key. answer ≡ Err (OtherFrame key)) → answer ≡ Ok tt
+    → frame_key_of old config ≡ None
 not_other old config answer refused taken = by_key (frame_key_of old config) refused where
   by_key : (o : Option FrameKey) → IfSome o (λ key. answer ≡ Err (OtherFrame key)) → o ≡ None
   by_key None h = refl
@@ -49,10 +50,12 @@ stays_failed (Some old) new e h = absurd (cc)
 pub with_readings : (t : Told) (readings : Option (List ℕ)) → t.readings ≡ readings → t ≡ record t { readings = readings }
 with_readings t readings e = ap (λ (r : Option (List ℕ)). record t { readings = r }) e
 
-pub with_link : (t : Told) (heard : Option (List (Option Heard))) (given : Option (List Given)) → t.heard ≡ heard → t.given ≡ given → t ≡ record t { heard = heard; given = given }
+pub with_link : (t : Told) (heard : Option (List (Option Heard))) (given : Option (List Given)) → t.heard ≡ heard → t.given ≡ given
+    → t ≡ record t { heard = heard; given = given }
 with_link t heard given e f = ap₂ (λ (h : Option (List (Option Heard))) (g : Option (List Given)). record t { heard = h; given = g }) e f
 
-pub with_three : (t : Told) (heard : Option (List (Option Heard))) (given : Option (List Given)) (readings : Option (List ℕ)) → t.heard ≡ heard → t.given ≡ given → t.readings ≡ readings
+pub with_three : (t : Told) (heard : Option (List (Option Heard))) (given : Option (List Given)) (readings : Option (List ℕ)) → t.heard ≡ heard → t.given ≡ given
+    → t.readings ≡ readings
     → t ≡ record t { heard = heard; given = given; readings = readings }
 with_three t heard given readings e f h = with_link t heard given e f ∙ ap (λ (r : Option (List ℕ)). record t { heard = heard; given = given; readings = r }) h
 

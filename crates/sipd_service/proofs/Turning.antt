@@ -1,5 +1,6 @@
 -- Turns behind the printed start, and what they print.
-use Rattle.std.proofs.Common.{◌≡◌, ℕ, zero, suc, Bool, true, false, List, [], ◌++◌, Option, None, Some, Result, Ok, Err, IfErr, OnOk, ◌+◌, inr, unwrap_or, arith, refl, sym, ap, subst, ◌∙◌}
+use Rattle.std.proofs.Common.{◌≡◌, ℕ, zero, suc, Bool, true, false, List, [], ◌++◌, Option, None, Some, Result, Ok, Err, IfErr, OnOk, ◌+◌, inr, unwrap_or, arith, refl}
+use Rattle.std.proofs.Common.{sym, ap, subst, ◌∙◌}
 use Rattle.std.proofs.lemmas.Grind.{flat_map-append}
 use Rattle.std.specs.Io.KnownBytes.{Appends}
 use Rattle.std.proofs.KnownBytes.{Appends-nil, Appends-trans}
@@ -74,7 +75,8 @@ turns_print zero before after a b turning e f =
     subst (PrintsLines a) (some_is a b same) (record { records = []; written = Appends-nil a })
 turns_print (suc n) before after a b (middle, turning, turn) e f =
     let last : turn.last.log.bytes ≡ Some b = sym (ap (λ (t : Told). t.log.bytes) turn.ends.others) ∙ f in
-    let first : turn.first.devices.log.bytes ≡ middle.devices.log.bytes = ap (λ (t : Told). t.log.bytes) turn.begins.others ∙ ap (λ (t : Told). t.log.bytes) turn.begins.looked.others in
+    let first : turn.first.devices.log.bytes ≡ middle.devices.log.bytes = ap (λ (t : Told). t.log.bytes) turn.begins.others
+    ∙ ap (λ (t : Told). t.log.bytes) turn.begins.looked.others in
     let printed : Prints middle.devices.log.bytes (Some b) (gathered records_logged turn.served.done) =
     subst (λ bytes. Prints bytes (Some b) (gathered records_logged turn.served.done)) first
     (subst (λ bytes. Prints turn.first.devices.log.bytes bytes (gathered records_logged turn.served.done)) last turn.served.serves.told.printed) in

@@ -11,6 +11,7 @@ use Rattle.model_bounds.specs.state.declared.server.Server.{Server}
 use Rattle.model_order.specs.Order.{Standing, first_standing}
 use Rattle.model_bounds.specs.state.State.{first_state}
 use Rattle.sip_run.specs.engine.Engine.{Engine}
+use Rattle.sip_run.specs.engine.engine_time.proxy.Proxy.{Secrets, secrets_of}
 use Rattle.sip_run.specs.Due.{standing_of}
 use Rattle.sip_run.proofs.Standings.{standing_is}
 use Rattle.sip_record.specs.Record.{NotesConfiguration}
@@ -22,7 +23,7 @@ use Rattle.sip_resume.specs.Whole.{IsRecordResumed}
 use Rattle.sipd_old_record.specs.OldRecord.{SaysHead}
 use Rattle.sipd_start.specs.Begins.{IsServerOf, StartsAnew, Written, TakesOld, LeadsTo, GoesOn, GoesOnFrom, IsFileNotResumed, IsLeftBehind, GoesOnFromFile, Begins}
 use Rattle.sipd_start.specs.Boots.{boot_again}
-use Rattle.sipd_boot.specs.Boots.{behind_boot, behind_secret}
+use Rattle.sipd_boot.specs.Boots.{behind_boot, secret_from, behind_secret}
 use Rattle.sipd_start.specs.OldRecords.{IsBegunBy}
 use Rattle.sipd_start.specs.Places.{is_input}
 use Rattle.sipd_start.specs.declared.not_resumed.NotResumed.{NotResumed as Reason}
@@ -50,7 +51,8 @@ is_opened_by bytes config word server states is = record {
 pub is_begun : (bytes : List ℕ) (config : Config) (head : RecordHead) (words : Stream) (boot : Boot) (server : Server)
     → boot ≡ boot_again head words → States bytes config → server ≡ server_with config boot.word
     → IsServerOf bytes head.word server
-is_begun bytes config head words boot server is states opened = subst (λ w. IsServerOf bytes w server) (ap (λ (b : Boot). b.word) is) (is_opened_by bytes config boot.word server states opened)
+is_begun bytes config head words boot server is states opened = subst (λ w. IsServerOf bytes w server) (ap (λ (b : Boot). b.word) is)
+    (is_opened_by bytes config boot.word server states opened)
 
 pub is_at_first : (head : RecordHead) (words : Stream) (boot : Boot) (old : Standing)
     → boot ≡ boot_again head words → old ≡ first_standing boot.first → old ≡ first_standing head.first
@@ -110,7 +112,8 @@ goes_on first bytes digest head words boot events reading rest config server eng
     }
 
 pub went_on : {A E : Type 0} (result : Result A E) (server_of : A → Server) (state_of : A → Standing) (lines_of : A → ℕ) (last_of : A → Option StepOut)
-    (first bytes digest : List ℕ) (head : RecordHead) (words : Stream) (boot : Boot) (events : Option (List ℕ)) (reading : Reading) (rest : Option (List ℕ)) (config : Config) (server : Server) (old : Standing)
+    (first bytes digest : List ℕ) (head : RecordHead) (words : Stream) (boot : Boot) (events : Option (List ℕ)) (reading : Reading) (rest : Option (List ℕ))
+    (config : Config) (server : Server) (old : Standing)
     → boot ≡ boot_again head words → States first config → server ≡ server_with config boot.word → old ≡ first_standing boot.first
     → IsBegunBy bytes digest head events reading rest first
     → IfOk result (λ a. LeadsTo first bytes server (server_of a) old reading.number (pending reading rest) (state_of a) (lines_of a) (last_of a))
@@ -119,43 +122,52 @@ went_on (Ok a) server_of state_of lines_of last_of first bytes digest head words
     goes_on first bytes digest head words boot events reading rest config server (server_of a) old (state_of a) (lines_of a) (last_of a) is states opened fresh by h
 went_on (Err e) server_of state_of lines_of last_of first bytes digest head words boot events reading rest config server old is states opened fresh by h = tt
 
+-- it keeps the secrets with which it was opened again, and they are of the next numbers
+pub secrets_drawn : {A E : Type 0} (result : Result A E) (secrets_in : A → Secrets) (head : RecordHead) (words : Stream) (boot : Boot) (opened : Secrets)
+    → boot ≡ boot_again head words → opened ≡ secrets_of boot.keys
+    → IfOk result (λ a. secrets_in a ≡ opened) → IfOk result (λ a. secrets_in a ≡ secrets_of (secret_from words))
+secrets_drawn (Ok a) secrets_in head words boot opened is so kept = kept ∙ so ∙ ap (λ (b : Boot). secrets_of b.keys) is
+secrets_drawn (Err e) secrets_in head words boot opened is so kept = tt
+
 pub goes_on_from : (bytes digest : List ℕ) (head : RecordHead) (whole events : Option (List ℕ)) (server : Server) (state : Standing) (lines : ℕ) (last : Option StepOut)
     → SaysHead whole events head → head.mark ≡ Whole → GoesOn bytes digest head events server state lines last → GoesOnFrom bytes digest whole server state lines last
 goes_on_from bytes digest head whole events server state lines last says is_whole h =
     record { head = head; events = events; says = says; is_whole = is_whole; goes_on = h }
 
 pub goes_on_from_input : (is_input : Bool) (input : Option (List ℕ)) (bytes digest : List ℕ) (words left : Stream) (server : Server)
-    (state : Standing) (lines : ℕ) (last : Option StepOut)
-    → GoesOnFrom bytes digest input server state lines last → left ≡ behind_secret words → GoesOnFromFile is_input input bytes digest words server state last left
-goes_on_from_input is_input input bytes digest words left server state lines last h rest =
-    record { whole = input; of_input = λ _. refl; lines = lines; goes_on = h; rest = rest }
+    (state : Standing) (secrets : Secrets) (lines : ℕ) (last : Option StepOut)
+    → GoesOnFrom bytes digest input server state lines last → secrets ≡ secrets_of (secret_from words) → left ≡ behind_secret words
+    → GoesOnFromFile is_input input bytes digest words server state secrets last left
+goes_on_from_input is_input input bytes digest words left server state secrets lines last h under rest =
+    record { whole = input; of_input = λ _. refl; lines = lines; goes_on = h; under = under; rest = rest }
 
 pub goes_on_from_file : (is_input : Bool) (input whole : Option (List ℕ)) (bytes digest : List ℕ) (words left : Stream) (server : Server)
-    (state : Standing) (lines : ℕ) (last : Option StepOut)
-    → is_input ≡ false → GoesOnFrom bytes digest whole server state lines last → left ≡ behind_secret words
-    → GoesOnFromFile is_input input bytes digest words server state last left
-goes_on_from_file true input whole bytes digest words left server state lines last is h rest = absurd cc
-goes_on_from_file false input whole bytes digest words left server state lines last is h rest =
-    record { whole = whole; of_input = λ other. absurd cc; lines = lines; goes_on = h; rest = rest }
+    (state : Standing) (secrets : Secrets) (lines : ℕ) (last : Option StepOut)
+    → is_input ≡ false → GoesOnFrom bytes digest whole server state lines last → secrets ≡ secrets_of (secret_from words) → left ≡ behind_secret words
+    → GoesOnFromFile is_input input bytes digest words server state secrets last left
+goes_on_from_file true input whole bytes digest words left server state secrets lines last is h under rest = absurd cc
+goes_on_from_file false input whole bytes digest words left server state secrets lines last is h under rest =
+    record { whole = whole; of_input = λ other. absurd cc; lines = lines; goes_on = h; under = under; rest = rest }
 
 pub begins_again : (named : Option (List ℕ)) (old : List ℕ) (input : Option (List ℕ)) (F : Type 0) (before now : Option ℕ) (bytes digest : List ℕ)
-    (words left : Stream) (server : Server) (state : Standing) (last : Option StepOut) → named ≡ Some old
-    → GoesOnFromFile (is_input old) input bytes digest words server state last left → Begins named input F before now bytes digest words server state last left
-begins_again named old input F before now bytes digest words left server state last is h =
-    subst (λ (n : Option (List ℕ)). Begins n input F before now bytes digest words server state last left) (sym is) (inr h)
+    (words left : Stream) (server : Server) (state : Standing) (secrets : Secrets) (last : Option StepOut) → named ≡ Some old
+    → GoesOnFromFile (is_input old) input bytes digest words server state secrets last left
+    → Begins named input F before now bytes digest words server state secrets last left
+begins_again named old input F before now bytes digest words left server state secrets last is h =
+    subst (λ (n : Option (List ℕ)). Begins n input F before now bytes digest words server state secrets last left) (sym is) (inr h)
 
 pub begins_anew : (named : Option (List ℕ)) (old : List ℕ) (reason : Reason) (input : Option (List ℕ)) (F : Type 0) (before now : Option ℕ)
-    (bytes digest : List ℕ) (words next left : Stream) (server : Server) (state : Standing) (last : Option StepOut) → named ≡ Some old
+    (bytes digest : List ℕ) (words next left : Stream) (server : Server) (state : Standing) (secrets : Secrets) (last : Option StepOut) → named ≡ Some old
     → IsFileNotResumed (is_input old) input F before now bytes digest (NotResumed reason) → IsLeftBehind words next
-    → StartsAnew bytes next server state last → left ≡ behind_boot next
-    → Begins named input F before now bytes digest words server state last left
-begins_anew named old reason input F before now bytes digest words next left server state last is why behind h rest =
-    subst (λ (n : Option (List ℕ)). Begins n input F before now bytes digest words server state last left) (sym is)
+    → StartsAnew bytes next server state secrets last → left ≡ behind_boot next
+    → Begins named input F before now bytes digest words server state secrets last left
+begins_anew named old reason input F before now bytes digest words next left server state secrets last is why behind h rest =
+    subst (λ (n : Option (List ℕ)). Begins n input F before now bytes digest words server state secrets last left) (sym is)
     (inl (record { why = (reason, why); next = next; behind = behind; starts = h; rest = rest }))
 
 pub begins_alone : (named input : Option (List ℕ)) (F : Type 0) (before now : Option ℕ) (bytes digest : List ℕ) (words left : Stream)
-    (server : Server) (state : Standing) (last : Option StepOut) → named ≡ None
-    → StartsAnew bytes words server state last → left ≡ behind_boot words → Begins named input F before now bytes digest words server state last left
-begins_alone named input F before now bytes digest words left server state last is h rest =
-    subst (λ (n : Option (List ℕ)). Begins n input F before now bytes digest words server state last left) (sym is)
+    (server : Server) (state : Standing) (secrets : Secrets) (last : Option StepOut) → named ≡ None
+    → StartsAnew bytes words server state secrets last → left ≡ behind_boot words → Begins named input F before now bytes digest words server state secrets last left
+begins_alone named input F before now bytes digest words left server state secrets last is h rest =
+    subst (λ (n : Option (List ℕ)). Begins n input F before now bytes digest words server state secrets last left) (sym is)
     (inl (record { why = tt; next = words; behind = inl refl; starts = h; rest = rest }))

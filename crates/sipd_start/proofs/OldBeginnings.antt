@@ -48,10 +48,13 @@ pub unheld_so : (bytes digest : List ℕ) (F : Type 0) (before now : Option ℕ)
     → IsUnbegun (HasStopped F most_asks before now) bytes digest head events stop
 unheld_so bytes digest F before now head events lines asks why stop law new asked is h =
     let count : later asks now ≡ later most_asks before = subst (λ (r : Reading). later asks now ≡ later r.asks before) new asked in
-    let here : OwnStops head.digest (IsSpent F asks) (pending fresh events) 0 why = subst (λ (r : Reading). OwnStops head.digest (IsSpent F asks) (pending r events) r.number why) new h in
-    let all : OwnStops head.digest (IsSpent F asks) events 0 why = subst (λ (e : Option (List ℕ)). OwnStops head.digest (IsSpent F asks) e 0 why) (prepend_known-nil events) here in
+    let here : OwnStops head.digest (IsSpent F asks) (pending fresh events) 0 why = subst
+    (λ (r : Reading). OwnStops head.digest (IsSpent F asks) (pending r events) r.number why) new h in
+    let all : OwnStops head.digest (IsSpent F asks) events 0 why = subst (λ (e : Option (List ℕ)). OwnStops head.digest (IsSpent F asks) e 0 why)
+    (prepend_known-nil events) here in
     subst (λ s. IsUnbegun (HasStopped F most_asks before now) bytes digest head events s) (sym is)
-    (unheld_reason bytes digest (HasStopped F most_asks before now) head events why (own_stops_as head.digest (IsSpent F asks) (HasStopped F most_asks before now) events 0 why (has_stopped law F asks most_asks before now count) all))
+    (unheld_reason bytes digest (HasStopped F most_asks before now) head events why (own_stops_as head.digest (IsSpent F asks) (HasStopped F most_asks before now) events
+    0 why (has_stopped law F asks most_asks before now count) all))
 
 -- ---- what is known of it
 

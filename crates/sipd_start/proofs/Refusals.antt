@@ -172,14 +172,17 @@ at_stop first bytes F server old number events resuming.Write other h = absurd (
 
 pub stops_at : {A : Type 0} (result : Result A RecordError) (first bytes : List ℕ) (server server_then : Server) (old new : Standing) (F : Type 0)
     (asks least : ℕ) (before now : Option ℕ)
-    (events : Option (List ℕ)) (number : ℕ) (written : Written) (outs outs_then : Outputs) (e : RecordError) (stop : StartStop) → SpentLaw → result ≡ Err e → (result ≡ Err resuming.Write → ⊥)
+    (events : Option (List ℕ)) (number : ℕ) (written : Written) (outs outs_then : Outputs) (e : RecordError) (stop : StartStop) → SpentLaw → result ≡ Err e
+    → (result ≡ Err resuming.Write → ⊥)
     → stop ≡ untaken e → NotesConfiguration written outs.written first → later asks now ≡ later least before
     → IsRecordUnresumed server server_then old new most_bytes (IsSpent F asks) events number outs outs_then e
     → StopsAt first bytes (HasStopped F least before now) server old number events stop
 stops_at result first bytes server server_then old new F asks least before now events number written outs outs_then e stop spent was other is told asked h =
     let not_written : e ≡ resuming.Write → ⊥ = λ same. other (subst (λ (x : RecordError). result ≡ Err x) same was) in
-    subst (λ s. StopsAt first bytes (HasStopped F least before now) server old number events s) (sym is) (at_stop first bytes (HasStopped F least before now) server old number events e not_written
-    (events_stop first server server_then old new (IsSpent F asks) (HasStopped F least before now) events number written outs outs_then e (has_stopped spent F asks least before now asked) told h))
+    subst (λ s. StopsAt first bytes (HasStopped F least before now) server old number events s) (sym is)
+    (at_stop first bytes (HasStopped F least before now) server old number events e not_written
+    (events_stop first server server_then old new (IsSpent F asks) (HasStopped F least before now) events number written outs outs_then e
+    (has_stopped spent F asks least before now asked) told h))
 
 pub exits_at : (first bytes : List ℕ) (F : Type 0) (server : Server) (old : Standing) (number : ℕ) (events : Option (List ℕ)) (exit : Exit)
     (stop : StartStop) → stop ≡ Exits exit → IsUnmade exit
@@ -262,7 +265,8 @@ not_gone_on : (first bytes digest : List ℕ) (F : Type 0) (before middle now : 
     → IsNotGoneOn bytes digest (HasStopped F most_asks before now) head events stop
 not_gone_on first bytes digest F before middle now head words boot events reading rest config server old (Exits exit) further is states opened fresh by frame asked h =
     inl (h (subst (λ (c : Config). HaveFrameOf bytes c) (sym (ap (λ (s : Server). s.config) opened)) frame))
-not_gone_on first bytes digest F before middle now head words boot events reading rest config server old (NotResumed reason) further is states opened fresh by frame asked h =
+not_gone_on first bytes digest F before middle now head words boot events reading rest config server old (NotResumed reason) further is states opened fresh by frame asked
+    h =
     let stops : EventsStop first (HasStopped F most_asks before now) server old reading.number (pending reading rest) (NotResumed reason) =
     events_stop_as first (HasStopped F reading.asks middle now) (HasStopped F most_asks before now) server old reading.number (pending reading rest) (NotResumed reason)
     (stopped_further further F reading.asks most_asks before middle now asked) h in
@@ -273,7 +277,8 @@ not_gone_on first bytes digest F before middle now head words boot events readin
       begun_by = by;
       server = server;
       is_server = is_begun first config head words boot server is states opened;
-      stops = subst (λ s. EventsStop first (HasStopped F most_asks before now) server s reading.number (pending reading rest) (NotResumed reason)) (is_at_first head words boot old is fresh) stops;
+      stops = subst (λ s. EventsStop first (HasStopped F most_asks before now) server s reading.number (pending reading rest) (NotResumed reason))
+          (is_at_first head words boot old is fresh) stops;
     })
 
 pub not_gone_on_so : {A : Type 0} (result : Result A StartStop) (first bytes digest : List ℕ) (F : Type 0) (before middle now : Option ℕ)
@@ -312,7 +317,8 @@ system_exit kind = inr (fault_of kind, refl)
 unread_fault : (bytes digest : List ℕ) (F : Type 0) (before now : Option ℕ) (whole : Option (List ℕ)) (exit other : Exit)
     → exit ≡ other → (other ≡ exits.Memory) ⊎ ((fault : DeviceFault) × (other ≡ exits.Device fault))
     → IsUnread F before now whole (unread exit) → IsNotResumed bytes digest F before now whole (unread exit)
-unread_fault bytes digest F before now whole exit other is (inl e) h = subst (λ (x : Exit). IsNotResumed bytes digest F before now whole (unread x)) (sym (is ∙ e)) (inl (inl refl))
+unread_fault bytes digest F before now whole exit other is (inl e) h = subst (λ (x : Exit). IsNotResumed bytes digest F before now whole (unread x)) (sym (is ∙ e))
+    (inl (inl refl))
 unread_fault bytes digest F before now whole exit other is (inr d) h =
     let there : IsUnread F before now whole (unread (exits.Device d.0)) = subst (λ (x : Exit). IsUnread F before now whole (unread x)) (is ∙ d.1) h in
     subst (λ (x : Exit). IsNotResumed bytes digest F before now whole (unread x)) (sym (is ∙ d.1)) (inl there)
@@ -321,7 +327,8 @@ unread_at : (bytes digest : List ℕ) (F : Type 0) (before now : Option ℕ) (wh
     → IsRefused whole rest F before now exit → IsNotResumed bytes digest F before now whole (unread exit)
 unread_at bytes digest F before now whole rest exit (inl h) = subst (λ (x : Exit). IsNotResumed bytes digest F before now whole (unread x)) (sym h) (inl (inl refl))
 unread_at bytes digest F before now whole rest exit (inr (inl h)) =
-    unread_fault bytes digest F before now whole exit (exit_of_kind h.kind) h.same (system_exit h.kind) (record { rest = rest; exit = exit; refused = inr (inl h); same = refl })
+    unread_fault bytes digest F before now whole exit (exit_of_kind h.kind) h.same (system_exit h.kind)
+    (record { rest = rest; exit = exit; refused = inr (inl h); same = refl })
 unread_at bytes digest F before now whole rest exit (inr (inr h)) =
     let read_so : IsUnread F before now whole (unread exit) = record { rest = rest; exit = exit; refused = inr (inr h); same = refl } in
     let there : IsUnread F before now whole (unread exits.NoRecord) = subst (λ (x : Exit). IsUnread F before now whole (unread x)) h.0 read_so in
@@ -351,7 +358,8 @@ pub stopped_behind_so : {A : Type 0} (result : Result A StartStop) (bytes digest
 stopped_behind_so (Ok a) bytes digest F before middle now whole events head before_law says is_whole asked h = tt
 stopped_behind_so (Err stop) bytes digest F before middle now whole events head before_law says is_whole asked h =
     stopped_at bytes digest F before now whole events head stop says is_whole
-    (not_gone_on_as bytes digest (HasStopped F most_asks middle now) (HasStopped F most_asks before now) head events stop (stopped_before before_law F most_asks before middle now asked) h)
+    (not_gone_on_as bytes digest (HasStopped F most_asks middle now) (HasStopped F most_asks before now) head events stop
+    (stopped_before before_law F most_asks before middle now asked) h)
 
 -- ---- of a file
 
@@ -441,7 +449,8 @@ events_stop_still first F G server old number events reason readable h =
         takes = r.takes;
         shown = r.shown;
         noted = r.noted;
-        why = stops_other r.in_force h.in_force r.reached h.reached most_bytes F G r.rest (number + count_by is_end r.text) r.half h.outs_then h.error readable_error r.why;
+        why = stops_other r.in_force h.in_force r.reached h.reached most_bytes F G r.rest (number + count_by is_end r.text) r.half h.outs_then h.error readable_error
+            r.why;
       };
       same = h.same;
     }

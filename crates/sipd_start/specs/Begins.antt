@@ -5,6 +5,7 @@ use Rattle.sip_event.specs.declared.event.Boot.{Boot}
 use Rattle.sip_event.specs.declared.event.StepOut.{StepOut}
 use Rattle.model_bounds.specs.state.declared.server.Server.{Server}
 use Rattle.model_order.specs.Order.{Standing, first_standing}
+use Rattle.sip_run.specs.engine.engine_time.proxy.Proxy.{Secrets, secrets_of}
 use Rattle.sip_record.specs.declared.record_head.RecordHead.{RecordHead}
 use Rattle.sip_record.specs.declared.record_mark.RecordMark.{RecordMark}
 use Rattle.sip_record.specs.declared.record_mark.RecordMark.TheVariants.{Whole, Broken, Left}
@@ -15,7 +16,7 @@ use Rattle.sip_resume.specs.declared.record_error.RecordError.{RecordError}
 use Rattle.sip_config.specs.Stated.{States}
 use Rattle.sip_replay_script.specs.Lines.{Reading, pending}
 use Rattle.sipd_exit.specs.declared.exit.Exit.{Exit}
-use Rattle.sipd_boot.specs.Boots.{new_boot, behind_boot, behind_secret}
+use Rattle.sipd_boot.specs.Boots.{new_boot, behind_boot, secret_from, behind_secret}
 use Rattle.sipd_old_record.specs.OldRecord.{IsRefused, IsSystemFault, SaysHead}
 use Rattle.sipd_old_record.specs.Readers.{HasStopped, most_asks}
 use Rattle.sipd_start.specs.OldRecords.{HaveFrameOf, IsBegunBy, IsUnbegun}
@@ -37,9 +38,10 @@ pub record IsOpened (bytes : List ℕ) (boot : Boot) (server : Server) (state : 
   pub is_server : IsServerOf bytes boot.word server
   pub is_first : state ≡ first_standing boot.first
 
--- It starts anew, with the next numbers of a source; no step was taken before.
-pub record StartsAnew (bytes : List ℕ) (words : Stream) (server : Server) (state : Standing) (last : Option StepOut) : Type 0 where
+-- It starts anew, with the next numbers of a source, of which a secret of its tables is; no step was taken before.
+pub record StartsAnew (bytes : List ℕ) (words : Stream) (server : Server) (state : Standing) (secrets : Secrets) (last : Option StepOut) : Type 0 where
   pub opened : IsOpened bytes (new_boot words) server state
+  pub under : secrets ≡ secrets_of (new_boot words).keys
   pub none : last ≡ None
 
 -- ---- behind the first line of a record
@@ -194,26 +196,28 @@ IsAnew (Some old) input has_failed before now bytes digest =
 
 -- it starts anew, for that reason
 pub record StartsAnewFrom (old : Option (List ℕ)) (input : Option (List ℕ)) (has_failed : Type 0) (before now : Option ℕ) (bytes digest : List ℕ)
-    (words : Stream) (server : Server) (state : Standing) (last : Option StepOut) (left : Stream) : Type 0 where
+    (words : Stream) (server : Server) (state : Standing) (secrets : Secrets) (last : Option StepOut) (left : Stream) : Type 0 where
   pub why : IsAnew old input has_failed before now bytes digest
   pub next : Stream
   pub behind : IsLeftBehind words next
-  pub starts : StartsAnew bytes next server state last
+  pub starts : StartsAnew bytes next server state secrets last
   pub rest : left ≡ behind_boot next
 
--- it goes on from what some file held; where that is the input, from what the input had
+-- it goes on from what some file held; where that is the input, from what the input had; its tables are under a new secret
 pub record GoesOnFromFile (is_input : Bool) (input : Option (List ℕ)) (bytes digest : List ℕ) (words : Stream) (server : Server) (state : Standing)
-    (last : Option StepOut) (left : Stream) : Type 0 where
+    (secrets : Secrets) (last : Option StepOut) (left : Stream) : Type 0 where
   pub whole : Option (List ℕ)
   pub of_input : is_input ≡ true → whole ≡ input
   pub lines : ℕ
   pub goes_on : GoesOnFrom bytes digest whole server state lines last
+  pub under : secrets ≡ secrets_of (secret_from words)
   pub rest : left ≡ behind_secret words
 
 -- How it begins with the configuration that bytes of this digest state, where it is to go on from the record of that name, if one is named, which
 -- may be the input, by a source of numbers; and what is left of that. Of the input's reader it is known whether it failed, and how often it was
 -- asked before and by then.
-abbrev pub Begins : Option (List ℕ) → Option (List ℕ) → Type 0 → Option ℕ → Option ℕ → List ℕ → List ℕ → Stream → Server → Standing → Option StepOut → Stream → Type 0
-Begins old input has_failed before now bytes digest words server state last left =
-    StartsAnewFrom old input has_failed before now bytes digest words server state last left
-    ⊎ GoesOnFromFile (reads_input old) input bytes digest words server state last left
+abbrev pub Begins : Option (List ℕ) → Option (List ℕ) → Type 0 → Option ℕ → Option ℕ → List ℕ → List ℕ → Stream → Server → Standing → Secrets → Option StepOut
+    → Stream → Type 0
+Begins old input has_failed before now bytes digest words server state secrets last left =
+    StartsAnewFrom old input has_failed before now bytes digest words server state secrets last left
+    ⊎ GoesOnFromFile (reads_input old) input bytes digest words server state secrets last left

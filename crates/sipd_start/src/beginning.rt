@@ -4,7 +4,8 @@ ghost use Rattle.std.specs.Prelude.{◌≡◌, false, ℕ, List, Option, option_
 ghost use Rattle.model_order.specs.Order.{first_standing};
 ghost use Rattle.sip_run.specs.Due.{standing_of};
 ghost use Rattle.sip_replay_script.specs.Lines.{pending};
-ghost use Rattle.sipd_boot.specs.Boots.{behind_boot, behind_secret};
+ghost use Rattle.sip_run.specs.engine.engine_time.proxy.Proxy.{secrets_of};
+ghost use Rattle.sipd_boot.specs.Boots.{behind_boot, behind_secret, secret_from};
 ghost use Rattle.sipd_exit.specs.declared.exit.Exit.TheVariants.{PipedRecord};
 ghost use Rattle.sipd_exit.specs.declared.record_place.RecordFault.TheVariants.{GoOn};
 ghost use Rattle.sipd_start.specs.Begins.{Begins, GoesOn, GoesOnFrom, GoesOnFromFile, IsFileNotResumed, IsLeftBehind, IsNotGoneOn};
@@ -144,15 +145,31 @@ fn boot_again<W: Rng>(head: &RecordHead, words: &mut W) -> Boot
 /// A server that has just started, with the configuration that is stated.
 #[tactic(auto, using(crate::proofs::Beginnings::opened_standing))]
 fn open<T: Timers, P: Rules, R: AllocGlobal>(
-    beginning: &Beginning<'_, R>,
+    rt: &R,
+    stated: &Stated,
     boot: Boot,
 ) -> Result<Engine<T, P>, Exit>
-    ensures opened { IfOk result (λ engine. IsOpened beginning.now.stated.now.bytes boot engine.server (standing_of engine)) }
-    ensures refused { IfErr result (EndsStart beginning.now.stated.now.bytes) }
+    ensures opened { IfOk result (λ engine. IsOpened stated.now.bytes boot engine.server (standing_of engine)) }
+    ensures refused { IfErr result (EndsStart stated.now.bytes) }
+    ensures secrets { IfOk result (λ engine. engine.secrets ≡ secrets_of boot.keys) }
 {
-    let alloc = beginning.rt.alloc();
-    let config = config_of_bytes(alloc, beginning.stated.bytes.as_slice())?;
+    let alloc = rt.alloc();
+    let config = config_of_bytes(alloc, stated.bytes.as_slice())?;
     Ok(Engine::open(alloc, config, boot)?)
+}
+
+/// A server that records nothing: it starts anew with the configuration of a file, by the next numbers of a source.
+pub fn begin_unrecorded<T: Timers, P: Rules, R: AllocGlobal, W: Rng>(
+    rt: &R,
+    stated: &Stated,
+    words: &mut W,
+) -> Result<Engine<T, P>, Exit>
+    ensures anew { IfOk result (λ engine. StartsAnew stated.now.bytes (W.stream words.old) engine.server (standing_of engine) engine.secrets None) }
+    ensures left { W.stream words.new ≡ behind_boot (W.stream words.old) }
+    ensures refused { IfErr result (EndsStart stated.now.bytes) }
+{
+    let boot = new_boot(words);
+    open(rt, stated, boot)
 }
 
 /// The new record of a start, of which the first line is written, with this digest. It hasn't its name yet.
@@ -234,14 +251,14 @@ fn begin_anew<'a, T: Timers, P: Rules, R: Files + AllocGlobal, W: Rng>(
     words: &mut W,
 ) -> Result<Begun<'a, T, P, R>, Exit>
     ensures anew { IfOk result (λ begun. StartsAnew beginning.now.stated.now.bytes (W.stream words.old) begun.engine.server
-        (standing_of begun.engine) begun.last) }
+        (standing_of begun.engine) begun.engine.secrets begun.last) }
     ensures left { W.stream words.new ≡ behind_boot (W.stream words.old) }
     ensures whole { IfOk result (λ begun. IfSome begun.recorder (λ r. r.has_failed ≡ false)) }
     ensures unrecorded { IfOk result (λ begun. IfNone begun.recorder (beginning.now.fault ≡ GoOn)) }
     ensures refused { IfErr result (EndsStart beginning.now.stated.now.bytes) }
 {
     let boot = new_boot(words);
-    let engine = open(beginning, boot)?;
+    let engine = open(beginning.rt, beginning.stated, boot)?;
     let made = make_anew(beginning, boot);
     Ok(Begun {
         engine,
@@ -264,6 +281,7 @@ fn go_on_alone<'a, T: Timers, P: Rules, R: Files + AllocGlobal, I: TellingReader
     ensures stops { IfErr result (StopsAt old.first beginning.now.stated.now.bytes
         (HasStopped (I.has_failed reader.new) old.lines.asks (I.asked reader.old) (I.asked reader.new)) engine.server (standing_of engine)
         old.lines.number (pending old.lines (I.remaining reader.old))) }
+    ensures secrets { IfOk result (λ gone_on. gone_on.begun.engine.secrets ≡ engine.secrets) }
 {
     let alloc = beginning.rt.alloc();
     let stated = beginning.stated;
@@ -300,6 +318,7 @@ fn go_on_recorded<'a, T: Timers, P: Rules, R: Files + AllocGlobal, I: TellingRea
     ensures stops { IfErr result (StopsAt old.first beginning.now.stated.now.bytes
         (HasStopped (I.has_failed reader.new) old.lines.asks (I.asked reader.old) (I.asked reader.new)) engine.server (standing_of engine)
         old.lines.number (pending old.lines (I.remaining reader.old))) }
+    ensures secrets { IfOk result (λ gone_on. gone_on.begun.engine.secrets ≡ engine.secrets) }
 {
     let alloc = beginning.rt.alloc();
     let stated = beginning.stated;
@@ -329,6 +348,7 @@ fn open_old<T: Timers, P: Rules, R: AllocGlobal>(
     ensures server { IfOk result (λ engine. engine.server ≡ record { config = config; word = boot.word }) }
     ensures standing { IfOk result (λ engine. standing_of engine ≡ first_standing boot.first) }
     ensures refused { IfErr result IsUnmade }
+    ensures secrets { IfOk result (λ engine. engine.secrets ≡ secrets_of boot.keys) }
 {
     Ok(Engine::open(rt.alloc(), config, boot)?)
 }
@@ -349,6 +369,7 @@ fn go_on<'a, T: Timers, P: Rules, R: Files + AllocGlobal, I: TellingReader, W: R
     ensures unrecorded { IfOk result (λ gone_on. IfNone gone_on.begun.recorder (beginning.now.fault ≡ GoOn)) }
     ensures stopped { IfErr result (IsNotGoneOn beginning.now.stated.now.bytes beginning.now.stated.now.digest
         (HasStopped (I.has_failed reader.new) most_asks (I.asked reader.old) (I.asked reader.new)) head.now (I.remaining reader.old)) }
+    ensures secrets { IfOk result (λ gone_on. gone_on.begun.engine.secrets ≡ secrets_of (secret_from (W.stream words.old))) }
 {
     asks_add_up();
     let boot = boot_again(head, words);
@@ -378,6 +399,7 @@ fn begin_from<'a, T: Timers, P: Rules, R: Files + AllocGlobal, I: TellingReader,
     ensures unrecorded { IfOk result (λ gone_on. IfNone gone_on.begun.recorder (beginning.now.fault ≡ GoOn)) }
     ensures refused { IfErr result (IsNotResumed beginning.now.stated.now.bytes beginning.now.stated.now.digest
         (I.has_failed reader.new) (I.asked reader.old) (I.asked reader.new) (I.remaining reader.old)) }
+    ensures secrets { IfOk result (λ gone_on. gone_on.begun.engine.secrets ≡ secrets_of (secret_from (W.stream words.old))) }
 {
     asks_add_up();
     let head = match head_in(beginning.rt.alloc(), reader) {
@@ -400,8 +422,8 @@ fn begin_again<'a, T: Timers, P: Rules, R: Files + AllocGlobal, I: TellingReader
     words: &mut W,
 ) -> Result<GoneOn<'a, T, P, R>, StartStop>
     ensures goes_on { IfOk result (λ gone_on. GoesOnFromFile (Places.is_input old.now) (I.remaining input.old) beginning.now.stated.now.bytes
-        beginning.now.stated.now.digest (W.stream words.old) gone_on.begun.engine.server (standing_of gone_on.begun.engine) gone_on.begun.last
-        (W.stream words.new)) }
+        beginning.now.stated.now.digest (W.stream words.old) gone_on.begun.engine.server (standing_of gone_on.begun.engine)
+        gone_on.begun.engine.secrets gone_on.begun.last (W.stream words.new)) }
     ensures left_behind { OnErr result (IsLeftBehind (W.stream words.old) (W.stream words.new)) }
     ensures whole { IfOk result (λ gone_on. IfSome gone_on.begun.recorder (λ r. r.has_failed ≡ false)) }
     ensures unrecorded { IfOk result (λ gone_on. IfNone gone_on.begun.recorder (beginning.now.fault ≡ GoOn)) }
@@ -436,9 +458,17 @@ fn name_of_old(old: &str) -> &str {
     if is_input(old) { "standard input" } else { old }
 }
 
-/// Says why a record isn't gone on from, what is lost with it, and until when.
+/// Says why a record isn't gone on from, what is lost with it, and until when. Where it can't be read nothing may be lost: so it is at a
+/// first start.
 fn say_lost<C: Write>(old: &str, why: NotResumed, complaints: &mut C) {
     let old = name_of_old(old);
+    if why.is_unreadable() {
+        let _ = writeln!(
+            complaints,
+            "sipd: starts anew, since {old} isn't there or can't be read; what it holds, if anything, is lost: phones are found when they register"
+        );
+        return;
+    }
     let _ = writeln!(
         complaints,
         "sipd: {old} isn't resumed: {why}; bindings, dialogs, open calls and nonces are lost: phones are found again when they register"
@@ -486,9 +516,9 @@ pub fn begin<'a, T: Timers, P: Rules, R: Files + AllocGlobal, I: TellingReader, 
 ) -> Result<Begun<'a, T, P, R>, Exit>
     ensures begins { IfOk result (λ begun. Begins (option_map (λ old. string_bytes old) beginning.now.place.old) (I.remaining input.old)
         (I.has_failed input.new) (I.asked input.old) (I.asked input.new) beginning.now.stated.now.bytes beginning.now.stated.now.digest
-        (W.stream words.old) begun.engine.server (standing_of begun.engine) begun.last (W.stream words.new)) }
+        (W.stream words.old) begun.engine.server (standing_of begun.engine) begun.engine.secrets begun.last (W.stream words.new)) }
     ensures alone { beginning.now.place.old ≡ None → IfOk result (λ begun. StartsAnew beginning.now.stated.now.bytes
-        (W.stream words.old) begun.engine.server (standing_of begun.engine) begun.last) }
+        (W.stream words.old) begun.engine.server (standing_of begun.engine) begun.engine.secrets begun.last) }
     ensures whole { IfOk result (λ begun. IfSome begun.recorder (λ r. r.has_failed ≡ false)) }
     ensures unrecorded { IfOk result (λ begun. IfNone begun.recorder (beginning.now.fault ≡ GoOn)) }
     ensures refused { IfErr result (EndsStart beginning.now.stated.now.bytes) }

@@ -1,4 +1,4 @@
-//! How a server that records begins: anew, or from where an older record leads; the files of its record, and whether the process may
+//! How a server begins: anew, or from where an older record leads; the files of its record, and whether the process may
 //! have the stack that it needs.
 //!
 //! - Used: `sipd_command`, before it serves.
@@ -14,5 +14,5 @@ mod record_folder;
 mod stack_limit;
 mod taking;
 
-pub use beginning::{Beginning, Begun, begin};
+pub use beginning::{Beginning, Begun, begin, begin_unrecorded};
 pub use stack_limit::check_stack;

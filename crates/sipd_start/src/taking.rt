@@ -150,6 +150,7 @@ fn come_under<T: Timers, P: Rules>(
     ensures under { OnOk result (IsServerOf stated.now.bytes engine.old.server.word engine.new.server) }
     ensures standing { standing_of engine.new ≡ standing_of engine.old }
     ensures refused { IfErr result (IsNotUnder stated.now.bytes engine.old.server.config) }
+    ensures secrets { engine.new.secrets ≡ engine.old.secrets }
 {
     let config = config_of_bytes(alloc, stated.bytes.as_slice())?;
     match engine.change(config) {
@@ -176,6 +177,7 @@ pub fn take_old<T: Timers, P: Rules, I: TellingReader, J: Journal>(
     ensures stopped { IfErr result (StopsAt old.first stated.now.bytes
         (HasStopped (I.has_failed reader.new) old.lines.asks (I.asked reader.old) (I.asked reader.new)) engine.old.server (standing_of engine.old)
         old.lines.number (pending old.lines (I.remaining reader.old))) }
+    ensures secrets { engine.new.secrets ≡ engine.old.secrets }
 {
     asks_add_up();
     frame_is_place_and_realm();

@@ -2,11 +2,13 @@
 //! made.
 //!
 //! - Used: `sipd_command`.
-//! - Not here: what is said (`sipd_mistakes`, `sipd_questions`, `sipd_matrix`, `sipd_changes`, `sipd_report`), and what a record holds (`sip_segment_config`).
-//! - Tried: `test_server`, `tests/mistakes.py`, `tests/changes.py`, `tests/serve.py`, `tests/faults.py`.
+//! - Not here: what is said (`sipd_mistakes`, `sipd_questions`, `sipd_matrix`, `sipd_changes`, `sipd_expect`, `sipd_report`), and what a record holds
+//!   (`sip_segment_config`).
+//! - Tried: `test_server`, `tests/mistakes.py`, `tests/changes.py`, `tests/expectations.py`, `tests/serve.py`, `tests/faults.py`.
 #![tactic(auto)]
 
 mod against;
+mod expected;
 mod tools;
 
 pub use tools::{check, decide, make_report, make_user, matrix};

@@ -3,6 +3,7 @@ ghost use Rattle.std.specs.Prelude.{OnOk};
 ghost use Rattle.sipd_tools.specs.Against.{TellsChange};
 
 use crate::against::config_before;
+use crate::expected::{hold_against, lines_in};
 use sip_config_types::Config;
 use sip_policy::minute_of;
 use sip_text::Bytes;
@@ -239,8 +240,41 @@ fn tell_changes<R: Files + AllocGlobal, W: Write, C: Write>(
     }
 }
 
-/// Checks the configuration of a file, and prints how much it has, all that was understood, or what a change to it would do. Beside
-/// the first it complains of users with different digests.
+/// Complains of what is wrong with a configuration that is refused, and where.
+fn complain_of_mistake<C: Write>(
+    alloc: Global,
+    bytes: &[u8],
+    complaints: &mut C,
+) -> Result<(), Exit> {
+    let line = match str::from_utf8(bytes) {
+        Err(_) => explain_encoding(alloc, bytes)?,
+        Ok(text) => match read_or_tell(alloc, text)? {
+            Reading::Stated(_) => return Ok(()),
+            Reading::Refused(_, line) => line,
+        },
+    };
+    let _ = complaints.write_all(line.as_slice());
+    Ok(())
+}
+
+/// Prints how much a configuration has, or what a change to it would do. Beside the first it complains of users with different digests.
+fn tell<R: Files + AllocGlobal, W: Write, C: Write>(
+    rt: &R,
+    against: Option<&str>,
+    config: &Config,
+    output: &mut W,
+    complaints: &mut C,
+) -> Result<(), Exit> {
+    if let Some(path) = against {
+        return tell_changes(rt, path, config, output, complaints);
+    }
+    let alloc = rt.alloc();
+    print(summary_of(alloc, config)?.as_slice(), output)?;
+    complain(alloc, &digest_warning(alloc, config)?, complaints)
+}
+
+/// Checks the configuration of a file, and prints how much it has, all that was understood, or what a change to it would do; and what of its
+/// policy isn't as it is expected to be. Of a refused one it tells what is wrong, with `show` among what it prints.
 pub fn check<R: Files + AllocGlobal, W: Write, C: Write>(
     rt: &R,
     call: &CheckCall,
@@ -249,16 +283,26 @@ pub fn check<R: Files + AllocGlobal, W: Write, C: Write>(
 ) -> Result<(), Exit> {
     let alloc = rt.alloc();
     let bytes = bytes_in(rt, call.config.as_str())?;
+    let expected = lines_in(rt, &call.expect, complaints)?;
     if call.show {
         show_config(alloc, bytes.as_slice(), output)?;
     }
-    if call.show && call.against.is_none() {
+    if call.show && call.against.is_none() && expected.is_none() {
         return Ok(());
     }
-    let config = config_of_bytes(alloc, bytes.as_slice())?;
-    if let Some(path) = &call.against {
-        return tell_changes(rt, path.as_str(), &config, output, complaints);
+    let config = match config_of_bytes(alloc, bytes.as_slice()) {
+        Ok(config) => config,
+        Err(exit) => {
+            if !call.show {
+                complain_of_mistake(alloc, bytes.as_slice(), complaints)?;
+            }
+            return Err(exit);
+        }
+    };
+    let against = call.against.as_ref().map(String::as_str);
+    tell(rt, against, &config, output, complaints)?;
+    match &expected {
+        Some(lines) => hold_against(alloc, lines.as_slice(), &config, output),
+        None => Ok(()),
     }
-    print(summary_of(alloc, &config)?.as_slice(), output)?;
-    complain(alloc, &digest_warning(alloc, &config)?, complaints)
 }

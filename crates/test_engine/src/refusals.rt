@@ -9,16 +9,15 @@ mod take;
 
 use crate::fault::Fault;
 pub use script::play;
-use sip_config_types::sample;
+pub(crate) use standing::aor_of;
 use std::alloc::Global;
 
 /// What is printed of the steps of a script, none of which is refused.
 fn printed(alloc: Global, script: &[u8]) -> Result<Vec<u8>, Fault> {
-    let config = sample(alloc)?;
     let mut input = script;
     let mut output = Vec::new(alloc);
     let mut marks = Vec::new(alloc);
-    play(alloc, config, &mut input, &mut output, &mut marks)?;
+    play(alloc, &mut input, &mut output, &mut marks)?;
     Ok(output)
 }
 

@@ -1,5 +1,10 @@
-//! The forms of tests: what a call gives is lent to a predicate, and dropped here alone; and a line for each case.
+//! The forms of tests: what a call gives is lent to a predicate, and dropped here alone; a line for each case; and the files of
+//! a stored run.
 #![tactic(auto)]
+
+mod damage;
+pub mod names;
+pub mod stored;
 
 use std::io;
 

@@ -5,7 +5,6 @@ use sip_policy::ListRules;
 use sip_policy_index::IndexedRules;
 use sip_timers::ListTimers;
 use sip_timers_wheel::WheelTimers;
-use std::alloc::Global;
 use std::rt::Files;
 
 /// What is tried.
@@ -30,31 +29,18 @@ pub(crate) struct Case {
     pub(crate) trial: Trial,
 }
 
-fn timers_hold(alloc: Global, kind: Kind, steps: &[Step]) -> bool {
-    match kind {
-        Kind::List => timer_cases::hold::<ListTimers>(alloc, steps),
-        Kind::Wheel => timer_cases::hold::<WheelTimers>(alloc, steps),
-        _ => false,
-    }
-}
-
-fn rules_hold(alloc: Global, kind: Kind, rows: &[rule_cases::Asked]) -> bool {
-    match kind {
-        Kind::List => rule_cases::hold::<ListRules>(alloc, rows),
-        Kind::Index => rule_cases::hold::<IndexedRules>(alloc, rows),
-        _ => false,
-    }
-}
-
 impl Case {
     /// Whether it holds on this kind.
     pub(crate) fn holds<R: AllocGlobal + Files>(&self, rt: &R, kind: Kind) -> bool {
-        match self.trial {
-            Trial::Timers(steps) => timers_hold(rt.alloc(), kind, steps),
-            Trial::Rules(rows) => rules_hold(rt.alloc(), kind, rows),
-            Trial::Watch(asked, rows) => watch_cases::hold(rt.alloc(), asked, rows),
-            Trial::FileOffered(path) => watch_cases::file_offered(rt, path),
-            Trial::NoFile => watch_cases::no_file(rt),
+        let alloc = rt.alloc();
+        match (self.trial, kind) {
+            (Trial::Timers(steps), Kind::List) => timer_cases::hold::<ListTimers>(alloc, steps),
+            (Trial::Timers(steps), _) => timer_cases::hold::<WheelTimers>(alloc, steps),
+            (Trial::Rules(rows), Kind::List) => rule_cases::hold::<ListRules>(alloc, rows),
+            (Trial::Rules(rows), _) => rule_cases::hold::<IndexedRules>(alloc, rows),
+            (Trial::Watch(asked, rows), _) => watch_cases::hold(alloc, asked, rows),
+            (Trial::FileOffered(path), _) => watch_cases::file_offered(rt, path),
+            (Trial::NoFile, _) => watch_cases::no_file(rt),
         }
     }
 }

@@ -20,7 +20,12 @@ pub(crate) fn key_at(kept: &[KeyedRow], place: usize) -> Option<usize>
 
 /// The place of a request's key.
 pub(crate) fn place_of(kept: &[KeyedRow], request: u64) -> Option<usize> {
-    kept.iter().position(|kept| kept.request == request)
+    for (place, kept) in kept.iter().enumerate() {
+        if kept.request == request {
+            return Some(place);
+        }
+    }
+    None
 }
 
 /// Keeps a key no longer.

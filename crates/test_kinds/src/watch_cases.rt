@@ -249,34 +249,20 @@ fn watch_of(alloc: Global, rows: &[Row]) -> Result<Watched<MemoryFile>, AllocErr
     Ok(Watched { watch })
 }
 
-/// Takes what is offered. Whether it is this text, which is in force then.
-fn is_taken<F: WatchedFile>(watch: &mut Watch<F>, bytes: Bytes, text: &str) -> bool {
-    let is_same = bytes.as_slice() == text.as_bytes();
-    watch.take(bytes);
-    is_same && watch.in_force() == text.as_bytes()
-}
-
-/// Refuses what is offered. Whether it is this text, and the old one stays in force.
-fn is_refused<F: WatchedFile>(watch: &mut Watch<F>, bytes: Bytes, text: &str) -> bool {
-    let is_same = bytes.as_slice() == text.as_bytes();
-    watch.refuse(bytes);
-    is_same && watch.in_force() == OLD.as_bytes()
-}
-
-/// Whether what is offered is to be taken, or refused, and is what is wanted.
+/// Takes what is offered, or refuses it, as is wanted. Whether it is the text that is wanted, and is in force then, or the old one
+/// stays.
 fn is_settled<F: WatchedFile>(watch: &mut Watch<F>, bytes: Bytes, wanted: Wanted) -> bool {
+    let (text, in_force) = match wanted {
+        Wanted::Taken(text) => (text, text),
+        Wanted::Refused(text) => (text, OLD),
+        _ => return false,
+    };
+    let is_same = bytes.as_slice() == text.as_bytes();
     match wanted {
-        Wanted::Taken(text) => is_taken(watch, bytes, text),
-        Wanted::Refused(text) => is_refused(watch, bytes, text),
-        _ => false,
+        Wanted::Taken(_) => watch.take(bytes),
+        _ => watch.refuse(bytes),
     }
-}
-
-fn is_unread(fault: FileFault, wanted: Wanted) -> bool {
-    match wanted {
-        Wanted::Unread(other) => fault == other,
-        _ => false,
-    }
+    is_same && watch.in_force() == in_force.as_bytes()
 }
 
 /// Whether a look comes to this; what is offered is taken, or refused.
@@ -285,7 +271,10 @@ fn comes_to<F: WatchedFile>(watch: &mut Watch<F>, now: u64, wanted: Wanted) -> b
         Look::Nothing => matches!(wanted, Wanted::Nothing),
         Look::Unsettled => matches!(wanted, Wanted::Unsettled),
         Look::Settled(bytes) => is_settled(watch, bytes, wanted),
-        Look::Unread(fault) => is_unread(fault, wanted),
+        Look::Unread(fault) => match wanted {
+            Wanted::Unread(other) => fault == other,
+            _ => false,
+        },
     }
 }
 

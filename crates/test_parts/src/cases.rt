@@ -1,115 +1,198 @@
+//! The cases by their names, each rows of a table. Each table is named alone: a table of them all takes the proof more steps than it has.
 use crate::{
     audit, auth, best, config, dialogs, digest, edit, equality, header, hops, locations, message,
     nonces, onward, reply, text, uri,
 };
+use sip_edit_response::reason_of;
+use sip_header::{bracketed_place, cseq_of};
+use sip_text::is_token;
+use sip_uri::plain_place;
 use std::alloc::Global;
 use std::io;
 use test_forms::tell;
 
-/// A case by what it tries.
+/// What is tried.
 #[derive(Clone, Copy)]
-enum Case {
-    Tokens,
+pub(crate) enum Row {
+    /// Bytes, and whether they are a token.
+    Token(&'static [u8], bool),
     BadEscapePrinted,
-    TextsOfUris,
-    PlainPlaces,
+    /// A text, and whether it is a URI.
+    Uri(&'static [u8], bool),
+    /// A URI, and its place.
+    PlainPlace(&'static [u8], &'static [u8], Option<u16>),
+    NoPlainPlace(&'static [u8]),
     SchemePrinted,
-    UriEquality,
+    /// Two URIs, and whether they are equal.
+    Equal(&'static [u8], &'static [u8], bool),
     ManyParameters,
-    Addresses,
-    PlacesInBrackets,
-    ReadSeenAndWritten,
+    /// A value with an address, and the URI of that.
+    Address(&'static [u8], &'static [u8]),
+    NoRoute(&'static [u8]),
+    CSeq(&'static [u8]),
+    /// A value, and the place in its brackets.
+    BracketedPlace(&'static [u8], &'static [u8], Option<u16>),
+    NoBracketedPlace(&'static [u8]),
+    /// A message.
+    Read(&'static [u8]),
     PartsOfTheDatagram,
-    Refusals,
-    Md5Vectors,
+    /// A text, and the number of its refusal, 0 where it is read.
+    Refusal(&'static [u8], u8),
+    /// A text, and its MD5.
+    Digest(&'static [u8], u128),
     BothAnswers,
     FirstForTheRealm,
     NoncesFull,
     DialogsFull,
     Updates,
     AddressTable,
-    Ranks,
-    Reasons,
-    LinesAreKept,
-    BadLines,
+    NoMemoryPrinted,
+    /// Two statuses, and whether the first outranks the second.
+    Rank(u16, u16, bool),
+    /// A status, and its reason phrase.
+    Reason(u16, &'static [u8]),
+    /// The line of a record.
+    Line(&'static [u8]),
+    BadLine(&'static [u8]),
+    BadLinePrinted,
     AckOfAResponse,
     RecordRoute,
-    ExamplesAreRead,
-    BadValues,
+    /// A configuration, how many users, rules, hops, addresses of hosts and domains it states, and by how many minutes it is
+    /// ahead of UTC.
+    Counts(&'static str, [usize; 5], i16),
+    /// A part of the sample, and a bad value that stands for it.
+    BadValue(&'static str, &'static str),
     PrintedRefusals,
 }
 
-/// All cases by their names.
-const CASES: &[(&str, Case)] = &[
-    ("tokens", Case::Tokens),
-    ("bad_escape_printed", Case::BadEscapePrinted),
-    ("texts_of_uris", Case::TextsOfUris),
-    ("plain_places", Case::PlainPlaces),
-    ("scheme_printed", Case::SchemePrinted),
-    ("uri_equality", Case::UriEquality),
-    ("many_parameters", Case::ManyParameters),
-    ("addresses", Case::Addresses),
-    ("places_in_brackets", Case::PlacesInBrackets),
-    ("read_seen_and_written", Case::ReadSeenAndWritten),
-    ("parts_of_the_datagram", Case::PartsOfTheDatagram),
-    ("refusals", Case::Refusals),
-    ("md5_vectors", Case::Md5Vectors),
-    ("both_answers", Case::BothAnswers),
-    ("first_for_the_realm", Case::FirstForTheRealm),
-    ("nonces_full", Case::NoncesFull),
-    ("dialogs_full", Case::DialogsFull),
-    ("updates", Case::Updates),
-    ("address_table", Case::AddressTable),
-    ("ranks", Case::Ranks),
-    ("reasons", Case::Reasons),
-    ("lines_are_kept", Case::LinesAreKept),
-    ("bad_lines", Case::BadLines),
-    ("ack_of_a_response", Case::AckOfAResponse),
-    ("record_route", Case::RecordRoute),
-    ("examples_are_read", Case::ExamplesAreRead),
-    ("bad_values", Case::BadValues),
-    ("printed_refusals", Case::PrintedRefusals),
-];
-
-impl Case {
-    fn holds(self, alloc: Global) -> bool {
-        match self {
-            Case::Tokens => text::tokens(),
-            Case::BadEscapePrinted => text::bad_escape_printed(alloc),
-            Case::TextsOfUris => uri::texts_of_uris(alloc),
-            Case::PlainPlaces => uri::plain_places(),
-            Case::SchemePrinted => uri::scheme_printed(alloc),
-            Case::UriEquality => equality::uri_equality(alloc),
-            Case::ManyParameters => equality::many_parameters(alloc),
-            Case::Addresses => header::addresses(alloc),
-            Case::PlacesInBrackets => header::places_in_brackets(),
-            Case::ReadSeenAndWritten => message::read_seen_and_written(alloc),
-            Case::PartsOfTheDatagram => message::parts_of_the_datagram(alloc),
-            Case::Refusals => message::refusals(alloc),
-            Case::Md5Vectors => digest::md5_vectors(),
-            Case::BothAnswers => digest::both_answers(),
-            Case::FirstForTheRealm => auth::first_for_the_realm(alloc),
-            Case::NoncesFull => nonces::nonces_full(alloc),
-            Case::DialogsFull => dialogs::dialogs_full(alloc),
-            Case::Updates => locations::updates(alloc),
-            Case::AddressTable => hops::address_table(alloc),
-            Case::Ranks => best::ranks(),
-            Case::Reasons => reply::reasons(),
-            Case::LinesAreKept => audit::lines_are_kept(alloc),
-            Case::BadLines => audit::bad_lines(alloc),
-            Case::AckOfAResponse => edit::ack_of_a_response(alloc),
-            Case::RecordRoute => onward::record_route(alloc),
-            Case::ExamplesAreRead => config::examples_are_read(alloc),
-            Case::BadValues => config::bad_values(alloc),
-            Case::PrintedRefusals => config::printed_refusals(alloc),
+impl Row {
+    fn holds(&self, alloc: Global) -> bool {
+        match *self {
+            Row::Token(text, is_right) => is_token(text) == is_right,
+            Row::BadEscapePrinted => text::bad_escape_printed(alloc),
+            Row::Uri(text, is_uri) => uri::is_read(alloc, text, is_uri),
+            Row::PlainPlace(text, host, port) => uri::is_plain_place(text, host, port),
+            Row::NoPlainPlace(text) => plain_place(text).is_none(),
+            Row::SchemePrinted => uri::scheme_printed(alloc),
+            Row::Equal(left, right, wanted) => {
+                equality::are_equal(alloc, left, right) == Some(wanted)
+            }
+            Row::ManyParameters => equality::many_parameters(alloc),
+            Row::Address(value, uri) => header::is_read(alloc, value, uri),
+            Row::NoRoute(value) => header::is_no_route(alloc, value),
+            Row::CSeq(value) => cseq_of(value).is_some(),
+            Row::BracketedPlace(value, host, port) => {
+                header::is_bracketed_place(value, host, port)
+            }
+            Row::NoBracketedPlace(value) => bracketed_place(value).is_none(),
+            Row::Read(text) => message::is_read(alloc, text),
+            Row::PartsOfTheDatagram => message::parts_of_the_datagram(alloc),
+            Row::Refusal(text, number) => message::refusal_of(alloc, text) == number,
+            Row::Digest(text, digest) => digest::has_digest(text, digest),
+            Row::BothAnswers => digest::both_answers(),
+            Row::FirstForTheRealm => auth::first_for_the_realm(alloc),
+            Row::NoncesFull => nonces::nonces_full(alloc),
+            Row::DialogsFull => dialogs::dialogs_full(alloc),
+            Row::Updates => locations::updates(alloc),
+            Row::AddressTable => hops::is_found(alloc),
+            Row::NoMemoryPrinted => hops::no_memory_printed(alloc),
+            Row::Rank(first, second, is_better) => best::is_ranked(first, second, is_better),
+            Row::Reason(status, reason) => reason_of(status) == reason,
+            Row::Line(line) => audit::is_kept(alloc, line),
+            Row::BadLine(line) => audit::is_refused(alloc, line),
+            Row::BadLinePrinted => audit::bad_line_printed(alloc),
+            Row::AckOfAResponse => edit::ack_of_a_response(alloc),
+            Row::RecordRoute => onward::record_route(alloc),
+            Row::Counts(text, counts, offset) => {
+                config::counts(alloc, text) == Some((counts, offset))
+            }
+            Row::BadValue(part, other) => config::is_bad_value(alloc, part, other),
+            Row::PrintedRefusals => config::printed_refusals(alloc),
         }
     }
 }
 
+fn all_hold(alloc: Global, rows: &[Row]) -> bool {
+    for row in rows {
+        if !row.holds(alloc) {
+            return false;
+        }
+    }
+    true
+}
+
+fn tell_rows<R: Print + AllocGlobal>(rt: &R, name: &str, rows: &[Row]) -> io::Result<()> {
+    tell(rt, name, all_hold(rt.alloc(), rows))
+}
+
+fn tell_texts<R: Print + AllocGlobal>(rt: &R) -> io::Result<()> {
+    tell_rows(rt, "tokens", text::TOKENS)?;
+    tell_rows(rt, "bad_escape_printed", &[Row::BadEscapePrinted])
+}
+
+fn tell_uris<R: Print + AllocGlobal>(rt: &R) -> io::Result<()> {
+    tell_rows(rt, "texts_of_uris", uri::TEXTS_OF_URIS)?;
+    tell_rows(rt, "plain_places", uri::PLAIN_PLACES)?;
+    tell_rows(rt, "scheme_printed", &[Row::SchemePrinted])?;
+    tell_rows(rt, "uri_equality", equality::URI_EQUALITY)?;
+    tell_rows(rt, "many_parameters", &[Row::ManyParameters])
+}
+
+fn tell_headers<R: Print + AllocGlobal>(rt: &R) -> io::Result<()> {
+    tell_rows(rt, "addresses", header::ADDRESSES)?;
+    tell_rows(rt, "places_in_brackets", header::PLACES_IN_BRACKETS)
+}
+
+fn tell_messages<R: Print + AllocGlobal>(rt: &R) -> io::Result<()> {
+    tell_rows(rt, "read_seen_and_written", message::READ_SEEN_AND_WRITTEN)?;
+    tell_rows(rt, "parts_of_the_datagram", &[Row::PartsOfTheDatagram])?;
+    tell_rows(rt, "refusals", message::REFUSALS)
+}
+
+fn tell_proofs<R: Print + AllocGlobal>(rt: &R) -> io::Result<()> {
+    tell_rows(rt, "md5_vectors", digest::MD5_VECTORS)?;
+    tell_rows(rt, "both_answers", &[Row::BothAnswers])?;
+    tell_rows(rt, "first_for_the_realm", &[Row::FirstForTheRealm])?;
+    tell_rows(rt, "nonces_full", &[Row::NoncesFull])
+}
+
+fn tell_tables<R: Print + AllocGlobal>(rt: &R) -> io::Result<()> {
+    tell_rows(rt, "dialogs_full", &[Row::DialogsFull])?;
+    tell_rows(rt, "updates", &[Row::Updates])?;
+    tell_rows(
+        rt,
+        "address_table",
+        &[Row::AddressTable, Row::NoMemoryPrinted],
+    )
+}
+
+fn tell_answers<R: Print + AllocGlobal>(rt: &R) -> io::Result<()> {
+    tell_rows(rt, "ranks", best::RANKS)?;
+    tell_rows(rt, "reasons", reply::REASONS)?;
+    tell_rows(rt, "lines_are_kept", audit::LINES_ARE_KEPT)?;
+    tell_rows(rt, "bad_lines", audit::BAD_LINES)
+}
+
+fn tell_edits<R: Print + AllocGlobal>(rt: &R) -> io::Result<()> {
+    tell_rows(rt, "ack_of_a_response", &[Row::AckOfAResponse])?;
+    tell_rows(rt, "record_route", &[Row::RecordRoute])
+}
+
+fn tell_configurations<R: Print + AllocGlobal>(rt: &R) -> io::Result<()> {
+    tell_rows(rt, "examples_are_read", config::EXAMPLES_ARE_READ)?;
+    tell_rows(rt, "bad_values", config::BAD_VALUES)?;
+    tell_rows(rt, "printed_refusals", &[Row::PrintedRefusals])
+}
+
 /// Each case: its name, and whether it held.
 pub fn tell_all<R: Print + AllocGlobal>(rt: &R) -> io::Result<()> {
-    for (name, case) in CASES {
-        tell(rt, name, case.holds(rt.alloc()))?;
-    }
-    Ok(())
+    tell_texts(rt)?;
+    tell_uris(rt)?;
+    tell_headers(rt)?;
+    tell_messages(rt)?;
+    tell_proofs(rt)?;
+    tell_tables(rt)?;
+    tell_answers(rt)?;
+    tell_edits(rt)?;
+    tell_configurations(rt)
 }

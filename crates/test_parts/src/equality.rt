@@ -1,30 +1,22 @@
+use crate::cases::Row;
 use sip_text::Bytes;
 use sip_uri::parse_uri;
 use sip_uri_equality::same;
 use std::alloc::{AllocError, Global};
 
 /// Pairs of texts, and whether they write equal URIs.
-const PAIRS: &[(&[u8], &[u8], bool)] = &[
-    (b"sip:h;%61=1;x", b"sip:h;A=1", true),
-    (b"sip:h;%61=1;a=1", b"sip:h;a=2", false),
-    (b"sip:h:05060", b"sip:h:5060", false),
+pub(crate) const URI_EQUALITY: &[Row] = &[
+    Row::Equal(b"sip:h;%61=1;x", b"sip:h;A=1", true),
+    Row::Equal(b"sip:h;%61=1;a=1", b"sip:h;a=2", false),
+    Row::Equal(b"sip:h:05060", b"sip:h:5060", false),
 ];
 
 /// Whether two texts write equal URIs. None where one of them isn't read.
-fn are_equal(alloc: Global, left: &[u8], right: &[u8]) -> Option<bool> {
+pub(crate) fn are_equal(alloc: Global, left: &[u8], right: &[u8]) -> Option<bool> {
     match (parse_uri(alloc, left), parse_uri(alloc, right)) {
         (Ok(left), Ok(right)) => Some(same(&left, &right)),
         _ => None,
     }
-}
-
-pub(crate) fn uri_equality(alloc: Global) -> bool {
-    for (left, right, wanted) in PAIRS {
-        if are_equal(alloc, left, right) != Some(*wanted) {
-            return false;
-        }
-    }
-    true
 }
 
 fn push_parameters(text: &mut Bytes, falls: bool) -> Result<(), AllocError> {

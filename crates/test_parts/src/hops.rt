@@ -43,13 +43,13 @@ fn finds_first(alloc: Global, tables: &Hops) -> bool {
     }
 }
 
-fn is_found(alloc: Global) -> bool {
+pub(crate) fn is_found(alloc: Global) -> bool {
     match tables(alloc) {
         Ok(tables) => finds_first(alloc, &tables),
         Err(_) => false,
     }
 }
 
-pub(crate) fn address_table(alloc: Global) -> bool {
-    is_found(alloc) && gives_text(HopsError::NoMemory.to_string(alloc), "out of memory")
+pub(crate) fn no_memory_printed(alloc: Global) -> bool {
+    gives_text(HopsError::NoMemory.to_string(alloc), "out of memory")
 }

@@ -1,4 +1,5 @@
 use crate::bytes::gives_bytes;
+use crate::cases::Row;
 use sip_message::{read, view};
 use sip_message_fields::FieldName;
 use sip_message_form::{Message, View, write, written_length};
@@ -9,6 +10,12 @@ const COMPACT_AND_FOLDED: &[u8] =
 
 const WRITTEN: &[u8] =
     b"OPTIONS sip:a@host.com SIP/2.0\r\nVia: SIP/2.0/UDP a;branch=1\r\nVia: SIP/2.0/UDP b\r\nSubject: I know you\r\nX-Note: one two\r\nContent-Length: 2\r\n\r\nab";
+
+/// A message, and the same as it is written.
+pub(crate) const READ_SEEN_AND_WRITTEN: &[Row] = &[
+    Row::Read(COMPACT_AND_FOLDED),
+    Row::Read(WRITTEN),
+];
 
 fn has_four_fields(message: &Message) -> bool {
     match message.fields.clone() {
@@ -47,15 +54,11 @@ fn is_viewed(alloc: Global, message: &Message) -> bool {
     }
 }
 
-fn is_read(alloc: Global, text: &[u8]) -> bool {
+pub(crate) fn is_read(alloc: Global, text: &[u8]) -> bool {
     match read(alloc, text) {
         Ok(message) => is_viewed(alloc, &message),
         Err(_) => false,
     }
-}
-
-pub(crate) fn read_seen_and_written(alloc: Global) -> bool {
-    is_read(alloc, COMPACT_AND_FOLDED) && is_read(alloc, WRITTEN)
 }
 
 /// Whether the first value of a name is a part of what was read.
@@ -75,40 +78,31 @@ pub(crate) fn parts_of_the_datagram(alloc: Global) -> bool {
 }
 
 /// Texts, and the numbers of their refusals, 0 where they are read.
-const TEXTS: &[(&[u8], u8)] = &[
-    (b"OPTIONS sip:a SIP/7.10\r\n\r\n", 0),
-    (b"SIP/2.0 200 \r\n\r\n", 0),
+pub(crate) const REFUSALS: &[Row] = &[
+    Row::Refusal(b"OPTIONS sip:a SIP/7.10\r\n\r\n", 0),
+    Row::Refusal(b"SIP/2.0 200 \r\n\r\n", 0),
     // an empty line is missing: NotSip comes before the bad field
-    (b"OPTIONS sip:a SIP/2.0\r\nbad\r\n", 2),
-    (b"OPTIONS sip:a SIP/2.0\r\nbad\r\n\r\n", 3),
-    (b"OPTIONS sip:a SIP/2.0\r\nX: a\nb\r\n\r\n", 3),
-    (b"SIP/2.0 200 O\nK\r\n\r\n", 2),
-    (b"OPTIONS sip:a SIP/2.0\r\n X: a\r\n\r\n", 3),
-    (
+    Row::Refusal(b"OPTIONS sip:a SIP/2.0\r\nbad\r\n", 2),
+    Row::Refusal(b"OPTIONS sip:a SIP/2.0\r\nbad\r\n\r\n", 3),
+    Row::Refusal(b"OPTIONS sip:a SIP/2.0\r\nX: a\nb\r\n\r\n", 3),
+    Row::Refusal(b"SIP/2.0 200 O\nK\r\n\r\n", 2),
+    Row::Refusal(b"OPTIONS sip:a SIP/2.0\r\n X: a\r\n\r\n", 3),
+    Row::Refusal(
         b"OPTIONS sip:a SIP/2.0\r\nl: 1\r\nContent-Length: 1\r\n\r\na",
         3,
     ),
-    (b"OPTIONS sip:a SIP/2.0\r\nl: +1\r\n\r\na", 3),
-    (b"OPTIONS sip:a SIP/2.0\r\nContact: <a\r\n\r\n", 3),
-    (b"SIP/7.10 200 \r\n\r\n", 2),
-    (b"SIP/2.0 700 x\r\n\r\n", 2),
-    (b"\r\n\r\n", 2),
-    (b"OPTIONS sip:a SIP/2.0\r\nl: 3\r\n\r\nab", 4),
+    Row::Refusal(b"OPTIONS sip:a SIP/2.0\r\nl: +1\r\n\r\na", 3),
+    Row::Refusal(b"OPTIONS sip:a SIP/2.0\r\nContact: <a\r\n\r\n", 3),
+    Row::Refusal(b"SIP/7.10 200 \r\n\r\n", 2),
+    Row::Refusal(b"SIP/2.0 700 x\r\n\r\n", 2),
+    Row::Refusal(b"\r\n\r\n", 2),
+    Row::Refusal(b"OPTIONS sip:a SIP/2.0\r\nl: 3\r\n\r\nab", 4),
 ];
 
 /// The number of a text's refusal, 0 where it is read.
-fn refusal_of(alloc: Global, text: &[u8]) -> u8 {
+pub(crate) fn refusal_of(alloc: Global, text: &[u8]) -> u8 {
     match read(alloc, text) {
         Ok(_) => 0,
         Err(e) => e.number(),
     }
-}
-
-pub(crate) fn refusals(alloc: Global) -> bool {
-    for (text, number) in TEXTS {
-        if refusal_of(alloc, text) != *number {
-            return false;
-        }
-    }
-    true
 }

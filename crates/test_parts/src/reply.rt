@@ -1,33 +1,24 @@
-use sip_edit_response::reason_of;
+use crate::cases::Row;
 
 /// Statuses that are answered here, with their reason phrases (RFC 3261 21).
-const REASONS: &[(u16, &[u8])] = &[
-    (100, b"Trying"),
-    (200, b"OK"),
-    (400, b"Bad Request"),
-    (401, b"Unauthorized"),
-    (403, b"Forbidden"),
-    (404, b"Not Found"),
-    (407, b"Proxy Authentication Required"),
-    (408, b"Request Timeout"),
-    (416, b"Unsupported URI Scheme"),
-    (420, b"Bad Extension"),
-    (423, b"Interval Too Brief"),
-    (480, b"Temporarily Unavailable"),
-    (481, b"Call/Transaction Does Not Exist"),
-    (482, b"Loop Detected"),
-    (483, b"Too Many Hops"),
-    (487, b"Request Terminated"),
-    (500, b"Server Internal Error"),
-    (503, b"Service Unavailable"),
-    (505, b"Version Not Supported"),
+pub(crate) const REASONS: &[Row] = &[
+    Row::Reason(100, b"Trying"),
+    Row::Reason(200, b"OK"),
+    Row::Reason(400, b"Bad Request"),
+    Row::Reason(401, b"Unauthorized"),
+    Row::Reason(403, b"Forbidden"),
+    Row::Reason(404, b"Not Found"),
+    Row::Reason(407, b"Proxy Authentication Required"),
+    Row::Reason(408, b"Request Timeout"),
+    Row::Reason(416, b"Unsupported URI Scheme"),
+    Row::Reason(420, b"Bad Extension"),
+    Row::Reason(423, b"Interval Too Brief"),
+    Row::Reason(480, b"Temporarily Unavailable"),
+    Row::Reason(481, b"Call/Transaction Does Not Exist"),
+    Row::Reason(482, b"Loop Detected"),
+    Row::Reason(483, b"Too Many Hops"),
+    Row::Reason(487, b"Request Terminated"),
+    Row::Reason(500, b"Server Internal Error"),
+    Row::Reason(503, b"Service Unavailable"),
+    Row::Reason(505, b"Version Not Supported"),
 ];
-
-pub(crate) fn reasons() -> bool {
-    for (status, reason) in REASONS {
-        if reason_of(*status) != *reason {
-            return false;
-        }
-    }
-    true
-}

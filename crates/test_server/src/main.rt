@@ -18,14 +18,12 @@
 
 mod runs;
 
-use sip_config_types::sample;
 use sip_text::decimal;
 use std::io::{BufWriter, Write};
 use std::process::ExitCode;
 use std::{env, io};
-use test_counts::tables;
+use test_counts::{parts, tables};
 use test_engine::{Fault, cases, refusals};
-use test_part_counts::parts;
 
 /// The exit status where all that was asked for is done.
 const DONE: u8 = 0;
@@ -50,26 +48,29 @@ fn number(word: &str) -> u32 {
     }
 }
 
+/// The cases that have a name.
+fn try_cases(rt: &HostRuntime) -> io::Result<()> {
+    cases::tell_all(rt)?;
+    test_kinds::tell_all(rt)?;
+    test_parts::tell_all(rt)
+}
+
 /// All that the gate compares.
 fn try_all(rt: &HostRuntime) -> io::Result<()> {
-    let text = io::read_to_string(rt.alloc(), rt.reader())?;
     runs::tell_all(rt)?;
-    cases::tell_all(rt)?;
-    test_serve::tell_all(rt)?;
-    test_kinds::tell_all(rt)?;
-    test_parts::tell_all(rt)?;
+    try_cases(rt)?;
     runs::tell_steps(rt, "registered")?;
     tables::tell_all(rt)?;
+    let text = io::read_to_string(rt.alloc(), rt.reader())?;
     parts::tell_all(rt, text.as_str())
 }
 
 /// The steps of the script of standard input, each taken once more where it is refused for want of memory.
 fn try_steps(rt: &HostRuntime) -> Result<(), Fault> {
-    let config = sample(rt.alloc())?;
     let mut input = rt.reader();
     let mut output = BufWriter::new(rt.alloc(), io::writer(rt))?;
     let mut marks = rt.stderr();
-    let refused = refusals::play(rt.alloc(), config, &mut input, &mut output, &mut marks)?;
+    let refused = refusals::play(rt.alloc(), &mut input, &mut output, &mut marks)?;
     output.flush()?;
     eprintln!(rt; "refused {refused}")?;
     Ok(())
@@ -79,12 +80,7 @@ fn try_steps(rt: &HostRuntime) -> Result<(), Fault> {
 fn try_one(rt: &HostRuntime, trial: &str) -> Result<u8, Fault> {
     match trial {
         "runs" => runs::tell_all(rt)?,
-        "cases" => {
-            cases::tell_all(rt)?;
-            test_serve::tell_all(rt)?;
-            test_kinds::tell_all(rt)?;
-            test_parts::tell_all(rt)?;
-        }
+        "cases" => try_cases(rt)?,
         "refusals" => try_steps(rt)?,
         _ => return Ok(OTHER_WORDS),
     }
@@ -94,8 +90,8 @@ fn try_one(rt: &HostRuntime, trial: &str) -> Result<u8, Fault> {
 /// Whether both kinds answer alike.
 fn compare(rt: &HostRuntime, what: &str, seed: u32, calls: u32) -> io::Result<u8> {
     match what {
-        "timers" => test_alike::tell_timers(rt, seed, calls)?,
-        "rules" => test_alike::tell_rules(rt, seed, calls)?,
+        "timers" => test_kinds::tell_timers(rt, seed, calls)?,
+        "rules" => test_kinds::tell_rules(rt, seed, calls)?,
         _ => return Ok(OTHER_WORDS),
     }
     Ok(DONE)
@@ -114,10 +110,9 @@ fn count(rt: &HostRuntime, trial: &str, case: &str, size: u32, times: u32) -> io
     Ok(DONE)
 }
 
-/// The exit status of what the words of the command line ask for.
-fn run(rt: &HostRuntime) -> Result<u8, Fault> {
-    let words = words(rt)?;
-    match words.as_slice() {
+/// The exit status of what these words ask for.
+fn answer(rt: &HostRuntime, words: &[String]) -> Result<u8, Fault> {
+    match words {
         [_] => {
             try_all(rt)?;
             Ok(DONE)
@@ -132,6 +127,12 @@ fn run(rt: &HostRuntime) -> Result<u8, Fault> {
         }
         _ => Ok(OTHER_WORDS),
     }
+}
+
+/// The exit status of what the words of the command line ask for.
+fn run(rt: &HostRuntime) -> Result<u8, Fault> {
+    let words = words(rt)?;
+    answer(rt, words.as_slice())
 }
 
 fn main(rt: HostRuntime) -> ExitCode {

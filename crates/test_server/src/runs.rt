@@ -1,26 +1,15 @@
 //! Every stored run of the folder that the program runs in: how many agree with their files, and the name of each that
 //! doesn't. Those with a script are replayed by the program and on plain lists of timers and rules, and print the same.
-//! A run NAME is files alone:
-//!
-//! - NAME.args: the words of the command line, one a line;
-//! - NAME.script: standard input; empty, where it is absent;
-//! - NAME.damage: a datagram, in place of a script: that of all its proper prefixes, and of it with each byte replaced;
-//! - NAME.toml: a configuration that the words name;
-//! - NAME.out: what must be written; nothing, where it is absent;
-//! - NAME.md5: MD5 of what must be written, in hexadecimal digits, in place of NAME.out, where that would be long;
-//! - NAME.err: the complaint; none, where it is absent;
-//! - NAME.status: the exit status; 0, where it is absent.
+//! A run is files alone (`test_forms`).
 
-mod damage;
-mod names;
 mod run;
 
-use names::names_in;
 use run::{agreement_of, steps_agree};
 use std::io;
 use std::net::Net;
 use std::random::RandomSource;
 use std::rt::{Clock, Files};
+use test_forms::names::names_in;
 
 /// How many runs there are, and how many of them agree.
 #[derive(Clone, Copy)]
@@ -63,14 +52,14 @@ fn do_run<R: Files + Net + Clock + RandomSource + Print + AllocGlobal>(
     Ok(())
 }
 
-/// Does every run, and prints how many agree; then how many of those with a script do on plain lists of timers and rules.
-pub fn tell_all<R: Files + Net + Clock + RandomSource + Print + AllocGlobal + Clone + Drop>(
+/// Does these runs, and prints how many agree; then how many of those with a script do on plain lists of timers and rules.
+fn tell_runs<R: Files + Net + Clock + RandomSource + Print + AllocGlobal>(
     rt: &R,
+    names: &[String],
 ) -> io::Result<()> {
-    let names = names_in(rt, ".")?;
     let mut by_program = Count::new();
     let mut on_lists = Count::new();
-    for name in &names {
+    for name in names {
         do_run(rt, name.as_str(), &mut by_program, &mut on_lists)?;
     }
     println!(rt; "{} of {} runs agree", by_program.agreed, by_program.runs)?;
@@ -78,6 +67,14 @@ pub fn tell_all<R: Files + Net + Clock + RandomSource + Print + AllocGlobal + Cl
         "{} of {} scripts agree on plain lists",
         on_lists.agreed, on_lists.runs
     )
+}
+
+/// Does every run of the folder.
+pub fn tell_all<R: Files + Net + Clock + RandomSource + Print + AllocGlobal + Clone + Drop>(
+    rt: &R,
+) -> io::Result<()> {
+    let names = names_in(rt, ".")?;
+    tell_runs(rt, names.as_slice())
 }
 
 /// Takes the steps of one run, and prints whether they agree.

@@ -1,8 +1,8 @@
+use crate::tables::names::name_of;
 use sip_dialog::{DialogError, DialogId, Dialogs, InviteAnswer};
 use sip_text::{Bytes, Items};
 use sip_uri::Addr;
 use std::alloc::{AllocError, Global};
-use test_kind_counts::name_of;
 
 const PHONE: Addr = Addr {
     ip: [127, 0, 0, 1],

@@ -1,3 +1,4 @@
+use crate::tables::names::name_of;
 use sip_auth::proof_of;
 use sip_digest::{Nonces, Protection, a1, answer, nonce_text};
 use sip_message::view;
@@ -5,7 +6,6 @@ use sip_message_form::View;
 use sip_policy::{PolicyError, User, Users};
 use sip_text::{Items, hex_text};
 use std::alloc::{AllocError, Global};
-use test_kind_counts::name_of;
 
 const REALM: &[u8] = b"testrealm@host.com";
 

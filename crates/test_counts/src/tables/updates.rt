@@ -1,9 +1,9 @@
+use crate::tables::names::name_of;
 use sip_header::Expires;
 use sip_location::{Contacts, Locations, Registration};
 use sip_text::{Bytes, Text};
 use sip_uri::Aor;
 use std::alloc::{AllocError, Global};
-use test_kind_counts::name_of;
 
 /// The address of record of a number.
 fn aor(alloc: Global, number: u32) -> Result<Aor, AllocError> {

@@ -38,7 +38,8 @@ fn put_binding(text: &mut Bytes, binding: &BindingRef<'_>) -> Result<(), AllocEr
     put_number(text, binding.expires_at())
 }
 
-fn aor_of(alloc: Global, user: &str) -> Result<Aor, AllocError> {
+/// The address of a user.
+pub(crate) fn aor_of(alloc: Global, user: &str) -> Result<Aor, AllocError> {
     let user = Bytes::copy(alloc, user.as_bytes())?;
     let host = Bytes::copy(alloc, DOMAIN.as_bytes())?;
     Ok(Aor { user, host })

@@ -17,5 +17,10 @@ returns c = λ server first history last chain.
       no_more = c.nothing_leaves_more.ensures.heard;
     })
     server
-    (record { parts = c.steps_have_parts.ensures; rising = c.numbers_rise.ensures server; none_again = c.no_deadline_passed.ensures.none_again server; has_fired = c.no_deadline_passed.ensures.has_fired server })
+    (record {
+      parts = c.steps_have_parts.ensures;
+      rising = c.numbers_rise.ensures server;
+      none_again = c.no_deadline_passed.ensures.none_again server;
+      has_fired = c.no_deadline_passed.ensures.has_fired server;
+    })
     first history last chain

@@ -16,4 +16,5 @@ found_nowhere id known None contacts hops addresses e = refl
 found_nowhere id known (Some uri) contacts hops addresses e = ap (λ (t : Bool). targets_for (Decision.Allow id) t (Some uri) contacts hops addresses) e
 
 pub returns : goal.returns
-returns c = λ server rows now m q id e. found_nowhere id _ (request_uri_of server.config.own m) (contacts_of rows now q.target) server.config.hops server.config.addresses e
+returns c = λ server rows now m q id e. found_nowhere id _ (request_uri_of server.config.own m) (contacts_of rows now q.target) server.config.hops server.config.addresses
+    e

@@ -12,7 +12,8 @@ pub returns-clause-denial_recorded : goal.returns-clause-denial_recorded
 returns-clause-denial_recorded c = λ server old new at word from bytes m out q id h. records server old new at word from bytes m (Verdict.Deny q id) out h
 
 pub returns-clause-registered : goal.returns-clause-registered
-returns-clause-registered c = λ server old new at word from bytes m out q id rows h. sends server old new at word from bytes m (Verdict.Register q id (Verdict.Bound rows)) out h
+returns-clause-registered c = λ server old new at word from bytes m out q id rows h. sends server old new at word from bytes m
+    (Verdict.Register q id (Verdict.Bound rows)) out h
 
 pub returns-clause-refused : goal.returns-clause-refused
 returns-clause-refused c = λ server old new at word from bytes m out status extras h. sends server old new at word from bytes m (Verdict.Answer status extras) out h

@@ -5,13 +5,16 @@ use Rattle.sip_model.specs.verdict_model.Verdict as Verdict
 use Rattle.model_meanings.proofs.datagrams.what_is_sent.Goals as goal
 
 pub returns-clause-called : goal.returns-clause-called
-returns-clause-called c = λ server old new at word from bytes m out q id targets h. sends server old new at word from bytes m (Verdict.Send q id (Targets.Bindings targets)) out h
+returns-clause-called c = λ server old new at word from bytes m out q id targets h. sends server old new at word from bytes m
+    (Verdict.Send q id (Targets.Bindings targets)) out h
 
 pub returns-clause-call_recorded : goal.returns-clause-call_recorded
-returns-clause-call_recorded c = λ server old new at word from bytes m out q id targets h. records server old new at word from bytes m (Verdict.Send q id (Targets.Bindings targets)) out h
+returns-clause-call_recorded c = λ server old new at word from bytes m out q id targets h.
+    records server old new at word from bytes m (Verdict.Send q id (Targets.Bindings targets)) out h
 
 pub returns-clause-sent_to_hop : goal.returns-clause-sent_to_hop
-returns-clause-sent_to_hop c = λ server old new at word from bytes m out q id uri address h. sends server old new at word from bytes m (Verdict.Send q id (Targets.Hop uri address)) out h
+returns-clause-sent_to_hop c = λ server old new at word from bytes m out q id uri address h.
+    sends server old new at word from bytes m (Verdict.Send q id (Targets.Hop uri address)) out h
 
 pub returns-clause-sent_within : goal.returns-clause-sent_within
 returns-clause-sent_within c = λ server old new at word from bytes m out address id h. sends server old new at word from bytes m (Verdict.InDialog address id) out h

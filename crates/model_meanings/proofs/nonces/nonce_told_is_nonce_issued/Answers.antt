@@ -7,10 +7,12 @@ use Rattle.std.proofs.Common.{refl}
 use Rattle.model_meanings.proofs.nonces.nonce_told_is_nonce_issued.Goals as goal
 
 pub returns-clause-tells : goal.returns-clause-tells
-returns-clause-tells c = λ server a q. all_told (challenge_name q.operation) server.config.realm (nonce_text a.word) (is_stale q.proof) (offers_sha256 server.config.users)
+returns-clause-tells c = λ server a q. all_told (challenge_name q.operation) server.config.realm (nonce_text a.word) (is_stale q.proof)
+    (offers_sha256 server.config.users)
 
 pub returns-clause-several : goal.returns-clause-several
-returns-clause-several c = λ server a q. some_told (challenge_name q.operation) server.config.realm (nonce_text a.word) (is_stale q.proof) (offers_sha256 server.config.users)
+returns-clause-several c = λ server a q. some_told (challenge_name q.operation) server.config.realm (nonce_text a.word) (is_stale q.proof)
+    (offers_sha256 server.config.users)
 
 pub returns-clause-read : goal.returns-clause-read
 returns-clause-read c = λ word fits. (c.text_names_its_word.ensures (nonce_text word) word).1 (fits, refl)

@@ -9,17 +9,21 @@ use Rattle.sip_digest.specs.NonceText.{nonce_text}
 use Rattle.model_steps.proofs.configurations.one_count_for_both.Goals as goal
 
 pub returns-clause-by_md5 : goal.returns-clause-by_md5
-unfolding digits encode_with rest_of reading_of core_in nonce_text block_words rounds compress hash_after digest_bytes md5 first_words schedule rounds256 compress256 hash_after256 digest_bytes256 sha256
+unfolding digits encode_with rest_of reading_of core_in nonce_text block_words rounds compress hash_after digest_bytes md5 first_words schedule rounds256 compress256
+    hash_after256 digest_bytes256 sha256
 returns-clause-by_md5 c = refl
 
 pub returns-clause-stale : goal.returns-clause-stale
-unfolding digits encode_with rest_of reading_of core_in nonce_text block_words rounds compress hash_after digest_bytes md5 first_words schedule rounds256 compress256 hash_after256 digest_bytes256 sha256
+unfolding digits encode_with rest_of reading_of core_in nonce_text block_words rounds compress hash_after digest_bytes md5 first_words schedule rounds256 compress256
+    hash_after256 digest_bytes256 sha256
 returns-clause-stale c = refl
 
 pub returns-clause-by_sha256 : goal.returns-clause-by_sha256
-unfolding digits encode_with rest_of reading_of core_in nonce_text block_words rounds compress hash_after digest_bytes md5 first_words schedule rounds256 compress256 hash_after256 digest_bytes256 sha256
+unfolding digits encode_with rest_of reading_of core_in nonce_text block_words rounds compress hash_after digest_bytes md5 first_words schedule rounds256 compress256
+    hash_after256 digest_bytes256 sha256
 returns-clause-by_sha256 c = refl
 
 pub returns-clause-audit : goal.returns-clause-audit
-unfolding digits encode_with rest_of reading_of core_in nonce_text block_words rounds compress hash_after digest_bytes md5 first_words schedule rounds256 compress256 hash_after256 digest_bytes256 sha256
+unfolding digits encode_with rest_of reading_of core_in nonce_text block_words rounds compress hash_after digest_bytes md5 first_words schedule rounds256 compress256
+    hash_after256 digest_bytes256 sha256
 returns-clause-audit c = refl

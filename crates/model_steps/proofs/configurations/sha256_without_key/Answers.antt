@@ -9,9 +9,11 @@ use Rattle.sip_digest.specs.NonceText.{nonce_text}
 use Rattle.model_steps.proofs.configurations.sha256_without_key.Goals as goal
 
 pub returns-clause-challenged : goal.returns-clause-challenged
-unfolding digits encode_with rest_of reading_of core_in nonce_text block_words rounds compress hash_after digest_bytes md5 first_words schedule rounds256 compress256 hash_after256 digest_bytes256 sha256
+unfolding digits encode_with rest_of reading_of core_in nonce_text block_words rounds compress hash_after digest_bytes md5 first_words schedule rounds256 compress256
+    hash_after256 digest_bytes256 sha256
 returns-clause-challenged c = refl
 
 pub returns-clause-audit : goal.returns-clause-audit
-unfolding digits encode_with rest_of reading_of core_in nonce_text block_words rounds compress hash_after digest_bytes md5 first_words schedule rounds256 compress256 hash_after256 digest_bytes256 sha256
+unfolding digits encode_with rest_of reading_of core_in nonce_text block_words rounds compress hash_after digest_bytes md5 first_words schedule rounds256 compress256
+    hash_after256 digest_bytes256 sha256
 returns-clause-audit c = refl

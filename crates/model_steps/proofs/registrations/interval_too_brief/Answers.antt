@@ -33,7 +33,8 @@ sends : (whole_effect challenge_effect.state (arriving_at 2 2000 5062) brief_reg
 unfolding digits encode_with rest_of reading_of core_in nonce_text block_words rounds compress hash_after digest_bytes md5
 sends = refl
 
-audit : map line_of (whole_effect challenge_effect.state (arriving_at 2 2000 5062) brief_register).records ≡ codes "2000 2 REGISTER Mufasa Mufasa@host.com register 1 answer 423" ∷ []
+audit : map line_of (whole_effect challenge_effect.state (arriving_at 2 2000 5062) brief_register).records
+    ≡ codes "2000 2 REGISTER Mufasa Mufasa@host.com register 1 answer 423" ∷ []
 unfolding digits encode_with rest_of reading_of core_in nonce_text block_words rounds compress hash_after digest_bytes md5
 audit = refl
 

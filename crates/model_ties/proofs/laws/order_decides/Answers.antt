@@ -13,6 +13,11 @@ returns c = λ server first past start other_start last end history its reached 
       joined = c.same_states.ensures.joined;
     })
     c.steps_same.ensures
-    (record { parts = c.steps_have_parts.ensures; waits = c.requests_can_end.ensures.waits; rising = c.numbers_rise.ensures; branched = c.open_requests_are_branched.ensures.branched })
+    (record {
+      parts = c.steps_have_parts.ensures;
+      waits = c.requests_can_end.ensures.waits;
+      rising = c.numbers_rise.ensures;
+      branched = c.open_requests_are_branched.ensures.branched;
+    })
     c.steps_stand_at_their_moments.ensures c.moment_rises.ensures
     server first past start reached history its other_start last end same chain other_chain prompt other_prompt configs e

@@ -14,7 +14,12 @@ returns-clause-events c = λ server first past queue start other_start last end 
       joined = c.same_states.ensures.joined;
     })
     c.steps_same.ensures
-    (record { parts = c.steps_have_parts.ensures; waits = c.requests_can_end.ensures.waits; rising = c.numbers_rise.ensures; branched = c.open_requests_are_branched.ensures.branched })
+    (record {
+      parts = c.steps_have_parts.ensures;
+      waits = c.requests_can_end.ensures.waits;
+      rising = c.numbers_rise.ensures;
+      branched = c.open_requests_are_branched.ensures.branched;
+    })
     c.steps_stand_at_their_moments.ensures c.moment_rises.ensures
     server first past start chain queue other_start last end events steps others history its same run other_run orderly ordered).0
 
@@ -30,6 +35,11 @@ returns-clause-periods c = λ server first past queue start other_start last end
       joined = c.same_states.ensures.joined;
     })
     c.steps_same.ensures
-    (record { parts = c.steps_have_parts.ensures; waits = c.requests_can_end.ensures.waits; rising = c.numbers_rise.ensures; branched = c.open_requests_are_branched.ensures.branched })
+    (record {
+      parts = c.steps_have_parts.ensures;
+      waits = c.requests_can_end.ensures.waits;
+      rising = c.numbers_rise.ensures;
+      branched = c.open_requests_are_branched.ensures.branched;
+    })
     c.steps_stand_at_their_moments.ensures c.moment_rises.ensures
     server first periods queue past start other_start last end steps others history its reached same run other_run orderly ordered

@@ -9,4 +9,5 @@ pub returns-clause-branch : goal.returns-clause-branch
 returns-clause-branch c = λ bound b h w. phase_early bound b.phase h w.phase_near
 
 pub returns-clause-request : goal.returns-clause-request
-returns-clause-request c = λ bound r h w. all_weaker (IsBranchWithin bound) (λ (b : Branch). IsEarly b.phase) (λ b e. phase_early bound b.phase h e.phase_near) r.branches w.branches_within
+returns-clause-request c = λ bound r h w. all_weaker (IsBranchWithin bound) (λ (b : Branch). IsEarly b.phase) (λ b e. phase_early bound b.phase h e.phase_near) r.branches
+    w.branches_within

@@ -8,13 +8,16 @@ use Rattle.sip_digest.specs.NonceText.{nonce_text}
 use Rattle.sip_auth.proofs.examples.one_count_for_both.Goals as goal
 
 pub returns-clause-md5 : goal.returns-clause-md5
-unfolding digits encode_with rest_of reading_of nonce_text block_words rounds compress hash_after digest_bytes md5 first_words schedule rounds256 compress256 hash_after256 digest_bytes256 sha256
+unfolding digits encode_with rest_of reading_of nonce_text block_words rounds compress hash_after digest_bytes md5 first_words schedule rounds256 compress256
+    hash_after256 digest_bytes256 sha256
 returns-clause-md5 c = refl
 
 pub returns-clause-same_count : goal.returns-clause-same_count
-unfolding digits encode_with rest_of reading_of nonce_text block_words rounds compress hash_after digest_bytes md5 first_words schedule rounds256 compress256 hash_after256 digest_bytes256 sha256
+unfolding digits encode_with rest_of reading_of nonce_text block_words rounds compress hash_after digest_bytes md5 first_words schedule rounds256 compress256
+    hash_after256 digest_bytes256 sha256
 returns-clause-same_count c = refl
 
 pub returns-clause-next_count : goal.returns-clause-next_count
-unfolding digits encode_with rest_of reading_of nonce_text block_words rounds compress hash_after digest_bytes md5 first_words schedule rounds256 compress256 hash_after256 digest_bytes256 sha256
+unfolding digits encode_with rest_of reading_of nonce_text block_words rounds compress hash_after digest_bytes md5 first_words schedule rounds256 compress256
+    hash_after256 digest_bytes256 sha256
 returns-clause-next_count c = refl

@@ -9,8 +9,10 @@ returns-then-contains_key-clause-new c =
 
 pub returns-clause-placed : goal.returns-clause-placed
 returns-clause-placed c =
-    (place_last c.args.places.now c.insert.new.self c.args.host.now c.args.port c.in_ok-copy.copy c.len-last.result c.in_ok-insert.field-0 c.requires c.len-last.ensures.len
-    (c.in_ok-copy.ensures.items ∙ c.as_slice.ensures ∙ c.in_ok-lower.ensures) (sym c.contains_key.ensures ∙ c.if-contains_key.false) c.in_ok-insert.ensures.old c.in_ok-insert.ensures.entries).1
+    (place_last c.args.places.now c.insert.new.self c.args.host.now c.args.port c.in_ok-copy.copy c.len-last.result c.in_ok-insert.field-0 c.requires
+    c.len-last.ensures.len
+    (c.in_ok-copy.ensures.items ∙ c.as_slice.ensures ∙ c.in_ok-lower.ensures) (sym c.contains_key.ensures ∙ c.if-contains_key.false) c.in_ok-insert.ensures.old
+    c.in_ok-insert.ensures.entries).1
 
 pub returns-clause-new : goal.returns-clause-new
 returns-clause-new c =
@@ -19,5 +21,7 @@ returns-clause-new c =
 
 pub returns-clause-places : goal.returns-clause-places
 returns-clause-places c =
-    (place_last c.args.places.now c.insert.new.self c.args.host.now c.args.port c.in_ok-copy.copy c.len-last.result c.in_ok-insert.field-0 c.requires c.len-last.ensures.len
-    (c.in_ok-copy.ensures.items ∙ c.as_slice.ensures ∙ c.in_ok-lower.ensures) (sym c.contains_key.ensures ∙ c.if-contains_key.false) c.in_ok-insert.ensures.old c.in_ok-insert.ensures.entries).0
+    (place_last c.args.places.now c.insert.new.self c.args.host.now c.args.port c.in_ok-copy.copy c.len-last.result c.in_ok-insert.field-0 c.requires
+    c.len-last.ensures.len
+    (c.in_ok-copy.ensures.items ∙ c.as_slice.ensures ∙ c.in_ok-lower.ensures) (sym c.contains_key.ensures ∙ c.if-contains_key.false) c.in_ok-insert.ensures.old
+    c.in_ok-insert.ensures.entries).0

@@ -1,4 +1,4 @@
-use Rattle.std.proofs.Common.{ℕ, ◌+◌, drop}
+use Rattle.std.proofs.Common.{◌+◌, drop}
 use Rattle.std.proofs.lemmas.Result.{err_from_is_err_and}
 use Rattle.toml.specs.View.{table_view, items_view}
 use Rattle.sip_config_values.specs.declared.key.Key.TheVariants as keys
@@ -11,9 +11,11 @@ pub loop-at-preserved : goal.loop-at-preserved
 loop-at-preserved c =
     let line = user_line c.args.line in
     let table = table_view c.in_ok-table_in.field-0.now in
-    went_on (line c.loop-at.at table) (λ _. all_pass keys.Users line (c.loop-at.at + 1) (items_view (drop (c.loop-at.at + 1) c.args.items.now))) c.in_ok-check_user.field-0
+    went_on (line c.loop-at.at table) (λ _. all_pass keys.Users line (c.loop-at.at + 1) (items_view (drop (c.loop-at.at + 1) c.args.items.now)))
+    c.in_ok-check_user.field-0
     (all_pass keys.Users line c.loop-at.at (items_view (drop c.loop-at.at c.args.items.now))) (all_pass keys.Users line 0 (items_view c.args.items.now))
-    (pass_at keys.Users line c.loop-at.at c.args.items.now c.loop-at.at c.index-items-at.result table c.loop-at-test.true c.index-items-at.is c.in_ok-table_in.ensures) c.loop-at.invariant c.in_ok-check_user.ensures
+    (pass_at keys.Users line c.loop-at.at c.args.items.now c.loop-at.at c.index-items-at.result table c.loop-at-test.true c.index-items-at.is c.in_ok-table_in.ensures)
+    c.loop-at.invariant c.in_ok-check_user.ensures
 
 pub returns-in_err-check_user : goal.returns-in_err-check_user
 returns-in_err-check_user c =
@@ -21,6 +23,8 @@ returns-in_err-check_user c =
     let line = user_line c.args.line in
     let table = table_view c.in_ok-table_in.field-0.now in
     rw (p.1, p.2)
-    (stopped (λ (done : Unit {0}). done) (λ (done : Unit {0}). done) c.in_err-check_user.field-0.0 (line c.loop-at.at table) (λ _. all_pass keys.Users line (c.loop-at.at + 1) (items_view (drop (c.loop-at.at + 1) c.args.items.now)))
+    (stopped (λ (done : Unit {0}). done) (λ (done : Unit {0}). done) c.in_err-check_user.field-0.0 (line c.loop-at.at table)
+    (λ _. all_pass keys.Users line (c.loop-at.at + 1) (items_view (drop (c.loop-at.at + 1) c.args.items.now)))
     (all_pass keys.Users line c.loop-at.at (items_view (drop c.loop-at.at c.args.items.now))) (all_pass keys.Users line 0 (items_view c.args.items.now))
-    (pass_at keys.Users line c.loop-at.at c.args.items.now c.loop-at.at c.index-items-at.result table c.loop-at-test.true c.index-items-at.is c.in_ok-table_in.ensures) c.loop-at.invariant c.in_err-check_user.ensures)
+    (pass_at keys.Users line c.loop-at.at c.args.items.now c.loop-at.at c.index-items-at.result table c.loop-at-test.true c.index-items-at.is c.in_ok-table_in.ensures)
+    c.loop-at.invariant c.in_err-check_user.ensures)

@@ -3,4 +3,5 @@ use Rattle.model_context.specs.Branches.{phased}
 use Rattle.sip_context_branches.proofs.branches.turn_among.Given as goal
 
 abbrev pub invariant-loop-place : goal.invariant-loop-place
-invariant-loop-place l = l.branches ≡ map (phased (record l.branch { final_to = l.final_to }) l.phase) (take l.place-index l.fn.branches) ++ drop l.place-index l.fn.branches
+invariant-loop-place l = l.branches ≡ map (phased (record l.branch { final_to = l.final_to }) l.phase) (take l.place-index l.fn.branches)
+    ++ drop l.place-index l.fn.branches

@@ -6,4 +6,5 @@ use Rattle.sip_context_branches.proofs.branches.want_among.Given as goal
 
 abbrev pub invariant-loop-place : goal.invariant-loop-place
 invariant-loop-place l =
-    l.branches ≡ map (λ (x : Branch). if is_same_branch x l.branch then record x { wants_cancel = true } else x) (take l.place-index l.fn.branches) ++ drop l.place-index l.fn.branches
+    l.branches ≡ map (λ (x : Branch). if is_same_branch x l.branch then record x { wants_cancel = true } else x) (take l.place-index l.fn.branches)
+    ++ drop l.place-index l.fn.branches

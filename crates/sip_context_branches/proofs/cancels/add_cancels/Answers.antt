@@ -7,4 +7,5 @@ use Rattle.sip_context_branches.proofs.cancels.add_cancels.Goals as goal
 
 pub returns-then-new-eq0 : goal.returns-then-new-eq0
 returns-then-new-eq0 c =
-    sym (none_cancelled c.args.now c.args.branches.now (ap (λ (v : List Branch). count_by is_cancellable v) (sym c.as_slice.ensures) ∙ sym c.cancellable_count-new.ensures ∙ c.if-new-eq0.true))
+    sym (none_cancelled c.args.now c.args.branches.now (ap (λ (v : List Branch). count_by is_cancellable v) (sym c.as_slice.ensures) ∙ sym c.cancellable_count-new.ensures
+    ∙ c.if-new-eq0.true))

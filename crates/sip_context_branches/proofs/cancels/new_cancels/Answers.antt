@@ -1,4 +1,4 @@
-use Rattle.std.proofs.Common.{map, filter, sym, ap, ◌∙◌, count_by}
+use Rattle.std.proofs.Common.{map, filter, sym, ap, ◌∙◌}
 use Rattle.std.proofs.lemmas.List.{nil_from_length}
 use Rattle.std.proofs.lemmas.List.Sums.{length-filter}
 use Rattle.model_context.specs.Branches as Contexts

@@ -5,4 +5,5 @@ use Rattle.sip_context_branches.proofs.resent.set_resends.Goals as goal
 
 pub loop-place-preserved : goal.loop-place-preserved
 loop-place-preserved c =
-    one_more (resent_branch c.args.branch.now c.args.next) c.args.branches.now c.loop-place.branches c.loop-place.place-index c.set_resend.new.place c.place-item.result c.loop-place.invariant (omega arith) c.set_resend.ensures
+    one_more (resent_branch c.args.branch.now c.args.next) c.args.branches.now c.loop-place.branches c.loop-place.place-index c.set_resend.new.place c.place-item.result
+    c.loop-place.invariant (omega arith) c.set_resend.ensures

@@ -16,6 +16,7 @@ returns c =
     IfOk-weaker c.cancel_text.result
     (λ (text : List ℕ). IsCancelText c.as_slice.result.now (via c.branch_id-id.result) c.in_ok-routes.routes c.message.result.now text)
     (λ (text : List ℕ). text ≡ text_of (cancel_of (request_of c.args.server.now c.args.request.now c.args.branch.now)))
-    (λ text is. cancel_is c.args.server.now c.args.request.now c.args.branch.now c.get-heard.result.now c.message.result.now c.in_ok-routes.routes c.as_slice.result.now (via c.branch_id-id.result) text
+    (λ text is. cancel_is c.args.server.now c.args.request.now c.args.branch.now c.get-heard.result.now c.message.result.now c.in_ok-routes.routes c.as_slice.result.now
+    (via c.branch_id-id.result) text
     c.get-heard.ensures c.message.ensures c.in_ok-routes.ensures (c.as_slice.ensures ∙ c.get-uri.ensures) (ap via c.branch_id-id.ensures) is)
     c.cancel_text.ensures

@@ -20,7 +20,8 @@ returns-in_default-cseq_method c =
 pub returns : goal.returns
 returns c =
     λ reason start.
-    responds c.args.own_vias.now c.args.response.now c.args.short c.args.status reason c.in-Some.branch.now c.in-Some-cseq_method.method.now c.has_more_vias.result start c.if-short.false
+    responds c.args.own_vias.now c.args.response.now c.args.short c.args.status reason c.in-Some.branch.now c.in-Some-cseq_method.method.now c.has_more_vias.result start
+    c.if-short.false
     (found_some c.in_ok-branch.field-0 c.in-Some.branch (own_top c.args.own_vias.now c.args.response.now.fields) c.in-Some.is c.in_ok-branch.ensures)
     (found_some c.cseq_method.result c.in-Some-cseq_method.method (only_method c.args.response.now.fields) c.in-Some-cseq_method.is c.cseq_method.ensures)
     c.has_more_vias.ensures

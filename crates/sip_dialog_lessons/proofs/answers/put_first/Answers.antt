@@ -7,6 +7,7 @@ use Rattle.sip_dialog_lessons.proofs.answers.put_first.Goals as goal
 
 pub returns-clause-told : goal.returns-clause-told
 returns-clause-told c = λ server now dialogs e.
-    first_told server now c.args.request.now c.args.up.now c.in-Some.id _ (after_lessons now c.args.list.now.items dialogs) (sym c.is_invite.ensures ∙ c.if-not-is_invite.false)
+    first_told server now c.args.request.now c.args.up.now c.in-Some.id _ (after_lessons now c.args.list.now.items dialogs)
+    (sym c.is_invite.ensures ∙ c.if-not-is_invite.false)
     (sym c.in-Some.is ∙ c.in_ok-id.ensures ∙ ap (λ (m : Message). answered_dialog c.args.request.now m) c.get.ensures)
     (c.in_ok-put_invite.ensures.told server now dialogs e)

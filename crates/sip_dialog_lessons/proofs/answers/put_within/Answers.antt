@@ -9,5 +9,6 @@ returns-then-ends_dialog-clause-told c = λ server now dialogs e.
 
 pub returns-clause-told : goal.returns-clause-told
 returns-clause-told c = λ server now dialogs e.
-    taught_more_within server now c.args.request.now c.args.up.now c.args.id c.args.hops.now.addresses c.in_ok-addresses.addresses c.args.list.now.items c.push-2.new.self.items dialogs e
+    taught_more_within server now c.args.request.now c.args.up.now c.args.id c.args.hops.now.addresses c.in_ok-addresses.addresses c.args.list.now.items
+    c.push-2.new.self.items dialogs e
     (cc (c.in_ok-addresses.ensures, c.get.ensures)) (sym c.ends_dialog.ensures ∙ c.if-ends_dialog.false) c.in_ok-push-2.ensures.items

@@ -6,9 +6,11 @@ pub loop-up-preserved : goal.loop-up-preserved
 loop-up-preserved c =
     record {
       told = λ server now dialogs e.
-          next_told server now c.args.request.now c.args.upward.now c.loop-up.up-index c.up-item.result (after_lessons now c.loop-up.list.items dialogs) _ _ c.loop-up-test.true c.up-item.is
+          next_told server now c.args.request.now c.args.upward.now c.loop-up.up-index c.up-item.result (after_lessons now c.loop-up.list.items dialogs) _ _
+          c.loop-up-test.true c.up-item.is
           (c.loop-up.invariant.told server now dialogs e) (c.in_ok-put_answer.ensures.told server now dialogs e);
       room =
-          next_counted c.args.upward.now c.loop-up.up-index c.up-item.result (beginnings c.loop-up.list.items) _ _ c.loop-up-test.true c.up-item.is c.loop-up.invariant.room
+          next_counted c.args.upward.now c.loop-up.up-index c.up-item.result (beginnings c.loop-up.list.items) _ _ c.loop-up-test.true c.up-item.is
+          c.loop-up.invariant.room
           c.in_ok-put_answer.ensures.room;
     }

@@ -1,4 +1,4 @@
-use Rattle.std.proofs.Common.{List, reverse, ap, ◌∙◌}
+use Rattle.std.proofs.Common.{List, reverse, refl, ap, ◌∙◌}
 use Rattle.std.proofs.lemmas.List.{reverse-reverse}
 use Rattle.sip_dialog.proofs.Sameness.{dialogs_self}
 use Rattle.sip_dialog_lessons.specs.declared.lesson.Lesson.{Lesson}
@@ -14,6 +14,7 @@ loop-lesson-init c =
           dialogs_self c.args.now _ _
           (ap (λ (lessons : List Lesson). after_lessons c.args.now lessons c.args.dialogs.now.dialogs) (ap reverse reversed ∙ reverse-reverse c.args.lessons.items));
       room = rw reversed (rw (count_reversed may_begin c.args.lessons.items) c.requires);
+      secret = refl;
     }
 
 pub loop-lesson-preserved : goal.loop-lesson-preserved
@@ -25,4 +26,5 @@ loop-lesson-preserved c =
       room =
           room_left c.loop-lesson.left.items c.pop.new.self.items c.in-Some.lesson c.loop-lesson.dialogs.room _ c.in-Some.ensures.items c.loop-lesson.invariant.room
           c.take.ensures.room;
+      secret = c.take.ensures.secret ∙ c.loop-lesson.invariant.secret;
     }

@@ -11,5 +11,6 @@ returns c =
     let v = chunk 0 16 digits in
     let long = length-chunk 0 16 digits (omega (arith, c.requires)) in
     values_are _ v digits
-    (chosen _ _ _ v (ap (map (top 7)) (zipped (λ (a b : ℕ). cond (ltb a b) 255 0) _ _ v (zip2_splat {Y = ℕ} _ v 16 48 long) (splat_is v 16 10 long)) ∙ map-map (top 7) _ v) (zip2_splat {Y = ℕ} _ v 16 48 long) (zip2_splat {Y = ℕ} _ v 16 87 long))
+    (chosen _ _ _ v (ap (map (top 7)) (zipped (λ (a b : ℕ). cond (ltb a b) 255 0) _ _ v (zip2_splat {Y = ℕ} _ v 16 48 long) (splat_is v 16 10 long))
+    ∙ map-map (top 7) _ v) (zip2_splat {Y = ℕ} _ v 16 48 long) (zip2_splat {Y = ℕ} _ v 16 87 long))
     (take_all 16 digits (omega (arith, c.requires))) (below_from_Fits w8 v (chunk-fits w8 0 16 digits (λ k. c.type_inv.digits k))) refl

@@ -11,11 +11,13 @@ loop-front-init c = seek_first (nonces_in c.args.rows.now.items) c.args.word c.a
 
 pub returns-in_default : goal.returns-in_default
 returns-in_default c =
-    absurd (seek_row c.args.rows.now.items c.args.word c.args.now c.loop-front.front (c.loop-front.front - 1) c.loop-front.place refl c.loop-front-test.true c.loop-front.invariant (slice_get_past c.args.rows.now.items _ c.in_default.ensures.item.3))
+    absurd (seek_row c.args.rows.now.items c.args.word c.args.now c.loop-front.front (c.loop-front.front - 1) c.loop-front.place refl c.loop-front-test.true
+    c.loop-front.invariant (slice_get_past c.args.rows.now.items _ c.in_default.ensures.item.3))
 
 pub returns-then-bucket_of-bucket : goal.returns-then-bucket_of-bucket
 returns-then-bucket_of-bucket c =
-    seek_other c.args.rows.now.items c.args.word c.args.now c.loop-front.front (c.loop-front.front - 1) c.loop-front.place c.in-Some.row.now refl (slice_get_read c.args.rows.now.items _ _ _ refl c.in-Some.ensures.item.3.0 c.in-Some.ensures.lookup)
+    seek_other c.args.rows.now.items c.args.word c.args.now c.loop-front.front (c.loop-front.front - 1) c.loop-front.place c.in-Some.row.now refl
+    (slice_get_read c.args.rows.now.items _ _ _ refl c.in-Some.ensures.item.3.0 c.in-Some.ensures.lookup)
     (λ e. c.if-bucket_of-bucket.true (c.bucket_of.ensures ∙ e ∙ sym c.bucket_of-bucket.ensures)) c.loop-front.invariant
 
 pub loop-front-preserved : goal.loop-front-preserved
@@ -29,5 +31,6 @@ loop-front-preserved c =
     ] in
     subst (λ (front : ℕ). Seeks (nonces_in c.args.rows.now.items) c.args.word c.args.now front c.if-is_this.place) gap
     (subst (λ (seen : Option ℕ). Seeks (nonces_in c.args.rows.now.items) c.args.word c.args.now (at - c.in-Some.row.now.gap) seen) place
-    (seek_past c.args.rows.now.items c.args.word c.args.now c.loop-front.front at c.loop-front.place c.in-Some.row.now c.requires.linked refl c.loop-front-test.true (slice_get_read c.args.rows.now.items _ _ _ refl c.in-Some.ensures.item.3.0 c.in-Some.ensures.lookup)
+    (seek_past c.args.rows.now.items c.args.word c.args.now c.loop-front.front at c.loop-front.place c.in-Some.row.now c.requires.linked refl c.loop-front-test.true
+    (slice_get_read c.args.rows.now.items _ _ _ refl c.in-Some.ensures.item.3.0 c.in-Some.ensures.lookup)
     (sym c.bucket_of.ensures ∙ c.if-bucket_of-bucket.false ∙ c.bucket_of-bucket.ensures) c.loop-front.invariant))

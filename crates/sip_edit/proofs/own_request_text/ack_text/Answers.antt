@@ -16,5 +16,6 @@ returns c =
     (λ (text : List ℕ). text ≡ text_of (beside (codes "ACK") (option_to_list (option_map (λ f. f.now) c.as_ref.result)) c.args.uri.now via c.args.routes c.args.came.now))
     (λ (text : List ℕ). IsAckText (option_map (λ v. v.now) c.args.to) c.args.uri.now via c.args.routes c.args.came.now text)
     (λ text is. ack_is text (option_map (λ v. v.now) c.args.to) c.args.uri.now via c.args.routes c.args.came.now
-    (is ∙ ap (λ (w : List Field). text_of (beside (codes "ACK") w c.args.uri.now via c.args.routes c.args.came.now)) (ap option_to_list c.as_ref.ensures.value ∙ c.to_field-to.ensures)))
+    (is ∙ ap (λ (w : List Field). text_of (beside (codes "ACK") w c.args.uri.now via c.args.routes c.args.came.now))
+    (ap option_to_list c.as_ref.ensures.value ∙ c.to_field-to.ensures)))
     c.text_beside.ensures

@@ -13,8 +13,10 @@ pub returns : goal.returns
 returns c =
     let via : List ℕ = own_via c.args.own.now (branch_text c.args.boot c.args.branch.number c.args.branch.target) in
     IfOk-weaker c.text_beside.result
-    (λ (text : List ℕ). text ≡ text_of (beside (codes "CANCEL") (option_to_list (option_map (λ f. f.now) c.as_ref.result)) c.args.uri.now via c.args.routes c.args.came.now))
+    (λ (text : List ℕ). text ≡ text_of (beside (codes "CANCEL") (option_to_list (option_map (λ f. f.now) c.as_ref.result)) c.args.uri.now via c.args.routes
+    c.args.came.now))
     (λ (text : List ℕ). IsCancelText c.args.uri.now via c.args.routes c.args.came.now text)
     (λ text is. cancel_is text c.args.uri.now via c.args.routes c.args.came.now
-    (is ∙ ap (λ (o : Option Field). text_of (beside (codes "CANCEL") (option_to_list o) c.args.uri.now via c.args.routes c.args.came.now)) (c.as_ref.ensures.value ∙ c.first_field-kept_to.ensures)))
+    (is ∙ ap (λ (o : Option Field). text_of (beside (codes "CANCEL") (option_to_list o) c.args.uri.now via c.args.routes c.args.came.now))
+    (c.as_ref.ensures.value ∙ c.first_field-kept_to.ensures)))
     c.text_beside.ensures

@@ -9,4 +9,5 @@ use Rattle.sip_edit.proofs.own_request_text.put_routes.Given as goal
 -- the text so far, and what becomes of the rest
 abbrev pub invariant-loop-field : goal.invariant-loop-field
 invariant-loop-field l =
-    l.out ++ flat_map field_text (all_named Name.Route (fields_kept l.routes (drop l.field-index l.fields))) ≡ l.fn.out ++ flat_map field_text (all_named Name.Route (fields_kept l.fn.routes l.fields))
+    l.out ++ flat_map field_text (all_named Name.Route (fields_kept l.routes (drop l.field-index l.fields))) ≡ l.fn.out
+    ++ flat_map field_text (all_named Name.Route (fields_kept l.fn.routes l.fields))

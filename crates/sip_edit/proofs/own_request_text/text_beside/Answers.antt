@@ -35,7 +35,8 @@ returns c =
     c.in_ok-put_front.ensures ∙ ap (λ (w : List ℕ). w ++ front) c.in_ok-out.ensures
     )))))
     )
-    ∙ whole_is method c.args.uri.now c.target_uri-uri.result.now via (option_to_list (option_map (λ f. f.now) c.args.to)) (first_named Name.From c.args.came.now.fields) (first_named Name.CallId c.args.came.now.fields) (option_map (λ v. v.now) c.first.result) c.args.routes c.args.came.now
+    ∙ whole_is method c.args.uri.now c.target_uri-uri.result.now via (option_to_list (option_map (λ f. f.now) c.args.to)) (first_named Name.From c.args.came.now.fields)
+    (first_named Name.CallId c.args.came.now.fields) (option_map (λ v. v.now) c.first.result) c.args.routes c.args.came.now
     refl
     refl
     c.first.ensures

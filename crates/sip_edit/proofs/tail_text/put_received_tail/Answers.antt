@@ -9,5 +9,6 @@ returns c =
     let fields : c.args.request.now.fields ≡ c.in-Some.top.now ∷ c.in-Some.others.now = search rules in
     let is_via : is_same_name c.in-Some.top.now.name Name.Via ≡ true = search rules in
     subst (λ (w : List ℕ). OnOk c.put_behind.result (c.put_behind.new.out ≡ w))
-    (tail_is c.args.routes c.args.realm.now c.args.via.now c.args.out.now c.put_top.new.out c.args.request.now c.in-Some.top.now c.in-Some.others.now fields is_via c.in_ok-put_top.ensures)
+    (tail_is c.args.routes c.args.realm.now c.args.via.now c.args.out.now c.put_top.new.out c.args.request.now c.in-Some.top.now c.in-Some.others.now fields is_via
+    c.in_ok-put_top.ensures)
     c.put_behind.ensures

@@ -9,7 +9,8 @@ use Rattle.sip_edit.proofs.top_via.with_source.Given as goal
 -- what was written and what was asked, with the rest of the parameters
 abbrev pub invariant-loop-rest : goal.invariant-loop-rest
 invariant-loop-rest l = record {
-  text : l.out ++ flat_map (edited l.from.port) (parts_behind 59 (option_map (λ x. x.now) l.rest)) ≡ l.initial.out ++ flat_map (edited l.from.port) (parts_behind 59 (option_map (λ x. x.now) l.initial.rest));
+  text : l.out ++ flat_map (edited l.from.port) (parts_behind 59 (option_map (λ x. x.now) l.rest)) ≡ l.initial.out
+      ++ flat_map (edited l.from.port) (parts_behind 59 (option_map (λ x. x.now) l.initial.rest));
   asked : (l.asks || asks_for_port (parts_behind 59 (option_map (λ x. x.now) l.rest))) ≡ asks_for_port (parts_behind 59 (option_map (λ x. x.now) l.initial.rest));
 }
 

@@ -3,5 +3,6 @@ use Rattle.sip_engine.proofs.asking.answer_judged.Goals as goal
 
 pub returns-clause-does : goal.returns-clause-does
 returns-clause-does g c =
-    told c.args.server.now c.args.request.now.arrival c.args.proxy.now.state c.take_judged.new.proxy.state c.args.key c.args.request.now.message.now c.in_ok-message.message c.args.judged c.take_judged.result
+    told c.args.server.now c.args.request.now.arrival c.args.proxy.now.state c.take_judged.new.proxy.state c.args.key c.args.request.now.message.now
+    c.in_ok-message.message c.args.judged c.take_judged.result
     c.in_ok-message.ensures (rw (← c.into_value.ensures) c.take_judged.ensures.does)

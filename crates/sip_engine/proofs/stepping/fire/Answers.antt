@@ -25,8 +25,10 @@ pub returns-clause-happens : goal.returns-clause-happens
 returns-clause-happens g c = λ due next le.
     let old = c.args.proxy.now.state in
     happens_for c.args.judge.now old c.fire.new.proxy.state c.args.at c.in_ok-out.out
-    (subst (λ (s : Server). IsDeadline s old (moment_of old c.args.at) c.in_ok-out.out c.fire.new.proxy.state ⊎ IsResend s old (moment_of old c.args.at) c.in_ok-out.out c.fire.new.proxy.state) c.server.ensures
-    (subst (λ (n : ℕ). IsDeadline c.server.result.now old n c.in_ok-out.out c.fire.new.proxy.state ⊎ IsResend c.server.result.now old n c.in_ok-out.out c.fire.new.proxy.state) c.moment_of-now.ensures.value
+    (subst (λ (s : Server). IsDeadline s old (moment_of old c.args.at) c.in_ok-out.out c.fire.new.proxy.state
+    ⊎ IsResend s old (moment_of old c.args.at) c.in_ok-out.out c.fire.new.proxy.state) c.server.ensures
+    (subst (λ (n : ℕ). IsDeadline c.server.result.now old n c.in_ok-out.out c.fire.new.proxy.state
+    ⊎ IsResend c.server.result.now old n c.in_ok-out.out c.fire.new.proxy.state) c.moment_of-now.ensures.value
     (c.in_ok-out.ensures.happens due next (subst (λ (n : ℕ). due ≤ n) (sym c.moment_of-now.ensures.value) le))))
 
 pub returns-clause-in_order : goal.returns-clause-in_order

@@ -9,6 +9,7 @@ returns-clause-leaves g c =
       packets_are = refl;
       records_are = c.new.ensures;
       leaves =
-          left_same c.args.arrival c.args.proxy.now.state.requests [] c.args.proxy.now.state c.wait.new.self.state c.count-number.new.self.state c.requires.number_is c.wait.ensures.becomes
+          left_same c.args.arrival c.args.proxy.now.state.requests [] c.args.proxy.now.state c.wait.new.self.state c.count-number.new.self.state c.requires.number_is
+          c.wait.ensures.becomes
           c.count-number.ensures.counted;
     }

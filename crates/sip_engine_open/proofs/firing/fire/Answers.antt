@@ -13,32 +13,38 @@ fire_first-requires-clause-later g c =
 
 pub returns-in-Some-clause-step : goal.returns-in-Some-clause-step
 returns-in-Some-clause-step g c =
-    first_step c.args.server.now c.args.proxy.now.state c.fire_first.new.proxy.state c.args.proxy.now.timers c.in-Some.first.due c.args.now c.fire_first.result c.in-Some.ensures.due c.fire_first.ensures.step
+    first_step c.args.server.now c.args.proxy.now.state c.fire_first.new.proxy.state c.args.proxy.now.timers c.in-Some.first.due c.args.now c.fire_first.result
+    c.in-Some.ensures.due c.fire_first.ensures.step
 
 pub returns-in-Some-clause-waited : goal.returns-in-Some-clause-waited
 returns-in-Some-clause-waited g c = λ none again.
     absurd
-    (from_then c.args.proxy.now.state.requests c.in-Some.first.due c.args.now (first_is_next c.args.proxy.now.state.requests c.in-Some.first c.in-Some.ensures.first) c.in-Some.ensures.due none again)
+    (from_then c.args.proxy.now.state.requests c.in-Some.first.due c.args.now (first_is_next c.args.proxy.now.state.requests c.in-Some.first c.in-Some.ensures.first)
+    c.in-Some.ensures.due none again)
 
 pub returns-in-Some-clause-never_refused : goal.returns-in-Some-clause-never_refused
 returns-in-Some-clause-never_refused g c = λ none again.
     absurd
-    (from_then c.args.proxy.now.state.requests c.in-Some.first.due c.args.now (first_is_next c.args.proxy.now.state.requests c.in-Some.first c.in-Some.ensures.first) c.in-Some.ensures.due none again)
+    (from_then c.args.proxy.now.state.requests c.in-Some.first.due c.args.now (first_is_next c.args.proxy.now.state.requests c.in-Some.first c.in-Some.ensures.first)
+    c.in-Some.ensures.due none again)
 
 pub returns-in-Some-clause-happens : goal.returns-in-Some-clause-happens
 returns-in-Some-clause-happens g c = λ due next le.
-    first_happens c.args.server.now c.args.proxy.now.state c.fire_first.new.proxy.state c.args.proxy.now.timers c.in-Some.first.due c.args.now c.fire_first.result c.in-Some.ensures.due
+    first_happens c.args.server.now c.args.proxy.now.state c.fire_first.new.proxy.state c.args.proxy.now.timers c.in-Some.first.due c.args.now c.fire_first.result
+    c.in-Some.ensures.due
     c.fire_first.ensures.step
 
 pub returns-in-Some-clause-in_order : goal.returns-in-Some-clause-in_order
 returns-in-Some-clause-in_order g c = λ due next le.
-    first_in_order c.args.server.now c.args.proxy.now.state c.fire_first.new.proxy.state c.args.proxy.now.timers c.in-Some.first.due c.args.now c.fire_first.result c.in-Some.ensures.due
+    first_in_order c.args.server.now c.args.proxy.now.state c.fire_first.new.proxy.state c.args.proxy.now.timers c.in-Some.first.due c.args.now c.fire_first.result
+    c.in-Some.ensures.due
     c.fire_first.ensures.step
 
 pub returns-in-Some-clause-fired : goal.returns-in-Some-clause-fired
 returns-in-Some-clause-fired g c = λ due next le.
     subst (λ (d : ℕ). IfOk c.fire_first.result (λ (out : StepOut). out.at ≡ d))
-    (one_next c.args.proxy.now.state.requests c.in-Some.first.due due (first_is_next c.args.proxy.now.state.requests c.in-Some.first c.in-Some.ensures.first) next) c.fire_first.ensures.at_first
+    (one_next c.args.proxy.now.state.requests c.in-Some.first.due due (first_is_next c.args.proxy.now.state.requests c.in-Some.first c.in-Some.ensures.first) next)
+    c.fire_first.ensures.at_first
 
 pub returns-in-Some-clause-no_earlier : goal.returns-in-Some-clause-no_earlier
 returns-in-Some-clause-no_earlier g c =
@@ -60,7 +66,8 @@ returns-clause-step g c =
     let by : c.args.now ≤ moment_of c.args.proxy.now.state c.args.now = omega arith in
     inl
     (quiet_done c.args.server.now c.args.now c.args.now c.args.proxy.now.state c.pass.result c.pass.new.proxy.state c.pass.ensures.leaves c.requires.later by
-    (none_before c.args.proxy.now.state.requests c.args.now c.in_default.ensures.none) (none_again_before c.args.proxy.now.state.requests c.args.now c.in_default.ensures.none_again))
+    (none_before c.args.proxy.now.state.requests c.args.now c.in_default.ensures.none)
+    (none_again_before c.args.proxy.now.state.requests c.args.now c.in_default.ensures.none_again))
 
 pub returns-clause-waited : goal.returns-clause-waited
 returns-clause-waited g c = λ none again.
@@ -68,10 +75,13 @@ returns-clause-waited g c = λ none again.
     (none_before c.args.proxy.now.state.requests c.args.now none) (none_again_before c.args.proxy.now.state.requests c.args.now again)
 
 pub returns-clause-fired : goal.returns-clause-fired
-returns-clause-fired g c = λ due next le. absurd (from_then c.args.proxy.now.state.requests due c.args.now next le c.in_default.ensures.none c.in_default.ensures.none_again)
+returns-clause-fired g c = λ due next le. absurd (from_then c.args.proxy.now.state.requests due c.args.now next le c.in_default.ensures.none
+    c.in_default.ensures.none_again)
 
 pub returns-clause-happens : goal.returns-clause-happens
-returns-clause-happens g c = λ due next le. absurd (from_then c.args.proxy.now.state.requests due c.args.now next le c.in_default.ensures.none c.in_default.ensures.none_again)
+returns-clause-happens g c = λ due next le. absurd (from_then c.args.proxy.now.state.requests due c.args.now next le c.in_default.ensures.none
+    c.in_default.ensures.none_again)
 
 pub returns-clause-in_order : goal.returns-clause-in_order
-returns-clause-in_order g c = λ due next le. absurd (from_then c.args.proxy.now.state.requests due c.args.now next le c.in_default.ensures.none c.in_default.ensures.none_again)
+returns-clause-in_order g c = λ due next le. absurd (from_then c.args.proxy.now.state.requests due c.args.now next le c.in_default.ensures.none
+    c.in_default.ensures.none_again)

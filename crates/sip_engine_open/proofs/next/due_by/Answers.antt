@@ -10,8 +10,10 @@ returns-in_err-first-clause-none_again g c = rw c.from_residual.ensures (never_a
 
 pub returns-then-first-now-clause-none : goal.returns-then-first-now-clause-none
 returns-then-first-now-clause-none g c =
-    before c.args.proxy.now.state.requests c.in_ok-first.first.due c.args.now (first_is_next c.args.proxy.now.state.requests c.in_ok-first.first c.in_ok-first.ensures.first) (omega arith)
+    before c.args.proxy.now.state.requests c.in_ok-first.first.due c.args.now (first_is_next c.args.proxy.now.state.requests c.in_ok-first.first
+    c.in_ok-first.ensures.first) (omega arith)
 
 pub returns-then-first-now-clause-none_again : goal.returns-then-first-now-clause-none_again
 returns-then-first-now-clause-none_again g c =
-    before_again c.args.proxy.now.state.requests c.in_ok-first.first.due c.args.now (first_is_next c.args.proxy.now.state.requests c.in_ok-first.first c.in_ok-first.ensures.first) (omega arith)
+    before_again c.args.proxy.now.state.requests c.in_ok-first.first.due c.args.now (first_is_next c.args.proxy.now.state.requests c.in_ok-first.first
+    c.in_ok-first.ensures.first) (omega arith)

@@ -6,6 +6,8 @@ use Rattle.sip_engine_request.proofs.cancelling.agree.Goals as goal
 
 pub returns-clause-opens : goal.returns-clause-opens
 returns-clause-opens c =
-    let text : List ℕ = text_by c.args.server.now c.args.arrival c.args.request 200 c.new-extras.result in
-    agreed_opens c.args.arrival c.args.key c.args.request text c.in_ok-opened.opened c.requires.key (c.in_ok-opened.ensures ∙ c.in_ok-replied.ensures.request)
-    (c.opens_fitting.ensures.answered (arrival_of c.args.arrival) c.args.request 200 text refl) (c.answered_at_once.ensures (arrival_of c.args.arrival) c.args.request 200 text)
+    let text : List ℕ = text_by c.args.server.now c.args.cancel.arrival c.args.cancel.request 200 c.new-extras.result in
+    agreed_opens c.args.cancel.arrival c.args.cancel.key c.args.cancel.request text c.in_ok-opened.opened c.args.cancel.key_is
+    (c.in_ok-opened.ensures ∙ c.in_ok-replied.ensures.request)
+    (c.opens_fitting.ensures.answered (arrival_of c.args.cancel.arrival) c.args.cancel.request 200 text refl)
+    (c.answered_at_once.ensures (arrival_of c.args.cancel.arrival) c.args.cancel.request 200 text)

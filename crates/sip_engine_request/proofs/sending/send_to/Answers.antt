@@ -9,11 +9,14 @@ use Rattle.sip_engine_request.proofs.sending.send_to.Goals as goal
 
 pub returns-clause-does : goal.returns-clause-does
 returns-clause-does g c =
-    sent_does c.args.hops.now.addresses c.args.server.now c.args.arrival c.args.request c.args.judged.now.question c.args.rule c.args.targets.now c.in_ok-forwarded.forwarded.request c.in_ok-records.records
-    c.in_ok-forwarded.forwarded.packets c.in_ok-packets.packets c.in_ok-forwarded.forwarded.lessons c.args.proxy.now.state c.take_request.new.proxy.state c.take_credential.new.proxy.state c.requires.space c.requires.somebody
-    c.requires.rows c.in_ok-forwarded.ensures.sent c.in_ok-packets.ensures.packets
+    sent_does c.args.configured.now.hops.now.addresses c.args.configured.now.server.now c.args.request.arrival c.args.request.request
+    c.args.sending.now.judged.now.question c.args.sending.now.rule c.args.sending.now.targets.now c.in_ok-forwarded.forwarded.request c.in_ok-records.records
+    c.in_ok-forwarded.forwarded.packets c.in_ok-packets.packets c.in_ok-forwarded.forwarded.lessons c.args.proxy.now.state c.take_request.new.proxy.state
+    c.take_credential.new.proxy.state c.requires.space c.args.sending.now.somebody
+    c.args.configured.now.rows c.in_ok-forwarded.ensures.sent c.in_ok-packets.ensures.packets
     (
-    c.in_ok-records.ensures c.args.server.now c.requires.minute
-    ∙ ap (λ (m : Message). record_of c.args.server.now (arrival_of c.args.arrival) m c.args.judged.now.question (Sent c.args.rule (length (target_list c.args.targets.now))) ∷ []) c.get.ensures
+    c.in_ok-records.ensures c.args.configured.now.server.now c.requires.minute
+    ∙ ap (λ (m : Message). record_of c.args.configured.now.server.now (arrival_of c.args.request.arrival) m c.args.sending.now.judged.now.question
+    (Sent c.args.sending.now.rule (length (target_list c.args.sending.now.targets.now))) ∷ []) c.get.ensures
     )
     c.in_ok-forwarded.ensures.request c.in_ok-forwarded.ensures.lessons c.in_ok-packets.ensures.becomes c.take_credential.ensures.state

@@ -5,4 +5,5 @@ use Rattle.sip_fork.proofs.change.numbers_fit.Given as goal
 
 -- so it is if it is so of the branches that are left
 abbrev pub invariant-loop-branch : goal.invariant-loop-branch
-invariant-loop-branch l = AllByRecursion (λ (b : Branch). b.number < 2 ^ 32) (drop l.branch-index l.branches) → AllByRecursion (λ (b : Branch). b.number < 2 ^ 32) l.branches
+invariant-loop-branch l = AllByRecursion (λ (b : Branch). b.number < 2 ^ 32) (drop l.branch-index l.branches)
+    → AllByRecursion (λ (b : Branch). b.number < 2 ^ 32) l.branches

@@ -6,7 +6,8 @@ returns-then-place-branches c = past_is c.have_ended.result c.args.branches.now 
 
 pub returns-then-before : goal.returns-then-before
 returns-then-before c =
-    others_are c.have_ended-before.result c.have_ended-then-before.result c.args.branches.now c.args.place c.have_ended-before.ensures c.if-before.true c.have_ended-then-before.ensures c.if-place-branches.false
+    others_are c.have_ended-before.result c.have_ended-then-before.result c.args.branches.now c.args.place c.have_ended-before.ensures c.if-before.true
+    c.have_ended-then-before.ensures c.if-place-branches.false
 
 pub returns-else-before : goal.returns-else-before
 returns-else-before c = before_is c.have_ended-before.result c.args.branches.now c.args.place c.have_ended-before.ensures c.if-before.false c.if-place-branches.false

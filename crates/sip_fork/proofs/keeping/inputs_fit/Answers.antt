@@ -14,11 +14,13 @@ room bound due early near = omega arith
 pub returns : goal.returns
 returns c = by_input where
   by_input : (bound now : ℕ) (r : OpenRequest) (input : Input) → bound < 2 ^ 62 → IsWithin bound r → IsOf r now input → IsFit r input
-  by_input bound now r (Response branch status response) early within of = c.leaves_room.ensures.branch bound branch.now early (c.branches_are_within.ensures.each bound r branch.now within of)
+  by_input bound now r (Response branch status response) early within of = c.leaves_room.ensures.branch bound branch.now early
+      (c.branches_are_within.ensures.each bound r branch.now within of)
   by_input bound now r (BranchDeadline branch) early within of = tt
   by_input bound now r SideDeadline early within of = tt
   by_input bound now r (SendFault branch) early within of = tt
   by_input bound now r Cancel early within of = tt
   by_input bound now r Ack early within of = tt
-  by_input bound now r (BranchAgain branch) early within of = room bound branch.now.again.due early (c.branches_are_within.ensures.each bound r branch.now within of.there).again_near
+  by_input bound now r (BranchAgain branch) early within of = room bound branch.now.again.due early
+      (c.branches_are_within.ensures.each bound r branch.now within of.there).again_near
   by_input bound now r AnswerAgain early within of = room bound r.again.due early within.again_near

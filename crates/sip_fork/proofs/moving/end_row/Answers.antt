@@ -23,18 +23,22 @@ stop-requires-clause-timed g c =
 
 pub returns-clause-rows : goal.returns-clause-rows
 returns-clause-rows g c = λ r at.
-    seen_changed c.args.table.now.rows c.end.new.self.rows c.args.place (become (ended c.args.transaction r.open_request) r) (ended c.args.transaction r.open_request) (c.end.ensures.rows r at) refl
+    seen_changed c.args.table.now.rows c.end.new.self.rows c.args.place (become (ended c.args.transaction r.open_request) r) (ended c.args.transaction r.open_request)
+    (c.end.ensures.rows r at) refl
 
 pub returns-clause-tied : goal.returns-clause-tied
 returns-clause-tied g c =
     let row : Request = c.row.inside.request in
     let at : slice_get c.args.table.now.rows c.args.place ≡ Some row = rw c.row.view_is c.get-row.ensures.row in
-    let was : IsKept c.args.timers.now.reached row = kept_at c.args.timers.now.pending c.args.timers.now.reached c.args.table.now.rows c.args.place row c.requires.tied at in
+    let was : IsKept c.args.timers.now.reached row = kept_at c.args.timers.now.pending c.args.timers.now.reached c.args.table.now.rows c.args.place row c.requires.tied at
+    in
     subst (λ (xs : List Request). AreTied c.stop.new.timers.pending c.stop.new.timers.reached xs) (sym (c.end.ensures.rows row at))
-    (changed c.args.timers.now.pending c.stop.new.timers.pending c.args.timers.now.reached c.stop.new.timers.reached c.args.table.now.rows c.args.place row (become (ended c.args.transaction row.open_request) row) c.requires.tied at
+    (changed c.args.timers.now.pending c.stop.new.timers.pending c.args.timers.now.reached c.stop.new.timers.reached c.args.table.now.rows c.args.place row
+    (become (ended c.args.transaction row.open_request) row) c.requires.tied at
     (still_number c.args.transaction row.open_request)
     c.stop.ensures.still
-    (kept_ended c.args.timers.now.reached c.args.transaction row was (c.requires.fits row at) (c.requires.within row at) (c.requires.branches row at was.branched).branched)
+    (kept_ended c.args.timers.now.reached c.args.transaction row was (c.requires.fits row at) (c.requires.within row at)
+    (c.requires.branches row at was.branched).branched)
     c.stop.ensures.moves)
 
 pub returns-clause-queue : goal.returns-clause-queue
@@ -42,10 +46,14 @@ returns-clause-queue g c =
     let row : Request = c.row.inside.request in
     let next : Request = become (ended c.args.transaction row.open_request) row in
     let at : slice_get c.args.table.now.rows c.args.place ≡ Some row = rw c.row.view_is c.get-row.ensures.row in
-    let was : IsKept c.args.timers.now.reached row = kept_at c.args.timers.now.pending c.args.timers.now.reached c.args.table.now.rows c.args.place row c.requires.tied at in
-    let kept = kept_ended c.args.timers.now.reached c.args.transaction row was (c.requires.fits row at) (c.requires.within row at) (c.requires.branches row at was.branched).branched in
+    let was : IsKept c.args.timers.now.reached row = kept_at c.args.timers.now.pending c.args.timers.now.reached c.args.table.now.rows c.args.place row c.requires.tied at
+    in
+    let kept = kept_ended c.args.timers.now.reached c.args.transaction row was (c.requires.fits row at) (c.requires.within row at)
+    (c.requires.branches row at was.branched).branched in
     subst (λ (xs : List Request). KeepsOrder c.args.timers.now.pending c.stop.new.timers.pending (contexts xs)) (sym (c.end.ensures.rows row at))
-    (changed_queue c.timers_are_apart.ensures c.args.timers.now.pending c.stop.new.timers.pending c.args.timers.now.reached c.stop.new.timers.reached c.args.table.now.rows c.requires.tied c.stand_in_order.ensures c.args.place row next at
-    (changed c.args.timers.now.pending c.stop.new.timers.pending c.args.timers.now.reached c.stop.new.timers.reached c.args.table.now.rows c.args.place row next c.requires.tied at (still_number c.args.transaction row.open_request) c.stop.ensures.still kept c.stop.ensures.moves)
+    (changed_queue c.timers_are_apart.ensures c.args.timers.now.pending c.stop.new.timers.pending c.args.timers.now.reached c.stop.new.timers.reached
+    c.args.table.now.rows c.requires.tied c.stand_in_order.ensures c.args.place row next at
+    (changed c.args.timers.now.pending c.stop.new.timers.pending c.args.timers.now.reached c.stop.new.timers.reached c.args.table.now.rows c.args.place row next
+    c.requires.tied at (still_number c.args.transaction row.open_request) c.stop.ensures.still kept c.stop.ensures.moves)
     kept.keys
     (any_named c.args.timers.now.pending c.stop.new.timers.pending (named_by row) (named_in_order next) c.stop.ensures.sets))

@@ -14,7 +14,8 @@ use Rattle.sip_fork.proofs.moving.open_row.Goals as goal
 pub begin-requires-clause-ready : goal.begin-requires-clause-ready
 begin-requires-clause-ready g c =
     let fitting : IsFitting c.args.timers.now.reached c.args.timers.now.room c.opening.inside.place.open_request = rw c.opening.view_is c.requires.fitting in
-    ready c.args.timers.now.pending c.args.timers.now.reached c.args.timers.now.room c.args.table.now.rows (record { request = c.opening.inside.place.open_request; keys = c.opening.inside.place.branches })
+    ready c.args.timers.now.pending c.args.timers.now.reached c.args.timers.now.room c.args.table.now.rows
+    (record { request = c.opening.inside.place.open_request; keys = c.opening.inside.place.branches })
     c.requires.tied c.opening.invariant.keys fitting
 
 pub push-requires-clause-alone : goal.push-requires-clause-alone
@@ -27,19 +28,26 @@ returns-clause-tied g c =
     let fitting : IsFitting c.args.timers.now.reached c.args.timers.now.room c.opening.inside.place.open_request = rw c.opening.view_is c.requires.fitting in
     let branched : AreBranched c.opening.inside.place.open_request.branches = rw c.opening.view_is c.requires.branched in
     let last : All (λ (r : Request). r.open_request.number < c.begin.new.place.open_request.number) c.args.table.now.rows =
-    subst (λ (x : OpenRequest). All (λ (r : Request). r.open_request.number < x.number) c.args.table.now.rows) (sym (c.begin.ensures.request ∙ c.opening.view_is)) c.requires.last in
+    subst (λ (x : OpenRequest). All (λ (r : Request). r.open_request.number < x.number) c.args.table.now.rows) (sym (c.begin.ensures.request ∙ c.opening.view_is))
+    c.requires.last in
     subst (λ (xs : List Request). AreTied c.begin.new.timers.pending c.begin.new.timers.reached xs) (sym c.push.ensures.rows)
-    (opened c.args.timers.now.pending c.begin.new.timers.pending c.args.timers.now.reached c.begin.new.timers.reached c.args.table.now.rows c.begin.new.place c.requires.tied last c.begin.ensures.still
-    (kept_new c.args.timers.now.reached c.args.timers.now.room c.begin.new.place c.opening.inside.place.open_request c.begin.ensures.request c.begin.ensures.keys c.opening.invariant.numbers branched fitting) c.begin.ensures.moves)
+    (opened c.args.timers.now.pending c.begin.new.timers.pending c.args.timers.now.reached c.begin.new.timers.reached c.args.table.now.rows c.begin.new.place
+    c.requires.tied last c.begin.ensures.still
+    (kept_new c.args.timers.now.reached c.args.timers.now.room c.begin.new.place c.opening.inside.place.open_request c.begin.ensures.request c.begin.ensures.keys
+    c.opening.invariant.numbers branched fitting) c.begin.ensures.moves)
 
 pub returns-clause-queue : goal.returns-clause-queue
 returns-clause-queue g c =
     let fitting : IsFitting c.args.timers.now.reached c.args.timers.now.room c.opening.inside.place.open_request = rw c.opening.view_is c.requires.fitting in
     let branched : AreBranched c.opening.inside.place.open_request.branches = rw c.opening.view_is c.requires.branched in
     let last : All (λ (r : Request). r.open_request.number < c.begin.new.place.open_request.number) c.args.table.now.rows =
-    subst (λ (x : OpenRequest). All (λ (r : Request). r.open_request.number < x.number) c.args.table.now.rows) (sym (c.begin.ensures.request ∙ c.opening.view_is)) c.requires.last in
+    subst (λ (x : OpenRequest). All (λ (r : Request). r.open_request.number < x.number) c.args.table.now.rows) (sym (c.begin.ensures.request ∙ c.opening.view_is))
+    c.requires.last in
     subst (λ (xs : List Request). KeepsOrder c.args.timers.now.pending c.begin.new.timers.pending (contexts xs)) (sym c.push.ensures.rows)
-    (opened_queue c.timers_are_apart.ensures c.args.timers.now.pending c.begin.new.timers.pending c.args.timers.now.reached c.begin.new.timers.reached c.args.table.now.rows c.requires.tied c.stand_in_order.ensures c.begin.new.place
-    (opened c.args.timers.now.pending c.begin.new.timers.pending c.args.timers.now.reached c.begin.new.timers.reached c.args.table.now.rows c.begin.new.place c.requires.tied last c.begin.ensures.still
-    (kept_new c.args.timers.now.reached c.args.timers.now.room c.begin.new.place c.opening.inside.place.open_request c.begin.ensures.request c.begin.ensures.keys c.opening.invariant.numbers branched fitting) c.begin.ensures.moves)
+    (opened_queue c.timers_are_apart.ensures c.args.timers.now.pending c.begin.new.timers.pending c.args.timers.now.reached c.begin.new.timers.reached
+    c.args.table.now.rows c.requires.tied c.stand_in_order.ensures c.begin.new.place
+    (opened c.args.timers.now.pending c.begin.new.timers.pending c.args.timers.now.reached c.begin.new.timers.reached c.args.table.now.rows c.begin.new.place
+    c.requires.tied last c.begin.ensures.still
+    (kept_new c.args.timers.now.reached c.args.timers.now.room c.begin.new.place c.opening.inside.place.open_request c.begin.ensures.request c.begin.ensures.keys
+    c.opening.invariant.numbers branched fitting) c.begin.ensures.moves)
     c.begin.ensures.keys c.begin.ensures.sets)

@@ -16,10 +16,13 @@ returns c = record {
   side_ends = λ r due fits e. side r due fits e (is_invite r) refl;
   answer_again = c.moments_are_named.ensures.answer_again;
 } where
-  branch : (r : OpenRequest) (b : Branch) (due : ℕ) → BranchFits (is_invite r) b → phase_deadline b.phase ≡ Some due → (t : Bool) → (is_invite r && not b.is_cancel) ≡ t → 1 ≤ due_at due (branch_timers r b)
+  branch : (r : OpenRequest) (b : Branch) (due : ℕ) → BranchFits (is_invite r) b → phase_deadline b.phase ≡ Some due → (t : Bool) → (is_invite r && not b.is_cancel) ≡ t
+      → 1 ≤ due_at due (branch_timers r b)
   branch r b due fits e true is = c.moments_are_named.ensures.invite r b due is e
-  branch r b due fits e false is = let has : HasOtherClient b = c.branches_have_states.ensures.other r b fits is in c.moments_are_named.ensures.other r b due has.state is has.runs e
+  branch r b due fits e false is = let has : HasOtherClient b = c.branches_have_states.ensures.other r b fits is in
+      c.moments_are_named.ensures.other r b due has.state is has.runs e
 
   side : (r : OpenRequest) (due : ℕ) → Fits r → side_deadline r.side ≡ Some due → (t : Bool) → is_invite r ≡ t → 1 ≤ due_at due (side_timers r)
   side r due fits e true is = c.moments_are_named.ensures.invite_side r due is e
-  side r due fits e false is = let has : HasOtherServer r = c.sides_have_states.ensures.other r fits is in c.moments_are_named.ensures.other_side r due has.state is has.runs e
+  side r due fits e false is = let has : HasOtherServer r = c.sides_have_states.ensures.other r fits is in
+      c.moments_are_named.ensures.other_side r due has.state is has.runs e

@@ -5,5 +5,6 @@ use Rattle.sip_forwarding.proofs.acking.onward_text.Goals as goal
 
 pub returns : goal.returns
 returns c =
-    subst (λ (uri : List ℕ). IfOk c.received_on.result (λ text. text ≡ text_of (onward_as c.args.server.now c.args.arrival.number c.args.request.now c.args.arrival.from uri 1)))
+    subst (λ (uri : List ℕ). IfOk c.received_on.result (λ text. text ≡ text_of (onward_as c.args.server.now c.args.arrival.number c.args.request.now c.args.arrival.from
+    uri 1)))
     (c.as_slice.ensures ∙ c.in_ok-uri.ensures) c.received_on.ensures

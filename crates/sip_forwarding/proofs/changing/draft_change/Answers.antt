@@ -7,7 +7,8 @@ use Rattle.sip_forwarding.proofs.changing.draft_change.Goals as goal
 
 pub returns-clause-packets : goal.returns-clause-packets
 returns-clause-packets c =
-    behind_none c.new-packets.result c.put_sent.new.out (change_packets (change_of (outcome c.args.request.now c.args.sent)) ++ c.args.sent.copies) c.new-packets.ensures c.in_ok-upward.ensures.packets
+    behind_none c.new-packets.result c.put_sent.new.out (change_packets (change_of (outcome c.args.request.now c.args.sent)) ++ c.args.sent.copies) c.new-packets.ensures
+    c.in_ok-upward.ensures.packets
 
 pub returns-clause-lessons : goal.returns-clause-lessons
 returns-clause-lessons c =
@@ -16,9 +17,11 @@ returns-clause-lessons c =
 
 pub returns-clause-beginnings : goal.returns-clause-beginnings
 returns-clause-beginnings c =
-    few_alone c.new-lessons.result c.add_change.new.self c.as_slice.result.now c.args.sent.upward c.new-lessons.ensures (c.as_slice.ensures ∙ c.in_ok-upward.ensures.upward) c.in_ok-add_change.ensures.room
+    few_alone c.new-lessons.result c.add_change.new.self c.as_slice.result.now c.args.sent.upward c.new-lessons.ensures
+    (c.as_slice.ensures ∙ c.in_ok-upward.ensures.upward) c.in_ok-add_change.ensures.room
 
 pub returns-clause-event : goal.returns-clause-event
 returns-clause-event c = λ server now before input there e.
-    draft_is c.args.hops.now.addresses server now before input c.args.request.now c.args.sent (record { packets = c.put_sent.new.out; lessons = c.add_change.new.self }) there e (returns-clause-packets c)
+    draft_is c.args.hops.now.addresses server now before input c.args.request.now c.args.sent (record { packets = c.put_sent.new.out; lessons = c.add_change.new.self })
+    there e (returns-clause-packets c)
     (returns-clause-lessons c server now) (returns-clause-beginnings c)

@@ -7,7 +7,8 @@ use Rattle.sip_header.proofs.parameters.are_parameters.Given as goal
 
 -- the rest decides
 abbrev pub invariant-loop-behind : goal.invariant-loop-behind
-invariant-loop-behind l = is_some (parameters_in (parts_behind 59 (option_map (λ x. x.now) l.behind))) ≡ is_some (parameters_in (parts_behind 59 (option_map (λ x. x.now) l.fn.behind)))
+invariant-loop-behind l = is_some (parameters_in (parts_behind 59 (option_map (λ x. x.now) l.behind)))
+    ≡ is_some (parameters_in (parts_behind 59 (option_map (λ x. x.now) l.fn.behind)))
 
 abbrev pub decreases-loop-behind : goal.decreases-loop-behind
 decreases-loop-behind l = length_left (option_map (λ x. x.now) l.behind)

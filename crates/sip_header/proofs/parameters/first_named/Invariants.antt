@@ -9,7 +9,8 @@ use Rattle.sip_header.proofs.parameters.first_named.Given as goal
 abbrev pub invariant-loop-behind : goal.invariant-loop-behind
 invariant-loop-behind l = record {
   some : is_some (parameters_in (parts_behind 59 (option_map (λ x. x.now) l.behind))) ≡ true;
-  named : parameter_of l.name (said_in (parts_behind 59 (option_map (λ x. x.now) l.behind))) ≡ parameter_of l.name (said_in (parts_behind 59 (option_map (λ x. x.now) l.fn.behind)));
+  named : parameter_of l.name (said_in (parts_behind 59 (option_map (λ x. x.now) l.behind)))
+      ≡ parameter_of l.name (said_in (parts_behind 59 (option_map (λ x. x.now) l.fn.behind)));
 }
 
 abbrev pub decreases-loop-behind : goal.decreases-loop-behind

@@ -11,7 +11,8 @@ pub insert-requires : goal.insert-requires
 insert-requires c = grind (arith, place-le c.args.binding.uri c.args.list.now.items)
 
 pub returns-then-any_is_equal : goal.returns-then-any_is_equal
-returns-then-any_is_equal c = rw (c.in_ok-insert.ensures.items, c.remove_equal.ensures, c.uri-then-any_is_equal.ensures, c.requires.first) (put_is c.args.binding c.args.list.now.items)
+returns-then-any_is_equal c = rw (c.in_ok-insert.ensures.items, c.remove_equal.ensures, c.uri-then-any_is_equal.ensures, c.requires.first)
+    (put_is c.args.binding c.args.list.now.items)
 
 pub returns : goal.returns
 returns c =
@@ -19,5 +20,7 @@ returns c =
     let is_equal = λ (b : Binding). same b.uri c.args.binding.uri in
     let others : list_any is_equal (drop (place c.args.binding.uri rows + 1) rows) ≡ false =
     ap (λ (n : ℕ). list_any is_equal (drop (n + 1) rows)) (sym c.requires.first) ∙ ap (list_any is_equal) (sym (rest_taken (c.args.place + 1) rows))
-    ∙ ap (λ (w : List Binding). list_any is_equal (take (length w - (c.args.place + 1)) (drop (c.args.place + 1) w))) (sym c.deref.ensures.value) ∙ ap (λ (u : Uri). list_any (λ (b : Binding). same b.uri u) (take (length c.deref.result.now - (c.args.place + 1)) (drop (c.args.place + 1) c.deref.result.now))) (sym c.uri.ensures) ∙ sym c.any_is_equal.ensures ∙ c.if-any_is_equal.false in
+    ∙ ap (λ (w : List Binding). list_any is_equal (take (length w - (c.args.place + 1)) (drop (c.args.place + 1) w))) (sym c.deref.ensures.value)
+    ∙ ap (λ (u : Uri). list_any (λ (b : Binding). same b.uri u) (take (length c.deref.result.now - (c.args.place + 1)) (drop (c.args.place + 1) c.deref.result.now)))
+    (sym c.uri.ensures) ∙ sym c.any_is_equal.ensures ∙ c.if-any_is_equal.false in
     ap (λ (n : ℕ). set rows n c.args.binding) c.requires.first ∙ put_over c.args.binding rows (omega (arith, c.requires.first)) others

@@ -5,4 +5,5 @@ use Rattle.sip_location.proofs.contacts.read_items.Goals as goal
 
 pub loop-value-preserved : goal.loop-value-preserved
 loop-value-preserved c =
-    rw (next contact_of c.args.values.now c.loop-value.value-index (record { ref_ptr = (0, 0); now = [] }) c.loop-value-test.true, ← c.loop-value.invariant) c.in_ok-put_contact.ensures
+    rw (next contact_of c.args.values.now c.loop-value.value-index (record { ref_ptr = (0, 0); now = [] }) c.loop-value-test.true, ← c.loop-value.invariant)
+    c.in_ok-put_contact.ensures

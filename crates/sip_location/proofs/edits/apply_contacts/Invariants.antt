@@ -4,4 +4,5 @@ use Rattle.sip_location.proofs.edits.apply_contacts.Given as goal
 
 -- what the contacts that are left make of the bindings is what all make of them
 abbrev pub invariant-loop-contact : goal.invariant-loop-contact
-invariant-loop-contact l = after_contacts l.request l.now (drop l.contact-index l.request.contacts) l.bindings ≡ after_contacts l.request l.now l.request.contacts l.fn.bindings
+invariant-loop-contact l = after_contacts l.request l.now (drop l.contact-index l.request.contacts) l.bindings
+    ≡ after_contacts l.request l.now l.request.contacts l.fn.bindings

@@ -8,4 +8,5 @@ use Rattle.sip_location.proofs.refusals.any_speaks_of_newer.Given as goal
 -- those that are left decide
 abbrev pub invariant-loop-contact : goal.invariant-loop-contact
 invariant-loop-contact l =
-    list_any (λ c. list_any (λ b. is_of_call l.request b && speaks_of b c) l.bindings) (drop l.contact-index l.contacts) ≡ list_any (λ c. list_any (λ b. is_of_call l.request b && speaks_of b c) l.bindings) l.contacts
+    list_any (λ c. list_any (λ b. is_of_call l.request b && speaks_of b c) l.bindings) (drop l.contact-index l.contacts)
+    ≡ list_any (λ c. list_any (λ b. is_of_call l.request b && speaks_of b c) l.bindings) l.contacts

@@ -12,5 +12,7 @@ pub returns : goal.returns
 returns c =
     let r = c.args.request.now in
     let bindings = c.args.bindings.now in
-    IfOk-weaker c.any_speaks_of_newer.result (λ speaks. speaks ≡ list_any (λ k. list_any (λ b. is_of_call r b && speaks_of b k) bindings) c.as_slice.result.now) (λ old. old ≡ has_old_cseq r bindings)
-    (λ t is. is ∙ ap (λ (contacts : List ContactItem). list_any (λ k. list_any (λ b. is_of_call r b && speaks_of b k) bindings) contacts) c.as_slice.ensures.items ∙ by_contacts r bindings) c.any_speaks_of_newer.ensures
+    IfOk-weaker c.any_speaks_of_newer.result (λ speaks. speaks ≡ list_any (λ k. list_any (λ b. is_of_call r b && speaks_of b k) bindings) c.as_slice.result.now)
+    (λ old. old ≡ has_old_cseq r bindings)
+    (λ t is. is ∙ ap (λ (contacts : List ContactItem). list_any (λ k. list_any (λ b. is_of_call r b && speaks_of b k) bindings) contacts) c.as_slice.ensures.items
+    ∙ by_contacts r bindings) c.any_speaks_of_newer.ensures

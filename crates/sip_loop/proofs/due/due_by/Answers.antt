@@ -5,7 +5,8 @@ use Rattle.sip_loop.proofs.due.due_by.Goals as goal
 
 pub returns-in_default-clause-none : goal.returns-in_default-clause-none
 returns-in_default-clause-none g c =
-    let none = c.next_due.ensures.none_by (moment_of c.args.engine.now.state c.args.at) (λ due e. none_some c.next_due.result due (moment_of c.args.engine.now.state c.args.at) c.in_default.is e) in
+    let none = c.next_due.ensures.none_by (moment_of c.args.engine.now.state c.args.at)
+    (λ due e. none_some c.next_due.result due (moment_of c.args.engine.now.state c.args.at) c.in_default.is e) in
     record { none = none.0; none_again = none.1 }
 
 pub returns-then-max-due-clause-none : goal.returns-then-max-due-clause-none

@@ -7,8 +7,10 @@ use Rattle.sip_loop.proofs.due.fire_first.Goals as goal
 
 pub returns-clause-fired : goal.returns-clause-fired
 returns-clause-fired g c =
-    fires_one c.args.engine.now.server (c.what_is_due_ends.ensures c.args.engine.now.server) (c.moment_rises.ensures c.args.engine.now.server) (c.steps_stand_at_their_moments.ensures c.args.engine.now.server)
-    (standing_of c.args.engine.now) (standing_of c.fire.new.self) c.args.due c.is_reached.ensures.first c.is_reached.ensures.history c.in_ok-out.out c.is_reached.ensures.chain (c.in_ok-out.ensures.in_order c.args.due c.requires (omega arith)) c.in_ok-out.ensures.queue
+    fires_one c.args.engine.now.server (c.what_is_due_ends.ensures c.args.engine.now.server) (c.moment_rises.ensures c.args.engine.now.server)
+    (c.steps_stand_at_their_moments.ensures c.args.engine.now.server)
+    (standing_of c.args.engine.now) (standing_of c.fire.new.self) c.args.due c.is_reached.ensures.first c.is_reached.ensures.history c.in_ok-out.out
+    c.is_reached.ensures.chain (c.in_ok-out.ensures.in_order c.args.due c.requires (omega arith)) c.in_ok-out.ensures.queue
 
 pub returns-clause-at_first : goal.returns-clause-at_first
 returns-clause-at_first g c = c.in_ok-out.ensures.at_first c.args.due c.requires (omega arith)

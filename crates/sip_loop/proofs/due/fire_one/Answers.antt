@@ -7,8 +7,10 @@ use Rattle.sip_loop.proofs.due.fire_one.Goals as goal
 
 pub returns-clause-fired : goal.returns-clause-fired
 returns-clause-fired g c =
-    fires_some c.args.engine.now.server (c.what_is_due_ends.ensures c.args.engine.now.server) (c.moment_rises.ensures c.args.engine.now.server) (c.steps_stand_at_their_moments.ensures c.args.engine.now.server)
-    (standing_of c.args.engine.now) (standing_of c.fire_next.new.engine) c.args.at c.is_reached.ensures.first c.is_reached.ensures.history c.in_ok-fired.fired c.is_reached.ensures.chain c.in_ok-fired.ensures.fired
+    fires_some c.args.engine.now.server (c.what_is_due_ends.ensures c.args.engine.now.server) (c.moment_rises.ensures c.args.engine.now.server)
+    (c.steps_stand_at_their_moments.ensures c.args.engine.now.server)
+    (standing_of c.args.engine.now) (standing_of c.fire_next.new.engine) c.args.at c.is_reached.ensures.first c.is_reached.ensures.history c.in_ok-fired.fired
+    c.is_reached.ensures.chain c.in_ok-fired.ensures.fired
 
 pub returns-in_err-fired-clause-refused : goal.returns-in_err-fired-clause-refused
 returns-in_err-fired-clause-refused g c =

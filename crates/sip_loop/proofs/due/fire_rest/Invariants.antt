@@ -16,4 +16,5 @@ invariant-loop-out g l =
     × IsNoFurther l.initial.engine.state l.engine.state
     × ((start : Standing) (first : List Packet) → HappensAll l.initial.engine.server start (standing_of l.initial.engine) l.at first l.initial.waiting
     → HappensAll l.initial.engine.server start (standing_of l.engine) l.at first l.waiting)
-    × ((start : Standing) → HappensTo l.initial.engine.server start (standing_of l.initial.engine) l.at → HappensTo l.initial.engine.server start (standing_of l.engine) l.at)
+    × ((start : Standing) → HappensTo l.initial.engine.server start (standing_of l.initial.engine) l.at
+    → HappensTo l.initial.engine.server start (standing_of l.engine) l.at)

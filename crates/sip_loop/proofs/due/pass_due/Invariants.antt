@@ -16,5 +16,6 @@ invariant-loop-due g l =
     × (g.L.Link.heard l.link ≡ g.L.Link.heard l.initial.link)
     × ((others : Others) → Course l.initial.engine.server (standing_of l.initial.engine) (standing_of l.engine)
     (waiting_at (Some l.at) [] l.initial.engine.state.moment) (waiting_at (Some l.at) [] l.engine.state.moment)
-    (told_with others (g.L.Link.given l.initial.link) (kept (g.J.Journal.written l.initial.journal) (g.J.Journal.faulted l.initial.journal))) (told_with others (g.L.Link.given l.link) (kept (g.J.Journal.written l.journal) (g.J.Journal.faulted l.journal))) [] 0 0)
+    (told_with others (g.L.Link.given l.initial.link) (kept (g.J.Journal.written l.initial.journal) (g.J.Journal.faulted l.initial.journal)))
+    (told_with others (g.L.Link.given l.link) (kept (g.J.Journal.written l.journal) (g.J.Journal.faulted l.journal))) [] 0 0)
     × (g.L.Link.waits l.link ≡ g.L.Link.waits l.initial.link)

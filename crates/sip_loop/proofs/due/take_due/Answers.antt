@@ -19,8 +19,10 @@ returns-in_err-wait_for-clause-refused g c =
     rw (p.1, p.2)
     (inl (
       c.in_err-wait_for.ensures.refused,
-      to_more c.args.engine.now.server (standing_of c.args.engine.now) (standing_of c.args.engine.now) (standing_of c.fire_first.new.engine) c.args.due c.in_ok-first.first
-          (record { outs = []; happens = happens_nothing c.args.engine.now.server (standing_of c.args.engine.now) c.args.due }) c.in_ok-first.ensures.fired c.in_ok-first.ensures.at_first,
+      to_more c.args.engine.now.server (standing_of c.args.engine.now) (standing_of c.args.engine.now) (standing_of c.fire_first.new.engine) c.args.due
+          c.in_ok-first.first
+          (record { outs = []; happens = happens_nothing c.args.engine.now.server (standing_of c.args.engine.now) c.args.due }) c.in_ok-first.ensures.fired
+          c.in_ok-first.ensures.at_first,
     ))
 
 pub returns-in_err-fire_rest-clause-refused : goal.returns-in_err-fire_rest-clause-refused
@@ -32,17 +34,23 @@ returns-in_err-fire_rest-clause-refused g c =
       subst (λ (s : Server). HappensTo s (standing_of c.args.engine.now) (standing_of c.fire_rest.new.engine) c.args.due) c.fire_first.ensures.server
           (c.in_err-fire_rest.ensures.some (standing_of c.args.engine.now)
           (subst (λ (s : Server). HappensTo s (standing_of c.args.engine.now) (standing_of c.fire_first.new.engine) c.args.due) (sym c.fire_first.ensures.server)
-          (to_more c.args.engine.now.server (standing_of c.args.engine.now) (standing_of c.args.engine.now) (standing_of c.fire_first.new.engine) c.args.due c.in_ok-first.first
-          (record { outs = []; happens = happens_nothing c.args.engine.now.server (standing_of c.args.engine.now) c.args.due }) c.in_ok-first.ensures.fired c.in_ok-first.ensures.at_first))),
+          (to_more c.args.engine.now.server (standing_of c.args.engine.now) (standing_of c.args.engine.now) (standing_of c.fire_first.new.engine) c.args.due
+          c.in_ok-first.first
+          (record { outs = []; happens = happens_nothing c.args.engine.now.server (standing_of c.args.engine.now) c.args.due }) c.in_ok-first.ensures.fired
+          c.in_ok-first.ensures.at_first))),
     ))
 
 pub returns-clause-taken : goal.returns-clause-taken
 returns-clause-taken g c =
-    let all : HappensAll c.args.engine.now.server (standing_of c.args.engine.now) (standing_of c.fire_rest.new.engine) c.args.due c.args.waiting.now c.fire_rest.new.waiting =
-    subst (λ (s : Server). HappensAll s (standing_of c.args.engine.now) (standing_of c.fire_rest.new.engine) c.args.due c.args.waiting.now c.fire_rest.new.waiting) c.fire_first.ensures.server
+    let all : HappensAll c.args.engine.now.server (standing_of c.args.engine.now) (standing_of c.fire_rest.new.engine) c.args.due c.args.waiting.now
+    c.fire_rest.new.waiting =
+    subst (λ (s : Server). HappensAll s (standing_of c.args.engine.now) (standing_of c.fire_rest.new.engine) c.args.due c.args.waiting.now c.fire_rest.new.waiting)
+    c.fire_first.ensures.server
     (c.in_ok-fire_rest.ensures.fired (standing_of c.args.engine.now) c.args.waiting.now
-    (subst (λ (s : Server). HappensAll s (standing_of c.args.engine.now) (standing_of c.fire_first.new.engine) c.args.due c.args.waiting.now c.wait_for.new.waiting) (sym c.fire_first.ensures.server)
-    (all_first c.args.engine.now.server (standing_of c.args.engine.now) (standing_of c.fire_first.new.engine) c.args.due c.in_ok-first.first c.args.waiting.now c.wait_for.new.waiting
+    (subst (λ (s : Server). HappensAll s (standing_of c.args.engine.now) (standing_of c.fire_first.new.engine) c.args.due c.args.waiting.now c.wait_for.new.waiting)
+    (sym c.fire_first.ensures.server)
+    (all_first c.args.engine.now.server (standing_of c.args.engine.now) (standing_of c.fire_first.new.engine) c.args.due c.in_ok-first.first c.args.waiting.now
+    c.wait_for.new.waiting
     c.in_ok-first.ensures.fired c.in_ok-first.ensures.at_first c.in_ok-wait_for.ensures.added))) in
     takes_due c.args.engine.now.server (standing_of c.args.engine.now) (standing_of c.fire_rest.new.engine) c.args.due c.args.waiting.now c.fire_rest.new.waiting
     all c.in_ok-first.ensures.not_refused c.in_ok-fire_rest.ensures.none_due c.in_ok-fire_rest.ensures.stays
@@ -55,7 +63,8 @@ returns-clause-none_due g c =
 
 pub returns-clause-fewer : goal.returns-clause-fewer
 returns-clause-fewer g c =
-    fewer_on c.args.engine.now.state c.fire_first.new.engine.state c.fire_rest.new.engine.state c.args.due c.in_ok-first.ensures.fired.fewer c.in_ok-fire_rest.ensures.no_further
+    fewer_on c.args.engine.now.state c.fire_first.new.engine.state c.fire_rest.new.engine.state c.args.due c.in_ok-first.ensures.fired.fewer
+    c.in_ok-fire_rest.ensures.no_further
 
 pub fire_rest-requires-clause-moment : goal.fire_rest-requires-clause-moment
 fire_rest-requires-clause-moment g c = c.in_ok-first.ensures.fired.stands ∙ c.in_ok-first.ensures.at_first

@@ -17,10 +17,15 @@ returns-in_err-hand_one-clause-broken g c =
     rw (p.1, p.2)
     (λ others turn. breaks_on c.args.engine.now.server (standing_of c.args.engine.now) (standing_of c.loop-place.engine) (standing_of c.hand_one.new.engine)
     (waiting_at turn c.args.packets.now c.args.engine.now.state.moment) (waiting_at turn (drop c.loop-place.place c.loop-place.packets) c.loop-place.engine.state.moment)
-    (told_with others (g.L.Link.given c.args.link.now) (kept (g.J.Journal.written c.args.journal.now) (g.J.Journal.faulted c.args.journal.now))) (told_with others (g.L.Link.given c.loop-place.link) (kept (g.J.Journal.written c.loop-place.journal) (g.J.Journal.faulted c.loop-place.journal)))
-    (told_with others (g.L.Link.given c.hand_one.new.link) (kept (g.J.Journal.written c.hand_one.new.journal) (g.J.Journal.faulted c.hand_one.new.journal))) [] 0 0 0 c.in_err-hand_one.field-0.0 tt (c.loop-place.invariant.7 others turn)
-    (subst (λ (s : Server). Breaks s (standing_of c.loop-place.engine) (standing_of c.hand_one.new.engine) (waiting_at turn (drop c.loop-place.place c.loop-place.packets) c.loop-place.engine.state.moment)
-    (told_with others (g.L.Link.given c.loop-place.link) (kept (g.J.Journal.written c.loop-place.journal) (g.J.Journal.faulted c.loop-place.journal))) (told_with others (g.L.Link.given c.hand_one.new.link) (kept (g.J.Journal.written c.hand_one.new.journal) (g.J.Journal.faulted c.hand_one.new.journal))) 0 c.in_err-hand_one.field-0.0)
+    (told_with others (g.L.Link.given c.args.link.now) (kept (g.J.Journal.written c.args.journal.now) (g.J.Journal.faulted c.args.journal.now)))
+    (told_with others (g.L.Link.given c.loop-place.link) (kept (g.J.Journal.written c.loop-place.journal) (g.J.Journal.faulted c.loop-place.journal)))
+    (told_with others (g.L.Link.given c.hand_one.new.link) (kept (g.J.Journal.written c.hand_one.new.journal) (g.J.Journal.faulted c.hand_one.new.journal))) [] 0 0 0
+    c.in_err-hand_one.field-0.0 tt (c.loop-place.invariant.7 others turn)
+    (subst (λ (s : Server). Breaks s (standing_of c.loop-place.engine) (standing_of c.hand_one.new.engine)
+    (waiting_at turn (drop c.loop-place.place c.loop-place.packets) c.loop-place.engine.state.moment)
+    (told_with others (g.L.Link.given c.loop-place.link) (kept (g.J.Journal.written c.loop-place.journal) (g.J.Journal.faulted c.loop-place.journal)))
+    (told_with others (g.L.Link.given c.hand_one.new.link) (kept (g.J.Journal.written c.hand_one.new.journal) (g.J.Journal.faulted c.hand_one.new.journal))) 0
+    c.in_err-hand_one.field-0.0)
     c.loop-place.invariant.0 (c.in_err-hand_one.ensures.broken others turn)))
 
 pub loop-place-preserved : goal.loop-place-preserved
@@ -33,13 +38,18 @@ loop-place-preserved g c = (
   further_on c.args.engine.now.state c.loop-place.engine.state c.hand_one.new.engine.state c.loop-place.invariant.5 c.in_ok-hand_one.ensures.no_further,
   c.in_ok-hand_one.ensures.none_left,
   λ others turn. course_on c.args.engine.now.server (standing_of c.args.engine.now) (standing_of c.loop-place.engine) (standing_of c.hand_one.new.engine)
-      (waiting_at turn c.args.packets.now c.args.engine.now.state.moment) (waiting_at turn (drop c.loop-place.place c.loop-place.packets) c.loop-place.engine.state.moment)
+      (waiting_at turn c.args.packets.now c.args.engine.now.state.moment) (waiting_at turn (drop c.loop-place.place c.loop-place.packets)
+      c.loop-place.engine.state.moment)
       (waiting_at turn (drop (c.loop-place.place + 1) c.hand_one.new.packets) c.hand_one.new.engine.state.moment)
-      (told_with others (g.L.Link.given c.args.link.now) (kept (g.J.Journal.written c.args.journal.now) (g.J.Journal.faulted c.args.journal.now))) (told_with others (g.L.Link.given c.loop-place.link) (kept (g.J.Journal.written c.loop-place.journal) (g.J.Journal.faulted c.loop-place.journal)))
-      (told_with others (g.L.Link.given c.hand_one.new.link) (kept (g.J.Journal.written c.hand_one.new.journal) (g.J.Journal.faulted c.hand_one.new.journal))) [] [] 0 0 0 0 tt (c.loop-place.invariant.7 others turn)
-      (subst (λ (s : Server). Course s (standing_of c.loop-place.engine) (standing_of c.hand_one.new.engine) (waiting_at turn (drop c.loop-place.place c.loop-place.packets) c.loop-place.engine.state.moment)
+      (told_with others (g.L.Link.given c.args.link.now) (kept (g.J.Journal.written c.args.journal.now) (g.J.Journal.faulted c.args.journal.now)))
+      (told_with others (g.L.Link.given c.loop-place.link) (kept (g.J.Journal.written c.loop-place.journal) (g.J.Journal.faulted c.loop-place.journal)))
+      (told_with others (g.L.Link.given c.hand_one.new.link) (kept (g.J.Journal.written c.hand_one.new.journal) (g.J.Journal.faulted c.hand_one.new.journal))) [] [] 0 0 0
+      0 tt (c.loop-place.invariant.7 others turn)
+      (subst (λ (s : Server). Course s (standing_of c.loop-place.engine) (standing_of c.hand_one.new.engine)
+      (waiting_at turn (drop c.loop-place.place c.loop-place.packets) c.loop-place.engine.state.moment)
       (waiting_at turn (drop (c.loop-place.place + 1) c.hand_one.new.packets) c.hand_one.new.engine.state.moment)
-      (told_with others (g.L.Link.given c.loop-place.link) (kept (g.J.Journal.written c.loop-place.journal) (g.J.Journal.faulted c.loop-place.journal))) (told_with others (g.L.Link.given c.hand_one.new.link) (kept (g.J.Journal.written c.hand_one.new.journal) (g.J.Journal.faulted c.hand_one.new.journal))) [] 0 0)
+      (told_with others (g.L.Link.given c.loop-place.link) (kept (g.J.Journal.written c.loop-place.journal) (g.J.Journal.faulted c.loop-place.journal)))
+      (told_with others (g.L.Link.given c.hand_one.new.link) (kept (g.J.Journal.written c.hand_one.new.journal) (g.J.Journal.faulted c.hand_one.new.journal))) [] 0 0)
       c.loop-place.invariant.0 (c.in_ok-hand_one.ensures.handed others turn)),
   c.hand_one.ensures.link_waits ∙ c.loop-place.invariant.8,
 )
@@ -61,6 +71,8 @@ loop-place-init g c = (
 pub returns-clause-handed : goal.returns-clause-handed
 returns-clause-handed g c =
     let past : length c.loop-place.packets ≤ c.loop-place.place = rw c.as_slice.ensures at c.loop-place-test.false in
-    λ others turn. subst (λ (l : List Packet). Course c.args.engine.now.server (standing_of c.args.engine.now) (standing_of c.loop-place.engine) (waiting_at turn c.args.packets.now c.args.engine.now.state.moment) (waiting_at turn l c.loop-place.engine.state.moment)
-    (told_with others (g.L.Link.given c.args.link.now) (kept (g.J.Journal.written c.args.journal.now) (g.J.Journal.faulted c.args.journal.now))) (told_with others (g.L.Link.given c.loop-place.link) (kept (g.J.Journal.written c.loop-place.journal) (g.J.Journal.faulted c.loop-place.journal))) [] 0 0)
+    λ others turn. subst (λ (l : List Packet). Course c.args.engine.now.server (standing_of c.args.engine.now) (standing_of c.loop-place.engine)
+    (waiting_at turn c.args.packets.now c.args.engine.now.state.moment) (waiting_at turn l c.loop-place.engine.state.moment)
+    (told_with others (g.L.Link.given c.args.link.now) (kept (g.J.Journal.written c.args.journal.now) (g.J.Journal.faulted c.args.journal.now)))
+    (told_with others (g.L.Link.given c.loop-place.link) (kept (g.J.Journal.written c.loop-place.journal) (g.J.Journal.faulted c.loop-place.journal))) [] 0 0)
     (drop_all c.loop-place.place c.loop-place.packets past) (c.loop-place.invariant.7 others turn)

@@ -19,5 +19,6 @@ invariant-loop-place g l =
     × NothingDueBy l.engine.state.moment l.engine.state
     × ((others : Others) (turn : Option ℕ) → Course l.initial.engine.server (standing_of l.initial.engine) (standing_of l.engine)
     (waiting_at turn l.initial.packets l.initial.engine.state.moment) (waiting_at turn (drop l.place l.packets) l.engine.state.moment)
-    (told_with others (g.L.Link.given l.initial.link) (kept (g.J.Journal.written l.initial.journal) (g.J.Journal.faulted l.initial.journal))) (told_with others (g.L.Link.given l.link) (kept (g.J.Journal.written l.journal) (g.J.Journal.faulted l.journal))) [] 0 0)
+    (told_with others (g.L.Link.given l.initial.link) (kept (g.J.Journal.written l.initial.journal) (g.J.Journal.faulted l.initial.journal)))
+    (told_with others (g.L.Link.given l.link) (kept (g.J.Journal.written l.journal) (g.J.Journal.faulted l.journal))) [] 0 0)
     × (g.L.Link.waits l.link ≡ g.L.Link.waits l.initial.link)

@@ -11,6 +11,9 @@ invariant-loop g l =
     × (g.L.Link.receives l.link ≡ counted_times l.counter (g.L.Link.receives l.initial.link))
     × (g.L.Link.failures l.link ≡ g.L.Link.failures l.initial.link)
     × Goes l.initial.engine.server (standing_of l.initial.engine) (standing_of l.engine)
-    (told_by (g.L.Link.heard l.initial.link) (g.L.Link.given l.initial.link) (g.C.Clock.readings l.initial.clock) (kept (g.J.Journal.written l.initial.journal) (g.J.Journal.faulted l.initial.journal)) (kept (g.A.AuditLog.printed l.initial.audit) (g.A.AuditLog.faulted l.initial.audit)) (g.W.Rng.stream l.initial.words))
-    (told_by (g.L.Link.heard l.link) (g.L.Link.given l.link) (g.C.Clock.readings l.clock) (kept (g.J.Journal.written l.journal) (g.J.Journal.faulted l.journal)) (kept (g.A.AuditLog.printed l.audit) (g.A.AuditLog.faulted l.audit)) (g.W.Rng.stream l.words)) l.counter
+    (told_by (g.L.Link.heard l.initial.link) (g.L.Link.given l.initial.link) (g.C.Clock.readings l.initial.clock)
+    (kept (g.J.Journal.written l.initial.journal) (g.J.Journal.faulted l.initial.journal))
+    (kept (g.A.AuditLog.printed l.initial.audit) (g.A.AuditLog.faulted l.initial.audit)) (g.W.Rng.stream l.initial.words))
+    (told_by (g.L.Link.heard l.link) (g.L.Link.given l.link) (g.C.Clock.readings l.clock) (kept (g.J.Journal.written l.journal) (g.J.Journal.faulted l.journal))
+    (kept (g.A.AuditLog.printed l.audit) (g.A.AuditLog.faulted l.audit)) (g.W.Rng.stream l.words)) l.counter
     × (g.L.Link.waits l.link ≡ g.L.Link.waits l.initial.link)

@@ -6,4 +6,5 @@ use Rattle.sip_loop_link.proofs.memory_link.put_aside.Goals as goal
 
 pub returns : goal.returns
 returns c =
-    λ d. ap (λ (posted : Posted). slice_set c.args.inbox.now.items c.args.place posted) (put_aside _ _ _ (c.index_mut.ensures.value ∙ get_or_default c.args.inbox.now.items c.args.place c.index_mut.result.now d c.requires))
+    λ d. ap (λ (posted : Posted). slice_set c.args.inbox.now.items c.args.place posted)
+    (put_aside _ _ _ (c.index_mut.ensures.value ∙ get_or_default c.args.inbox.now.items c.args.place c.index_mut.result.now d c.requires))

@@ -5,4 +5,5 @@ use Rattle.sip_matrix.proofs.listing.classes_among.Given as goal
 
 -- the classes so far, and those of the other columns, are those of all
 abbrev pub invariant-loop-column : goal.invariant-loop-column
-invariant-loop-column l = with_kinds (are_asked_alike l.rules l.users l.domains) l.classes (drop l.column-index l.all) ≡ kinds_of (are_asked_alike l.rules l.users l.domains) l.all
+invariant-loop-column l = with_kinds (are_asked_alike l.rules l.users l.domains) l.classes (drop l.column-index l.all)
+    ≡ kinds_of (are_asked_alike l.rules l.users l.domains) l.all

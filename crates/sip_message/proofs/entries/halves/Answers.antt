@@ -10,4 +10,5 @@ slice_from-requires c = fits c.args.mark c.args.bytes.now c.in_ok-front.front.no
 
 pub returns-clause-halves : goal.returns-clause-halves
 returns-clause-halves c =
-    halves_are c.args.mark c.args.bytes.now c.in_ok-front.front.now c.in_ok-front.field-0-1.now c.slice_before.result.now c.slice_from.result.now c.in_ok-front.ensures c.slice_before.ensures.value c.slice_from.ensures.value
+    halves_are c.args.mark c.args.bytes.now c.in_ok-front.front.now c.in_ok-front.field-0-1.now c.slice_before.result.now c.slice_from.result.now c.in_ok-front.ensures
+    c.slice_before.ensures.value c.slice_from.ensures.value

@@ -7,4 +7,5 @@ use Rattle.sip_message.proofs.entries.usual_parts.Goals as goal
 pub returns : goal.returns
 returns c =
     ap (λ w. Some (seen_field c.in-Some.name.now w)) c.trimmed_slice.ensures.value
-    ∙ sym (named_field c.args.line.now c.in-Some.name.now c.in-Some.value.now c.in-Some.ensures.halves (value_text c.args.line.now c.in-Some.name.now c.in-Some.value.now c.in-Some.ensures.halves c.requires.text))
+    ∙ sym (named_field c.args.line.now c.in-Some.name.now c.in-Some.value.now c.in-Some.ensures.halves
+    (value_text c.args.line.now c.in-Some.name.now c.in-Some.value.now c.in-Some.ensures.halves c.requires.text))

@@ -15,8 +15,10 @@ loop-alloc-smaller c = shorter c.loop-alloc.rest.bytes.now c.in-Some.fold.now c.
 
 pub loop-alloc-preserved : goal.loop-alloc-preserved
 loop-alloc-preserved c =
-    fold_more (Part c.args.line) c.args.after c.loop-alloc.rest.bytes c.in-Some.fold c.in-Some.next c.loop-alloc.whole c.in_ok-whole.whole c.loop-alloc.invariant (sym c.is_fold_line.ensures ∙ c.loop-alloc-test.true) c.in-Some.ensures.line c.in-Some.ensures.cut.1
+    fold_more (Part c.args.line) c.args.after c.loop-alloc.rest.bytes c.in-Some.fold c.in-Some.next c.loop-alloc.whole c.in_ok-whole.whole c.loop-alloc.invariant
+    (sym c.is_fold_line.ensures ∙ c.loop-alloc-test.true) c.in-Some.ensures.line c.in-Some.ensures.cut.1
     c.in_ok-whole.ensures.bytes c.in_ok-whole.ensures.fold
 
 pub returns : goal.returns
-returns c = no_more_folds c.args.line c.args.after c.loop-alloc.rest.bytes c.loop-alloc.whole c.loop-alloc.invariant (sym c.is_fold_line.ensures ∙ c.loop-alloc-test.false)
+returns c = no_more_folds c.args.line c.args.after c.loop-alloc.rest.bytes c.loop-alloc.whole c.loop-alloc.invariant
+    (sym c.is_fold_line.ensures ∙ c.loop-alloc-test.false)

@@ -6,4 +6,5 @@ use Rattle.sip_message_fields.proofs.store.fields_in_with_first.Given as goal
 -- the fields so far, and what becomes of the rest
 abbrev pub invariant-loop-kept : goal.invariant-loop-kept
 invariant-loop-kept l =
-    l.fields ++ cond l.is_edited (map (field_kept l.bytes) (drop l.kept-index l.list)) (with_first l.name l.value (map (field_kept l.bytes) (drop l.kept-index l.list))) ≡ with_first l.name l.value (map (field_kept l.bytes) l.list)
+    l.fields ++ cond l.is_edited (map (field_kept l.bytes) (drop l.kept-index l.list)) (with_first l.name l.value (map (field_kept l.bytes) (drop l.kept-index l.list)))
+    ≡ with_first l.name l.value (map (field_kept l.bytes) l.list)

@@ -11,4 +11,5 @@ loop-field-preserved c =
     let field : Field = c.field-item.result in
     let is : field ≡ get_or c.args.fields.now c.loop-field.field-index field = c.field-item.is in
     let n : c.push.new.self.items ≡ c.loop-field.list.items ++ c.in_ok-kept.kept ∷ [] = search rules in
-    field_next c.args.store.now c.loop-field.store c.put_field.new.store c.args.fields.now c.loop-field.field-index field c.loop-field.list.items c.push.new.self.items c.in_ok-kept.kept c.loop-field-test.true is n c.loop-field.invariant c.in_ok-kept.ensures
+    field_next c.args.store.now c.loop-field.store c.put_field.new.store c.args.fields.now c.loop-field.field-index field c.loop-field.list.items c.push.new.self.items
+    c.in_ok-kept.kept c.loop-field-test.true is n c.loop-field.invariant c.in_ok-kept.ensures

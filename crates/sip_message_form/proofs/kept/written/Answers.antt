@@ -8,7 +8,8 @@ invariant_of-result c =
     let m : Message = record { start = start_seen c.args.start.now; fields = c.args.fields.now; body = c.args.body.now } in
     let written : IsWritten m c.in_ok-store.store c.put_start_line.new.store c.put_lines.new.out c.put_body_text.new.store
     = record { none = c.in_ok-store.ensures; first = c.in_ok-first_line.ensures.text; fields = c.in_ok-put_lines.ensures; rest = c.in_ok-span.ensures.text } in
-    kept_within m c.in_ok-store.store c.put_start_line.new.store c.put_lines.new.out c.put_body_text.new.store c.in_ok-first_line.first_line c.in_ok-lines.lines.list.items _ c.in_ok-lines.lines.end c.in_ok-span.span written
+    kept_within m c.in_ok-store.store c.put_start_line.new.store c.put_lines.new.out c.put_body_text.new.store c.in_ok-first_line.first_line
+    c.in_ok-lines.lines.list.items _ c.in_ok-lines.lines.end c.in_ok-span.span written
     c.in_ok-first_line.ensures.put c.in_ok-first_line_length.ensures c.in_ok-lines.ensures c.in_ok-span.ensures.put
 
 pub returns : goal.returns
@@ -16,5 +17,6 @@ returns c =
     let m : Message = record { start = start_seen c.args.start.now; fields = c.args.fields.now; body = c.args.body.now } in
     let written : IsWritten m c.in_ok-store.store c.put_start_line.new.store c.put_lines.new.out c.put_body_text.new.store
     = record { none = c.in_ok-store.ensures; first = c.in_ok-first_line.ensures.text; fields = c.in_ok-put_lines.ensures; rest = c.in_ok-span.ensures.text } in
-    kept_is m c.in_ok-store.store c.put_start_line.new.store c.put_lines.new.out c.put_body_text.new.store c.in_ok-first_line.first_line c.in_ok-lines.lines.list.items _ c.in_ok-lines.lines.end c.in_ok-span.span written
+    kept_is m c.in_ok-store.store c.put_start_line.new.store c.put_lines.new.out c.put_body_text.new.store c.in_ok-first_line.first_line c.in_ok-lines.lines.list.items _
+    c.in_ok-lines.lines.end c.in_ok-span.span written
     c.in_ok-first_line.ensures.put c.in_ok-first_line_length.ensures c.in_ok-lines.ensures c.in_ok-span.ensures.put

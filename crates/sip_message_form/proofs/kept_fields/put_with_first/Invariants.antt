@@ -1,4 +1,4 @@
-use Rattle.std.proofs.Common.{◌≡◌, ◌++◌, drop, map, flat_map, cond}
+use Rattle.std.proofs.Common.{◌≡◌, ◌++◌, drop, map, flat_map}
 use Rattle.sip_message_fields.specs.KeptField.{field_kept}
 use Rattle.sip_message_fields.specs.Named.{all_named}
 use Rattle.sip_message_fields.specs.Values.{with_first}

@@ -7,4 +7,5 @@ pub returns-clause-one : goal.returns-clause-one
 returns-clause-one c = one_history
 
 pub returns-clause-access : goal.returns-clause-access
-returns-clause-access c = λ server first periods until steps history last h. access_of_chain server first history last (one_history server (first_state first) periods until steps history last h).chain
+returns-clause-access c = λ server first periods until steps history last h. access_of_chain server first history last
+    (one_history server (first_state first) periods until steps history last h).chain

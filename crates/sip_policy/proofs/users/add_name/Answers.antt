@@ -9,4 +9,8 @@ returns-then-is_none-clause-ok c =
 
 pub returns-else-is_none-clause-refused : goal.returns-else-is_none-clause-refused
 returns-else-is_none-clause-refused c =
-    inr (refl, ap (λ (text : List ℕ). is_some (place_of c.args.places.now text)) (sym c.in_ok-copy.ensures.items) ∙ ap (λ (o : Option ℕ). is_some o) (sym c.in_ok-insert.ensures.old) ∙ c.if-is_none.ensures)
+    inr (
+      refl,
+      ap (λ (text : List ℕ). is_some (place_of c.args.places.now text)) (sym c.in_ok-copy.ensures.items)
+          ∙ ap (λ (o : Option ℕ). is_some o) (sym c.in_ok-insert.ensures.old) ∙ c.if-is_none.ensures,
+    )

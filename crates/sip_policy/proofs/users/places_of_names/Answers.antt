@@ -9,10 +9,15 @@ returns-in_err-add_name-clause-refused c =
     let p = err_from_is_err_and c.from_residual-in_err-add_name.result c.from_residual-in_err-add_name.ensures.1 in
     rw (p.1, p.2) (elim c.in_err-add_name.ensures.refused [
       | inl e ↦ inl e
-      | inr e ↦ inr (e.0, named_twice (place_of c.loop-at.places) c.as_slice.result.now c.args.users.now c.loop-at.at c.index-users-at.result c.loop-at.invariant c.loop-at-test.true c.index-users-at.is c.as_slice.ensures e.1)
+      | inr e ↦ inr (
+        e.0,
+        named_twice (place_of c.loop-at.places) c.as_slice.result.now c.args.users.now c.loop-at.at c.index-users-at.result c.loop-at.invariant
+            c.loop-at-test.true c.index-users-at.is c.as_slice.ensures e.1,
+      )
     ])
 
 pub loop-at-preserved : goal.loop-at-preserved
 loop-at-preserved c =
-    named_more (place_of c.loop-at.places) (place_of c.add_name.new.places) c.as_slice.result.now c.args.users.now c.loop-at.at c.index-users-at.result c.loop-at.invariant c.loop-at-test.true c.index-users-at.is c.as_slice.ensures
+    named_more (place_of c.loop-at.places) (place_of c.add_name.new.places) c.as_slice.result.now c.args.users.now c.loop-at.at c.index-users-at.result
+    c.loop-at.invariant c.loop-at-test.true c.index-users-at.is c.as_slice.ensures
     c.in_ok-add_name.ensures.ok c.in_ok-add_name.ensures.new

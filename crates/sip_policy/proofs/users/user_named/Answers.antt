@@ -13,6 +13,7 @@ returns-in_err-place c =
 
 pub returns : goal.returns
 returns c =
-    let some : position (is_named c.args.name.now) c.args.users.now ≡ Some c.in_ok-place.place.now = sym (c.requires.placed c.args.name.now) ∙ sym c.in_ok-place.ensures.value in
+    let some : position (is_named c.args.name.now) c.args.users.now ≡ Some c.in_ok-place.place.now = sym (c.requires.placed c.args.name.now)
+    ∙ sym c.in_ok-place.ensures.value in
     let at : option_copied c.get-2.result ≡ slice_get c.args.users.now c.in_ok-place.place.now = grind (arith, gets, c.get-2.ensures.lookup) in
     at ∙ sym (found_at_place c.args.name.now c.args.users.now ∙ ap (user_at_place c.args.users.now) some)

@@ -13,7 +13,8 @@ returns-in-Some c =
     record {
       are = λ group.
           let test = λ (u : User). list_any (bytes_eq group) u.groups in
-          sym (found_passes c.args.name.now test c.args.users.now c.find.ensures.distinct) ∙ ap (passes_of test) found ∙ ap (list_any (bytes_eq group)) (sym c.as_slice.ensures);
+          sym (found_passes c.args.name.now test c.args.users.now c.find.ensures.distinct) ∙ ap (passes_of test) found
+          ∙ ap (list_any (bytes_eq group)) (sym c.as_slice.ensures);
     }
 
 pub returns-in-None : goal.returns-in-None

@@ -17,7 +17,8 @@ returns-then-is_for-clause-first c = λ class are.
     let rules = c.args.asked.now.rules.now in
     let places = c.args.places.now in
     found_least test class rules c.args.best (slice_index_or places c.loop-at.at-index 0) places (drop c.loop-at.at-index places) c.requires
-    (finds test rules c.args.best places c.loop-at.at-index c.index-asked-at.result c.loop-at-test.true c.if-at-best.false c.requires c.index-asked-at.is (ap test c.index-asked-at.is ∙ sym c.is_for.ensures ∙ c.if-is_for.true)) c.loop-at.invariant are
+    (finds test rules c.args.best places c.loop-at.at-index c.index-asked-at.result c.loop-at-test.true c.if-at-best.false c.requires c.index-asked-at.is
+    (ap test c.index-asked-at.is ∙ sym c.is_for.ensures ∙ c.if-is_for.true)) c.loop-at.invariant are
 
 pub returns-clause-first : goal.returns-clause-first
 returns-clause-first c = λ class are.

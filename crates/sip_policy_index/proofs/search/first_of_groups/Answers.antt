@@ -16,6 +16,8 @@ loop-group-preserved c =
     let operation = c.args.operation in
     let i = c.loop-group.group-index in
     let code = c.text_code-code.result in
-    least_of_more test (is_of_classes (group_codes operation (take i groups))) (is_of_class code) (is_of_classes (group_codes operation (take (i + 1) groups))) rules c.args.best c.loop-group.least c.first_below-least.result
+    least_of_more test (is_of_classes (group_codes operation (take i groups))) (is_of_class code) (is_of_classes (group_codes operation (take (i + 1) groups))) rules
+    c.args.best c.loop-group.least c.first_below-least.result
     c.loop-group.invariant (c.first_below-least.ensures.first (is_of_class code) (c.of.ensures ∙ c.requires.filed.places code))
-    (more_groups operation groups i code c.group-item.result c.loop-group-test.true c.group-item.is (c.text_code-code.ensures ∙ ap₂ text_code c.mixed-start.ensures c.as_slice.ensures))
+    (more_groups operation groups i code c.group-item.result c.loop-group-test.true c.group-item.is
+    (c.text_code-code.ensures ∙ ap₂ text_code c.mixed-start.ensures c.as_slice.ensures))

@@ -15,7 +15,8 @@ returns c =
     let each = c.mixed-each.result in
     let own = c.text_code-own.result in
     let either = λ (rule : Rule). is_of_class each rule || is_of_class own rule in
-    least_of_more test either (is_of_classes (group_codes operation groups)) (is_of_classes (class_codes c.args.name.now groups operation)) rules c.args.best c.first_below-best-2.result c.first_of_groups.result
+    least_of_more test either (is_of_classes (group_codes operation groups)) (is_of_classes (class_codes c.args.name.now groups operation)) rules c.args.best
+    c.first_below-best-2.result c.first_of_groups.result
     (least_of_more test (is_of_class each) (is_of_class own) either rules c.args.best c.first_below-best.result c.first_below-best-2.result
     (c.first_below-best.ensures.first (is_of_class each) (c.of.ensures ∙ c.requires.filed.places each))
     (c.first_below-best-2.ensures.first (is_of_class own) (c.of-2.ensures ∙ c.requires.filed.places own)) (λ rule. refl))

@@ -17,7 +17,8 @@ returns-in-Register c =
 pub returns-in-List : goal.returns-in-List
 returns-in-List c =
     let asked = c.args.asked.now in
-    least_of_all (applies_to asked) (is_looked_at (option_copied asked.proven) asked.groups.now 2) asked.rules.now c.first_of_pattern-in-List.result c.first_of_pattern-in-List.ensures
+    least_of_all (applies_to asked) (is_looked_at (option_copied asked.proven) asked.groups.now 2) asked.rules.now c.first_of_pattern-in-List.result
+    c.first_of_pattern-in-List.ensures
     (looked_at_one asked c.requires.groups Operation.List c.in-List.is 2 lists)
 
 pub returns-in-Send : goal.returns-in-Send
@@ -29,5 +30,6 @@ returns-in-Send c =
     let any = is_looked_at (option_copied asked.proven) asked.groups.now 3 in
     let either = λ (rule : Rule). own rule || any rule in
     least_of_all test either rules c.first_of_pattern-in-Send.result
-    (least_of_more test own any either rules (length rules) c.first_of_pattern-best.result c.first_of_pattern-in-Send.result c.first_of_pattern-best.ensures c.first_of_pattern-in-Send.ensures (λ rule. refl))
+    (least_of_more test own any either rules (length rules) c.first_of_pattern-best.result c.first_of_pattern-in-Send.result c.first_of_pattern-best.ensures
+    c.first_of_pattern-in-Send.ensures (λ rule. refl))
     (looked_at_either asked c.requires.groups c.in-Send.method c.in-Send.is c.text_code-own.result (c.text_code-own.ensures ∙ ap (text_code 4) c.as_slice.ensures))

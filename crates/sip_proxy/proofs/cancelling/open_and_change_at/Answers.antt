@@ -25,7 +25,8 @@ pub change-requires-clause-fitting : goal.change-requires-clause-fitting
 change-requires-clause-fitting g c =
     let kept : IsKeptAs c.args.now c.get-stood.result.now c.args.change = c.requires.kept c.get-stood.result.now c.get-stood.ensures in
     let room : most_timers c.args.change ≤ c.open_at.new.contexts.room = omega (arith, c.requires.room, c.open_at.ensures.room) in
-    c.fits_once_it_came.ensures.fitting c.args.contexts.now.reached c.args.now c.open_at.new.contexts.reached c.open_at.new.contexts.room c.args.change c.open_at.ensures.reached kept.fits kept.within room
+    c.fits_once_it_came.ensures.fitting c.args.contexts.now.reached c.args.now c.open_at.new.contexts.reached c.open_at.new.contexts.room c.args.change
+    c.open_at.ensures.reached kept.fits kept.within room
 
 pub returns-clause-queue : goal.returns-clause-queue
 returns-clause-queue g c =
@@ -34,7 +35,8 @@ returns-clause-queue g c =
     let after : c.change.new.self.requests ≡ replaced c.args.change (with_one_more c.args.opened c.args.contexts.now.requests) =
     c.change.ensures.requests ∙ ap (λ (rs : List OpenRequest). replaced c.args.change rs) c.open_at.ensures.requests in
     subst (λ (rs : List OpenRequest). KeepsOrder c.args.contexts.now.pending c.change.new.self.pending rs) (sym after)
-    (c.orders_join.ensures c.args.contexts.now.pending c.open_at.new.contexts.pending c.change.new.self.pending c.args.contexts.now.requests c.args.opened c.args.change r c.args.place c.get-stood.ensures kept.number
+    (c.orders_join.ensures c.args.contexts.now.pending c.open_at.new.contexts.pending c.change.new.self.pending c.args.contexts.now.requests c.args.opened c.args.change r
+    c.args.place c.get-stood.ensures kept.number
     c.stand_in_order.ensures.timers
     (subst (λ (rs : List OpenRequest). IsQueueOf c.open_at.new.contexts.pending rs) c.open_at.ensures.requests c.stand_in_order-2.ensures.timers)
     (subst (λ (rs : List OpenRequest). IsQueueOf c.change.new.self.pending rs) after c.stand_in_order-3.ensures.timers)

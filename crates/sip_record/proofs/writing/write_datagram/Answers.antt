@@ -10,19 +10,23 @@ returns-then-not-is_sayable-clause-why g c = λ _.
 
 pub returns-then-is_empty-clause-written : goal.returns-then-is_empty-clause-written
 returns-then-is_empty-clause-written g c =
-    writes_datagram _ _ _ c.args.at c.args.word c.args.from c.args.bytes.now [] c.is_sayable.result c.write_empty.result (c.is_sayable.ensures c.args.word) c.if-not-is_sayable.false (no_bytes c.args.bytes.now c.if-is_empty.ensures)
+    writes_datagram _ _ _ c.args.at c.args.word c.args.from c.args.bytes.now [] c.is_sayable.result c.write_empty.result (c.is_sayable.ensures c.args.word)
+    c.if-not-is_sayable.false (no_bytes c.args.bytes.now c.if-is_empty.ensures)
     c.write_empty.ensures.text c.write_empty.ensures.handed_on
 
 pub write_bytes-requires-clause-few : goal.write_bytes-requires-clause-few
-write_bytes-requires-clause-few g c = few_bytes c.args.at c.args.word c.args.from c.args.bytes.now c.is_sayable.result (c.is_sayable.ensures c.args.word) c.if-not-is_sayable.false
+write_bytes-requires-clause-few g c = few_bytes c.args.at c.args.word c.args.from c.args.bytes.now c.is_sayable.result (c.is_sayable.ensures c.args.word)
+    c.if-not-is_sayable.false
 
 pub returns-clause-written : goal.returns-clause-written
 returns-clause-written g c =
-    writes_datagram _ _ _ c.args.at c.args.word c.args.from c.args.bytes.now c.args.bytes.now c.is_sayable.result c.write_bytes.result (c.is_sayable.ensures c.args.word) c.if-not-is_sayable.false refl
+    writes_datagram _ _ _ c.args.at c.args.word c.args.from c.args.bytes.now c.args.bytes.now c.is_sayable.result c.write_bytes.result (c.is_sayable.ensures c.args.word)
+    c.if-not-is_sayable.false refl
     c.write_bytes.ensures.text c.write_bytes.ensures.handed_on
 
 pub returns-then-is_empty-clause-part : goal.returns-then-is_empty-clause-part
-returns-then-is_empty-clause-part g c = front_datagram _ _ c.args.at c.args.word c.args.from c.args.bytes.now [] (no_bytes c.args.bytes.now c.if-is_empty.ensures) c.write_empty.ensures.part
+returns-then-is_empty-clause-part g c = front_datagram _ _ c.args.at c.args.word c.args.from c.args.bytes.now [] (no_bytes c.args.bytes.now c.if-is_empty.ensures)
+    c.write_empty.ensures.part
 
 pub returns-then-not-is_sayable-clause-part : goal.returns-then-not-is_sayable-clause-part
 returns-then-not-is_sayable-clause-part g c = front_none _ _

@@ -6,9 +6,12 @@ use Rattle.sip_recorded.proofs.laws.cut_replay_prints_what_was_served.Goals as g
 
 pub returns : goal.returns
 returns c = λ config word first now bytes lost steps last lines old new h replay.
-    let whole = subst (λ (l : List ℕ). IsRecordedUnder (server_with config word) now first l steps last) (cut_text replay.taken.text replay.taken.further bytes lost replay.taken.whole) h in
+    let whole = subst (λ (l : List ℕ). IsRecordedUnder (server_with config word) now first l steps last)
+    (cut_text replay.taken.text replay.taken.further bytes lost replay.taken.whole) h in
     let front =
-    c.front_is_recorded.ensures (server_with config word) now first replay.taken.text (replay.taken.further ++ lost) steps last replay.taken.events replay.taken.segments whole replay.taken.says in
+    c.front_is_recorded.ensures (server_with config word) now first replay.taken.text (replay.taken.further ++ lost) steps last replay.taken.events replay.taken.segments
+    whole replay.taken.says in
     prints_front (server_with config word) first replay.taken.text steps replay.taken.takes.runs.steps replay.state old new replay.taken.shown front
-    (c.records_are_one.ensures.steps (server_with config word) front.server_then replay.server_then first replay.taken.text front.front replay.taken.takes.runs.steps front.last replay.state front.recorded
+    (c.records_are_one.ensures.steps (server_with config word) front.server_then replay.server_then first replay.taken.text front.front replay.taken.takes.runs.steps
+    front.last replay.state front.recorded
     (replayed config word first (Some bytes) lines old new replay))

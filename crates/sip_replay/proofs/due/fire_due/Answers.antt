@@ -12,7 +12,8 @@ loop-out-init g c = (refl, plays_nothing c.args.engine.now.server (standing_of c
 pub loop-out-preserved : goal.loop-out-preserved
 loop-out-preserved g c = (
   c.fire_next.ensures.server ∙ c.loop-out.invariant.0,
-  plays_firing c.args.engine.now.server c.loop-out.engine.server (standing_of c.args.engine.now) (standing_of c.loop-out.engine) (standing_of c.fire_next.new.engine) c.args.at c.in-Some.out
+  plays_firing c.args.engine.now.server c.loop-out.engine.server (standing_of c.args.engine.now) (standing_of c.loop-out.engine) (standing_of c.fire_next.new.engine)
+      c.args.at c.in-Some.out
       (g.W.TellingWriter.contents c.args.writer.now) (g.W.TellingWriter.contents c.loop-out.writer) (g.W.TellingWriter.contents c.print_step.new.writer)
       c.loop-out.invariant.0 c.loop-out.invariant.1 (rw c.in-Some.is at c.in_ok-out.ensures.fired) c.in_ok-print_step.ensures.ok,
 )
@@ -20,13 +21,16 @@ loop-out-preserved g c = (
 pub returns-in_err-out-clause-stopped : goal.returns-in_err-out-clause-stopped
 returns-in_err-out-clause-stopped g c =
     let p = err_from_is_err_and c.from_residual.result c.from_residual.ensures.1 in
-    rw (p.1, p.2) (firing_refused c.args.engine.now.server (standing_of c.args.engine.now) (standing_of c.loop-out.engine) c.args.at (g.W.TellingWriter.contents c.args.writer.now) (g.W.TellingWriter.contents c.loop-out.writer)
-    (GaveUp (g.W.TellingWriter.has_failed c.loop-out.writer) (g.W.TellingWriter.called c.loop-out.writer)) c.in_err-out.field-0.0 c.loop-out.invariant.1 c.in_err-out.ensures.refused)
+    rw (p.1, p.2) (firing_refused c.args.engine.now.server (standing_of c.args.engine.now) (standing_of c.loop-out.engine) c.args.at
+    (g.W.TellingWriter.contents c.args.writer.now) (g.W.TellingWriter.contents c.loop-out.writer)
+    (GaveUp (g.W.TellingWriter.has_failed c.loop-out.writer) (g.W.TellingWriter.called c.loop-out.writer)) c.in_err-out.field-0.0 c.loop-out.invariant.1
+    c.in_err-out.ensures.refused)
 
 pub returns-in_err-print_step-clause-stopped : goal.returns-in_err-print_step-clause-stopped
 returns-in_err-print_step-clause-stopped g c =
     let p = err_from_is_err_and c.from_residual-in_err-print_step.result c.from_residual-in_err-print_step.ensures.1 in
-    rw (p.1, p.2) (firing_unprinted c.args.engine.now.server c.loop-out.engine.server (standing_of c.args.engine.now) (standing_of c.loop-out.engine) (standing_of c.fire_next.new.engine) c.args.at c.in-Some.out
+    rw (p.1, p.2) (firing_unprinted c.args.engine.now.server c.loop-out.engine.server (standing_of c.args.engine.now) (standing_of c.loop-out.engine)
+    (standing_of c.fire_next.new.engine) c.args.at c.in-Some.out
     (g.W.TellingWriter.contents c.args.writer.now) (g.W.TellingWriter.contents c.loop-out.writer) (g.W.TellingWriter.contents c.print_step.new.writer)
     (GaveUp (g.W.TellingWriter.has_failed c.print_step.new.writer) (g.W.TellingWriter.called c.print_step.new.writer)) c.in_err-print_step.field-0.0
     c.loop-out.invariant.0 c.loop-out.invariant.1 (rw c.in-Some.is at c.in_ok-out.ensures.fired) c.in_err-print_step.ensures.front c.in_err-print_step.ensures.stopped)

@@ -7,7 +7,8 @@ use Rattle.sip_replay.proofs.due.fire_due.Given as goal
 abbrev pub invariant-loop-out : goal.invariant-loop-out
 invariant-loop-out g l =
     (l.engine.server ≡ l.initial.engine.server)
-    × Plays l.initial.engine.server (standing_of l.initial.engine) (standing_of l.engine) [] (Some l.at) (g.W.TellingWriter.contents l.initial.writer) (g.W.TellingWriter.contents l.writer)
+    × Plays l.initial.engine.server (standing_of l.initial.engine) (standing_of l.engine) [] (Some l.at) (g.W.TellingWriter.contents l.initial.writer)
+    (g.W.TellingWriter.contents l.writer)
 
 abbrev pub decreases-loop-out : goal.decreases-loop-out
 decreases-loop-out g l = steps_left l.at l.engine.state

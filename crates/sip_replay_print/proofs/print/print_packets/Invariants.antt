@@ -5,4 +5,5 @@ use Rattle.sip_replay_print.specs.Print.{packet_text}
 use Rattle.sip_replay_print.proofs.print.print_packets.Given as goal
 
 abbrev pub invariant-loop-packet : goal.invariant-loop-packet
-invariant-loop-packet g l = Appends (g.W.TellingWriter.contents l.initial.writer) (g.W.TellingWriter.contents l.writer) (flat_map (packet_text l.at) (take l.packet-index l.packets))
+invariant-loop-packet g l = Appends (g.W.TellingWriter.contents l.initial.writer) (g.W.TellingWriter.contents l.writer)
+    (flat_map (packet_text l.at) (take l.packet-index l.packets))

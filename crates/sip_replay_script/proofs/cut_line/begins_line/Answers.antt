@@ -6,7 +6,8 @@ use Rattle.sip_replay_script.proofs.cut_line.begins_line.Goals as goal
 
 pub returns : goal.returns
 returns c =
-    IfOk-weaker c.ends_as-4.result (λ b. IsTrue b ↔ EndsAs c.args.text.now (codes "hex 0 0.0.0.0:1 00000000000000000000000000000000 00")) (λ b. IsTrue b ↔ BeginsLine c.args.text.now)
+    IfOk-weaker c.ends_as-4.result (λ b. IsTrue b ↔ EndsAs c.args.text.now (codes "hex 0 0.0.0.0:1 00000000000000000000000000000000 00"))
+    (λ b. IsTrue b ↔ BeginsLine c.args.text.now)
     (last_begins c.args.text.now
     (fails c.in_ok-ends_as.field-0 c.if-branch.false c.in_ok-ends_as.ensures)
     (fails c.in_ok-ends_as-2.field-0 c.if-branch-2.false c.in_ok-ends_as-2.ensures)

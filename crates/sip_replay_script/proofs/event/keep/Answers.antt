@@ -5,7 +5,8 @@ use Rattle.sip_replay_script.proofs.event.keep.Goals as goal
 
 pub returns-in_ok-extend-clause-kept : goal.returns-in_ok-extend-clause-kept
 returns-in_ok-extend-clause-kept c =
-    kept_whole KEPT c.args.bytes.now c.args.part.now c.extend.new.self c.requires (omega (arith, c.if-part-room.true, ap length c.as_slice.ensures.bytes)) c.in_ok-extend.ensures
+    kept_whole KEPT c.args.bytes.now c.args.part.now c.extend.new.self c.requires (omega (arith, c.if-part-room.true, ap length c.as_slice.ensures.bytes))
+    c.in_ok-extend.ensures
 
 pub returns-in_ok-extend-2-clause-kept : goal.returns-in_ok-extend-2-clause-kept
 returns-in_ok-extend-2-clause-kept c =

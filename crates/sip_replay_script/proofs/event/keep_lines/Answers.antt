@@ -10,12 +10,14 @@ pub loop-lines-preserved : goal.loop-lines-preserved
 loop-lines-preserved c =
     let one : KeepsLine c.loop-lines.lines c.keep_any.new.lines c.loop-lines.bytes c.keep_any.new.bytes =
     subst (λ next. GoesOnBy next c.loop-lines.lines c.keep_any.new.lines c.loop-lines.bytes c.keep_any.new.bytes) c.in-Kept.is c.in_ok-keep_any.ensures.next in
-    let fewer : length c.keep_any.new.lines.unread < length c.loop-lines.lines.unread = keeps_less c.loop-lines.lines c.keep_any.new.lines c.loop-lines.bytes c.keep_any.new.bytes one in
+    let fewer : length c.keep_any.new.lines.unread < length c.loop-lines.lines.unread =
+    keeps_less c.loop-lines.lines c.keep_any.new.lines c.loop-lines.bytes c.keep_any.new.bytes one in
     let further : length c.keep_plain-in-Kept.new.lines.unread ≤ length c.keep_any.new.lines.unread = c.keep_plain-in-Kept.ensures.fewer in
     let before = c.loop-lines.invariant.3 in (
       c.keep_plain-in-Kept.ensures.most,
       keeps_both c.args.lines.now c.keep_any.new.lines c.keep_plain-in-Kept.new.lines c.args.bytes.now c.keep_any.new.bytes c.keep_plain-in-Kept.new.bytes
-          (keeps_more c.args.lines.now c.loop-lines.lines c.keep_any.new.lines c.args.bytes.now c.loop-lines.bytes c.keep_any.new.bytes c.loop-lines.invariant.1 one) c.keep_plain-in-Kept.ensures.kept,
+          (keeps_more c.args.lines.now c.loop-lines.lines c.keep_any.new.lines c.args.bytes.now c.loop-lines.bytes c.keep_any.new.bytes c.loop-lines.invariant.1 one)
+          c.keep_plain-in-Kept.ensures.kept,
       c.keep_plain-in-Kept.ensures.asks ∙ c.keep_any.ensures.asks ∙ c.loop-lines.invariant.2,
       omega (arith, fewer, further, before),
     )

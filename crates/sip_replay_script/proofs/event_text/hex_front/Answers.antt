@@ -8,5 +8,6 @@ pub returns-clause-front : goal.returns-clause-front
 returns-clause-front c = λ rest.
     ap (λ (l : List ℕ). l ++ rest)
     (c.put_word.ensures.text ∙ ap (λ (l : List ℕ). codes "hex " ++ l)
-    (c.put_head.ensures.text ∙ ap (λ (l : List ℕ). head_before c.args.at c.args.word c.args.from l) (c.put.ensures.text ∙ ap (λ (l : List ℕ). 32 ∷ l) c.new-text.ensures)))
+    (c.put_head.ensures.text ∙ ap (λ (l : List ℕ). head_before c.args.at c.args.word c.args.from l)
+    (c.put.ensures.text ∙ ap (λ (l : List ℕ). 32 ∷ l) c.new-text.ensures)))
     ∙ ap (λ (l : List ℕ). codes "hex " ++ l) (head_more c.args.at c.args.word c.args.from (32 ∷ []) rest)

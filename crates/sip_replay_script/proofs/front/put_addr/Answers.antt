@@ -14,7 +14,8 @@ returns-clause-text c =
     let dot2 = drop c.put_byte-dot-2.result c.put_byte-dot-2.new.room in
     let second = drop c.put_number-second.result c.put_number-second.new.room in
     let dot3 = drop c.put_byte-dot-3.result c.put_byte-dot-3.new.room in
-    address_first (decimal (slice_index a.addr.ip 0)) (decimal (slice_index a.addr.ip 1)) (decimal (slice_index a.addr.ip 2)) (decimal (slice_index a.addr.ip 3)) (decimal a.addr.port) (drop a.end a.room.now)
+    address_first (decimal (slice_index a.addr.ip 0)) (decimal (slice_index a.addr.ip 1)) (decimal (slice_index a.addr.ip 2)) (decimal (slice_index a.addr.ip 3))
+    (decimal a.addr.port) (drop a.end a.room.now)
     port colon fourth dot third dot2 second dot3 (drop c.put_number.result c.put_number.new.room)
     (c.put_number-port.ensures.text ∙ ap (λ n. decimal n ++ drop a.end a.room.now) c.from.ensures) c.put_byte-colon.ensures.text
     (c.put_number-fourth.ensures.text ∙ ap (λ n. decimal n ++ colon) c.from-2.ensures) c.put_byte-dot.ensures.text

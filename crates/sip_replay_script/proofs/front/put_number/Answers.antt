@@ -9,7 +9,8 @@ loop-left-init c =
 pub put_pair-start-requires-clause-place : goal.put_pair-start-requires-clause-place
 put_pair-start-requires-clause-place c =
     let l = c.loop-left in
-    let some : 2 ≤ length (decimal l.left) = two_digits l.left (omega arith) (omega arith) in (omega (arith, some, l.invariant, c.requires), omega (arith, l.invariant, c.requires))
+    let some : 2 ≤ length (decimal l.left) = two_digits l.left (omega arith) (omega arith) in
+    (omega (arith, some, l.invariant, c.requires), omega (arith, l.invariant, c.requires))
 
 pub loop-left-preserved : goal.loop-left-preserved
 loop-left-preserved c =
@@ -25,7 +26,8 @@ loop-left-preserved c =
 pub put_pair-requires-clause-place : goal.put_pair-requires-clause-place
 put_pair-requires-clause-place c =
     let l = c.loop-left in
-    let some : 2 ≤ length (decimal l.left) = two_digits l.left (omega arith) (omega arith) in (omega (arith, some, l.invariant, c.requires), omega (arith, l.invariant, c.requires))
+    let some : 2 ≤ length (decimal l.left) = two_digits l.left (omega arith) (omega arith) in
+    (omega (arith, some, l.invariant, c.requires), omega (arith, l.invariant, c.requires))
 
 pub returns-then-left-ge10-clause-text : goal.returns-then-left-ge10-clause-text
 returns-then-left-ge10-clause-text c =

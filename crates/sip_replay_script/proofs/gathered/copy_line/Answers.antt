@@ -12,7 +12,8 @@ returns-in-Some-clause-copied c =
     copied_behind a.text.now a.room.now l.room c.copy_lanes.new.room a.from a.to l.done l.invariant.1 c.copy_lanes.ensures.copied in
     record {
       ends = line_ends a.text.now a.from l.done run l.invariant.3 found.0 found.1 (omega (arith, l.invariant.0, c.requires.text));
-      copied = cut_back c.copy_lanes.new.room a.room.now (drop a.from a.text.now) a.to (l.done + 16) (l.done + run) (omega (arith, found.1)) (omega (arith, c.requires.text, c.requires.room)) further;
+      copied = cut_back c.copy_lanes.new.room a.room.now (drop a.from a.text.now) a.to (l.done + 16) (l.done + run) (omega (arith, found.1))
+          (omega (arith, c.requires.text, c.requires.room)) further;
       fits = omega (arith, c.copy_lanes.ensures.len, l.invariant.0, l.invariant.2, c.requires.room, found.1);
     }
 

@@ -10,10 +10,12 @@ pub returns-then-ends-eq0 : goal.returns-then-ends-eq0
 returns-then-ends-eq0 c =
     let v = chunk c.args.at 16 c.args.text.now in
     let long = length-chunk c.args.at 16 c.args.text.now c.requires in
-    no_end_in c.args.text.now c.args.at _ (run_in is_inside c.args.text.now c.args.at 16 _ _ c.requires (omega arith) c.type_inv.text refl _ (zip2_splat _ v 16 10 long) refl) c.if-ends-eq0.true
+    no_end_in c.args.text.now c.args.at _ (run_in is_inside c.args.text.now c.args.at 16 _ _ c.requires (omega arith) c.type_inv.text refl _ (zip2_splat _ v 16 10 long)
+    refl) c.if-ends-eq0.true
 
 pub returns-else-ends-eq0 : goal.returns-else-ends-eq0
 returns-else-ends-eq0 c =
     let v = chunk c.args.at 16 c.args.text.now in
     let long = length-chunk c.args.at 16 c.args.text.now c.requires in
-    end_in c.args.text.now c.args.at _ (length-zip2 _ v _ long ∙ long) (run_in is_inside c.args.text.now c.args.at 16 _ _ c.requires (omega arith) c.type_inv.text refl _ (zip2_splat _ v 16 10 long) refl) c.if-ends-eq0.false
+    end_in c.args.text.now c.args.at _ (length-zip2 _ v _ long ∙ long) (run_in is_inside c.args.text.now c.args.at 16 _ _ c.requires (omega arith) c.type_inv.text refl _
+    (zip2_splat _ v 16 10 long) refl) c.if-ends-eq0.false

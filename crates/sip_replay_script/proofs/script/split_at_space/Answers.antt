@@ -8,4 +8,5 @@ returns-in_err-place c = rw c.from_residual.ensures (split_none 32 c.args.text.n
 pub returns : goal.returns
 returns c =
     ap (λ (w : List ℕ). Some (w, c.in_ok-rest.rest.now)) c.split_at.ensures.front
-    ∙ split_found 32 c.in_ok-place.place c.args.text.now c.in_ok-rest.rest.now c.in_ok-rest.field-0-0.now c.in_ok-place.ensures (sym c.split_at.ensures.back ∙ c.in_ok-rest.ensures.cases.0)
+    ∙ split_found 32 c.in_ok-place.place c.args.text.now c.in_ok-rest.rest.now c.in_ok-rest.field-0-0.now c.in_ok-place.ensures
+    (sym c.split_at.ensures.back ∙ c.in_ok-rest.ensures.cases.0)

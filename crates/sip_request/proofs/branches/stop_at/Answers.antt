@@ -7,7 +7,8 @@ use Rattle.sip_request.proofs.branches.stop_at.Goals as goal
 
 pub returns-then-place-keys-clause-moves : goal.returns-then-place-keys-clause-moves
 returns-then-place-keys-clause-moves g c =
-    Moves-nothing _ _ _ (left_without_keys c.args.was.now c.args.keys.now c.args.place c.if-place-keys.true) (left_without_keys c.args.was.now c.args.keys.now (c.args.place + 1) (omega (arith, c.if-place-keys.true)))
+    Moves-nothing _ _ _ (left_without_keys c.args.was.now c.args.keys.now c.args.place c.if-place-keys.true)
+    (left_without_keys c.args.was.now c.args.keys.now (c.args.place + 1) (omega (arith, c.if-place-keys.true)))
 
 pub returns-then-place-branches-clause-moves : goal.returns-then-place-branches-clause-moves
 returns-then-place-branches-clause-moves g c =
@@ -19,18 +20,21 @@ stop_branch-requires-clause-held g c =
     let in_branches : c.args.place < length c.as_slice-branches.result.now = omega (arith, c.if-place-branches.false) in
     let in_keys : c.args.place < length c.args.keys.now = omega (arith, c.if-place-keys.false) in
     held_front _ _ _ _
-    (left_more c.args.was.now c.as_slice-branches.result.now c.args.keys.now c.args.place c.index-branches-place.result _ _ c.as_slice-branches.ensures in_branches in_keys c.index-branches-place.is (get_or_default c.args.keys.now c.args.place _ _ in_keys) refl)
+    (left_more c.args.was.now c.as_slice-branches.result.now c.args.keys.now c.args.place c.index-branches-place.result _ _ c.as_slice-branches.ensures in_branches
+    in_keys c.index-branches-place.is (get_or_default c.args.keys.now c.args.place _ _ in_keys) refl)
     c.requires.held
 
 pub stop_branch-requires-clause-early : goal.stop_branch-requires-clause-early
 stop_branch-requires-clause-early g c =
     let in_branches : c.args.place < length c.as_slice-branches.result.now = omega (arith, c.if-place-branches.false) in
-    near_at _ c.args.was.now c.as_slice-branches.result.now c.args.place c.index-branches-place.result c.requires.timed c.as_slice-branches.ensures in_branches c.index-branches-place.is
+    near_at _ c.args.was.now c.as_slice-branches.result.now c.args.place c.index-branches-place.result c.requires.timed c.as_slice-branches.ensures in_branches
+    c.index-branches-place.is
 
 pub returns-clause-moves : goal.returns-clause-moves
 returns-clause-moves g c =
     let in_branches : c.args.place < length c.as_slice-branches.result.now = omega (arith, c.if-place-branches.false) in
     let in_keys : c.args.place < length c.args.keys.now = omega (arith, c.if-place-keys.false) in
     Moves-less _ _ _ _ _ _ _
-    (left_more c.args.was.now c.as_slice-branches.result.now c.args.keys.now c.args.place c.index-branches-place.result _ _ c.as_slice-branches.ensures in_branches in_keys c.index-branches-place.is (get_or_default c.args.keys.now c.args.place _ _ in_keys) refl)
+    (left_more c.args.was.now c.as_slice-branches.result.now c.args.keys.now c.args.place c.index-branches-place.result _ _ c.as_slice-branches.ensures in_branches
+    in_keys c.index-branches-place.is (get_or_default c.args.keys.now c.args.place _ _ in_keys) refl)
     (Moves-stays _ _) c.stop_branch.ensures.moves

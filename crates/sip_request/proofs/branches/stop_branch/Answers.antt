@@ -12,4 +12,5 @@ stop_part-requires g c = subst (λ (ts : List Timer). IsHeld (g.T.Timers.pending
 
 pub returns-clause-moves : goal.returns-clause-moves
 returns-clause-moves g c =
-    subst (λ (ts : List Timer). Moves (g.T.Timers.pending c.args.timers.now) ts (g.T.Timers.pending c.stop_part.new.timers) []) (c.branch_part.ensures.names c.args.keys) c.stop_part.ensures.moves
+    subst (λ (ts : List Timer). Moves (g.T.Timers.pending c.args.timers.now) ts (g.T.Timers.pending c.stop_part.new.timers) []) (c.branch_part.ensures.names c.args.keys)
+    c.stop_part.ensures.moves

@@ -24,16 +24,20 @@ sync_branch-synced-requires-clause-held g c = held_left _ _ _ _ _ c.requires.hel
 pub loop-i-preserved : goal.loop-i-preserved
 loop-i-preserved g c =
     let long : length c.loop-i.keys ≡ length c.as_slice-branches.result.now = omega (arith, c.requires.keys, c.loop-i.auto.keys, ap length c.as_slice-branches.ensures) in
-    let more = done_more c.args.next.now c.as_slice-branches.result.now c.loop-i.keys c.loop-i.i c.index-branches-i.result c.sync_branch-synced.result.keys c.loop-i-test.true long c.index-branches-i.is in
+    let more = done_more c.args.next.now c.as_slice-branches.result.now c.loop-i.keys c.loop-i.i c.index-branches-i.result c.sync_branch-synced.result.keys
+    c.loop-i-test.true long c.index-branches-i.is in
     record {
       moved = Moves-further _ _ _ _ _ _ _ _ _ more c.loop-i.invariant.moved c.sync_branch-synced.ensures.moves;
       room = omega (arith, c.loop-i.invariant.room, c.sync_branch-synced.ensures.left);
       joined = λ matched. joined_further c.args.was.now c.args.was_keys.now c.loop-i.place c.sync_branch-synced.result.place _ _ _ _
-          (part_timers c.args.next.now.number (owner_of c.index-branches-i.result) c.sync_branch-synced.result.keys (branch_timers c.args.next.now c.index-branches-i.result))
+          (part_timers c.args.next.now.number (owner_of c.index-branches-i.result) c.sync_branch-synced.result.keys
+          (branch_timers c.args.next.now c.index-branches-i.result))
           _ c.index-branches-i.result _ c.sync_branch-synced.ensures.place
-          (order_more c.args.next.now c.as_slice-branches.result.now c.loop-i.keys c.loop-i.i c.index-branches-i.result c.sync_branch-synced.result.keys c.loop-i-test.true long c.index-branches-i.is)
+          (order_more c.args.next.now c.as_slice-branches.result.now c.loop-i.keys c.loop-i.i c.index-branches-i.result c.sync_branch-synced.result.keys
+          c.loop-i-test.true long c.index-branches-i.is)
           (owned _ _ _ (branch_timers c.args.next.now c.index-branches-i.result))
-          (joined_at _ _ _ _ _ _ c.as_slice-branches.result.now c.loop-i.i c.index-branches-i.result c.loop-i-test.true c.index-branches-i.is (c.loop-i.invariant.joined matched))
+          (joined_at _ _ _ _ _ _ c.as_slice-branches.result.now c.loop-i.i c.index-branches-i.result c.loop-i-test.true c.index-branches-i.is
+          (c.loop-i.invariant.joined matched))
           c.sync_branch-synced.ensures.sets;
       still = c.sync_branch-synced.ensures.still ∙ c.loop-i.invariant.still;
     }
@@ -44,7 +48,8 @@ stop_left-requires-clause-held g c = held_left _ _ _ _ _ c.requires.held c.loop-
 pub returns-then-place-was_keys-clause-moves : goal.returns-then-place-was_keys-clause-moves
 returns-then-place-was_keys-clause-moves g c =
     let long : length c.loop-i.keys ≡ length c.as_slice-branches.result.now = omega (arith, c.requires.keys, c.loop-i.auto.keys, ap length c.as_slice-branches.ensures) in
-    Moves-over _ _ _ _ _ _ _ (all_done c.args.next.now c.as_slice-branches.result.now c.loop-i.keys c.loop-i.i c.as_slice-branches.ensures c.loop-i-test.false long) c.loop-i.invariant.moved c.stop_left.ensures.moves
+    Moves-over _ _ _ _ _ _ _ (all_done c.args.next.now c.as_slice-branches.result.now c.loop-i.keys c.loop-i.i c.as_slice-branches.ensures c.loop-i-test.false long)
+    c.loop-i.invariant.moved c.stop_left.ensures.moves
 
 pub returns-else-place-was_keys-clause-moves : goal.returns-else-place-was_keys-clause-moves
 returns-else-place-was_keys-clause-moves g c =
@@ -55,9 +60,11 @@ returns-else-place-was_keys-clause-moves g c =
 pub returns-then-place-was_keys-clause-sets : goal.returns-then-place-was_keys-clause-sets
 returns-then-place-was_keys-clause-sets g c = λ matched.
     let long : length c.loop-i.keys ≡ length c.as_slice-branches.result.now = omega (arith, c.requires.keys, c.loop-i.auto.keys, ap length c.as_slice-branches.ensures) in
-    over_in_order _ _ _ _ _ _ (order_done c.args.next.now c.as_slice-branches.result.now c.loop-i.keys c.loop-i.i c.as_slice-branches.ensures c.loop-i-test.false long) (c.loop-i.invariant.joined matched).sets c.stop_left.ensures.sets
+    over_in_order _ _ _ _ _ _ (order_done c.args.next.now c.as_slice-branches.result.now c.loop-i.keys c.loop-i.i c.as_slice-branches.ensures c.loop-i-test.false long)
+    (c.loop-i.invariant.joined matched).sets c.stop_left.ensures.sets
 
 pub returns-else-place-was_keys-clause-sets : goal.returns-else-place-was_keys-clause-sets
 returns-else-place-was_keys-clause-sets g c = λ matched.
     let long : length c.loop-i.keys ≡ length c.as_slice-branches.result.now = omega (arith, c.requires.keys, c.loop-i.auto.keys, ap length c.as_slice-branches.ensures) in
-    over_in_order _ _ _ _ _ _ (order_done c.args.next.now c.as_slice-branches.result.now c.loop-i.keys c.loop-i.i c.as_slice-branches.ensures c.loop-i-test.false long) (c.loop-i.invariant.joined matched).sets (stays_in_order _ _ _)
+    over_in_order _ _ _ _ _ _ (order_done c.args.next.now c.as_slice-branches.result.now c.loop-i.keys c.loop-i.i c.as_slice-branches.ensures c.loop-i-test.false long)
+    (c.loop-i.invariant.joined matched).sets (stays_in_order _ _ _)

@@ -16,5 +16,6 @@ returns-clause-moves g c = Moves-three_back _ _ _ _ _ _ _ _ _ _ c.sync_slot-call
 
 pub returns-clause-sets : goal.returns-clause-sets
 returns-clause-sets g c = λ slots next_slots.
-    part_synced _ _ _ _ c.args.keys (record { again = c.sync_slot-again.result; last = c.sync_slot-last.result; call = c.sync_slot-call.result }) c.args.was.now c.args.next.now slots next_slots
+    part_synced _ _ _ _ c.args.keys (record { again = c.sync_slot-again.result; last = c.sync_slot-last.result; call = c.sync_slot-call.result }) c.args.was.now
+    c.args.next.now slots next_slots
     c.sync_slot-call.ensures.sets c.sync_slot-last.ensures.sets c.sync_slot-again.ensures.sets

@@ -15,9 +15,11 @@ sync_branches-requires-clause-timed g c = IsNear-later _ _ _ c.requires.moments 
 
 pub returns-clause-moves : goal.returns-clause-moves
 returns-clause-moves g c =
-    Moves-begun _ _ _ _ _ _ _ _ refl (without_keys c.args.next.now c.args.next.now.branches) (c.side_part-part.ensures.names c.set_part-side.result) c.set_part-side.ensures.moves c.sync_branches.ensures.moves
+    Moves-begun _ _ _ _ _ _ _ _ refl (without_keys c.args.next.now c.args.next.now.branches) (c.side_part-part.ensures.names c.set_part-side.result)
+    c.set_part-side.ensures.moves c.sync_branches.ensures.moves
 
 pub returns-clause-sets : goal.returns-clause-sets
 returns-clause-sets g c =
-    begun_in_order _ _ _ _ _ _ _ (c.side_part-part.ensures.names c.set_part-side.result) (without_keys c.args.next.now c.args.next.now.branches) c.set_part-side.ensures.sets
+    begun_in_order _ _ _ _ _ _ _ (c.side_part-part.ensures.names c.set_part-side.result) (without_keys c.args.next.now c.args.next.now.branches)
+    c.set_part-side.ensures.sets
     (c.sync_branches.ensures.sets (matched_none _ c.args.next.now.branches (keyed-none c.args.next.now.branches)))

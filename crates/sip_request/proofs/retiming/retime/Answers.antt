@@ -14,4 +14,5 @@ returns-clause-moves g c = Moves-pair _ _ _ _ _ _ _ _ _ refl refl c.retime_side-
 
 pub returns-clause-sets : goal.returns-clause-sets
 returns-clause-sets g c = λ matched.
-    all_set _ _ _ c.args.was.now c.args.next.now c.args.was_side c.retime_side-side.result c.args.was_keys.now _ c.retime_side-side.ensures.sets (c.sync_branches.ensures.sets matched)
+    all_set _ _ _ c.args.was.now c.args.next.now c.args.was_side c.retime_side-side.result c.args.was_keys.now _ c.retime_side-side.ensures.sets
+    (c.sync_branches.ensures.sets matched)

@@ -9,8 +9,10 @@ returns c = λ server first periods config state last more until steps further h
     ((c.under_one_is_a_run.ensures server state config more until further later last).1 behind) in
     record {
       is_run = run;
-      access = c.runs_under_are_one.ensures.access server first (periods ++ record { config = config; events = more } ∷ []) until (steps ++ further) (later ++ history) last run;
+      access = c.runs_under_are_one.ensures.access server first (periods ++ record { config = config; events = more } ∷ []) until (steps ++ further) (later ++ history)
+          last run;
       bounded = c.every_history_is_bounded.ensures server first (later ++ history) last
-          (c.runs_under_are_one.ensures.one server (first_state first) (periods ++ record { config = config; events = more } ∷ []) until (steps ++ further) (later ++ history) last run).chain;
+          (c.runs_under_are_one.ensures.one server (first_state first) (periods ++ record { config = config; events = more } ∷ []) until (steps ++ further)
+          (later ++ history) last run).chain;
     }
     )

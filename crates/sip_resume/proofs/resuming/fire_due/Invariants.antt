@@ -7,7 +7,9 @@ use Rattle.sip_resume.proofs.resuming.fire_due.Given as goal
 abbrev pub invariant-loop-out : goal.invariant-loop-out
 invariant-loop-out g l =
     (l.engine.server ≡ l.initial.engine.server)
-    × RunsShown l.initial.engine.server (standing_of l.initial.engine) (standing_of l.engine) [] (Some l.at) (g.S.StepSink.shown l.initial.sink) (g.S.StepSink.shown l.sink)
+    × RunsShown l.initial.engine.server (standing_of l.initial.engine) (standing_of l.engine) [] (Some l.at) (g.S.StepSink.shown l.initial.sink)
+    (g.S.StepSink.shown l.sink)
+    × (l.engine.secrets ≡ l.initial.engine.secrets)
 
 abbrev pub decreases-loop-out : goal.decreases-loop-out
 decreases-loop-out g l = steps_left l.at l.engine.state

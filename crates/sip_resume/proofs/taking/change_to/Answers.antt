@@ -5,6 +5,7 @@ use Rattle.sip_resume.proofs.taking.change_to.Goals as goal
 
 pub returns-in-Err-OtherFrame-clause-refused : goal.returns-in-Err-OtherFrame-clause-refused
 returns-in-Err-OtherFrame-clause-refused g c = (
-  other_key c.change.result (frame_key_of c.args.engine.now.server.config c.args.config) c.in-Err-OtherFrame.key (grind (arith, c.in-Err-OtherFrame.is, c.in-Err-OtherFrame.field-0-is)) c.change.ensures.refused c.change.ensures.otherwise,
+  other_key c.change.result (frame_key_of c.args.engine.now.server.config c.args.config) c.in-Err-OtherFrame.key
+      (grind (arith, c.in-Err-OtherFrame.is, c.in-Err-OtherFrame.field-0-is)) c.change.ensures.refused c.change.ensures.otherwise,
   refl,
 )

@@ -9,6 +9,7 @@ loop-out-init g c = (refl, goes_nothing c.args.engine.now.server (standing_of c.
 pub loop-out-preserved : goal.loop-out-preserved
 loop-out-preserved g c = (
   c.fire_next.ensures.server ∙ c.loop-out.invariant.0,
-  goes_firing c.args.engine.now.server c.loop-out.engine.server (standing_of c.args.engine.now) (standing_of c.loop-out.engine) (standing_of c.fire_next.new.engine) c.args.at c.in-Some.out c.args.steps.now c.loop-out.steps c.push.new.self
+  goes_firing c.args.engine.now.server c.loop-out.engine.server (standing_of c.args.engine.now) (standing_of c.loop-out.engine) (standing_of c.fire_next.new.engine)
+      c.args.at c.in-Some.out c.args.steps.now c.loop-out.steps c.push.new.self
       c.loop-out.invariant.0 c.loop-out.invariant.1 (rw c.in-Some.is at c.in_ok-out.ensures.fired) c.in_ok-push.ensures.ok,
 )

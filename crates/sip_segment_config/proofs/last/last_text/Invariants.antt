@@ -7,7 +7,8 @@ use Rattle.sip_segment_config.proofs.last.last_text.Given as goal
 -- the parts so far, and the last configuration among them
 abbrev pub invariant-parts : goal.invariant-parts
 invariant-parts g l =
-    SoFar l.longest (pending l.initial.lines (g.I.TellingReader.remaining l.initial.reader)) (pending l.lines (g.I.TellingReader.remaining l.reader)) l.initial.lines.number l.lines.number l.last
+    SoFar l.longest (pending l.initial.lines (g.I.TellingReader.remaining l.initial.reader)) (pending l.lines (g.I.TellingReader.remaining l.reader))
+    l.initial.lines.number l.lines.number l.last
     × (later l.lines.asks (g.I.TellingReader.asked l.reader) ≡ later l.initial.lines.asks (g.I.TellingReader.asked l.initial.reader))
     × (l.lines.asks ≤ l.initial.lines.asks)
 

@@ -7,7 +7,8 @@ use Rattle.sip_segment_text.proofs.configuration.take_lines.Given as goal
 -- the lines so far gave the text
 abbrev pub invariant-loop-line : goal.invariant-loop-line
 invariant-loop-line g l =
-    Taken l.initial.lines l.lines (g.R.TellingReader.remaining l.initial.reader) (g.R.TellingReader.remaining l.reader) l.text × (length l.text ≤ l.longest) × (l.lines.asks ≤ l.initial.lines.asks)
+    Taken l.initial.lines l.lines (g.R.TellingReader.remaining l.initial.reader) (g.R.TellingReader.remaining l.reader) l.text × (length l.text ≤ l.longest)
+    × (l.lines.asks ≤ l.initial.lines.asks)
     × (later l.lines.asks (g.R.TellingReader.asked l.reader) ≡ later l.initial.lines.asks (g.R.TellingReader.asked l.initial.reader))
 
 abbrev pub decreases-loop-line : goal.decreases-loop-line

@@ -23,7 +23,12 @@ returns-clause-segments c = record {
   rest = codes "configuration e3b0c44298fc1c149afbf4c8996fb92427ae41e4649b934ca495991b7852b855\n";
   cut = refl;
   configured = record { front = codes "+ abc\n"; gives = gives_one (codes "+ abc") (codes "abc") (record { short = omega arith; single = refl }) refl; text_is = refl };
-  says = record_one (codes "time 5\n") (Time 5) (inl (record { line = codes "time 5"; is_line = record { short = omega arith; single = refl }; text_is = refl; says = refl }));
+  says = record_one (codes "time 5\n") (Time 5) (inl (record {
+    line = codes "time 5";
+    is_line = record { short = omega arith; single = refl };
+    text_is = refl;
+    says = refl;
+  }));
   others = record {
     first = codes "configuration e3b0c44298fc1c149afbf4c8996fb92427ae41e4649b934ca495991b7852b855\n";
     taken = [];

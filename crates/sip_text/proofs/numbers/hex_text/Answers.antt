@@ -30,5 +30,22 @@ eight number = refl
 
 pub returns : goal.returns
 returns c =
-    rw (c.high_digit.ensures, c.low_digit.ensures, c.high_digit-2.ensures, c.low_digit-2.ensures, c.high_digit-3.ensures, c.low_digit-3.ensures, c.high_digit-4.ensures, c.low_digit-4.ensures, c.high_digit-5.ensures, c.low_digit-5.ensures, c.high_digit-6.ensures, c.low_digit-6.ensures, c.high_digit-7.ensures, c.low_digit-7.ensures, c.high_digit-8.ensures, c.low_digit-8.ensures)
+    rw (
+      c.high_digit.ensures,
+      c.low_digit.ensures,
+      c.high_digit-2.ensures,
+      c.low_digit-2.ensures,
+      c.high_digit-3.ensures,
+      c.low_digit-3.ensures,
+      c.high_digit-4.ensures,
+      c.low_digit-4.ensures,
+      c.high_digit-5.ensures,
+      c.low_digit-5.ensures,
+      c.high_digit-6.ensures,
+      c.low_digit-6.ensures,
+      c.high_digit-7.ensures,
+      c.low_digit-7.ensures,
+      c.high_digit-8.ensures,
+      c.low_digit-8.ensures,
+    )
     (ap digits_of c.to_be_bytes-bytes.ensures ∙ eight c.args.number)

@@ -8,4 +8,5 @@ returns-in_err-at c = rw c.from_residual.ensures (split_none c.args.mark c.args.
 pub returns : goal.returns
 returns c =
     ap (λ (w : List ℕ). Some (w, c.in_ok-rest.rest.now)) c.split_at.ensures.front
-    ∙ split_found c.args.mark c.in_ok-at.at c.args.bytes.now c.in_ok-rest.rest.now c.in_ok-rest.field-0-0.now c.in_ok-at.ensures (sym c.split_at.ensures.back ∙ c.in_ok-rest.ensures.cases.0)
+    ∙ split_found c.args.mark c.in_ok-at.at c.args.bytes.now c.in_ok-rest.rest.now c.in_ok-rest.field-0-0.now c.in_ok-at.ensures
+    (sym c.split_at.ensures.back ∙ c.in_ok-rest.ensures.cases.0)

@@ -12,6 +12,7 @@ returns-then-not-same_lanes c = (
 
 pub returns : goal.returns
 returns c = (
-  λ same. same_all c.args.value.now c.args.text.now c.by_lanes.seen (length c.args.text.now - 16) c.if-length-lt-LANES.false refl c.by_lanes-test.false c.by_lanes.invariant (c.same_lanes-2.ensures.0 same),
+  λ same. same_all c.args.value.now c.args.text.now c.by_lanes.seen (length c.args.text.now - 16) c.if-length-lt-LANES.false refl c.by_lanes-test.false
+      c.by_lanes.invariant (c.same_lanes-2.ensures.0 same),
   λ whole. c.same_lanes-2.ensures.1 (part_same c.args.value.now c.args.text.now (length c.args.text.now - 16) whole (omega arith)),
 )

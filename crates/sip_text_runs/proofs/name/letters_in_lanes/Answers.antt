@@ -10,4 +10,5 @@ returns c =
     let v = chunk 0 16 c.args.bytes.now in
     let long = length-chunk 0 16 c.args.bytes.now c.requires in
     run_in is_letter_or_dash c.args.bytes.now 0 16 _ _ c.requires (omega arith) c.type_inv.bytes c.first_set.ensures _
-    (joined bit_and _ _ v (joined (λ a b. cond (leb a b) 255 0) _ _ v (splat_is v 16 26 long) (joined _ _ _ v (zip2_splat {Y = ℕ} _ v 16 32 long) (splat_is v 16 97 long))) (zip2_splat {Y = ℕ} _ v 16 45 long)) refl
+    (joined bit_and _ _ v (joined (λ a b. cond (leb a b) 255 0) _ _ v (splat_is v 16 26 long)
+    (joined _ _ _ v (zip2_splat {Y = ℕ} _ v 16 32 long) (splat_is v 16 97 long))) (zip2_splat {Y = ℕ} _ v 16 45 long)) refl

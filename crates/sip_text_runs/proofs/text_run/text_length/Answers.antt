@@ -6,12 +6,14 @@ use Rattle.sip_text_runs.proofs.text_run.text_length.Goals as goal
 pub returns-then-run-lt-LANES-clause-text : goal.returns-then-run-lt-LANES-clause-text
 returns-then-run-lt-LANES-clause-text c =
     text_front c.args.bytes.now _
-    (run_more is_text_but_tab c.args.bytes.now c.by_lanes.end c.text_in_lanes-run.result _ c.by_lanes.invariant c.text_in_lanes-run.ensures.0 (omega (arith, c.by_lanes-test.true, c.by_lanes.invariant.within)) refl)
+    (run_more is_text_but_tab c.args.bytes.now c.by_lanes.end c.text_in_lanes-run.result _ c.by_lanes.invariant c.text_in_lanes-run.ensures.0
+    (omega (arith, c.by_lanes-test.true, c.by_lanes.invariant.within)) refl)
 
 pub returns-then-run-lt-LANES-clause-run : goal.returns-then-run-lt-LANES-clause-run
 returns-then-run-lt-LANES-clause-run c =
     run_front is_text_but_tab c.args.bytes.now _
-    (run_more is_text_but_tab c.args.bytes.now c.by_lanes.end c.text_in_lanes-run.result _ c.by_lanes.invariant c.text_in_lanes-run.ensures.0 (omega (arith, c.by_lanes-test.true, c.by_lanes.invariant.within)) refl)
+    (run_more is_text_but_tab c.args.bytes.now c.by_lanes.end c.text_in_lanes-run.result _ c.by_lanes.invariant c.text_in_lanes-run.ensures.0
+    (omega (arith, c.by_lanes-test.true, c.by_lanes.invariant.within)) refl)
 
 pub returns-else-is_text_byte-clause-text : goal.returns-else-is_text_byte-clause-text
 returns-else-is_text_byte-clause-text c = text_front c.args.bytes.now c.loop-end.end c.loop-end.invariant

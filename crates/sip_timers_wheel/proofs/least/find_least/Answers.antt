@@ -11,8 +11,10 @@ loop-at-init c = left_at_first c.args.rows.now c.args.head.now (list_of c.args.r
 pub timer_at-requires : goal.timer_at-requires
 timer_at-requires c = row_is_next c.args.rows.now c.loop-at.at c.in-Some.number c.loop-at.best _ c.loop-at.invariant c.in-Some.is
 
-step : (c : goal.After-at-in-Some-1) → IsLeft c.args.rows.now (c.index.result.now).next c.sooner-best.result (least (list_of c.args.rows.now c.args.head.now)) × (length (walk c.args.rows.now (slab_len c.args.rows.now) (c.index.result.now).next) < length (walk c.args.rows.now (slab_len c.args.rows.now) c.loop-at.at))
-step c = left_after c.args.rows.now c.loop-at.at c.in-Some.number c.loop-at.best c.sooner-best.result _ c.index.result.now c.timer_at.result c.loop-at.invariant c.in-Some.is c.index.ensures c.timer_at.ensures c.sooner-best.ensures
+step : (c : goal.After-at-in-Some-1) → IsLeft c.args.rows.now (c.index.result.now).next c.sooner-best.result (least (list_of c.args.rows.now c.args.head.now))
+    × (length (walk c.args.rows.now (slab_len c.args.rows.now) (c.index.result.now).next) < length (walk c.args.rows.now (slab_len c.args.rows.now) c.loop-at.at))
+step c = left_after c.args.rows.now c.loop-at.at c.in-Some.number c.loop-at.best c.sooner-best.result _ c.index.result.now c.timer_at.result c.loop-at.invariant
+    c.in-Some.is c.index.ensures c.timer_at.ensures c.sooner-best.ensures
 
 pub loop-at-smaller : goal.loop-at-smaller
 loop-at-smaller c = (step c).1

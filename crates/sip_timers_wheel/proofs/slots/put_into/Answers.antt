@@ -15,8 +15,11 @@ put_behind-requires-clause-fresh c = fresh_at c.args.rows.now c.args.heads.now c
 pub put_behind-requires-clause-fits : goal.put_behind-requires-clause-fits
 put_behind-requires-clause-fits c = fits_at c.args.rows.now c.args.heads.now c.args.slot _ c.requires.held c.requires.within
 
-held_after : (c : goal.After-put_behind) → (row : Row) → get c.args.rows.now c.args.number.0 ≡ Some row → AreHeld 0 c.put_behind.new.rows (set c.args.heads.now c.args.slot c.put_behind.new.self) (set (lists_of c.args.rows.now c.args.heads.now) c.args.slot (get_or (lists_of c.args.rows.now c.args.heads.now) c.args.slot [] ++ timer_of c.args.number.0 row ∷ []))
-held_after c row found = put_at c.args.rows.now c.put_behind.new.rows c.args.heads.now c.args.slot _ c.put_behind.new.self (timer_of c.args.number.0 row) c.requires.held c.requires.within c.requires.fresh (c.put_behind.ensures.put row found) c.put_behind.ensures.others c.put_behind.ensures.size
+held_after : (c : goal.After-put_behind) → (row : Row) → get c.args.rows.now c.args.number.0 ≡ Some row
+    → AreHeld 0 c.put_behind.new.rows (set c.args.heads.now c.args.slot c.put_behind.new.self)
+    (set (lists_of c.args.rows.now c.args.heads.now) c.args.slot (get_or (lists_of c.args.rows.now c.args.heads.now) c.args.slot [] ++ timer_of c.args.number.0 row ∷ []))
+held_after c row found = put_at c.args.rows.now c.put_behind.new.rows c.args.heads.now c.args.slot _ c.put_behind.new.self (timer_of c.args.number.0 row) c.requires.held
+    c.requires.within c.requires.fresh (c.put_behind.ensures.put row found) c.put_behind.ensures.others c.put_behind.ensures.size
 
 pub returns-clause-held : goal.returns-clause-held
 returns-clause-held c = let row = row_at c.args.rows.now c.args.number.0 c.requires.stands in held_again 0 _ _ _ (held_after c row.0 row.1)

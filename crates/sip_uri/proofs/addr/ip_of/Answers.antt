@@ -13,7 +13,8 @@ returns-in_err-third c =
 pub returns-in_err-fourth : goal.returns-in_err-fourth
 returns-in_err-fourth c =
     rw c.from_residual-in_err-fourth.ensures
-    (three_alone c.args.text.now c.in_ok-first.first c.in_ok-second.second c.in_ok-third.third _ _ _ c.in_ok-first.ensures c.in_ok-second.ensures c.in_ok-third.ensures c.in_err-fourth.ensures)
+    (three_alone c.args.text.now c.in_ok-first.first c.in_ok-second.second c.in_ok-third.third _ _ _ c.in_ok-first.ensures c.in_ok-second.ensures c.in_ok-third.ensures
+    c.in_err-fourth.ensures)
 
 pub returns-in_default-None : goal.returns-in_default-None
 returns-in_default-None c =

@@ -12,5 +12,7 @@ returns-in_default-clause-name c = λ none. name_at c.args.host.now c.args.rest.
 pub returns-clause-place : goal.returns-clause-place
 returns-clause-place c =
     let colon : c.args.rest.now ≡ 58 ∷ c.in-Some-eq58-default.behind.now = search rules in
-    port_at c.args.host.now c.args.rest.now c.in-Some-eq58-default.behind.now c.split_at.result.0.now c.split_at.result.1.now c.in_ok-length.number c.requires (sym c.is_empty.ensures ∙ c.if-is_empty.false) colon
-    (both_parts c.in_ok-length.length c.in-Some-eq58-default.behind.now c.split_at.result.0.now c.split_at.result.1.now c.split_at.ensures.front c.split_at.ensures.back) (ap port_value c.split_at.ensures.front ∙ c.in_ok-length.ensures.number)
+    port_at c.args.host.now c.args.rest.now c.in-Some-eq58-default.behind.now c.split_at.result.0.now c.split_at.result.1.now c.in_ok-length.number c.requires
+    (sym c.is_empty.ensures ∙ c.if-is_empty.false) colon
+    (both_parts c.in_ok-length.length c.in-Some-eq58-default.behind.now c.split_at.result.0.now c.split_at.result.1.now c.split_at.ensures.front c.split_at.ensures.back)
+    (ap port_value c.split_at.ensures.front ∙ c.in_ok-length.ensures.number)

@@ -10,5 +10,6 @@ returns-then-mark-eq63 c = λ front plain. headers_next front c.args.rest.now c.
 
 pub returns-then-mark-eq59 : goal.returns-then-mark-eq59
 returns-then-mark-eq59 c =
-    λ front plain. parameters_next front c.args.rest.now c.in-Some.behind.now c.part_before.result.0.now (option_map (λ y. y.now) c.part_before.result.1) c.in-Some.mark.now c.in-Some.ensures.cases.0 c.if-mark-eq59.true c.part_before.ensures.front
+    λ front plain. parameters_next front c.args.rest.now c.in-Some.behind.now c.part_before.result.0.now (option_map (λ y. y.now) c.part_before.result.1)
+    c.in-Some.mark.now c.in-Some.ensures.cases.0 c.if-mark-eq59.true c.part_before.ensures.front
     c.part_before.ensures.behind plain

@@ -6,4 +6,5 @@ use Rattle.sip_uri_equality.proofs.header_order.are_same_at_each_place.Given as 
 
 -- the rests decide
 abbrev pub invariant-loop-index : goal.invariant-loop-index
-invariant-loop-index l = pointwise is_same_header (those_of (drop l.index l.left)) (those_of (drop l.index l.right)) ≡ pointwise is_same_header (those_of l.fn.left) (those_of l.fn.right)
+invariant-loop-index l = pointwise is_same_header (those_of (drop l.index l.left)) (those_of (drop l.index l.right))
+    ≡ pointwise is_same_header (those_of l.fn.left) (those_of l.fn.right)

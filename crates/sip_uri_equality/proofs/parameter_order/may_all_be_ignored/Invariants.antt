@@ -7,4 +7,5 @@ use Rattle.sip_uri_equality.proofs.parameter_order.may_all_be_ignored.Given as g
 
 -- the rest decides
 abbrev pub invariant-loop-parameter : goal.invariant-loop-parameter
-invariant-loop-parameter l = list_all (λ p. not (is_never_ignored p.name)) (those_of (drop l.parameter-index l.parameters)) ≡ list_all (λ p. not (is_never_ignored p.name)) (those_of l.fn.parameters)
+invariant-loop-parameter l = list_all (λ p. not (is_never_ignored p.name)) (those_of (drop l.parameter-index l.parameters))
+    ≡ list_all (λ p. not (is_never_ignored p.name)) (those_of l.fn.parameters)

@@ -4,7 +4,8 @@ use Rattle.sip_uri_equality.proofs.parameter_order.ordered_are_same.Goals as goa
 
 pub returns-then-right_at-right : goal.returns-then-right_at-right
 returns-then-right_at-right c =
-    right_ended c.args.left.now c.args.right.now c.loop-left_at.left_at c.loop-left_at.right_at _ c.loop-left_at.invariant.same c.may_all_be_ignored.result (omega arith) c.may_all_be_ignored.ensures
+    right_ended c.args.left.now c.args.right.now c.loop-left_at.left_at c.loop-left_at.right_at _ c.loop-left_at.invariant.same c.may_all_be_ignored.result (omega arith)
+    c.may_all_be_ignored.ensures
 
 pub advance_in-requires-clause-left : goal.advance_in-requires-clause-left
 advance_in-requires-clause-left c = rest_in_order c.args.left.now c.loop-left_at.left_at (omega arith) c.requires.left
@@ -35,4 +36,5 @@ loop-left_at-preserved c = record {
 
 pub returns : goal.returns
 returns c =
-    left_ended c.args.left.now c.args.right.now c.loop-left_at.left_at c.loop-left_at.right_at _ c.loop-left_at.invariant.same c.may_all_be_ignored-2.result (omega arith) c.may_all_be_ignored-2.ensures
+    left_ended c.args.left.now c.args.right.now c.loop-left_at.left_at c.loop-left_at.right_at _ c.loop-left_at.invariant.same c.may_all_be_ignored-2.result (omega arith)
+    c.may_all_be_ignored-2.ensures

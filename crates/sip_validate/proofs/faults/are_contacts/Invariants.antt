@@ -6,4 +6,5 @@ use Rattle.sip_validate.proofs.faults.are_contacts.Given as goal
 
 -- what those that are left say is what all say
 abbrev pub invariant-loop-field : goal.invariant-loop-field
-invariant-loop-field l = list_all (λ value. is_some (contact_of value)) (values_of l.name (drop l.field-index l.fields)) ≡ list_all (λ value. is_some (contact_of value)) (values_of l.name l.fields)
+invariant-loop-field l = list_all (λ value. is_some (contact_of value)) (values_of l.name (drop l.field-index l.fields))
+    ≡ list_all (λ value. is_some (contact_of value)) (values_of l.name l.fields)

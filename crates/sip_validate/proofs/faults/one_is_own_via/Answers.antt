@@ -9,4 +9,5 @@ pub returns-clause-own : goal.returns-clause-own
 returns-clause-own c =
     let some_is = rw c.in-Some.is at c.in_ok-some.ensures.own in
     some_is
-    ∙ own_behind c.args.own.now c.args.fields.now c.behind_first-behind.result.now c.args.top.now c.requires (sym c.is_own_via.ensures ∙ c.if-is_own_via.false) c.behind_first-behind.ensures
+    ∙ own_behind c.args.own.now c.args.fields.now c.behind_first-behind.result.now c.args.top.now c.requires (sym c.is_own_via.ensures ∙ c.if-is_own_via.false)
+    c.behind_first-behind.ensures

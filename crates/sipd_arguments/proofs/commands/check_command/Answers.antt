@@ -9,10 +9,13 @@ use Rattle.sipd_arguments.proofs.commands.check_command.Goals as goal
 
 pub returns : goal.returns
 returns c =
-    IfOk-weaker c.arg-3.result _ _ (λ r h. added _ _ r _ _
+    IfOk-weaker c.arg-4.result _ _ (λ r h. added _ _ r _ _
+    (added _ _ _ _ _
     (added _ _ _ _ _
     (added _ _ _ _ _
     (begun _ (codes "check") (ap app_of_fields c.about.ensures ∙ c.new.ensures.app) (ap (λ (f : Command-F Command). f.has_globals) c.about.ensures ∙ c.new.ensures.local))
-    c.in_ok-arg.ensures (needed_rule _ _ _ c.required.ensures c.config_argument.ensures.rule) (ap (λ (x : Arg). x.global) c.required.ensures ∙ c.config_argument.ensures.local))
+    c.in_ok-arg.ensures (needed_rule _ _ _ c.required.ensures c.config_argument.ensures.rule)
+    (ap (λ (x : Arg). x.global) c.required.ensures ∙ c.config_argument.ensures.local))
     c.in_ok-arg-2.ensures c.flag.ensures.rule c.flag.ensures.local)
-    h c.option.ensures.rule c.option.ensures.local) c.arg-3.ensures
+    c.in_ok-arg-3.ensures c.option.ensures.rule c.option.ensures.local)
+    h c.option-2.ensures.rule c.option-2.ensures.local) c.arg-4.ensures

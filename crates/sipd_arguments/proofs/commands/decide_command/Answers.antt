@@ -14,8 +14,10 @@ returns c =
     (added _ _ _ _ _
     (added _ _ _ _ _
     (added _ _ _ _ _
-    (begun _ (codes "decide") (ap app_of_fields c.about.ensures ∙ c.new.ensures.app) (ap (λ (f : Command-F Command). f.has_globals) c.about.ensures ∙ c.new.ensures.local))
-    c.in_ok-arg.ensures (needed_rule _ _ _ c.required.ensures c.config_argument.ensures.rule) (ap (λ (x : Arg). x.global) c.required.ensures ∙ c.config_argument.ensures.local))
+    (begun _ (codes "decide") (ap app_of_fields c.about.ensures ∙ c.new.ensures.app) (ap (λ (f : Command-F Command). f.has_globals) c.about.ensures
+    ∙ c.new.ensures.local))
+    c.in_ok-arg.ensures (needed_rule _ _ _ c.required.ensures c.config_argument.ensures.rule)
+    (ap (λ (x : Arg). x.global) c.required.ensures ∙ c.config_argument.ensures.local))
     c.in_ok-arg-2.ensures c.option.ensures.rule c.option.ensures.local)
     c.in_ok-arg-3.ensures c.minute_argument.ensures.rule c.minute_argument.ensures.local)
     c.in_ok-arg-4.ensures c.word.ensures.rule c.word.ensures.local)

@@ -11,6 +11,8 @@ pub returns : goal.returns
 returns c =
     IfOk-weaker c.arg-2.result _ _ (λ r h. added _ _ r _ _
     (added _ _ _ _ _
-    (begun _ (codes "matrix") (ap app_of_fields c.about.ensures ∙ c.new.ensures.app) (ap (λ (f : Command-F Command). f.has_globals) c.about.ensures ∙ c.new.ensures.local))
-    c.in_ok-arg.ensures (needed_rule _ _ _ c.required.ensures c.config_argument.ensures.rule) (ap (λ (x : Arg). x.global) c.required.ensures ∙ c.config_argument.ensures.local))
+    (begun _ (codes "matrix") (ap app_of_fields c.about.ensures ∙ c.new.ensures.app) (ap (λ (f : Command-F Command). f.has_globals) c.about.ensures
+    ∙ c.new.ensures.local))
+    c.in_ok-arg.ensures (needed_rule _ _ _ c.required.ensures c.config_argument.ensures.rule)
+    (ap (λ (x : Arg). x.global) c.required.ensures ∙ c.config_argument.ensures.local))
     h c.method_argument.ensures.rule c.method_argument.ensures.local) c.arg-2.ensures

@@ -14,7 +14,8 @@ returns-in-Ok-call_of c =
 pub returns : goal.returns
 returns c =
     let why = subst (IsWhy (misuse_of (subcommand_rows_of c.in-Ok.matches))) c.in-Err-Misused.field-0-is c.in-Err-Misused.ensures.refused in
-    ends_misused (app_of c.in_ok-commands.field-0) (map string_bytes c.args.words.now) c.in_ok-commands.ensures c.in-Ok.matches c.in-Err-Misused.why c.in_ok-complaint_of-in-Err-Misused.field-0
+    ends_misused (app_of c.in_ok-commands.field-0) (map string_bytes c.args.words.now) c.in_ok-commands.ensures c.in-Ok.matches c.in-Err-Misused.why
+    c.in_ok-complaint_of-in-Err-Misused.field-0
     c.in-Ok.ensures.kinds c.in-Ok.ensures.matches why c.in_ok-complaint_of-in-Err-Misused.ensures
 
 pub returns-in-Err : goal.returns-in-Err

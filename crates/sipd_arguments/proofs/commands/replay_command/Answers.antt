@@ -10,6 +10,7 @@ pub returns : goal.returns
 returns c =
     IfOk-weaker c.arg-2.result _ _ (λ r h. added _ _ r _ _
     (added _ _ _ _ _
-    (begun _ (codes "replay") (ap app_of_fields c.about.ensures ∙ c.new.ensures.app) (ap (λ (f : Command-F Command). f.has_globals) c.about.ensures ∙ c.new.ensures.local))
+    (begun _ (codes "replay") (ap app_of_fields c.about.ensures ∙ c.new.ensures.app) (ap (λ (f : Command-F Command). f.has_globals) c.about.ensures
+    ∙ c.new.ensures.local))
     c.in_ok-arg.ensures c.config_argument.ensures.rule c.config_argument.ensures.local)
     h c.old_record_argument.ensures.rule c.old_record_argument.ensures.local) c.arg-2.ensures

@@ -13,7 +13,8 @@ returns c =
     (added _ _ _ _ _
     (added _ _ _ _ _
     (added _ _ _ _ _
-    (begun _ (codes "report") (ap app_of_fields c.about.ensures ∙ c.new.ensures.app) (ap (λ (f : Command-F Command). f.has_globals) c.about.ensures ∙ c.new.ensures.local))
+    (begun _ (codes "report") (ap app_of_fields c.about.ensures ∙ c.new.ensures.app) (ap (λ (f : Command-F Command). f.has_globals) c.about.ensures
+    ∙ c.new.ensures.local))
     c.in_ok-arg.ensures c.config_argument.ensures.rule c.config_argument.ensures.local)
     c.in_ok-arg-2.ensures c.option.ensures.rule c.option.ensures.local)
     c.in_ok-arg-3.ensures c.rule_argument.ensures.rule c.rule_argument.ensures.local)

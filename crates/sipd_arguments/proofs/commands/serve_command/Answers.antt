@@ -18,7 +18,8 @@ returns c =
     (added _ _ _ _ _
     (added _ _ _ _ _
     (begun _ (codes "serve") (ap app_of_fields c.about.ensures ∙ c.new.ensures.app) (ap (λ (f : Command-F Command). f.has_globals) c.about.ensures ∙ c.new.ensures.local))
-    c.in_ok-arg.ensures (needed_rule _ _ _ c.required.ensures c.config_argument.ensures.rule) (ap (λ (x : Arg). x.global) c.required.ensures ∙ c.config_argument.ensures.local))
+    c.in_ok-arg.ensures (needed_rule _ _ _ c.required.ensures c.config_argument.ensures.rule)
+    (ap (λ (x : Arg). x.global) c.required.ensures ∙ c.config_argument.ensures.local))
     c.in_ok-arg-2.ensures c.turns_argument.ensures.rule c.turns_argument.ensures.local)
     c.in_ok-arg-3.ensures c.record_argument.ensures.rule c.record_argument.ensures.local)
     c.in_ok-arg-4.ensures c.records_argument.ensures.rule c.records_argument.ensures.local)

@@ -6,6 +6,7 @@ pub returns : goal.returns
 unfolding clap_on_literals
 returns c = record {
   check = refl;
+  expect = refl;
   joined = refl;
   serve = refl;
   decide = refl;

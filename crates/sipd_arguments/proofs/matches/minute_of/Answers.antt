@@ -5,5 +5,6 @@ use Rattle.sipd_arguments.proofs.matches.minute_of.Goals as goal
 
 pub returns : goal.returns
 returns c =
-    number_read _ 16 (λ bs r. ParsesUnsigned 16 10 bs r × ExplainsUnsignedError 10 bs r × HasUnsignedDigitsIfOk bs r) (found_of c.args.matches.now) c.args.name.now c.get_one.result
+    number_read _ 16 (λ bs r. ParsesUnsigned 16 10 bs r × ExplainsUnsignedError 10 bs r × HasUnsignedDigitsIfOk bs r) (found_of c.args.matches.now) c.args.name.now
+    c.get_one.result
     c.get_one.ensures.none c.get_one.ensures.value (λ u x g. g.0)

@@ -9,7 +9,8 @@ use Rattle.sipd_old_record.proofs.old_record.first_line.Goals as goal
 
 pub loop-preserved : goal.loop-preserved
 loop-preserved g c =
-    let read : HasRead (g.I.TellingReader.remaining c.args.reader.now) (g.I.TellingReader.remaining c.next_byte.new.reader) c.push.new.self.items × (vec_len c.push.new.self ≡ c.loop.counter + 1) = grind (arith, common_steps) in
+    let read : HasRead (g.I.TellingReader.remaining c.args.reader.now) (g.I.TellingReader.remaining c.next_byte.new.reader) c.push.new.self.items
+    × (vec_len c.push.new.self ≡ c.loop.counter + 1) = grind (arith, common_steps) in
     (read.0, read.1, asked_both 0 _ _ _ c.loop.invariant.2 c.next_byte.ensures.asked)
 
 pub returns-in_err-next_byte-clause-failed : goal.returns-in_err-next_byte-clause-failed
@@ -19,6 +20,7 @@ returns-in_err-next_byte-clause-failed g c =
       kind = error_kind c.in_err-next_byte.field-0.0;
       same = p.2;
       failed = c.in_err-next_byte.ensures.failed;
-      stopped = stopped_behind (g.I.TellingReader.has_failed c.next_byte.new.reader) most_asks (g.I.TellingReader.asked c.args.reader.now) (g.I.TellingReader.asked c.loop.reader) (g.I.TellingReader.asked c.next_byte.new.reader)
+      stopped = stopped_behind (g.I.TellingReader.has_failed c.next_byte.new.reader) most_asks (g.I.TellingReader.asked c.args.reader.now)
+          (g.I.TellingReader.asked c.loop.reader) (g.I.TellingReader.asked c.next_byte.new.reader)
           c.loop.invariant.2 c.in_err-next_byte.ensures.stopped;
     }))

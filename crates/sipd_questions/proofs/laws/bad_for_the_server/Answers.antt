@@ -1,4 +1,4 @@
-use Rattle.std.proofs.Common.{[], ◌∷◌, ap, option_map, refl}
+use Rattle.std.proofs.Common.{[], ◌∷◌, ap, option_map}
 use Rattle.sip_uri.specs.Reading.{reading_of}
 use Rattle.sip_validate.specs.Faults.{has_short_body, lacks_core_field, has_other_cseq_method, has_bad_max_forwards, has_bad_uri, is_bad}
 use Rattle.sip_validate.specs.Refusal.{Row, refused, has_other_version, has_other_scheme, has_no_hops, has_own_via, needs_extension, unsupported, has_other_route}

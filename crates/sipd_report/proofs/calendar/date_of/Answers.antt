@@ -14,7 +14,8 @@ returns-then-day-length c =
 
 pub loop-preserved : goal.loop-preserved
 loop-preserved c =
-    let beyond : nat_lt c.loop.day (days_of_year c.loop.year) ≡ false = le-ltb c.loop.day (days_of_year c.loop.year) (omega (arith, c.if-day-length.false, c.days_of_year-length.ensures)) in (
+    let beyond : nat_lt c.loop.day (days_of_year c.loop.year) ≡ false = le-ltb c.loop.day (days_of_year c.loop.year)
+    (omega (arith, c.if-day-length.false, c.days_of_year-length.ensures)) in (
       ap (λ n. day_behind (400 - (c.loop.counter + 1)) (c.loop.year + 1) (c.loop.day - n)) c.days_of_year-length.ensures
           ∙ sym (later_year (400 - c.loop.counter) (400 - (c.loop.counter + 1)) c.loop.year c.loop.day (omega (arith, c.loop-test.true)) beyond)
           ∙ c.loop.invariant.0,

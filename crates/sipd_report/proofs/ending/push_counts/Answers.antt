@@ -8,5 +8,7 @@ pub returns : goal.returns
 returns c =
     let t = c.args.tally.now in
     on_ok_weaker c.push_total-3.result
-    (λ h. four_parts c.args.text.now (title_text (codes "lines")) (total_text (codes "in all", t.filled)) (total_text (codes "in the table", t.asked)) (total_text (codes "no audit lines", t.none))
-    c.push_title.new.text c.push_total.new.text c.push_total-2.new.text c.push_total-3.new.text c.in_ok-push_title.ensures c.in_ok-push_total.ensures c.in_ok-push_total-2.ensures h) c.push_total-3.ensures
+    (λ h. four_parts c.args.text.now (title_text (codes "lines")) (total_text (codes "in all", t.filled)) (total_text (codes "in the table", t.asked))
+    (total_text (codes "no audit lines", t.none))
+    c.push_title.new.text c.push_total.new.text c.push_total-2.new.text c.push_total-3.new.text c.in_ok-push_title.ensures c.in_ok-push_total.ensures
+    c.in_ok-push_total-2.ensures h) c.push_total-3.ensures

@@ -21,4 +21,5 @@ pub returns-in-Ok-change-clause-hears : goal.returns-in-Ok-change-clause-hears
 returns-in-Ok-change-clause-hears g c =
     let in_force = ap (λ (s : Server). s.config) c.in-Ok-change.ensures.server in
     let hops : c.in-Ok-hops_of.hops.items ≡ hop_addresses c.change.new.self.server.config = c.in-Ok-hops_of.ensures ∙ ap hop_addresses (sym in_force) in
-    subst (λ (always : List (List ℕ)). c.hear_always.new.self ≡ record c.args.link.now { allowances = option_map (hearing always) c.args.link.now.allowances }) hops c.hear_always.ensures
+    subst (λ (always : List (List ℕ)). c.hear_always.new.self ≡ record c.args.link.now { allowances = option_map (hearing always) c.args.link.now.allowances }) hops
+    c.hear_always.ensures

@@ -13,8 +13,11 @@ use Rattle.sipd_service.proofs.service.do_turn.Goals as goal
 pub returns-then-is_err-clause-ended : goal.returns-then-is_err-clause-ended
 returns-then-is_err-clause-ended g c =
     let is_err = sym c.is_err.ensures.value ∙ c.if-is_err.true in
-    let link : c.change-changed.new.link.link ≡ c.args.service.now.link.link = same_link c.args.service.now.engine.server c.change-changed.new.engine.server c.args.service.now.link c.change-changed.new.link c.change-changed.ensures.hears in
-    let ended : ServiceSeen = service_seen c.change-changed.new.engine c.args.service.now.port c.change-changed.new.watch c.change-changed.new.link (g.C.Clock.readings c.now-now.new.self) (g.J.Journal.written c.say_fault.new.journal) (g.J.Journal.faulted c.say_fault.new.journal) (g.N.Rng.stream c.args.service.now.words) c.args.printer.now.has_failed (g.O.Write.contents c.args.printer.now.output) in
+    let link : c.change-changed.new.link.link ≡ c.args.service.now.link.link = same_link c.args.service.now.engine.server c.change-changed.new.engine.server
+    c.args.service.now.link c.change-changed.new.link c.change-changed.ensures.hears in
+    let ended : ServiceSeen = service_seen c.change-changed.new.engine c.args.service.now.port c.change-changed.new.watch c.change-changed.new.link
+    (g.C.Clock.readings c.now-now.new.self) (g.J.Journal.written c.say_fault.new.journal) (g.J.Journal.faulted c.say_fault.new.journal)
+    (g.N.Rng.stream c.args.service.now.words) c.args.printer.now.has_failed (g.O.Write.contents c.args.printer.now.output) in
     let watched = watched_so c.args.service.now.port c.now-now.result c.args.service.now.engine.server c.change-changed.new.engine.server c.args.service.now.watch
     (err_says c.change-changed.result is_err c.change-changed.ensures.watched) (err_says c.change-changed.result is_err c.change-changed.ensures.unnoted) in
     inr (record {
@@ -22,9 +25,12 @@ returns-then-is_err-clause-ended g c =
       watch = watched.0;
       watched = watched.1;
       unnoted = watched.2;
-      hears = hears_hops c.args.service.now.engine.server c.change-changed.new.engine.server c.args.service.now.link c.change-changed.new.link c.change-changed.ensures.hears;
-      failed = stays_failed (g.J.Journal.written c.change-changed.new.journal) (g.J.Journal.written c.say_fault.new.journal) (err_says c.change-changed.result is_err c.change-changed.ensures.failed) c.say_fault.ensures.noted;
-      others = with_three ended.devices c.args.service.now.link.link.heard c.args.service.now.link.link.given (and_counted (g.C.Clock.readings c.args.service.now.clock) c.now-now.result)
+      hears = hears_hops c.args.service.now.engine.server c.change-changed.new.engine.server c.args.service.now.link c.change-changed.new.link
+          c.change-changed.ensures.hears;
+      failed = stays_failed (g.J.Journal.written c.change-changed.new.journal) (g.J.Journal.written c.say_fault.new.journal)
+          (err_says c.change-changed.result is_err c.change-changed.ensures.failed) c.say_fault.ensures.noted;
+      others = with_three ended.devices c.args.service.now.link.link.heard c.args.service.now.link.link.given
+          (and_counted (g.C.Clock.readings c.args.service.now.clock) c.now-now.result)
           (ap (λ l. l.heard) link) (ap (λ l. l.given) link) c.now-now.ensures;
       still = c.change-changed.ensures.state;
       same_timers = c.change-changed.ensures.timers;
@@ -34,27 +40,46 @@ returns-then-is_err-clause-ended g c =
 
 pub returns-in-Ok-clause-turn : goal.returns-in-Ok-clause-turn
 returns-in-Ok-clause-turn g c =
-    let link : c.change-changed.new.link.link ≡ c.args.service.now.link.link = same_link c.args.service.now.engine.server c.change-changed.new.engine.server c.args.service.now.link c.change-changed.new.link c.change-changed.ensures.hears in
-    let first : ServiceSeen = service_seen c.change-changed.new.engine c.args.service.now.port c.change-changed.new.watch c.wait_until_due.new.self (g.C.Clock.readings c.now-now.new.self) (g.J.Journal.written c.change-changed.new.journal) (g.J.Journal.faulted c.change-changed.new.journal) (g.N.Rng.stream c.args.service.now.words) c.args.printer.now.has_failed (g.O.Write.contents c.args.printer.now.output) in
-    let looked : ServiceSeen = service_seen c.args.service.now.engine c.args.service.now.port c.args.service.now.watch c.args.service.now.link (g.C.Clock.readings c.now-now.new.self) (g.J.Journal.written c.look.new.journal) (g.J.Journal.faulted c.look.new.journal) (g.N.Rng.stream c.args.service.now.words) c.args.printer.now.has_failed (g.O.Write.contents c.args.printer.now.output) in
-    let last : ServiceSeen = service_seen c.serve-served.new.engine c.args.service.now.port c.change-changed.new.watch c.serve-served.new.link (g.C.Clock.readings c.serve-served.new.clock) (g.J.Journal.written c.serve-served.new.journal) (g.J.Journal.faulted c.serve-served.new.journal) (g.N.Rng.stream c.serve-served.new.words) c.serve-served.new.audit.has_failed (g.O.Write.contents c.serve-served.new.audit.output) in
-    let after : ServiceSeen = service_seen c.serve-served.new.engine c.args.service.now.port c.change-changed.new.watch c.say_unheard.new.link (g.C.Clock.readings c.serve-served.new.clock) (g.J.Journal.written c.say_fault-2.new.journal) (g.J.Journal.faulted c.say_fault-2.new.journal) (g.N.Rng.stream c.serve-served.new.words) c.serve-served.new.audit.has_failed (g.O.Write.contents c.serve-served.new.audit.output) in
-    let begins : Begins (service_seen c.args.service.now.engine c.args.service.now.port c.args.service.now.watch c.args.service.now.link (g.C.Clock.readings c.args.service.now.clock) (g.J.Journal.written c.args.service.now.journal) (g.J.Journal.faulted c.args.service.now.journal) (g.N.Rng.stream c.args.service.now.words) c.args.printer.now.has_failed (g.O.Write.contents c.args.printer.now.output)) first = record {
+    let link : c.change-changed.new.link.link ≡ c.args.service.now.link.link = same_link c.args.service.now.engine.server c.change-changed.new.engine.server
+    c.args.service.now.link c.change-changed.new.link c.change-changed.ensures.hears in
+    let first : ServiceSeen = service_seen c.change-changed.new.engine c.args.service.now.port c.change-changed.new.watch c.wait_until_due.new.self
+    (g.C.Clock.readings c.now-now.new.self) (g.J.Journal.written c.change-changed.new.journal) (g.J.Journal.faulted c.change-changed.new.journal)
+    (g.N.Rng.stream c.args.service.now.words) c.args.printer.now.has_failed (g.O.Write.contents c.args.printer.now.output) in
+    let looked : ServiceSeen = service_seen c.args.service.now.engine c.args.service.now.port c.args.service.now.watch c.args.service.now.link
+    (g.C.Clock.readings c.now-now.new.self) (g.J.Journal.written c.look.new.journal) (g.J.Journal.faulted c.look.new.journal)
+    (g.N.Rng.stream c.args.service.now.words) c.args.printer.now.has_failed (g.O.Write.contents c.args.printer.now.output) in
+    let last : ServiceSeen = service_seen c.serve-served.new.engine c.args.service.now.port c.change-changed.new.watch c.serve-served.new.link
+    (g.C.Clock.readings c.serve-served.new.clock) (g.J.Journal.written c.serve-served.new.journal) (g.J.Journal.faulted c.serve-served.new.journal)
+    (g.N.Rng.stream c.serve-served.new.words) c.serve-served.new.audit.has_failed (g.O.Write.contents c.serve-served.new.audit.output) in
+    let after : ServiceSeen = service_seen c.serve-served.new.engine c.args.service.now.port c.change-changed.new.watch c.say_unheard.new.link
+    (g.C.Clock.readings c.serve-served.new.clock) (g.J.Journal.written c.say_fault-2.new.journal) (g.J.Journal.faulted c.say_fault-2.new.journal)
+    (g.N.Rng.stream c.serve-served.new.words) c.serve-served.new.audit.has_failed (g.O.Write.contents c.serve-served.new.audit.output) in
+    let begins : Begins (service_seen c.args.service.now.engine c.args.service.now.port c.args.service.now.watch c.args.service.now.link
+    (g.C.Clock.readings c.args.service.now.clock) (g.J.Journal.written c.args.service.now.journal) (g.J.Journal.faulted c.args.service.now.journal)
+    (g.N.Rng.stream c.args.service.now.words) c.args.printer.now.has_failed (g.O.Write.contents c.args.printer.now.output)) first = record {
       now = c.now-now.result;
       due = c.next_due-due.result;
       seen = looked.devices;
-      looked = record { others = with_readings looked.devices (and_counted (g.C.Clock.readings c.args.service.now.clock) c.now-now.result) c.now-now.ensures; noted = c.look.ensures.noted };
+      looked = record {
+        others = with_readings looked.devices (and_counted (g.C.Clock.readings c.args.service.now.clock) c.now-now.result) c.now-now.ensures;
+        noted = c.look.ensures.noted;
+      };
       changed = ok_says c.change-changed.result (sym c.is_err.ensures.value ∙ c.if-is_err.false) c.change-changed.ensures.changed;
-      hears = hears_still c.args.service.now.engine.server c.change-changed.new.engine.server c.args.service.now.link c.change-changed.new.link c.wait_until_due.new.self c.change-changed.ensures.hears c.wait_until_due.ensures.allowances;
-      others = with_link first.devices c.args.service.now.link.link.heard c.args.service.now.link.link.given (c.wait_until_due.ensures.heard ∙ ap (λ l. l.heard) link) (c.wait_until_due.ensures.given ∙ ap (λ l. l.given) link);
+      hears = hears_still c.args.service.now.engine.server c.change-changed.new.engine.server c.args.service.now.link c.change-changed.new.link c.wait_until_due.new.self
+          c.change-changed.ensures.hears c.wait_until_due.ensures.allowances;
+      others = with_link first.devices c.args.service.now.link.link.heard c.args.service.now.link.link.given (c.wait_until_due.ensures.heard ∙ ap (λ l. l.heard) link)
+          (c.wait_until_due.ensures.given ∙ ap (λ l. l.given) link);
       still = c.change-changed.ensures.state;
       same_timers = c.change-changed.ensures.timers;
       same_port = refl;
-      next = subst (λ (s : ProxyState). MatchOption c.next_due-due.result (IsNothingDue s.requests) (IsNext s.requests)) c.change-changed.ensures.state c.next_due-due.ensures.first;
-      waited = subst (λ (w : Option (List ℕ)). GrewBy (wait_before c.next_due-due.result c.now-now.result) w c.wait_until_due.new.self.link.waits) (ap (λ l. l.waits) link) c.wait_until_due.ensures.waited;
+      next = subst (λ (s : ProxyState). MatchOption c.next_due-due.result (IsNothingDue s.requests) (IsNext s.requests)) c.change-changed.ensures.state
+          c.next_due-due.ensures.first;
+      waited = subst (λ (w : Option (List ℕ)). GrewBy (wait_before c.next_due-due.result c.now-now.result) w c.wait_until_due.new.self.link.waits)
+          (ap (λ l. l.waits) link) c.wait_until_due.ensures.waited;
     } in
     let ends : IsLookedAt last.devices after.devices = record {
-      others = with_link after.devices c.serve-served.new.link.link.heard c.serve-served.new.link.link.given (ap (λ l. l.heard) c.say_unheard.ensures.link) (ap (λ l. l.given) c.say_unheard.ensures.link);
+      others = with_link after.devices c.serve-served.new.link.link.heard c.serve-served.new.link.link.given (ap (λ l. l.heard) c.say_unheard.ensures.link)
+          (ap (λ l. l.given) c.say_unheard.ensures.link);
       noted = c.say_fault-2.ensures.noted;
     } in
     let on : IsServedOn first after = record {
@@ -67,27 +92,46 @@ returns-in-Ok-clause-turn g c =
 
 pub returns-in-Err-clause-ended : goal.returns-in-Err-clause-ended
 returns-in-Err-clause-ended g c =
-    let link : c.change-changed.new.link.link ≡ c.args.service.now.link.link = same_link c.args.service.now.engine.server c.change-changed.new.engine.server c.args.service.now.link c.change-changed.new.link c.change-changed.ensures.hears in
-    let first : ServiceSeen = service_seen c.change-changed.new.engine c.args.service.now.port c.change-changed.new.watch c.wait_until_due.new.self (g.C.Clock.readings c.now-now.new.self) (g.J.Journal.written c.change-changed.new.journal) (g.J.Journal.faulted c.change-changed.new.journal) (g.N.Rng.stream c.args.service.now.words) c.args.printer.now.has_failed (g.O.Write.contents c.args.printer.now.output) in
-    let looked : ServiceSeen = service_seen c.args.service.now.engine c.args.service.now.port c.args.service.now.watch c.args.service.now.link (g.C.Clock.readings c.now-now.new.self) (g.J.Journal.written c.look.new.journal) (g.J.Journal.faulted c.look.new.journal) (g.N.Rng.stream c.args.service.now.words) c.args.printer.now.has_failed (g.O.Write.contents c.args.printer.now.output) in
-    let last : ServiceSeen = service_seen c.serve-served.new.engine c.args.service.now.port c.change-changed.new.watch c.serve-served.new.link (g.C.Clock.readings c.serve-served.new.clock) (g.J.Journal.written c.serve-served.new.journal) (g.J.Journal.faulted c.serve-served.new.journal) (g.N.Rng.stream c.serve-served.new.words) c.serve-served.new.audit.has_failed (g.O.Write.contents c.serve-served.new.audit.output) in
-    let after : ServiceSeen = service_seen c.serve-served.new.engine c.args.service.now.port c.change-changed.new.watch c.say_unheard.new.link (g.C.Clock.readings c.serve-served.new.clock) (g.J.Journal.written c.say_fault-2.new.journal) (g.J.Journal.faulted c.say_fault-2.new.journal) (g.N.Rng.stream c.serve-served.new.words) c.serve-served.new.audit.has_failed (g.O.Write.contents c.serve-served.new.audit.output) in
-    let begins : Begins (service_seen c.args.service.now.engine c.args.service.now.port c.args.service.now.watch c.args.service.now.link (g.C.Clock.readings c.args.service.now.clock) (g.J.Journal.written c.args.service.now.journal) (g.J.Journal.faulted c.args.service.now.journal) (g.N.Rng.stream c.args.service.now.words) c.args.printer.now.has_failed (g.O.Write.contents c.args.printer.now.output)) first = record {
+    let link : c.change-changed.new.link.link ≡ c.args.service.now.link.link = same_link c.args.service.now.engine.server c.change-changed.new.engine.server
+    c.args.service.now.link c.change-changed.new.link c.change-changed.ensures.hears in
+    let first : ServiceSeen = service_seen c.change-changed.new.engine c.args.service.now.port c.change-changed.new.watch c.wait_until_due.new.self
+    (g.C.Clock.readings c.now-now.new.self) (g.J.Journal.written c.change-changed.new.journal) (g.J.Journal.faulted c.change-changed.new.journal)
+    (g.N.Rng.stream c.args.service.now.words) c.args.printer.now.has_failed (g.O.Write.contents c.args.printer.now.output) in
+    let looked : ServiceSeen = service_seen c.args.service.now.engine c.args.service.now.port c.args.service.now.watch c.args.service.now.link
+    (g.C.Clock.readings c.now-now.new.self) (g.J.Journal.written c.look.new.journal) (g.J.Journal.faulted c.look.new.journal)
+    (g.N.Rng.stream c.args.service.now.words) c.args.printer.now.has_failed (g.O.Write.contents c.args.printer.now.output) in
+    let last : ServiceSeen = service_seen c.serve-served.new.engine c.args.service.now.port c.change-changed.new.watch c.serve-served.new.link
+    (g.C.Clock.readings c.serve-served.new.clock) (g.J.Journal.written c.serve-served.new.journal) (g.J.Journal.faulted c.serve-served.new.journal)
+    (g.N.Rng.stream c.serve-served.new.words) c.serve-served.new.audit.has_failed (g.O.Write.contents c.serve-served.new.audit.output) in
+    let after : ServiceSeen = service_seen c.serve-served.new.engine c.args.service.now.port c.change-changed.new.watch c.say_unheard.new.link
+    (g.C.Clock.readings c.serve-served.new.clock) (g.J.Journal.written c.say_fault-2.new.journal) (g.J.Journal.faulted c.say_fault-2.new.journal)
+    (g.N.Rng.stream c.serve-served.new.words) c.serve-served.new.audit.has_failed (g.O.Write.contents c.serve-served.new.audit.output) in
+    let begins : Begins (service_seen c.args.service.now.engine c.args.service.now.port c.args.service.now.watch c.args.service.now.link
+    (g.C.Clock.readings c.args.service.now.clock) (g.J.Journal.written c.args.service.now.journal) (g.J.Journal.faulted c.args.service.now.journal)
+    (g.N.Rng.stream c.args.service.now.words) c.args.printer.now.has_failed (g.O.Write.contents c.args.printer.now.output)) first = record {
       now = c.now-now.result;
       due = c.next_due-due.result;
       seen = looked.devices;
-      looked = record { others = with_readings looked.devices (and_counted (g.C.Clock.readings c.args.service.now.clock) c.now-now.result) c.now-now.ensures; noted = c.look.ensures.noted };
+      looked = record {
+        others = with_readings looked.devices (and_counted (g.C.Clock.readings c.args.service.now.clock) c.now-now.result) c.now-now.ensures;
+        noted = c.look.ensures.noted;
+      };
       changed = ok_says c.change-changed.result (sym c.is_err.ensures.value ∙ c.if-is_err.false) c.change-changed.ensures.changed;
-      hears = hears_still c.args.service.now.engine.server c.change-changed.new.engine.server c.args.service.now.link c.change-changed.new.link c.wait_until_due.new.self c.change-changed.ensures.hears c.wait_until_due.ensures.allowances;
-      others = with_link first.devices c.args.service.now.link.link.heard c.args.service.now.link.link.given (c.wait_until_due.ensures.heard ∙ ap (λ l. l.heard) link) (c.wait_until_due.ensures.given ∙ ap (λ l. l.given) link);
+      hears = hears_still c.args.service.now.engine.server c.change-changed.new.engine.server c.args.service.now.link c.change-changed.new.link c.wait_until_due.new.self
+          c.change-changed.ensures.hears c.wait_until_due.ensures.allowances;
+      others = with_link first.devices c.args.service.now.link.link.heard c.args.service.now.link.link.given (c.wait_until_due.ensures.heard ∙ ap (λ l. l.heard) link)
+          (c.wait_until_due.ensures.given ∙ ap (λ l. l.given) link);
       still = c.change-changed.ensures.state;
       same_timers = c.change-changed.ensures.timers;
       same_port = refl;
-      next = subst (λ (s : ProxyState). MatchOption c.next_due-due.result (IsNothingDue s.requests) (IsNext s.requests)) c.change-changed.ensures.state c.next_due-due.ensures.first;
-      waited = subst (λ (w : Option (List ℕ)). GrewBy (wait_before c.next_due-due.result c.now-now.result) w c.wait_until_due.new.self.link.waits) (ap (λ l. l.waits) link) c.wait_until_due.ensures.waited;
+      next = subst (λ (s : ProxyState). MatchOption c.next_due-due.result (IsNothingDue s.requests) (IsNext s.requests)) c.change-changed.ensures.state
+          c.next_due-due.ensures.first;
+      waited = subst (λ (w : Option (List ℕ)). GrewBy (wait_before c.next_due-due.result c.now-now.result) w c.wait_until_due.new.self.link.waits)
+          (ap (λ l. l.waits) link) c.wait_until_due.ensures.waited;
     } in
     let ends : IsLookedAt last.devices after.devices = record {
-      others = with_link after.devices c.serve-served.new.link.link.heard c.serve-served.new.link.link.given (ap (λ l. l.heard) c.say_unheard.ensures.link) (ap (λ l. l.given) c.say_unheard.ensures.link);
+      others = with_link after.devices c.serve-served.new.link.link.heard c.serve-served.new.link.link.given (ap (λ l. l.heard) c.say_unheard.ensures.link)
+          (ap (λ l. l.given) c.say_unheard.ensures.link);
       noted = c.say_fault-2.ensures.noted;
     } in
     let on : IsServedOn first after = record {

@@ -11,11 +11,14 @@ returns-in-Err-clause-refused g c =
 
 pub returns-in-Whole-clause-refused : goal.returns-in-Whole-clause-refused
 returns-in-Whole-clause-refused g c =
-    stopped_behind_so c.go_on.result c.args.beginning.now.stated.now.bytes c.args.beginning.now.stated.now.digest (g.I.TellingReader.has_failed c.go_on.new.reader) (g.I.TellingReader.asked c.args.reader.now)
-    (g.I.TellingReader.asked c.head_in.new.reader) (g.I.TellingReader.asked c.go_on.new.reader) (g.I.TellingReader.remaining c.args.reader.now) (g.I.TellingReader.remaining c.head_in.new.reader) c.in-Ok.head c.asks_add_up.ensures.before c.in-Ok.ensures.head
+    stopped_behind_so c.go_on.result c.args.beginning.now.stated.now.bytes c.args.beginning.now.stated.now.digest (g.I.TellingReader.has_failed c.go_on.new.reader)
+    (g.I.TellingReader.asked c.args.reader.now)
+    (g.I.TellingReader.asked c.head_in.new.reader) (g.I.TellingReader.asked c.go_on.new.reader) (g.I.TellingReader.remaining c.args.reader.now)
+    (g.I.TellingReader.remaining c.head_in.new.reader) c.in-Ok.head c.asks_add_up.ensures.before c.in-Ok.ensures.head
     c.in-Whole.is c.head_in.ensures.asked c.go_on.ensures.stopped
 
 pub returns-in-Whole-clause-goes_on : goal.returns-in-Whole-clause-goes_on
 returns-in-Whole-clause-goes_on g c =
-    went_on_whole c.go_on.result (λ a. a.begun.engine.server) (λ a. standing_of a.begun.engine) (λ a. a.lines) (λ a. a.begun.last) c.args.beginning.now.stated.now.bytes c.args.beginning.now.stated.now.digest c.in-Ok.head
+    went_on_whole c.go_on.result (λ a. a.begun.engine.server) (λ a. standing_of a.begun.engine) (λ a. a.lines) (λ a. a.begun.last) c.args.beginning.now.stated.now.bytes
+    c.args.beginning.now.stated.now.digest c.in-Ok.head
     (g.I.TellingReader.remaining c.args.reader.now) (g.I.TellingReader.remaining c.head_in.new.reader) c.in-Ok.ensures.head c.in-Whole.is c.go_on.ensures.goes_on

@@ -5,7 +5,8 @@ use Rattle.sipd_start.proofs.making.folder_place.Goals as goal
 
 pub returns : goal.returns
 returns g c =
-    let are : AreFolderFiles c.args.folder.now c.in_ok-files.files = subst (λ r. IfOk r (AreFolderFiles c.args.folder.now)) c.in_ok-files.ensures.same c.files_in.ensures in
+    let are : AreFolderFiles c.args.folder.now c.in_ok-files.files = subst (λ r. IfOk r (AreFolderFiles c.args.folder.now)) c.in_ok-files.ensures.same c.files_in.ensures
+    in
     record {
       files = c.in_ok-files.files;
       are = are;

@@ -15,12 +15,15 @@ returns-in_err-first-clause-refused g c =
     rw (p.1, p.2) (unread_first _ _ _ _ _ _ c.in_ok-lines.lines c.first_of.new.lines.asks c.in_ok-lines.ensures c.first_of.ensures.asked c.in_err-first.ensures.refused)
 
 pub returns-clause-last : goal.returns-clause-last
-returns-clause-last g c = last_is c.last_behind.result _ _ _ c.in_ok-lines.lines c.first_of.new.lines c.in_ok-first.first c.in_ok-lines.ensures c.in_ok-first.ensures.first c.last_behind.ensures.last
+returns-clause-last g c = last_is c.last_behind.result _ _ _ c.in_ok-lines.lines c.first_of.new.lines c.in_ok-first.first c.in_ok-lines.ensures
+    c.in_ok-first.ensures.first c.last_behind.ensures.last
 
 pub returns-clause-stated : goal.returns-clause-stated
-returns-clause-stated g c = last_stated c.last_behind.result _ _ _ c.in_ok-lines.lines c.first_of.new.lines c.in_ok-first.first c.in_ok-first.ensures.first c.last_behind.ensures.last
+returns-clause-stated g c = last_stated c.last_behind.result _ _ _ c.in_ok-lines.lines c.first_of.new.lines c.in_ok-first.first c.in_ok-first.ensures.first
+    c.last_behind.ensures.last
 
 pub returns-clause-refused : goal.returns-clause-refused
 returns-clause-refused g c =
-    without_last c.last_behind.result _ _ _ _ _ _ _ c.in_ok-lines.lines c.first_of.new.lines c.in_ok-first.first c.last_behind.new.lines.asks c.in_ok-lines.ensures c.in_ok-first.ensures.first c.first_of.ensures.asked
+    without_last c.last_behind.result _ _ _ _ _ _ _ c.in_ok-lines.lines c.first_of.new.lines c.in_ok-first.first c.last_behind.new.lines.asks c.in_ok-lines.ensures
+    c.in_ok-first.ensures.first c.first_of.ensures.asked
     c.last_behind.ensures.asked c.last_behind.ensures.refused

@@ -16,7 +16,8 @@ invariant_of-self-2 c = λ own.
       | else-self w ↦
           let none = none_there c.in_ok-before.before (sym w.is_some-self-inside.ensures ∙ sym w.self-is ∙ own) in
           rw (c.push_reserved.ensures.items, c.reserve.ensures.items)
-          (pushed c.self.inside.list.items c.args.digest (λ q. get nat_eq c.self.inside.places q) _ (c.self.invariant w.if-self.false) (sym c.in_ok-before.ensures.old ∙ none)
+          (pushed c.self.inside.list.items c.args.digest (λ q. get nat_eq c.self.inside.places q) _ (c.self.invariant w.if-self.false)
+          (sym c.in_ok-before.ensures.old ∙ none)
           (λ q. c.in_ok-before.ensures.updates.0 q ∙ ap (λ (n : ℕ). cond (nat_eq c.args.digest q) (Some n) (get nat_eq c.self.inside.places q)) long))
     ]
   where

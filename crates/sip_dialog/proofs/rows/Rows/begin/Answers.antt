@@ -15,7 +15,8 @@ pub invariant_of-self-else-not-is_success : goal.invariant_of-self-else-not-is_s
 invariant_of-self-else-not-is_success c =
     let pushed = c.push_reserved.ensures.items ∙ ap (λ (l : List Row). l ++ c.begin.result ∷ []) c.reserve.ensures.items in
     let nowhere = subst (λ (v : Entries). StandsNowhere c.args.answer.id v.entries) (sym c.self.view_is) c.requires.new in (
-      named_begun c.self.inside.keyed c.self.inside.digests.list c.self.inside.rows.items c.self.invariant.0 c.begin.result c.args.answer.id c.args.digest c.push.new.self.list c.push_reserved.new.self.items
+      named_begun c.self.inside.keyed c.self.inside.digests.list c.self.inside.rows.items c.self.invariant.0 c.begin.result c.args.answer.id c.args.digest
+          c.push.new.self.list c.push_reserved.new.self.items
           c.begin.ensures.id (c.requires.digest ∙ ap (λ (v : Entries). digest_of v.secret c.args.answer.id) (sym c.self.view_is)) c.in_ok-push.ensures.ok pushed nowhere,
       front_more c.self.inside.early c.self.inside.rows.items c.self.invariant.1 c.begin.result c.push_reserved.new.self.items pushed
           (ap (λ (d : Dialog). d.has_success) c.begin.ensures.begun ∙ c.if-not-is_success.false),
@@ -26,11 +27,18 @@ invariant_of-self-else-not-is_success c =
 pub invariant_of-self-then-not-is_success : goal.invariant_of-self-then-not-is_success
 invariant_of-self-then-not-is_success c =
     let pushed = c.push_reserved.ensures.items ∙ ap (λ (l : List Row). l ++ c.begin.result ∷ []) c.reserve.ensures.items in
-    let last : c.len-last.result ≡ length c.self.inside.rows.items = omega (arith, c.len-last.ensures, c.reserve.new.self.ok.0, ap (λ (l : List Row). length l) c.reserve.ensures.items) in
+    let last : c.len-last.result ≡ length c.self.inside.rows.items = omega (
+      arith,
+      c.len-last.ensures,
+      c.reserve.new.self.ok.0,
+      ap (λ (l : List Row). length l) c.reserve.ensures.items,
+    ) in
     let long = added_len c.self.inside.rows.items c.push_reserved.new.self.items c.begin.result pushed in
     let nowhere = subst (λ (v : Entries). StandsNowhere c.args.answer.id v.entries) (sym c.self.view_is) c.requires.new in
-    let named = named_begun c.self.inside.keyed c.self.inside.digests.list c.self.inside.rows.items c.self.invariant.0 c.begin.result c.args.answer.id c.args.digest c.push.new.self.list
-    c.push_reserved.new.self.items c.begin.ensures.id (c.requires.digest ∙ ap (λ (v : Entries). digest_of v.secret c.args.answer.id) (sym c.self.view_is)) c.in_ok-push.ensures.ok pushed nowhere in (
+    let named = named_begun c.self.inside.keyed c.self.inside.digests.list c.self.inside.rows.items c.self.invariant.0 c.begin.result c.args.answer.id c.args.digest
+    c.push.new.self.list
+    c.push_reserved.new.self.items c.begin.ensures.id (c.requires.digest ∙ ap (λ (v : Entries). digest_of v.secret c.args.answer.id) (sym c.self.view_is))
+    c.in_ok-push.ensures.ok pushed nowhere in (
       rw (c.swap.ensures.items, c.swap-then-not-is_success.ensures.list)
           (named_swapped c.self.inside.keyed c.push.new.self.list c.push_reserved.new.self.items named c.self.inside.early c.len-last.result
           (omega (arith, c.self.invariant.1.within, long)) (omega (arith, last, long))),
@@ -41,7 +49,12 @@ invariant_of-self-then-not-is_success c =
 pub returns-then-not-is_success-clause-ok : goal.returns-then-not-is_success-clause-ok
 returns-then-not-is_success-clause-ok c = λ p.
     let pushed = c.push_reserved.ensures.items ∙ ap (λ (l : List Row). l ++ c.begin.result ∷ []) c.reserve.ensures.items in
-    let last : c.len-last.result ≡ length c.self.inside.rows.items = omega (arith, c.len-last.ensures, c.reserve.new.self.ok.0, ap (λ (l : List Row). length l) c.reserve.ensures.items) in
+    let last : c.len-last.result ≡ length c.self.inside.rows.items = omega (
+      arith,
+      c.len-last.ensures,
+      c.reserve.new.self.ok.0,
+      ap (λ (l : List Row). length l) c.reserve.ensures.items,
+    ) in
     let long = added_len c.self.inside.rows.items c.push_reserved.new.self.items c.begin.result pushed in
     ap (λ (l : List Row). count_by p (dialogs_in l)) c.swap.ensures.items
     ∙ swapped_same c.push_reserved.new.self.items c.self.inside.early c.len-last.result (omega (arith, c.self.invariant.1.within, long)) (omega (arith, last, long)) p

@@ -17,24 +17,32 @@ pub invariant_of-self : goal.invariant_of-self
 invariant_of-self c =
     let inside : c.in-Some.at < length c.self.inside.rows.items = omega (arith, c.in-Some.ensures.within, ap (λ (v : Entries). length v.entries) c.self.view_is) in
     let there = read_at c.self.inside.rows.items _ c.in-Some.at c.index_mut.result.now refl inside c.index_mut.ensures.value in (
-      named_set c.self.inside.keyed c.self.inside.digests.list c.self.inside.rows.items c.self.invariant.0 c.in-Some.at c.index_mut.result.now (c.index_mut.result.now.0, c.answer_again.new.self) there refl,
-      front_set c.self.inside.early c.self.inside.rows.items c.in-Some.at c.index_mut.result.now (c.index_mut.result.now.0, c.answer_again.new.self) c.self.invariant.1 there
-          (λ e. ap (λ (d : Dialog). d.has_success) (c.answer_again.ensures c.args.answer.id) ∙ either_true c.index_mut.result.now.1.has_success c.args.answer.is_success e),
+      named_set c.self.inside.keyed c.self.inside.digests.list c.self.inside.rows.items c.self.invariant.0 c.in-Some.at c.index_mut.result.now
+          (c.index_mut.result.now.0, c.answer_again.new.self) there refl,
+      front_set c.self.inside.early c.self.inside.rows.items c.in-Some.at c.index_mut.result.now (c.index_mut.result.now.0, c.answer_again.new.self) c.self.invariant.1
+          there
+          (λ e. ap (λ (d : Dialog). d.has_success) (c.answer_again.ensures c.args.answer.id)
+          ∙ either_true c.index_mut.result.now.1.has_success c.args.answer.is_success e),
     )
 
 pub returns-in-Some-clause-ok : goal.returns-in-Some-clause-ok
 returns-in-Some-clause-ok c =
-    let there = read_at c.self.inside.rows.items c.meet.new.self.entries c.in-Some.at c.index_mut.result.now (ap (λ (v : Entries). v.entries) c.self.view_is) c.in-Some.ensures.within c.index_mut.ensures.value in
+    let there = read_at c.self.inside.rows.items c.meet.new.self.entries c.in-Some.at c.index_mut.result.now (ap (λ (v : Entries). v.entries) c.self.view_is)
+    c.in-Some.ensures.within c.index_mut.ensures.value in
     let met = met_again c.args.now c.args.answer _ _ c.in-Some.ensures.known
-    (edit_met c.args.now c.args.answer.id (answered_again c.args.answer) c.args.self.now.entries c.meet.new.self.entries c.in-Some.at c.index_mut.result.now c.answer_again.new.self
+    (edit_met c.args.now c.args.answer.id (answered_again c.args.answer) c.args.self.now.entries c.meet.new.self.entries c.in-Some.at c.index_mut.result.now
+    c.answer_again.new.self
     c.in-Some.ensures.same c.in-Some.ensures.met there c.answer_again.ensures) in
     dialogs_joined c.args.now _ _ _
-    (same_counts c.args.now (dialogs_in c.settle.new.self.entries) (dialogs_in (set c.self.inside.rows.items c.in-Some.at (c.index_mut.result.now.0, c.answer_again.new.self))) c.settle.ensures.same)
-    (subst (λ (v : Entries). SameDialogs c.args.now (dialogs_in (set v.entries c.in-Some.at (c.index_mut.result.now.0, c.answer_again.new.self))) (learnt c.args.now c.args.answer (dialogs_in c.args.self.now.entries))) (sym c.self.view_is) met)
+    (same_counts c.args.now (dialogs_in c.settle.new.self.entries) (dialogs_in (set c.self.inside.rows.items c.in-Some.at
+    (c.index_mut.result.now.0, c.answer_again.new.self))) c.settle.ensures.same)
+    (subst (λ (v : Entries). SameDialogs c.args.now (dialogs_in (set v.entries c.in-Some.at (c.index_mut.result.now.0, c.answer_again.new.self)))
+    (learnt c.args.now c.args.answer (dialogs_in c.args.self.now.entries))) (sym c.self.view_is) met)
 
 pub returns-then-not-has_place-clause-full : goal.returns-then-not-has_place-clause-full
 returns-then-not-has_place-clause-full c =
-    let full = full_is c.args.now c.args.answer.id (dialogs_in c.args.self.now.entries) (dialogs_in c.meet.new.self.entries) _ c.in_default.ensures.same c.in_default.ensures.known c.if-not-has_place.ensures.place in
+    let full = full_is c.args.now c.args.answer.id (dialogs_in c.args.self.now.entries) (dialogs_in c.meet.new.self.entries) _ c.in_default.ensures.same
+    c.in_default.ensures.known c.if-not-has_place.ensures.place in
     (λ _. full, λ _. refl)
 
 pub returns-clause-ok : goal.returns-clause-ok
@@ -45,5 +53,6 @@ returns-clause-ok c =
 pub returns-clause-full : goal.returns-clause-full
 returns-clause-full c =
     full_from_begin c.begin.result _
-    (full_is c.args.now c.args.answer.id (dialogs_in c.args.self.now.entries) (dialogs_in c.meet.new.self.entries) _ c.in_default.ensures.same c.in_default.ensures.known c.if-not-has_place.ensures.place)
+    (full_is c.args.now c.args.answer.id (dialogs_in c.args.self.now.entries) (dialogs_in c.meet.new.self.entries) _ c.in_default.ensures.same c.in_default.ensures.known
+    c.if-not-has_place.ensures.place)
     c.begin.ensures.memory

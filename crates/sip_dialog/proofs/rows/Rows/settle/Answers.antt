@@ -12,7 +12,8 @@ invariant_of-self c =
     let last_inside : c.self.inside.early - 1 < length c.self.inside.rows.items = omega (arith, c.if-at-self.true, c.self.invariant.1.within) in
     rw (c.swap.ensures.items, c.swap-then-index.ensures.list) (
       named_swapped c.self.inside.keyed c.self.inside.digests.list c.self.inside.rows.items c.self.invariant.0 c.args.at (c.self.inside.early - 1) inside last_inside,
-      front_settled c.self.inside.early c.self.inside.rows.items c.self.invariant.1 c.args.at (c.self.inside.early - 1) c.index.result.now c.if-at-self.true (omega (arith, c.if-at-self.true))
+      front_settled c.self.inside.early c.self.inside.rows.items c.self.invariant.1 c.args.at (c.self.inside.early - 1) c.index.result.now c.if-at-self.true
+          (omega (arith, c.if-at-self.true))
           (read_at c.self.inside.rows.items _ c.args.at c.index.result.now refl inside c.index.ensures) c.if-index.true,
     )
 

@@ -12,13 +12,18 @@ inside : (c : After-drop-taken) → c.args.at < length c.self.inside.rows.items
 inside c = omega (arith, c.requires, ap (λ (v : Entries). length v.entries) c.self.view_is)
 
 left : (c : After-drop-taken) → Removal c.self.inside.rows.items c.args.at c.swap_remove-taken.new.self.items
-left c = record { other = c.swap_remove-taken.result; is = c.swap_remove-taken.ensures.items; long = omega (arith, c.swap_remove-taken.ensures.len, c.swap_remove-taken.new.self.ok.0, c.self.inside.rows.ok.0) }
+left c = record {
+  other = c.swap_remove-taken.result;
+  is = c.swap_remove-taken.ensures.items;
+  long = omega (arith, c.swap_remove-taken.ensures.len, c.swap_remove-taken.new.self.ok.0, c.self.inside.rows.ok.0);
+}
 
 pub invariant_of-self : goal.invariant_of-self
 invariant_of-self c = (
   rw (c.swap_remove-taken.ensures.items, c.swap_remove.ensures.list)
       (named_removed c.self.inside.keyed c.self.inside.digests.list c.self.inside.rows.items c.self.invariant.0 c.args.at c.swap_remove-taken.result (inside c)),
-  front_taken c.self.inside.early c.self.inside.rows.items c.self.invariant.1 c.args.at c.swap_remove-taken.result _ c.if-at-self.true (inside c) c.swap_remove-taken.ensures.items (left c).long,
+  front_taken c.self.inside.early c.self.inside.rows.items c.self.invariant.1 c.args.at c.swap_remove-taken.result _ c.if-at-self.true (inside c)
+      c.swap_remove-taken.ensures.items (left c).long,
 )
 
 pub returns-then-at-self-clause-taken : goal.returns-then-at-self-clause-taken
@@ -47,10 +52,13 @@ moved c =
 pub invariant_of-self-2 : goal.invariant_of-self-2
 invariant_of-self-2 c = (
   rw (c.swap_remove-early.ensures.items, c.swap.ensures.items, c.swap_remove-2.ensures.list, c.swap-2.ensures.list)
-      (named_removed c.self.inside.keyed (swap c.self.inside.digests.list c.args.at (c.self.inside.early - 1)) (swap c.self.inside.rows.items c.args.at (c.self.inside.early - 1))
-      (named_swapped c.self.inside.keyed c.self.inside.digests.list c.self.inside.rows.items c.self.invariant.0 c.args.at (c.self.inside.early - 1) (omega (arith, order c, last_inside c)) (last_inside c))
+      (named_removed c.self.inside.keyed (swap c.self.inside.digests.list c.args.at (c.self.inside.early - 1))
+      (swap c.self.inside.rows.items c.args.at (c.self.inside.early - 1))
+      (named_swapped c.self.inside.keyed c.self.inside.digests.list c.self.inside.rows.items c.self.invariant.0 c.args.at (c.self.inside.early - 1)
+      (omega (arith, order c, last_inside c)) (last_inside c))
       (c.self.inside.early - 1) c.swap_remove-early.result (omega (arith, last_inside c, length-swap c.self.inside.rows.items c.args.at (c.self.inside.early - 1)))),
-  front_less c.self.inside.early c.self.inside.rows.items c.self.invariant.1 c.args.at (c.self.inside.early - 1) (moved c).other _ (omega (arith, c.if-at-self.false)) (omega (arith, c.if-at-self.false)) (moved c).is
+  front_less c.self.inside.early c.self.inside.rows.items c.self.invariant.1 c.args.at (c.self.inside.early - 1) (moved c).other _ (omega (arith, c.if-at-self.false))
+      (omega (arith, c.if-at-self.false)) (moved c).is
       (swapped_len _ _ c.args.at (c.self.inside.early - 1) (order c) (last_inside c) (moved c)),
 )
 

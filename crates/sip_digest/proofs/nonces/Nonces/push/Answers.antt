@@ -7,9 +7,11 @@ use Rattle.sip_digest.proofs.nonces.Nonces.push.Goals as goal
 pub invariant_of-self : goal.invariant_of-self
 invariant_of-self c =
     let read : c.index.result.now ≡ get_or c.self.inside.marks.items c.bucket_of-bucket.result 0 =
-    get_or_read c.self.inside.marks.items c.bucket_of-bucket.result c.index.result.now (omega (arith, c.self.invariant.1.sized, c.bucket_of-bucket.ensures)) c.index.ensures 0 in (
+    get_or_read c.self.inside.marks.items c.bucket_of-bucket.result c.index.result.now (omega (arith, c.self.invariant.1.sized, c.bucket_of-bucket.ensures))
+    c.index.ensures 0 in (
       omega (arith, c.self.invariant.0, c.put_behind.ensures.room),
-      kept_behind c.self.inside.rows.items c.put_behind.new.rows.items _ c.bucket_of-bucket.result c.self.inside.turn c.self.inside.marks.items c.put_behind.ensures.items c.bucket_of-bucket.ensures
+      kept_behind c.self.inside.rows.items c.put_behind.new.rows.items _ c.bucket_of-bucket.result c.self.inside.turn c.self.inside.marks.items c.put_behind.ensures.items
+          c.bucket_of-bucket.ensures
           (ap (λ (m : ℕ). passed_since m c.self.inside.turn) read) c.self.invariant.1,
     )
 

@@ -1,4 +1,4 @@
-use Rattle.std.proofs.Common.{◌≡◌, ◌∙◌, sym, ap, subst, Option, None}
+use Rattle.std.proofs.Common.{◌∙◌, sym, ap}
 use Rattle.sip_core.specs.state.declared.server.Server.{Server}
 use Rattle.sip_config_change.specs.Frame.{frame_key_of}
 use Rattle.sip_engine.proofs.Leading.{none_left, reached_under}

@@ -9,9 +9,11 @@ use Rattle.sip_engine.proofs.engine.Engine.deliver.Goals as goal
 
 pub invariant_of-self : goal.invariant_of-self
 invariant_of-self g c =
-    led_by c.self.inside.judge c.self.inside.proxy.state c.deliver.new.proxy.state (Given (Datagram c.args.at c.args.word c.args.from c.args.bytes.now)) c.deliver.result c.self.invariant c.deliver.ensures.step c.deliver.ensures.unchanged
+    led_by c.self.inside.judge c.self.inside.proxy.state c.deliver.new.proxy.state (Given (Datagram c.args.at c.args.word c.args.from c.args.bytes.now)) c.deliver.result
+    c.self.invariant c.deliver.ensures.step c.deliver.ensures.unchanged
 
 pub returns-clause-queue : goal.returns-clause-queue
 returns-clause-queue g c =
     queued_if c.args.self.now.timers c.deliver.new.proxy.timers c.deliver.new.proxy.state.requests c.deliver.result
-    (subst (λ (e : Engine). OnOk c.deliver.result (KeepsOrder e.timers c.deliver.new.proxy.timers c.deliver.new.proxy.state.requests)) c.self.view_is c.deliver.ensures.queue)
+    (subst (λ (e : Engine). OnOk c.deliver.result (KeepsOrder e.timers c.deliver.new.proxy.timers c.deliver.new.proxy.state.requests)) c.self.view_is
+    c.deliver.ensures.queue)

@@ -9,7 +9,8 @@ use Rattle.sip_engine.proofs.engine.Engine.fault.Goals as goal
 
 pub invariant_of-self : goal.invariant_of-self
 invariant_of-self g c =
-    led_by c.self.inside.judge c.self.inside.proxy.state c.fault.new.proxy.state (Given (Fault c.args.at c.args.ticket)) c.fault.result c.self.invariant c.fault.ensures.step c.fault.ensures.unchanged
+    led_by c.self.inside.judge c.self.inside.proxy.state c.fault.new.proxy.state (Given (Fault c.args.at c.args.ticket)) c.fault.result c.self.invariant
+    c.fault.ensures.step c.fault.ensures.unchanged
 
 pub returns-clause-queue : goal.returns-clause-queue
 returns-clause-queue g c =

@@ -5,7 +5,9 @@ use Rattle.sip_fork.proofs.Mapped.{position-map, found-map}
 use Rattle.sip_fork.proofs.contexts.Contexts.find.Goals as goal
 
 pub returns-clause-place : goal.returns-clause-place
-returns-clause-place g c = rw (← c.self.view_is) (c.find.ensures.place ∙ sym (position-map (λ (r : Request). r.open_request) (has_key c.args.key.now) c.self.inside.table.rows))
+returns-clause-place g c = rw (← c.self.view_is) (c.find.ensures.place ∙ sym (position-map (λ (r : Request). r.open_request) (has_key c.args.key.now)
+    c.self.inside.table.rows))
 
 pub returns-clause-request : goal.returns-clause-request
-returns-clause-request g c = rw (← c.self.view_is) (found-map (λ (r : Request). r.open_request) (has_key c.args.key.now) c.self.inside.table.rows c.find.result c.find.ensures.row)
+returns-clause-request g c = rw (← c.self.view_is) (found-map (λ (r : Request). r.open_request) (has_key c.args.key.now) c.self.inside.table.rows c.find.result
+    c.find.ensures.row)

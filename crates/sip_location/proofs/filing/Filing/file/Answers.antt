@@ -8,7 +8,8 @@ pub invariant_of-self : goal.invariant_of-self
 invariant_of-self c =
     let by_code : ℕ → Option Filed = λ code. get nat_eq c.self.inside.by_code code in
     let crowd = c.self.inside.crowd.items in
-    let is = joined by_code crowd c.leave.new.crowd.items c.join.new.crowd.items c.args.filed c.lent-aor.result c.code_of-code.result c.self.invariant c.lent-aor.ensures c.code_of-code.ensures
+    let is = joined by_code crowd c.leave.new.crowd.items c.join.new.crowd.items c.args.filed c.lent-aor.result c.code_of-code.result c.self.invariant c.lent-aor.ensures
+    c.code_of-code.ensures
     (sym c.is_of_another-is_taken.ensures ∙ c.if-is_taken.true) c.leave.ensures.left c.join.ensures in
     still_filed by_code crowd c.args.filed by_code c.join.new.crowd.items c.self.invariant is
 
@@ -16,7 +17,8 @@ pub returns-then-is_taken : goal.returns-then-is_taken
 returns-then-is_taken c =
     let by_code : ℕ → Option Filed = λ code. get nat_eq c.self.inside.by_code code in
     let crowd = c.self.inside.crowd.items in
-    let is = joined by_code crowd c.leave.new.crowd.items c.join.new.crowd.items c.args.filed c.lent-aor.result c.code_of-code.result c.self.invariant c.lent-aor.ensures c.code_of-code.ensures
+    let is = joined by_code crowd c.leave.new.crowd.items c.join.new.crowd.items c.args.filed c.lent-aor.result c.code_of-code.result c.self.invariant c.lent-aor.ensures
+    c.code_of-code.ensures
     (sym c.is_of_another-is_taken.ensures ∙ c.if-is_taken.true) c.leave.ensures.left c.join.ensures in
     rw (← c.self.view_is) (replaced by_code crowd c.args.filed by_code c.join.new.crowd.items c.self.invariant is)
 
@@ -25,7 +27,8 @@ invariant_of-self-else-is_taken c =
     let by_code : ℕ → Option Filed = λ code. get nat_eq c.self.inside.by_code code in
     let new : ℕ → Option Filed = λ code. get nat_eq c.put.new.by_code code in
     let crowd = c.self.inside.crowd.items in
-    let is = placed by_code new crowd c.leave.new.crowd.items c.args.filed c.lent-aor.result c.code_of-code.result c.self.invariant c.lent-aor.ensures c.code_of-code.ensures
+    let is = placed by_code new crowd c.leave.new.crowd.items c.args.filed c.lent-aor.result c.code_of-code.result c.self.invariant c.lent-aor.ensures
+    c.code_of-code.ensures
     (sym c.is_of_another-is_taken.ensures ∙ c.if-is_taken.false) c.leave.ensures.left c.put.ensures in
     still_filed by_code crowd c.args.filed new c.leave.new.crowd.items c.self.invariant is
 
@@ -34,6 +37,7 @@ returns-else-is_taken c =
     let by_code : ℕ → Option Filed = λ code. get nat_eq c.self.inside.by_code code in
     let new : ℕ → Option Filed = λ code. get nat_eq c.put.new.by_code code in
     let crowd = c.self.inside.crowd.items in
-    let is = placed by_code new crowd c.leave.new.crowd.items c.args.filed c.lent-aor.result c.code_of-code.result c.self.invariant c.lent-aor.ensures c.code_of-code.ensures
+    let is = placed by_code new crowd c.leave.new.crowd.items c.args.filed c.lent-aor.result c.code_of-code.result c.self.invariant c.lent-aor.ensures
+    c.code_of-code.ensures
     (sym c.is_of_another-is_taken.ensures ∙ c.if-is_taken.false) c.leave.ensures.left c.put.ensures in
     rw (← c.self.view_is) (replaced by_code crowd c.args.filed new c.leave.new.crowd.items c.self.invariant is)

@@ -11,7 +11,8 @@ pub returns-then-is_same : goal.returns-then-is_same
 returns-then-is_same c =
     let by_code : ℕ → Option Filed = λ code. get nat_eq c.self.inside.by_code code in
     rw (← c.self.view_is, c.as_slice.ensures)
-    (under_code c.args.aor.now c.of-aor.result c.code_of.result by_code c.self.inside.crowd.items c.in-Some.filed.now c.self.invariant c.of-aor.ensures c.code_of.ensures (sym c.in-Some.ensures.value)
+    (under_code c.args.aor.now c.of-aor.result c.code_of.result by_code c.self.inside.crowd.items c.in-Some.filed.now c.self.invariant c.of-aor.ensures c.code_of.ensures
+    (sym c.in-Some.ensures.value)
     (sym c.is_same.ensures ∙ c.if-is_same.true))
 
 pub returns : goal.returns
@@ -23,4 +24,5 @@ returns c =
       | in_default w ↦ none_there c.of-aor.result place (sym c.get.ensures.value ∙ ap option_copied w.in_default.is)
     ] in
     rw (← c.self.view_is)
-    (in_crowd c.args.aor.now c.of-aor.result c.code_of.result by_code c.self.inside.crowd.items c.deref.result.now c.rows_among.result.now c.self.invariant c.of-aor.ensures c.code_of.ensures none c.deref.ensures.value c.rows_among.ensures)
+    (in_crowd c.args.aor.now c.of-aor.result c.code_of.result by_code c.self.inside.crowd.items c.deref.result.now c.rows_among.result.now c.self.invariant
+    c.of-aor.ensures c.code_of.ensures none c.deref.ensures.value c.rows_among.ensures)

@@ -1,6 +1,5 @@
-use Rattle.std.proofs.Common.{◌∙◌, ◌++◌, ◌∷◌, [], arith, length, sym, subst}
+use Rattle.std.proofs.Common.{arith}
 use Rattle.sip_loop_link.proofs.Aside.{fresh_still}
-use Rattle.sip_loop_link.specs.MemoryLink.{IsFresh}
 use Rattle.sip_loop_link.proofs.memory_link.MemoryLink.hear.Goals as goal
 
 pub invariant_of-self-2 : goal.invariant_of-self-2
@@ -8,5 +7,9 @@ invariant_of-self-2 c = (
   grind (arith, c.in_ok-push.ensures.len, c.self.invariant.0),
   c.self.invariant.1,
   c.self.invariant.2,
-  λ e. (rw c.in_ok-push.ensures.items (fresh_still c.self.inside.inbox.items c.self.inside.taken _ (c.self.invariant.3 e).0), (c.self.invariant.3 e).1, (c.self.invariant.3 e).2),
+  λ e. (
+    rw c.in_ok-push.ensures.items (fresh_still c.self.inside.inbox.items c.self.inside.taken _ (c.self.invariant.3 e).0),
+    (c.self.invariant.3 e).1,
+    (c.self.invariant.3 e).2,
+  ),
 )

@@ -1,10 +1,9 @@
-use Rattle.std.proofs.Common.{rules, ◌≡◌, ◌+◌, ◌<◌, sym, refl, ap, ◌∙◌, arith, length, Some, []}
+use Rattle.std.proofs.Common.{rules, ◌≡◌, ◌+◌, ◌<◌, sym, refl, ap, ◌∙◌, arith, length, Some}
 use Rattle.std.proofs.lemmas.List.{length-set}
 use Rattle.sip_loop_link.proofs.Turns.{hears_none, hears_some, first_some, some_posted, writable_next}
 use Rattle.sip_loop_link.proofs.Aside.{fresh_noted}
 use Rattle.sip_loop_link.specs.MemoryLink.{IsFresh, MemoryState}
 use Rattle.sip_loop_link.specs.contracts.memory_link.MemoryLink.{the_view}
-use Rattle.sip_loop_link.specs.declared.posted.Posted.{Posted}
 use Rattle.sip_loop_link.proofs.memory_link.MemoryLink.hear_next.Goals as goal
 
 pub returns-then-self-len-clause-heard : goal.returns-then-self-len-clause-heard
@@ -51,4 +50,5 @@ returns-clause-writable c =
     let d = some_posted in
     let all : c.len.result ≡ length inside.inbox.items = search rules in
     let below : inside.taken < length inside.inbox.items = grind (arith, c.self.invariant.0, all, c.if-self-len.false) in
-    rw (c.note_silence-from.ensures.noted d) (writable_next inside.inbox.items inside.taken inside.silent d c.note_silence-from.result below (c.note_silence-from.ensures.from d))
+    rw (c.note_silence-from.ensures.noted d) (writable_next inside.inbox.items inside.taken inside.silent d c.note_silence-from.result below
+    (c.note_silence-from.ensures.from d))

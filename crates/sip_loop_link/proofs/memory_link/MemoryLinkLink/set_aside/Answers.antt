@@ -1,10 +1,7 @@
-use Rattle.std.proofs.Common.{◌≡◌, ◌+◌, ◌-◌, ◌≤◌, ◌++◌, [], Some, true, length, take, drop, map, slice_set, refl, sym, ap, ◌∙◌, subst, arith}
+use Rattle.std.proofs.Common.{◌≡◌, ◌+◌, ◌-◌, ◌≤◌, true, length, refl, sym, ap, ◌∙◌, arith}
 use Rattle.std.proofs.lemmas.List.{length-set}
 use Rattle.sip_loop_link.proofs.Turns.{some_posted}
-use Rattle.sip_loop_link.proofs.Aside.{flagged, set_aside, rest_stays, taken_some}
-use Rattle.sip_loop_link.specs.Told.{SetsAside}
-use Rattle.sip_loop_link.specs.MemoryLink.{MemoryState, aside_by, datagram_of, heard_by, last_bytes, nothings}
-use Rattle.sip_loop_link.specs.declared.posted.Posted.{Posted}
+use Rattle.sip_loop_link.proofs.Aside.{set_aside, rest_stays, taken_some}
 use Rattle.sip_loop_link.proofs.memory_link.MemoryLinkLink.set_aside.Goals as goal
 
 pub overflow_sub-self-inside : goal.overflow_sub-self-inside
@@ -25,7 +22,8 @@ returns-then-self-clause-aside c =
     let fresh = c.self.invariant.3 c.if-self.true in
     let some : 1 ≤ inside.taken = taken_some list inside.taken fresh.0 in
     let place : (inside.taken - 1) + 1 ≡ inside.taken = omega (arith, some) in
-    rw (sym c.self.view_is, c.put_aside.ensures d, fresh.1, c.silence-self-inside.ensures.count) (λ e. set_aside list inside.taken (inside.taken - 1) d c.args.from c.args.instead c.self.invariant.0 place fresh.0)
+    rw (sym c.self.view_is, c.put_aside.ensures d, fresh.1, c.silence-self-inside.ensures.count)
+    (λ e. set_aside list inside.taken (inside.taken - 1) d c.args.from c.args.instead c.self.invariant.0 place fresh.0)
 
 pub returns-then-self-clause-kept : goal.returns-then-self-clause-kept
 returns-then-self-clause-kept c =

@@ -10,7 +10,9 @@ returns-in_err-field c =
 pub returns-in_err-take : goal.returns-in_err-take
 returns-in_err-take c =
     let p = err_from_is_err_and c.from_residual-in_err-take.result c.from_residual-in_err-take.ensures.1 in
-    rw (p.1, p.2) (not_taken c.args.self.now.length c.args.line c.args.after _ _ _ c.in_err-take.field-0.0 c.in_ok-whole.ensures c.in_ok-field.ensures.field c.in_err-take.ensures)
+    rw (p.1, p.2) (not_taken c.args.self.now.length c.args.line c.args.after _ _ _ c.in_err-take.field-0.0 c.in_ok-whole.ensures c.in_ok-field.ensures.field
+    c.in_err-take.ensures)
 
 pub returns : goal.returns
-returns c = taken c.args.self.now c.take.new.self c.args.line c.args.after _ _ _ c.in_ok-whole.ensures c.in_ok-field.ensures.field c.in_ok-field.ensures.cut c.in_ok-take.ensures
+returns c = taken c.args.self.now c.take.new.self c.args.line c.args.after _ _ _ c.in_ok-whole.ensures c.in_ok-field.ensures.field c.in_ok-field.ensures.cut
+    c.in_ok-take.ensures

@@ -5,11 +5,13 @@ use Rattle.sip_message.proofs.LineSteps.{bad_here, fault_here, taken_here, part_
 use Rattle.sip_message.proofs.content.Content.take_line.Goals as goal
 
 pub returns-in_default : goal.returns-in_default
-returns-in_default c = inr (bad_here c.args.self.now.length c.args.line c.args.after (sym c.is_fold_line.ensures ∙ c.if-is_fold_line.false) (sym c.in_default.ensures.field))
+returns-in_default c = inr (bad_here c.args.self.now.length c.args.line c.args.after (sym c.is_fold_line.ensures ∙ c.if-is_fold_line.false)
+    (sym c.in_default.ensures.field))
 
 pub returns : goal.returns
 returns c =
-    taken_here c.args.self.now c.take_part.new.self c.args.line c.args.after _ (sym c.is_fold_line.ensures ∙ c.if-is_fold_line.false) (sym c.in-Some.ensures.field ∙ ap (λ (n : FieldName). Some (record { name = n; value = c.in-Some.value.now })) (sym c.of_part.ensures))
+    taken_here c.args.self.now c.take_part.new.self c.args.line c.args.after _ (sym c.is_fold_line.ensures ∙ c.if-is_fold_line.false)
+    (sym c.in-Some.ensures.field ∙ ap (λ (n : FieldName). Some (record { name = n; value = c.in-Some.value.now })) (sym c.of_part.ensures))
     (part_cut c.args.line c.in-Some.value c.in-Some.ensures.cut) c.in_ok-take_part.ensures
 
 pub returns-in_err-take_part : goal.returns-in_err-take_part

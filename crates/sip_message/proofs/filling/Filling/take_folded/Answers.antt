@@ -13,8 +13,10 @@ pub returns-in_err-take_any : goal.returns-in_err-take_any
 returns-in_err-take_any c =
     let p = err_from_is_err_and c.from_residual-in_err-take_any.result c.from_residual-in_err-take_any.ensures.1 in
     rw (p.1, p.2)
-    (not_taken c.args.self.now.length c.args.line c.args.after _ _ _ c.in_err-take_any.field-0.0 c.in_ok-whole.ensures (c.in_ok-name.ensures.field ∙ field_same _ _ _ _ refl (sym c.of_piece.ensures)) c.in_err-take_any.ensures)
+    (not_taken c.args.self.now.length c.args.line c.args.after _ _ _ c.in_err-take_any.field-0.0 c.in_ok-whole.ensures
+    (c.in_ok-name.ensures.field ∙ field_same _ _ _ _ refl (sym c.of_piece.ensures)) c.in_err-take_any.ensures)
 
 pub returns : goal.returns
 returns c =
-    folded_taken c.args.self.now c.take_any.new.self c.args.line c.args.after _ _ _ c.in_ok-whole.ensures (c.in_ok-name.ensures.field ∙ field_same _ _ _ _ refl (sym c.of_piece.ensures)) c.in_ok-take_any.ensures
+    folded_taken c.args.self.now c.take_any.new.self c.args.line c.args.after _ _ _ c.in_ok-whole.ensures
+    (c.in_ok-name.ensures.field ∙ field_same _ _ _ _ refl (sym c.of_piece.ensures)) c.in_ok-take_any.ensures

@@ -12,7 +12,8 @@ pub returns : goal.returns
 returns c =
     items_filled c.args.self.now _ (record { name = c.args.name.now; value = c.args.value.now }) c.in_ok-spans.spans.items c.requires.not_length c.requires.list
     (subst (λ (v : List ℕ). cut v ≡ Some (map (part v) c.in_ok-spans.spans.items)) c.as_slice.ensures c.in_ok-spans.ensures.items) refl
-    (subst (λ (s : List Span). c.put_items.new.fields ≡ c.args.self.now.fields ++ map (item_of c.args.name.now c.args.value.now) s) c.deref.ensures.value c.in_ok-put_items.ensures)
+    (subst (λ (s : List Span). c.put_items.new.fields ≡ c.args.self.now.fields ++ map (item_of c.args.name.now c.args.value.now) s) c.deref.ensures.value
+    c.in_ok-put_items.ensures)
 
 pub returns-in_err-spans : goal.returns-in_err-spans
 returns-in_err-spans c =

@@ -15,4 +15,5 @@ pub returns-in_err-take_parts : goal.returns-in_err-take_parts
 returns-in_err-take_parts c =
     let p = err_from_is_err_and c.from_residual.result c.from_residual.ensures.1 in
     rw (p.1, p.2)
-    (fault_here c.args.self.now.length c.args.next.line c.args.next.after _ c.in_err-take_parts.field-0.0 c.requires.no_fold (sym c.in-Some.ensures.field) c.in_err-take_parts.ensures)
+    (fault_here c.args.self.now.length c.args.next.line c.args.next.after _ c.in_err-take_parts.field-0.0 c.requires.no_fold (sym c.in-Some.ensures.field)
+    c.in_err-take_parts.ensures)

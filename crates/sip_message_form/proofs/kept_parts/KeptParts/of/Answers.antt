@@ -8,14 +8,17 @@ use Rattle.sip_message_form.proofs.kept_parts.KeptParts.of.Goals as goal
 
 pub invariant_of-result : goal.invariant_of-result
 invariant_of-result c =
-    kept_within c.in_ok-store.store c.put_start.new.store c.put.new.store c.put_fields.new.store c.args.view.now c.in_ok-start.start c.in_ok-body.body c.in_ok-list.list.items
+    kept_within c.in_ok-store.store c.put_start.new.store c.put.new.store c.put_fields.new.store c.args.view.now c.in_ok-start.start c.in_ok-body.body
+    c.in_ok-list.list.items
     (subst (λ (w : Start). IsStartPut c.in_ok-store.store w c.put_start.new.store c.in_ok-start.start) c.start.ensures c.in_ok-start.ensures)
     (subst (λ (w : List ℕ). IsPut c.put_start.new.store w c.put.new.store c.in_ok-body.body) c.body.ensures c.in_ok-body.ensures)
-    (subst (λ (w : List Field). AreFieldsPut c.put.new.store w c.put_fields.new.store c.in_ok-list.list.items) (c.as_slice.ensures ∙ c.fields.ensures) c.in_ok-list.ensures)
+    (subst (λ (w : List Field). AreFieldsPut c.put.new.store w c.put_fields.new.store c.in_ok-list.list.items) (c.as_slice.ensures ∙ c.fields.ensures)
+    c.in_ok-list.ensures)
 
 pub returns : goal.returns
 returns c =
     kept_is c.in_ok-store.store c.put_start.new.store c.put.new.store c.put_fields.new.store c.args.view.now c.in_ok-start.start c.in_ok-body.body c.in_ok-list.list.items
     (subst (λ (w : Start). IsStartPut c.in_ok-store.store w c.put_start.new.store c.in_ok-start.start) c.start.ensures c.in_ok-start.ensures)
     (subst (λ (w : List ℕ). IsPut c.put_start.new.store w c.put.new.store c.in_ok-body.body) c.body.ensures c.in_ok-body.ensures)
-    (subst (λ (w : List Field). AreFieldsPut c.put.new.store w c.put_fields.new.store c.in_ok-list.list.items) (c.as_slice.ensures ∙ c.fields.ensures) c.in_ok-list.ensures)
+    (subst (λ (w : List Field). AreFieldsPut c.put.new.store w c.put_fields.new.store c.in_ok-list.list.items) (c.as_slice.ensures ∙ c.fields.ensures)
+    c.in_ok-list.ensures)

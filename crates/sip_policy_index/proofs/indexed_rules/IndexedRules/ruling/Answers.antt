@@ -14,9 +14,11 @@ returns c =
     let rules = c.as_slice.result.now in
     let test = applies c.self.inside.users c.as_slice-2.result.now proven c.args.operation.now c.args.aor.now c.args.minute in
     let got : option_copied c.get.result ≡ slice_get rules c.first_place-place.result = grind (arith, gets, c.get.ensures.lookup) in
-    let found : option_copied c.get.result ≡ deciding_rule c.args.self.now.rules c.args.self.now.users c.args.self.now.domains proven c.args.operation.now c.args.aor.now c.args.minute =
+    let found : option_copied c.get.result ≡ deciding_rule c.args.self.now.rules c.args.self.now.users c.args.self.now.domains proven c.args.operation.now c.args.aor.now
+    c.args.minute =
     rule_at test rules c.first_place-place.result (option_copied c.get.result) got c.first_place-place.ensures
-    ∙ ap₂ (λ (rs : List Rule) (ds : List (List ℕ)). find (applies c.self.inside.users ds proven c.args.operation.now c.args.aor.now c.args.minute) rs) c.as_slice.ensures c.as_slice-2.ensures
+    ∙ ap₂ (λ (rs : List Rule) (ds : List (List ℕ)). find (applies c.self.inside.users ds proven c.args.operation.now c.args.aor.now c.args.minute) rs) c.as_slice.ensures
+    c.as_slice-2.ensures
     ∙ ap (λ (policy : Policy). deciding_rule policy.rules policy.users policy.domains proven c.args.operation.now c.args.aor.now c.args.minute) c.self.view_is in
     record {
       decision = c.ruling_by.ensures.decision ∙ ap (decision_with proven) found;

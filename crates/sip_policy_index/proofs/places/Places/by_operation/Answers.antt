@@ -7,5 +7,7 @@ use Rattle.sip_policy_index.proofs.places.Places.by_operation.Goals as goal
 
 pub loop-at-preserved : goal.loop-at-preserved
 loop-at-preserved c =
-    filed_more (λ (rule : Rule). operation_code rule.operation) c.args.rules.now c.loop-at.at c.index-rules-at.result c.loop-at.places c.file.new.self c.loop-at.invariant c.loop-at-test.true c.index-rules-at.is
-    (λ other. c.in_ok-file.ensures other ∙ ap (λ (code : ℕ). if nat_eq code other then filed other c.loop-at.places ++ c.loop-at.at ∷ [] else filed other c.loop-at.places) c.operation_code.ensures)
+    filed_more (λ (rule : Rule). operation_code rule.operation) c.args.rules.now c.loop-at.at c.index-rules-at.result c.loop-at.places c.file.new.self c.loop-at.invariant
+    c.loop-at-test.true c.index-rules-at.is
+    (λ other. c.in_ok-file.ensures other ∙ ap (λ (code : ℕ). if nat_eq code other then filed other c.loop-at.places
+    ++ c.loop-at.at ∷ [] else filed other c.loop-at.places) c.operation_code.ensures)

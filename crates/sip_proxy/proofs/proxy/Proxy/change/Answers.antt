@@ -5,4 +5,5 @@ use Rattle.sip_proxy.proofs.proxy.Proxy.change.Goals as goal
 
 pub change_at-requires-clause-kept : goal.change_at-requires-clause-kept
 change_at-requires-clause-kept g c = λ r at.
-    c.requires.kept r (subst (λ (p : Proxy). slice_get p.state.requests c.args.place ≡ Some r) c.self.view_is (subst (λ (rs : List OpenRequest). slice_get rs c.args.place ≡ Some r) c.reserve_timers.ensures.requests at))
+    c.requires.kept r (subst (λ (p : Proxy). slice_get p.state.requests c.args.place ≡ Some r) c.self.view_is
+    (subst (λ (rs : List OpenRequest). slice_get rs c.args.place ≡ Some r) c.reserve_timers.ensures.requests at))

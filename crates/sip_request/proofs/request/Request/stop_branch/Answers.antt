@@ -13,5 +13,6 @@ stop_at-requires-clause-held g c =
 pub returns-clause-moves : goal.returns-clause-moves
 returns-clause-moves g c =
     branch_stopped (g.T.Timers.pending c.args.timers.now) (g.T.Timers.pending c.stop_at.new.timers) c.args.self.now c.args.place
-    (subst (λ (ks : List TimerKeys). Moves (g.T.Timers.pending c.args.timers.now) (left_timers c.args.self.now.open_request ks c.args.place) (g.T.Timers.pending c.stop_at.new.timers) (left_timers c.args.self.now.open_request ks (c.args.place + 1))) c.as_slice.ensures
+    (subst (λ (ks : List TimerKeys). Moves (g.T.Timers.pending c.args.timers.now) (left_timers c.args.self.now.open_request ks c.args.place)
+    (g.T.Timers.pending c.stop_at.new.timers) (left_timers c.args.self.now.open_request ks (c.args.place + 1))) c.as_slice.ensures
     c.stop_at.ensures.moves)

@@ -17,6 +17,8 @@ returns c =
     IfOk-weaker c.text_to_target.result
     (Joins own c.args.records_route c.args.uri.now via c.as_slice-2.result.now (start_seen c.start-start.result))
     (λ (text : List ℕ). text ≡ text_of (goes_to server c.args.branch c.args.records_route c.args.uri.now (received c.args.self.now c.args.from)))
-    (λ text joins. joined own c.args.records_route c.args.uri.now via c.as_slice-2.result.now server.config.realm text (start_seen c.start-start.result) c.in_ok-routes.routes c.args.self.now c.args.from
-    c.start-start.ensures (c.as_slice-2.ensures ∙ c.in_ok-tail.ensures ∙ ap (λ (w : List ℕ). tail_of c.in_ok-routes.routes w (received c.args.self.now c.args.from)) c.as_slice.ensures) c.in_ok-routes.ensures joins)
+    (λ text joins. joined own c.args.records_route c.args.uri.now via c.as_slice-2.result.now server.config.realm text (start_seen c.start-start.result)
+    c.in_ok-routes.routes c.args.self.now c.args.from
+    c.start-start.ensures (c.as_slice-2.ensures ∙ c.in_ok-tail.ensures ∙ ap (λ (w : List ℕ). tail_of c.in_ok-routes.routes w (received c.args.self.now c.args.from))
+    c.as_slice.ensures) c.in_ok-routes.ensures joins)
     c.text_to_target.ensures

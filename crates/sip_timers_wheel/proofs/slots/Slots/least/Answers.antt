@@ -11,4 +11,5 @@ least_of-requires c =
 pub returns : goal.returns
 returns c =
     let within : c.args.slot < length (c.self.inside.heads).items = omega (arith, c.requires, c.self.invariant.slots, ap (λ v. length v.lists) c.self.view_is) in
-    c.least_of.ensures ∙ ap least (list_of_head (c.self.inside).rows (c.self.inside.heads).items c.args.slot c.index.result.now within c.index.ensures ∙ ap (λ v. list_at v.lists c.args.slot) c.self.view_is)
+    c.least_of.ensures ∙ ap least (list_of_head (c.self.inside).rows (c.self.inside.heads).items c.args.slot c.index.result.now within c.index.ensures
+    ∙ ap (λ v. list_at v.lists c.args.slot) c.self.view_is)

@@ -9,4 +9,5 @@ invariant_of-self g c =
     let within : c.args.place < length c.self.inside.rows = subst (λ (xs : List _). c.args.place < length xs) rows c.requires in
     let there = at_place c.self.inside.rows c.args.place within in
     rw (c.end.ensures.ended there.0 there.1)
-    (replaced g.R.Row.key c.self.inside.rows c.self.inside.keys c.args.place there.0 (g.R.Row.ended c.args.transaction there.0) c.self.invariant there.1 (c.end.ensures.key there.0 there.1))
+    (replaced g.R.Row.key c.self.inside.rows c.self.inside.keys c.args.place there.0 (g.R.Row.ended c.args.transaction there.0) c.self.invariant there.1
+    (c.end.ensures.key there.0 there.1))

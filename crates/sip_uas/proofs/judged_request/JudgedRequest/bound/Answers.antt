@@ -5,7 +5,8 @@ use Rattle.sip_uas.proofs.judged_request.JudgedRequest.bound.Goals as goal
 pub returns-clause-does : goal.returns-clause-does
 returns-clause-does c =
     let r = c.args.self in
-    bound_with r.server.now r.arrival r.request r.judged.now.question r.judged.now.minute r.is_full c.answered_by_rule.result c.args.rule c.in_ok-extras.extras c.args.plan.now
+    bound_with r.server.now r.arrival r.request r.judged.now.question r.judged.now.minute r.is_full c.answered_by_rule.result c.args.rule c.in_ok-extras.extras
+    c.args.plan.now
     c.in_ok-extras.ensures.registered c.answered_by_rule.ensures.does
 
 pub returns-clause-opens : goal.returns-clause-opens

@@ -4,7 +4,8 @@ use Rattle.sip_uas.proofs.judged_request.JudgedRequest.challenged.Goals as goal
 pub returns-clause-does : goal.returns-clause-does
 returns-clause-does c =
     let r = c.args.self in
-    challenged_with r.server.now r.arrival r.request r.judged.now.question r.judged.now.minute r.is_full c.replied.result c.challenge_status-status.result c.in_ok-extras.extras
+    challenged_with r.server.now r.arrival r.request r.judged.now.question r.judged.now.minute r.is_full c.replied.result c.challenge_status-status.result
+    c.in_ok-extras.extras
     c.challenge_status-status.ensures (c.in_ok-extras.ensures r.arrival.number r.arrival.now r.arrival.from) c.replied.ensures.does
 
 pub returns-clause-opens : goal.returns-clause-opens

@@ -9,4 +9,5 @@ loop-place-preserved c =
     let totals = c.args.self.now in
     let place = c.loop-place.place in
     c.in_ok-push_line.ensures ∙ ap (λ l. l ++ total_at (slice_get totals place)) c.loop-place.invariant
-    ∙ append_assoc c.args.text.now (flat_map total_text (take place totals)) (total_at (slice_get totals place)) ∙ ap (λ l. c.args.text.now ++ l) (total_more totals place)
+    ∙ append_assoc c.args.text.now (flat_map total_text (take place totals)) (total_at (slice_get totals place))
+    ∙ ap (λ l. c.args.text.now ++ l) (total_more totals place)

@@ -9,4 +9,5 @@ cancel-requires g c =
     omega (arith, kept, c.self.invariant c.in-Some.key)
 
 pub invariant_of-self : goal.invariant_of-self
-invariant_of-self g c = rw (c.cancel.ensures.gone, c.drop_key.ensures) (keys_cancelled c.in-Some.key c.self.inside.kept.items (g.T.Timers.pending c.self.inside.timers) c.self.invariant)
+invariant_of-self g c = rw (c.cancel.ensures.gone, c.drop_key.ensures) (keys_cancelled c.in-Some.key c.self.inside.kept.items (g.T.Timers.pending c.self.inside.timers)
+    c.self.invariant)
