@@ -4,11 +4,11 @@
     bench/gate_order.py [--jobs N] [--memory GB] [--start SECONDS] [--without-edits CRATE ..] [--show]
 
 It goes by the order of `rt`: a proof begins once what it stands on is proved, those with the most lines behind them first, and
-the edits of a crate, one task, behind its proof. With `--jobs N`, as `.ci/run` asks for, N of them go side by side, one processor
-each. Without it a task begins only where the memory that is counted for it is free (1 GB, 1 MB a line of code, 0.2 MB a line of
-definitions and proofs, 0.08 MB a line of code below, and five times the libraries of the kit that are loaded, 2.5 GB at most), and
-those that fit pass one that waits. A crate that has no row counts as those together that have none. So it tells what a cut would
-bring before anything is proved, and is some minutes off. Proves nothing.
+the edits of a crate where no proof can begin, behind one more proof of it. With `--jobs N`, as `.ci/run` asks for, N of them go
+side by side, one processor each. Without it a task begins only where the memory that is counted for it is free (1 GB, 1 MB a line of
+code, 0.2 MB a line of definitions and proofs, 0.08 MB a line of code below, and five times the libraries of the kit that are loaded,
+2.5 GB at most), and those that fit pass one that waits. A crate that has no row counts as those together that have none. So it tells
+what a cut would bring before anything is proved, and is some minutes off. Proves nothing.
 """
 import argparse
 import functools
@@ -86,10 +86,9 @@ def tasks_of(house):
     tasks = {}
     for it in house.crates:
         tasks[it, "proof"] = ([(d, "proof") for d in house.below(it)], house.code[it], house.memory(it), house.seconds[it])
-        count = house.edits[it]
-        if count:
-            seconds = 0.85 * house.seconds[it] + count * (13 + 0.06 * house.seconds[it])
-            tasks[it, "edits"] = ([(it, "proof")], house.code[it], house.memory(it), seconds)
+        for number in range(house.edits[it]):
+            tasks[it, "seed"] = ([(it, "proof")], 0, house.memory(it), 0.85 * house.seconds[it])
+            tasks[it, f"edit {number}"] = ([(it, "seed")], house.code[it], house.memory(it), 13 + 0.06 * house.seconds[it])
     return tasks
 
 
@@ -100,7 +99,7 @@ def order(tasks, memory, start, fixed):
         behind[key] += tasks[key][1]
         for it in tasks[key][0]:
             behind[it] = max(behind[it], behind[key])
-    left = sorted(tasks, key=lambda it: -behind[it])
+    left = sorted(tasks, key=lambda it: (it[1] != "proof", -behind[it]))
     lanes, running, ended, now, told = fixed or LANES, {}, set(), start, []
     while left or running:
         ready = [it for it in left if all(below in ended for below in tasks[it][0])]
@@ -110,7 +109,7 @@ def order(tasks, memory, start, fixed):
             idle = lanes - sum(it[2] for it in running.values())
             if idle > 0 and (fixed or not running or needs <= room):
                 left.remove(key)
-                spare = 1 if fixed or key[1] == "edits" else min(LANES, idle // (len(ready) - at), 1 + int((room / needs - 1) / 0.6))
+                spare = 1 if fixed or key[1] != "proof" else min(LANES, idle // (len(ready) - at), 1 + int((room / needs - 1) / 0.6))
                 jobs = max(1, spare)
                 running[key] = now + seconds / FASTER[jobs], needs * (1 + 0.6 * (jobs - 1)), jobs, now
         now = min(it[0] for it in running.values())

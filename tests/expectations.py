@@ -70,10 +70,10 @@ def held(folder, lines, more=()):
 
 
 def decided(told):
-    """What `decide` says of a question that was told."""
+    """What `decide` says first of a question that was told."""
     who, method, target, hour, minute = re.match(r"(nobody|user \S+) (\S+) (\S+) at (\d+):(\d\d): ", told).groups()
     user = [] if who == "nobody" else ["--user", who[5:]]
-    return run("decide", "--config", OFFICE, *user, "--minute", str(60 * int(hour) + int(minute)), method, target)[1]
+    return run("decide", "--config", OFFICE, *user, "--minute", str(60 * int(hour) + int(minute)), method, target)[1].partition("\n")[0] + "\n"
 
 
 def main():

@@ -731,6 +731,37 @@ def decides_before_policy(folder, expect):
         expect(status == 0 and "allow" in printed, f"{method}: {status} {printed} {complaints}")
 
 
+def fed_slowly(words, parts, complaints):
+    """A call whose input comes in parts, 1.2 seconds apart, and which complains there: what it prints, and its status."""
+    call = subprocess.Popen([PROGRAM, *words], stdin=subprocess.PIPE, stdout=subprocess.PIPE, stderr=complaints)
+    try:
+        for number, part in enumerate(parts):
+            time.sleep(1.2 if number else 0)
+            call.stdin.write(part)
+            call.stdin.flush()
+        return call.communicate(timeout=20)[0], call.returncode
+    finally:
+        call.kill()
+
+
+def says_how_far_it_is(folder, expect):
+    """A replay that takes long says on standard error how far it is, once a second, where that is a terminal, and nothing elsewhere."""
+    script = read(os.path.join(phone.TOP, "crates", "test_server", "data", "call_to_help.script"))
+    third = len(script) // 3
+    parts = [script[:third], script[third : 2 * third], script[2 * third :]]
+    terminal, behind = os.openpty()
+    printed, status = fed_slowly(["replay"], parts, behind)
+    os.close(behind)
+    said = os.read(terminal, 65536).decode().splitlines()
+    os.close(terminal)
+    wanted = [f"sipd: the script: {read_then} bytes are read" for read_then in (2 * third, len(script))]
+    expect((status, said) == (0, wanted), f"on a terminal: {status} {said}")
+    silent = new(folder)
+    with open(silent, "wb") as file:
+        printed_there, status = fed_slowly(["replay"], parts, file)
+    expect((status, printed_there, read(silent)) == (0, printed, b""), f"in a file: {status} {read(silent)}")
+
+
 def seldom_meant(folder, expect):
     """check --show warns of a host 0.0.0.0 and of a method in small letters."""
     for old, text, word in (('host = "127.0.0.1"', 'host = "0.0.0.0"', "0.0.0.0"), ("send INVITE", "send invite", "rule 5")):
@@ -820,7 +851,7 @@ TRIALS = (
     port_0_goes_on, port_0_ends, full_while_taken, full_while_taken_ends, full_at_the_start, full_in_service, full_and_ends, damaged_or_cut,
     configuration_damaged_or_cut, holds_what_its_head_names, pipe_to_go_on_from, records_folder, newest_of_a_folder, left, removed, replaced, cut_under_it, replays_what_it_served,
     due_is_recorded, each_line_is_printed, printed_before_it_is_sent, hops_are_heard, small_stack, causes, long_configurations, ignored_options, long_password, user_of_a_file, uneven_digests,
-    decides_before_policy, seldom_meant, wrong_files, unit, address_everywhere,
+    decides_before_policy, says_how_far_it_is, seldom_meant, wrong_files, unit, address_everywhere,
 )  # fmt: skip
 # each waits for 45 seconds, so they are done beside the others
 LONG = (an_hour_behind, a_day_behind)

@@ -55,7 +55,7 @@ def helped(command):
     """The options of a command with the names of their values, by its help, and its words."""
     page = said(PROGRAM, "help", command)
     options = re.findall(r"(?m)^ +(?:-\w, )?(--[\w-]+)(?: <(\w+)>)?", page)
-    words = re.findall(r"<(\w+)>", page.partition("Usage:")[2].partition("\n")[0])
+    words = re.findall(r"[<\[]([A-Z]+)[>\]]", page.partition("Usage:")[2].partition("\n")[0].replace("[OPTIONS]", ""))
     values = {value for _, value in options}
     return dict(options), [word for word in words if word not in values]
 
@@ -87,6 +87,7 @@ def tried_values():
     for words, wanted in {
         ("serve", "--record-fault", ""): ["go-on", "end"],
         ("help", "ma"): ["matrix"],
+        ("decide", "--expect", "a"): ["allow"],
         ("report", "--config", OFFICE, "--user", "b"): ["bob"],
         ("check", "--config", OFFICE[:-3]): [OFFICE],
         ("decide", "--config", OFFICE, "IN"): ["INVITE"],

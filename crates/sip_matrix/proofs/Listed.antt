@@ -33,7 +33,8 @@ any_wider one other wider (x ∷ xs) e = elim (or_cases (one x) (list_any one xs
   | inr h ↦ or_right _ _ (any_wider one other wider xs h)
 ]
 
-any_of_map : {X Y : Type 0} (test : Y → Bool) (make : X → Y) (one : X → Bool) → ((x : X) → one x ≡ true → test (make x) ≡ true) → (xs : List X) → list_any one xs ≡ true
+pub any_of_map : {X Y : Type 0} (test : Y → Bool) (make : X → Y) (one : X → Bool) → ((x : X) → one x ≡ true → test (make x) ≡ true) → (xs : List X)
+    → list_any one xs ≡ true
     → list_any test (map make xs) ≡ true
 any_of_map test make one makes [] e = e
 any_of_map test make one makes (x ∷ xs) e = elim (or_cases (one x) (list_any one xs) e) [
@@ -183,11 +184,11 @@ module _ (rules : List Rule) (users : List User) (domains : List (List ℕ)) (ao
 
 -- ---- rows
 
-ask_over : (rules : List Rule) (users : List User) (x y z : List ℕ) → ask_alike rules users x y ≡ true → ask_alike rules users x z ≡ ask_alike rules users y z
+pub ask_over : (rules : List Rule) (users : List User) (x y z : List ℕ) → ask_alike rules users x y ≡ true → ask_alike rules users x z ≡ ask_alike rules users y z
 ask_over rules users x y z e = agree_over (λ (name : List ℕ) (rule : Rule). matches_who users (Some name) rule.who) x y z rules e
 
 -- a user asks as each of his name does
-ask_itself : (rules : List Rule) (users : List User) (name other : List ℕ) → bytes_eq other name ≡ true → ask_alike rules users name other ≡ true
+pub ask_itself : (rules : List Rule) (users : List User) (name other : List ℕ) → bytes_eq other name ≡ true → ask_alike rules users name other ≡ true
 ask_itself rules users name other e =
     ap (λ (text : List ℕ). ask_alike rules users name text) (same_text other name (sym e))
     ∙ all_agree (λ (rule : Rule). matches_who users (Some name) rule.who) (λ (rule : Rule). matches_who users (Some name) rule.who) (λ r. refl) rules

@@ -1,10 +1,10 @@
 -- Which target patterns an address meets, and which the addresses of its column.
-use Rattle.std.proofs.Common.{◌≡◌, ℕ, Bool, true, false, ◌&&◌, ◌||◌, cond, nat_eq, List, [], ◌∷◌, Option, refl, sym, ap, ap₂, ◌∙◌}
+use Rattle.std.proofs.Common.{◌≡◌, ℕ, Bool, true, false, ◌&&◌, ◌||◌, cond, nat_eq, List, [], ◌∷◌, Option, refl, sym, ap, ap₂, ◌∙◌, true≢false}
 use Rattle.std.specs.Bool.{beq}
 use Rattle.std.specs.Cmp.Lexicographic.{same_text}
 use Rattle.std.specs.List.{list_all, list_any, starts_with}
 use Rattle.std.specs.Str.{bytes_eq}
-use Rattle.std.proofs.lemmas.Bool.{and_parts, and_from, and_left, and_right, or_parts}
+use Rattle.std.proofs.lemmas.Bool.{and_parts, and_from, and_left, and_right, or_parts, false_from_ne_true}
 use Rattle.std.proofs.lemmas.Cmp.{nat_list_eq_equiv}
 use Rattle.sip_text.specs.Words.{without_case, is_same_text}
 use Rattle.sip_uri.specs.declared.aor.Aor.{Aor}
@@ -68,30 +68,42 @@ module _ (users : List User) (domains : List (List ℕ)) (proven : Option (List 
       let both = and_parts (front_fits aor front r.target) (list_all (λ (rule : Rule). front_fits aor front rule.target) rs) f in
       and_from _ _ (agree_from _ _ (met_begins users domains proven aor front r.target none.0 both.0)) (all_begin front rs none.1 both.1)
 
-  -- an address meets the rules' targets that the addresses of its column do
-  pub all_met : (rules : List Rule) → list_all (met_as (column_of rules users domains aor)) rules ≡ true
-  all_met rules = by (counts rules domains aor.host) refl (has_name rules users domains aor) refl
+  -- an address meets the rules' targets that the addresses of its column do, also where that is told by other users and own domains
+  pub all_met_by : (rules : List Rule) (everybody : List User) (further : List (List ℕ)) → list_all (met_as (column_of rules everybody further aor)) rules ≡ true
+  all_met_by rules everybody further = by (counts rules further aor.host) refl (has_name rules everybody further aor) refl
     where
-      by : (here : Bool) → counts rules domains aor.host ≡ here → (has : Bool) → has_name rules users domains aor ≡ has
+      by : (here : Bool) → counts rules further aor.host ≡ here → (has : Bool) → has_name rules everybody further aor ≡ has
           → list_all (met_as (cond here (cond has (Named aor) (Begins (record { user = longest_front rules aor; host = aor.host }))) Elsewhere)) rules ≡ true
       by true here true has = all_agree (λ (rule : Rule). matches_target users domains proven aor rule.target)
           (λ (rule : Rule). meets (is_own users domains proven aor) (Named aor) rule.target) (λ r. met_named users domains proven aor r.target) rules
       by true here false has =
-          all_begin (longest_front rules aor) rules (or_parts (is_users_address users domains aor) (list_any (λ (rule : Rule). names_address aor rule.target) rules)
-          has).1 (longest_fits rules aor).fits
-      by false here has is = all_elsewhere rules (or_parts (is_own_domain domains aor.host) (list_any (λ (rule : Rule). names_host aor.host rule.target) rules) here).1
+          all_begin (longest_front rules aor) rules
+          (or_parts (is_users_address everybody further aor) (list_any (λ (rule : Rule). names_address aor rule.target) rules) has).1 (longest_fits rules aor).fits
+      by false here has is = all_elsewhere rules (or_parts (is_own_domain further aor.host) (list_any (λ (rule : Rule). names_host aor.host rule.target) rules) here).1
 
--- the addresses of a column are known as those of it are that is asked about
-pub known_as : (rules : List Rule) (users : List User) (domains : List (List ℕ)) (aor : Aor)
-    → is_users_address users domains aor ≡ is_known users domains (column_of rules users domains aor)
-known_as rules users domains aor = by (counts rules domains aor.host) refl (has_name rules users domains aor) refl
+  pub all_met : (rules : List Rule) → list_all (met_as (column_of rules users domains aor)) rules ≡ true
+  all_met rules = all_met_by rules users domains
+
+-- the addresses of a column are known as those of it are that is asked about, also where that is told by more users and own domains
+pub known_by : (rules : List Rule) (users everybody : List User) (domains further : List (List ℕ)) (aor : Aor)
+    → (is_users_address users domains aor ≡ true → is_users_address everybody further aor ≡ true)
+    → is_users_address users domains aor ≡ is_known users domains (column_of rules everybody further aor)
+known_by rules users everybody domains further aor wider = by (counts rules further aor.host) refl (has_name rules everybody further aor) refl
   where
-    by : (here : Bool) → counts rules domains aor.host ≡ here → (has : Bool) → has_name rules users domains aor ≡ has
+    none : is_users_address everybody further aor ≡ false → is_users_address users domains aor ≡ false
+    none e = false_from_ne_true (is_users_address users domains aor) (λ is. true≢false (sym (wider is) ∙ e))
+
+    by : (here : Bool) → counts rules further aor.host ≡ here → (has : Bool) → has_name rules everybody further aor ≡ has
         → is_users_address users domains aor ≡ is_known users domains (cond here (cond has (Named aor)
         (Begins (record { user = longest_front rules aor; host = aor.host }))) Elsewhere)
     by true here true has = refl
-    by true here false has = (or_parts (is_users_address users domains aor) (list_any (λ (rule : Rule). names_address aor rule.target) rules) has).0
-    by false here has is = and_left _ _ (or_parts (is_own_domain domains aor.host) (list_any (λ (rule : Rule). names_host aor.host rule.target) rules) here).0
+    by true here false has = none (or_parts (is_users_address everybody further aor) (list_any (λ (rule : Rule). names_address aor rule.target) rules) has).0
+    by false here has is =
+        none (and_left _ _ (or_parts (is_own_domain further aor.host) (list_any (λ (rule : Rule). names_host aor.host rule.target) rules) here).0)
+
+pub known_as : (rules : List Rule) (users : List User) (domains : List (List ℕ)) (aor : Aor)
+    → is_users_address users domains aor ≡ is_known users domains (column_of rules users domains aor)
+known_as rules users domains aor = known_by rules users users domains domains aor (λ is. is)
 
 -- ---- columns that are asked about alike
 

@@ -24,7 +24,7 @@ use Rattle.sip_matrix.proofs.Listed.{any_wider, column_listed, text_itself}
 use Rattle.sip_matrix.proofs.Meeting.{alike_if_same, asked_over, known_same, same_parts}
 
 -- what is said of each element that passes a test, where one does
-some_of : {X : Type 0} (test : X → Bool) (goal : Type 0) → ((x : X) → test x ≡ true → goal) → (xs : List X) → list_any test xs ≡ true → goal
+pub some_of : {X : Type 0} (test : X → Bool) (goal : Type 0) → ((x : X) → test x ≡ true → goal) → (xs : List X) → list_any test xs ≡ true → goal
 some_of test goal see [] e = absurd cc
 some_of test goal see (x ∷ xs) e = elim (or_cases (test x) (list_any test xs) e) [
   | inl h ↦ see x h
@@ -39,7 +39,7 @@ address_over x y z e =
     ap₂ (λ (a b : Bool). a && b) (nat_list_eq_equiv.congr x.user y.user z.user both.0)
     (nat_list_eq_equiv.congr (without_case x.host) (without_case y.host) (without_case z.host) both.1)
 
-same_over : (x y z : Column) → is_same_column x y ≡ true → is_same_column x z ≡ is_same_column y z
+pub same_over : (x y z : Column) → is_same_column x y ≡ true → is_same_column x z ≡ is_same_column y z
 same_over (Named x) (Named y) (Named z) e = address_over x y z e
 same_over (Named x) (Named y) (Begins z) e = refl
 same_over (Named x) (Named y) Elsewhere e = refl
@@ -55,16 +55,16 @@ same_over Elsewhere (Named y) z e = absurd cc
 same_over Elsewhere (Begins y) z e = absurd cc
 
 module _ (rules : List Rule) (users : List User) (domains : List (List ℕ)) where
-  alike_itself : (column : Column) → are_asked_alike rules users domains column column ≡ true
+  pub alike_itself : (column : Column) → are_asked_alike rules users domains column column ≡ true
   alike_itself column =
       and_from _ _ (agree_itself (is_known users domains column))
       (all_agree (λ (rule : Rule). meets false column rule.target) (λ (rule : Rule). meets false column rule.target) (λ r. refl) rules)
 
-  alike_back : (one other : Column) → are_asked_alike rules users domains one other ≡ true → are_asked_alike rules users domains other one ≡ true
+  pub alike_back : (one other : Column) → are_asked_alike rules users domains one other ≡ true → are_asked_alike rules users domains other one ≡ true
   alike_back one other e = sym (asked_over rules users domains one other one e) ∙ alike_itself one
 
   -- a user's address is its own column
-  named_column : (aor : Aor) → is_users_address users domains aor ≡ true → column_of rules users domains aor ≡ Named aor
+  pub named_column : (aor : Aor) → is_users_address users domains aor ≡ true → column_of rules users domains aor ≡ Named aor
   named_column aor e =
       let own = and_parts (is_own_domain domains aor.host) (is_users_name users aor.user) e in
       let here : counts rules domains aor.host ≡ true = or_left (is_own_domain domains aor.host) (list_any (λ (rule : Rule). names_host aor.host rule.target) rules) own.0
@@ -74,7 +74,7 @@ module _ (rules : List Rule) (users : List User) (domains : List (List ℕ)) whe
       ap₂ (λ (x y : Bool). if x then (if y then Named aor else Begins (record { user = longest_front rules aor; host = aor.host })) else Elsewhere) here has
 
   -- it is listed once
-  address_listed : (aor : Aor) → is_users_address users domains aor ≡ true → list_any (is_same_column (Named aor)) (columns_of rules users domains) ≡ true
+  pub address_listed : (aor : Aor) → is_users_address users domains aor ≡ true → list_any (is_same_column (Named aor)) (columns_of rules users domains) ≡ true
   address_listed aor e =
       counted_there (is_same_column (Named aor)) (columns_of rules users domains)
       (exactly_one is_same_column same_over (Named aor) (all_columns rules users domains)

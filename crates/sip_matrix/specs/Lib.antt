@@ -6,6 +6,7 @@ pub mod Day
 pub mod Cell
 pub mod Table
 pub mod Own
+pub mod Finer
 pub mod Example
 pub mod Expected
 pub mod Examples

@@ -35,8 +35,8 @@ impl Clone for Column {
     }
 }
 
-/// Whether two answers are the same.
-pub(crate) fn agree(one: bool, other: bool) -> bool
+/// Whether two answers are the same. Takes no memory.
+pub fn agree(one: bool, other: bool) -> bool
     ensures { result ≡ beq one other }
 {
     if one { other } else { !other }

@@ -3,15 +3,13 @@ ghost use Rattle.std.specs.Prelude.{◌≡◌};
 ghost use Rattle.std.specs.Option.{option_copied};
 ghost use Rattle.sip_matrix.specs.Expected as Definitions;
 
+use crate::pieces::DAY;
 use sip_policy::{
     Decision, Operation, OperationPattern, Rule, TargetPattern, Users, Who, Window, deciding_rule,
     is_users_address, ruling_by,
 };
 use sip_text::Bytes;
 use sip_uri::Aor;
-
-/// The minutes of a day.
-const DAY: u16 = 1_440;
 
 /// Who is meant to ask.
 #[derive(Clone, Copy)]

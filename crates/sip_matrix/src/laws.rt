@@ -12,6 +12,7 @@ ghost use Rattle.sip_matrix.specs.Column.{are_asked_alike, is_known};
 ghost use Rattle.sip_matrix.specs.Address.{column_of};
 ghost use Rattle.sip_matrix.specs.Day.{piece_of, pieces_of};
 ghost use Rattle.sip_matrix.specs.Cell.{decision_in, rule_in};
+ghost use Rattle.sip_matrix.specs.Finer.{AreAmong};
 ghost use Rattle.sip_matrix.specs.Own.{has_own, AsksForOwn};
 ghost use Rattle.sip_matrix.specs.Table.{classes_of, columns_of};
 ghost use Rattle.sip_matrix.specs.Example.{are_plain};
@@ -36,6 +37,29 @@ pub fn cells_decide()
         ≡ decision_in rules users row operation column (is_own users domains proven aor) (piece_of rules minute) }
     ensures known { (rules : List Rule) (users : List User) (domains : List (List ℕ)) (aor : Aor) (column : Column)
         → are_asked_alike rules users domains (column_of rules users domains aor) column ≡ true
+        → is_users_address users domains aor ≡ is_known users domains column }
+{}
+
+/// The same in the cells of a finer table, whose columns and pieces are told apart by more rules, users and own domains, among which
+/// these are.
+pub fn finer_cells_decide()
+    ensures rule { (rules all : List Rule) (users everybody : List User) (domains further : List (List ℕ)) (proven row : Option (List ℕ))
+        (operation : Operation) (aor : Aor) (column : Column) (minute : ℕ)
+        → AreAmong rules all
+        → is_in_row rules users proven row ≡ true
+        → are_asked_alike rules users domains (column_of all everybody further aor) column ≡ true
+        → deciding_rule rules users domains proven operation aor minute
+        ≡ rule_in rules users row operation column (is_own users domains proven aor) (piece_of all minute) }
+    ensures decision { (rules all : List Rule) (users everybody : List User) (domains further : List (List ℕ)) (proven row : Option (List ℕ))
+        (operation : Operation) (aor : Aor) (column : Column) (minute : ℕ)
+        → AreAmong rules all
+        → is_in_row rules users proven row ≡ true
+        → are_asked_alike rules users domains (column_of all everybody further aor) column ≡ true
+        → decision_of rules users domains proven operation aor minute
+        ≡ decision_in rules users row operation column (is_own users domains proven aor) (piece_of all minute) }
+    ensures known { (rules all : List Rule) (users everybody : List User) (domains further : List (List ℕ)) (aor : Aor) (column : Column)
+        → AreAmong users everybody → AreAmong domains further
+        → are_asked_alike rules users domains (column_of all everybody further aor) column ≡ true
         → is_users_address users domains aor ≡ is_known users domains column }
 {}
 

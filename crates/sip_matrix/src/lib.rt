@@ -1,6 +1,6 @@
 //! The whole policy as a table: who asks by what is asked by when, in finitely many cells, in each of which one rule decides.
 //!
-//! - Used: `sipd_matrix`, for the command `matrix`.
+//! - Used: `sipd_matrix`, `sipd_matrix_forms` and `sipd_matrix_changes`, for the command `matrix`; `sipd_expect`, for `check --expect`.
 //! - Not here: what a rule decides (`sip_policy`), and the text of the table (`sipd_matrix`).
 //! - Tried: worked examples in `src/examples.rt`, as contracts that compute.
 //!
@@ -20,8 +20,10 @@ mod standing;
 mod table;
 
 pub use cell::rule_in;
-pub use column::Column;
+pub use column::{Column, agree};
 pub use expectation::{Askers, Expectation, Fault, Place, Times};
+pub use listing::{all_columns, columns_among};
+pub use pieces::pieces_of;
 pub use rows::ask_alike;
 pub use standing::{Standing, standing_of};
 pub use table::{Table, table_of};

@@ -96,8 +96,24 @@ fn add_domains(
     Ok(())
 }
 
-/// All columns, some of them more than once.
-pub(crate) fn all_columns(
+/// All columns of rules, users and own domains, some of them more than once. `AllocError` is the only refusal.
+pub fn all_columns(
+    alloc: Global,
+    rules: &[Rule],
+    users: &[User],
+    domains: &[Bytes],
+) -> Result<Items<Column>, AllocError>
+    ensures { IfOk result (λ columns. columns ≡ Definitions.all_columns rules.now users.now domains.now) }
+{
+    let mut columns = Items::new(alloc);
+    add_domains(alloc, &mut columns, users, domains)?;
+    add_targets(alloc, &mut columns, rules)?;
+    columns.push(Column::Elsewhere)?;
+    Ok(columns)
+}
+
+/// The same of users as they are kept.
+pub(crate) fn columns_of_all(
     alloc: Global,
     rules: &[Rule],
     users: &Users,
@@ -105,11 +121,7 @@ pub(crate) fn all_columns(
 ) -> Result<Items<Column>, AllocError>
     ensures { IfOk result (λ columns. columns ≡ Definitions.all_columns rules.now users.now domains.now) }
 {
-    let mut columns = Items::new(alloc);
-    add_domains(alloc, &mut columns, users.as_slice(), domains)?;
-    add_targets(alloc, &mut columns, rules)?;
-    columns.push(Column::Elsewhere)?;
-    Ok(columns)
+    all_columns(alloc, rules, users.as_slice(), domains)
 }
 
 fn has_column(columns: &[Column], column: &Column) -> bool
@@ -127,8 +139,8 @@ fn add_column(columns: &mut Items<Column>, column: &Column) -> Result<(), AllocE
     columns.push(column.clone()?)
 }
 
-/// Each of some columns once.
-pub(crate) fn columns_among(alloc: Global, all: &[Column]) -> Result<Items<Column>, AllocError>
+/// Each of some columns once. `AllocError` is the only refusal.
+pub fn columns_among(alloc: Global, all: &[Column]) -> Result<Items<Column>, AllocError>
     ensures { IfOk result (λ columns. columns ≡ kinds_of is_same_column all.now) }
 {
     let mut columns = Items::new(alloc);

@@ -8,7 +8,7 @@ use sip_text::Items;
 use std::alloc::{AllocError, Global};
 
 /// The minutes of a day.
-const DAY: u16 = 1_440;
+pub(crate) const DAY: u16 = 1_440;
 
 /// Whether a window, if there is one, begins or ends at a minute.
 fn is_bound_of(minute: u16, window: Option<Window>) -> bool
@@ -45,7 +45,7 @@ fn add_piece(pieces: &mut Items<u16>, rules: &[Rule], minute: u16) -> Result<(),
 }
 
 /// The first minutes of the pieces of the day, rising. `AllocError` is the only refusal.
-pub(crate) fn pieces(alloc: Global, rules: &[Rule]) -> Result<Items<u16>, AllocError>
+pub fn pieces_of(alloc: Global, rules: &[Rule]) -> Result<Items<u16>, AllocError>
     ensures { IfOk result (λ pieces. pieces ≡ Definitions.pieces_of rules.now) }
 {
     let mut pieces = Items::new(alloc);

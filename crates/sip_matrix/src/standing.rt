@@ -6,8 +6,8 @@ ghost use Rattle.sip_matrix.specs.Expected.{Finds, StandsSo};
 
 use crate::column::Column;
 use crate::expectation::{Expectation, Fault, is_fault, window_of};
-use crate::listing::all_columns;
-use crate::pieces::pieces;
+use crate::listing::columns_of_all;
+use crate::pieces::pieces_of;
 use crate::plain::{are_plain, example_of, operations_of};
 use sip_policy::{Operation, Rule, RuleVerdict, User, Users};
 use sip_text::{Bytes, Items};
@@ -312,8 +312,8 @@ fn at_examples(
     ensures { IfOk result (Finds (Definitions.is_fault_of rules.now users.now domains.now expectation.now)
         (Definitions.is_free_by told_apart.now rules.now users.now domains.now expectation.now)) }
 {
-    let minutes = pieces(alloc, told_apart)?;
-    let columns = all_columns(alloc, told_apart, users, domains)?;
+    let minutes = pieces_of(alloc, told_apart)?;
+    let columns = columns_of_all(alloc, told_apart, users, domains)?;
     let operations = operations_of(alloc, &expectation.operation, rules)?;
     in_operations(
         alloc,

@@ -2,8 +2,8 @@ ghost use Rattle.std.specs.Prelude.{◌≡◌, IfOk};
 ghost use Rattle.sip_matrix.specs.Table as Definitions;
 
 use crate::column::Column;
-use crate::listing::{all_columns, classes_among, columns_among};
-use crate::pieces::pieces;
+use crate::listing::{classes_among, columns_among, columns_of_all};
+use crate::pieces::pieces_of;
 use crate::rows::rows;
 use sip_policy::{Rule, Users};
 use sip_text::{Bytes, Items};
@@ -43,10 +43,10 @@ pub fn table_of(
     ensures { IfOk result (λ table. table ≡ Definitions.table_of rules.now users.now domains.now) }
 {
     let rows = rows(alloc, rules, users)?;
-    let all = all_columns(alloc, rules, users, domains)?;
+    let all = columns_of_all(alloc, rules, users, domains)?;
     let columns = columns_among(alloc, all.as_slice())?;
     let classes = classes_among(alloc, rules, users, domains, all.as_slice())?;
-    let pieces = pieces(alloc, rules)?;
+    let pieces = pieces_of(alloc, rules)?;
     Ok(Table {
         rows,
         columns,

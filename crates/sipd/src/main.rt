@@ -5,7 +5,7 @@ use sip_policy_index::IndexedRules;
 use sip_timers_wheel::WheelTimers;
 use sipd_command::command;
 use sipd_exit::Exit;
-use std::io::{BufWriter, Read, Write};
+use std::io::{BufWriter, IsTerminal, Read, Write};
 use std::process::ExitCode;
 use std::{env, io};
 
@@ -22,11 +22,14 @@ fn words(rt: &HostRuntime) -> Result<Vec<String>, Exit> {
 fn carry_out<I: Read, W: Write, C: Write>(
     rt: &HostRuntime,
     words: &[String],
+    seen: bool,
     input: &mut I,
     output: &mut W,
     complaints: &mut C,
 ) -> u8 {
-    command::<WheelTimers, IndexedRules, HostRuntime, I, W, C>(rt, words, input, output, complaints)
+    command::<WheelTimers, IndexedRules, HostRuntime, I, W, C>(
+        rt, words, seen, input, output, complaints,
+    )
 }
 
 /// The exit status of what the words ask for.
@@ -35,9 +38,11 @@ fn run(rt: &HostRuntime) -> Result<u8, Exit> {
     let mut input = rt.reader();
     let mut output = BufWriter::new(rt.alloc(), io::writer(rt))?;
     let mut complaints = rt.stderr();
+    let seen = complaints.is_terminal();
     Ok(carry_out(
         rt,
         words.as_slice(),
+        seen,
         &mut input,
         &mut output,
         &mut complaints,

@@ -20,9 +20,13 @@ use Rattle.sipd_arguments.specs.declared.call.ReplayCall.{ReplayCall}
 use Rattle.sipd_arguments.specs.declared.call.ReplayCall.TheVariants.{Script, Record}
 use Rattle.sipd_arguments.specs.declared.call.ServeCall.{ServeCall}
 use Rattle.sipd_arguments.specs.declared.call.DecideCall.{DecideCall}
+use Rattle.sipd_arguments.specs.declared.call.DecideCall.TheVariants.{Question, Log}
+use Rattle.sipd_arguments.specs.declared.call.QuestionCall.{QuestionCall}
 use Rattle.sipd_arguments.specs.declared.call.MatrixCall.{MatrixCall}
 use Rattle.sipd_arguments.specs.declared.call.ReportCall.{ReportCall}
 use Rattle.sipd_arguments.specs.declared.call.UserCall.{UserCall}
+use Rattle.sipd_arguments.specs.declared.call.Verdict.{Verdict}
+use Rattle.sipd_arguments.specs.declared.call.Verdict.TheVariants.{Allow, Deny, Challenge}
 use Rattle.sipd_exit.specs.declared.record_place.RecordFault.{RecordFault}
 use Rattle.sipd_exit.specs.declared.record_place.RecordFault.TheVariants.{GoOn, End}
 use Rattle.sipd_exit.specs.declared.record_place.RecordPlace.{RecordPlace}
@@ -32,7 +36,8 @@ use Rattle.sipd_arguments.specs.declared.commands.Parsed.TheVariants as parsed
 use Rattle.sipd_exit.specs.declared.exit.Exit.{Exit}
 use Rattle.sipd_exit.specs.declared.exit.Exit.TheVariants.{Usage, Memory}
 use Rattle.sipd_arguments.specs.declared.misuse.Misuse.{Misuse}
-use Rattle.sipd_arguments.specs.declared.misuse.Misuse.TheVariants.{NoCommand, TwoRecords, NoNewRecord, NoRecord, NoSuchWord, NoRealm, Sha256Said}
+use Rattle.sipd_arguments.specs.declared.misuse.Misuse.TheVariants.{NoCommand, TwoRecords, NoNewRecord, NoRecord, NoSuchWord, NoRealm, Sha256Said, NoSuchVerdict}
+use Rattle.sipd_arguments.specs.declared.misuse.Misuse.TheVariants.{NoQuestion, LogAlone, TwoForms}
 
 -- ---- the options of each command
 
@@ -47,6 +52,10 @@ flag name = record (new_rule name) { long = Some name; action = Some SetTrue }
 -- a word at its place
 abbrev pub word : Text → ℕ → Rule
 word name place = record (new_rule name) { index = Some place; value_names = 1; required = true; action = Some Set }
+
+-- the same, if one is said
+abbrev pub spare_word : Text → ℕ → Rule
+spare_word name place = record (new_rule name) { index = Some place; value_names = 1; action = Some Set }
 
 -- it has to be there
 abbrev pub needed : Rule → Rule
@@ -82,12 +91,20 @@ decide_command = command (codes "decide")
     (needed (option (codes "config"))
     ∷ option (codes "user")
     ∷ number_from 0 1439 (option (codes "minute"))
-    ∷ word (codes "METHOD") 1
-    ∷ word (codes "TARGET") 2
+    ∷ option (codes "expect")
+    ∷ flag (codes "log")
+    ∷ spare_word (codes "METHOD") 1
+    ∷ spare_word (codes "TARGET") 2
     ∷ [])
 
 abbrev pub matrix_command : Shape
-matrix_command = command (codes "matrix") (needed (option (codes "config")) ∷ option (codes "method") ∷ [])
+matrix_command = command (codes "matrix")
+    (needed (option (codes "config"))
+    ∷ option (codes "method")
+    ∷ option (codes "against")
+    ∷ flag (codes "csv")
+    ∷ flag (codes "html")
+    ∷ [])
 
 abbrev pub report_command : Shape
 report_command = command (codes "report")
@@ -183,18 +200,37 @@ pub record IsServe (rows : List Row) (call : ServeCall) : Type 0 where
   pub per_source : call.per_source ≡ number_at 32 (codes "per-source") rows
   pub reload : call.reload ≡ is_on (codes "reload") rows
 
--- `decide`
-pub record IsDecide (rows : List Row) (call : DecideCall) : Type 0 where
+-- what a word expects to be decided
+abbrev pub verdict_named : Text → Option Verdict
+verdict_named word =
+    if bytes_eq word (codes "allow") then Some Allow else (if bytes_eq word (codes "deny") then Some Deny
+    else (if bytes_eq word (codes "challenge") then Some Challenge else None))
+
+-- what is expected: anything, if nothing is said
+abbrev pub expected_said : List Row → Option (Option Verdict)
+expected_said rows = option_map_or (λ word. option_map (λ verdict. Some verdict) (verdict_named word)) (text_at (codes "expect") rows) (Some None)
+
+-- a question of `decide`
+pub record IsQuestion (rows : List Row) (call : QuestionCall) : Type 0 where
   pub config : string_bytes call.config ≡ needed_text (codes "config") rows
   pub user : option_map string_bytes call.user ≡ text_at (codes "user") rows
   pub minute : call.minute ≡ number_at 16 (codes "minute") rows
+  pub expect : expected_said rows ≡ Some call.expect
   pub method : string_bytes call.method ≡ needed_text (codes "METHOD") rows
   pub target : string_bytes call.target ≡ needed_text (codes "TARGET") rows
+
+-- `decide`: a log, or a question
+abbrev pub IsDecide : List Row → DecideCall → Type 0
+IsDecide rows (Log config) = (is_on (codes "log") rows ≡ true) × (string_bytes config ≡ needed_text (codes "config") rows)
+IsDecide rows (Question call) = (is_on (codes "log") rows ≡ false) × IsQuestion rows call
 
 -- `matrix`
 pub record IsMatrix (rows : List Row) (call : MatrixCall) : Type 0 where
   pub config : string_bytes call.config ≡ needed_text (codes "config") rows
   pub method : option_map string_bytes call.method ≡ text_at (codes "method") rows
+  pub against : option_map string_bytes call.against ≡ text_at (codes "against") rows
+  pub csv : call.csv ≡ is_on (codes "csv") rows
+  pub html : call.html ≡ is_on (codes "html") rows
 
 -- `report`
 pub record IsReport (rows : List Row) (call : ReportCall) : Type 0 where
@@ -251,14 +287,43 @@ user_misuse rows =
     ∷ (config && is_on (codes "sha256") rows, Sha256Said)
     ∷ [])
 
+-- whether something of a question of `decide` is said, and whether a whole one is
+abbrev pub is_asking : List Row → Bool
+is_asking rows = is_there (codes "METHOD") rows || (is_there (codes "user") rows || (is_there (codes "minute") rows || is_there (codes "expect") rows))
+
+abbrev pub is_question : List Row → Bool
+is_question rows = is_there (codes "METHOD") rows && is_there (codes "TARGET") rows
+
+abbrev pub decide_misuse : List Row → Option Misuse
+decide_misuse rows =
+    let log = is_on (codes "log") rows in
+    first_case
+    ((log && is_asking rows, LogAlone)
+    ∷ (not log && not (is_question rows), NoQuestion)
+    ∷ (not (is_some (expected_said rows)), NoSuchVerdict)
+    ∷ [])
+
+-- what is told has one form
+abbrev pub matrix_misuse : List Row → Option Misuse
+matrix_misuse rows =
+    let against = is_there (codes "against") rows in
+    let csv = is_on (codes "csv") rows in
+    let html = is_on (codes "html") rows in
+    first_case
+    ((against && csv, TwoForms)
+    ∷ (against && html, TwoForms)
+    ∷ (csv && html, TwoForms)
+    ∷ [])
+
 -- the commands whose options all stand together
 abbrev pub is_free : Text → Bool
-is_free name = list_any (bytes_eq name) (codes "check" ∷ codes "replay" ∷ codes "decide" ∷ codes "matrix" ∷ codes "report" ∷ [])
+is_free name = list_any (bytes_eq name) (codes "check" ∷ codes "replay" ∷ codes "report" ∷ [])
 
 abbrev pub misuse_in : Text → List Row → Option Misuse
 misuse_in name rows =
     if bytes_eq name (codes "serve") then serve_misuse rows else (if bytes_eq name (codes "user") then user_misuse rows
-    else (if is_free name then None else Some NoCommand))
+    else (if bytes_eq name (codes "decide") then decide_misuse rows else (if bytes_eq name (codes "matrix") then matrix_misuse rows
+    else (if is_free name then None else Some NoCommand))))
 
 -- why the command that a line names is no call with its options
 abbrev pub misuse_of : Option (Text × List Row) → Option Misuse
@@ -272,7 +337,11 @@ line_of NoNewRecord = codes "error: '--resume <OLD>' is for a new record: '--rec
 line_of NoRecord = codes "error: '--record-fault <WORD>' is for a record: '--record <FILE>' or '--records <FOLDER>'"
 line_of NoSuchWord = codes "error: '--record-fault <WORD>' is 'go-on' or 'end'"
 line_of NoRealm = codes "error: no realm: '--realm <R>', or '--config <FILE>' that states it"
+line_of TwoForms = codes "error: '--against <OLD>', '--csv' and '--html' don't stand together"
 line_of Sha256Said = codes "error: '--sha256' isn't for '--config <FILE>', whose users say whether"
+line_of NoSuchVerdict = codes "error: '--expect <WORD>' is 'allow', 'deny' or 'challenge'"
+line_of NoQuestion = codes "error: no question: METHOD and TARGET, or '--log'"
+line_of LogAlone = codes "error: '--log' asks what each line says: '--config <FILE>' alone stands beside it"
 
 -- what is complained about
 abbrev pub complaint_of : Misuse → Text

@@ -1,13 +1,15 @@
 -- Lines, the first faults of them, and what doesn't stand together.
-use Rattle.std.specs.Prelude.{◌≡◌, true, false, List, [], ◌∷◌, codes, Option, Some, None, option_map}
+use Rattle.std.specs.Prelude.{◌≡◌, true, false, List, [], ◌∷◌, ◌++◌, codes, Option, Some, None, option_map}
 use Rattle.clap.specs.Faults.{fault_of}
 use Rattle.clap.specs.Kinds.{Kinds}
 use Rattle.clap.specs.Words.{Row, Text, subcommand_of}
 use Rattle.clap.specs.declared.error.kind.ErrorKind.TheVariants as kinds
-use Rattle.sipd_arguments.specs.CommandLine.{fault_said, is_on, misuse_of, number_at, program, text_at}
+use Rattle.sipd_arguments.specs.CommandLine.{expected_said, fault_said, is_on, misuse_of, number_at, program, text_at}
 use Rattle.sipd_exit.specs.declared.record_place.RecordFault.TheVariants.{GoOn, End}
+use Rattle.sipd_arguments.specs.declared.call.Verdict.TheVariants.{Deny}
 use Rattle.sipd_arguments.specs.declared.misuse.Misuse.{Misuse}
-use Rattle.sipd_arguments.specs.declared.misuse.Misuse.TheVariants.{TwoRecords, NoNewRecord, NoRecord, NoSuchWord, NoRealm, Sha256Said}
+use Rattle.sipd_arguments.specs.declared.misuse.Misuse.TheVariants.{TwoRecords, NoNewRecord, NoRecord, NoSuchWord, NoRealm, Sha256Said, NoSuchVerdict, NoQuestion}
+use Rattle.sipd_arguments.specs.declared.misuse.Misuse.TheVariants.{LogAlone, TwoForms}
 
 -- words behind the program's own name
 abbrev pub line : List Text → List Text
@@ -18,6 +20,10 @@ serving words = line (codes "serve" ∷ codes "--config" ∷ codes "a.toml" ∷ 
 
 abbrev pub deciding : Text → List Text
 deciding minute = line (codes "decide" ∷ codes "--config" ∷ codes "a.toml" ∷ codes "--minute" ∷ minute ∷ codes "INVITE" ∷ codes "a@b" ∷ [])
+
+-- a question, with options in front of it
+abbrev pub asking : List Text → List Text
+asking words = line (codes "decide" ∷ codes "--config" ∷ codes "a.toml" ∷ (words ++ codes "INVITE" ∷ codes "a@b" ∷ []))
 
 abbrev pub faults_in : List Text → Kinds
 faults_in = fault_of program
@@ -32,7 +38,11 @@ pub record AreLines : Type 0 where
   pub joined : faults_in (line (codes "replay" ∷ codes "--config=a.toml" ∷ [])) ≡ []
   pub serve : faults_in (serving (codes "--turns" ∷ codes "3" ∷ codes "--record" ∷ codes "day" ∷ [])) ≡ []
   pub decide : faults_in (line (codes "decide" ∷ codes "INVITE" ∷ codes "--config" ∷ codes "a.toml" ∷ codes "a@b" ∷ [])) ≡ []
+  pub expected : faults_in (asking (codes "--expect" ∷ codes "deny" ∷ [])) ≡ []
+  pub log : faults_in (line (codes "decide" ∷ codes "--log" ∷ codes "--config" ∷ codes "a.toml" ∷ [])) ≡ []
   pub matrix : faults_in (line (codes "matrix" ∷ codes "--config" ∷ codes "a.toml" ∷ codes "--method" ∷ codes "list" ∷ [])) ≡ []
+  pub changes : faults_in (line (codes "matrix" ∷ codes "--config" ∷ codes "a.toml" ∷ codes "--against" ∷ codes "b" ∷ [])) ≡ []
+  pub values : faults_in (line (codes "matrix" ∷ codes "--config" ∷ codes "a.toml" ∷ codes "--csv" ∷ [])) ≡ []
   pub no_option : faults_in (line (codes "report" ∷ [])) ≡ []
   pub user : faults_in (line (codes "user" ∷ codes "carol" ∷ codes "--realm" ∷ codes "office" ∷ codes "--sha256" ∷ [])) ≡ []
   pub no_command : faults_in (line []) ≡ kinds.MissingSubcommand ∷ []
@@ -61,9 +71,19 @@ pub record AreMisuses : Type 0 where
   pub not_new : misuse_in_line (serving (codes "--records" ∷ codes "days" ∷ codes "--resume" ∷ codes "a" ∷ [])) ≡ Some NoNewRecord
   pub no_record : misuse_in_line (serving (codes "--record-fault" ∷ codes "end" ∷ [])) ≡ Some NoRecord
   pub no_such_word : misuse_in_line (serving (codes "--record" ∷ codes "b" ∷ codes "--record-fault" ∷ codes "stop" ∷ [])) ≡ Some NoSuchWord
+  pub one_form : misuse_in_line (line (codes "matrix" ∷ codes "--config" ∷ codes "a.toml" ∷ codes "--csv" ∷ [])) ≡ None
+  pub page : misuse_in_line (line (codes "matrix" ∷ codes "--config" ∷ codes "a.toml" ∷ codes "--html" ∷ [])) ≡ None
+  pub two_forms : misuse_in_line (line (codes "matrix" ∷ codes "--config" ∷ codes "a.toml" ∷ codes "--csv" ∷ codes "--against" ∷ codes "b" ∷ [])) ≡ Some TwoForms
+  pub page_of_values : misuse_in_line (line (codes "matrix" ∷ codes "--config" ∷ codes "a.toml" ∷ codes "--csv" ∷ codes "--html" ∷ [])) ≡ Some TwoForms
   pub with_file : misuse_in_line (line (codes "user" ∷ codes "carol" ∷ codes "--config" ∷ codes "a.toml" ∷ [])) ≡ None
   pub no_realm : misuse_in_line (line (codes "user" ∷ codes "carol" ∷ [])) ≡ Some NoRealm
   pub said : misuse_in_line (line (codes "user" ∷ codes "carol" ∷ codes "--config" ∷ codes "a.toml" ∷ codes "--sha256" ∷ [])) ≡ Some Sha256Said
+  pub verdict : misuse_in_line (asking (codes "--expect" ∷ codes "challenge" ∷ [])) ≡ None
+  pub no_verdict : misuse_in_line (asking (codes "--expect" ∷ codes "denied" ∷ [])) ≡ Some NoSuchVerdict
+  pub log : misuse_in_line (line (codes "decide" ∷ codes "--log" ∷ codes "--config" ∷ codes "a.toml" ∷ [])) ≡ None
+  pub log_asked : misuse_in_line (asking (codes "--log" ∷ [])) ≡ Some LogAlone
+  pub no_question : misuse_in_line (line (codes "decide" ∷ codes "--config" ∷ codes "a.toml" ∷ [])) ≡ Some NoQuestion
+  pub half_question : misuse_in_line (line (codes "decide" ∷ codes "--config" ∷ codes "a.toml" ∷ codes "INVITE" ∷ [])) ≡ Some NoQuestion
 
 -- what is said of an option of the command that a line names
 abbrev pub of_line : {X : Type 0} → (List Row → X) → List Text → Option X
@@ -78,3 +98,5 @@ pub record AreSaid : Type 0 where
   pub no_reload : of_line (is_on (codes "reload")) (serving []) ≡ Some false
   pub ends : of_line fault_said (serving (codes "--record-fault" ∷ codes "end" ∷ [])) ≡ Some (Some End)
   pub goes_on : of_line fault_said (serving []) ≡ Some (Some GoOn)
+  pub denied : of_line expected_said (asking (codes "--expect" ∷ codes "deny" ∷ [])) ≡ Some (Some (Some Deny))
+  pub anything : of_line expected_said (asking []) ≡ Some (Some None)

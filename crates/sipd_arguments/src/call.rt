@@ -1,3 +1,5 @@
+//! What the words of the command line ask for: a record for each command, with the files and the numbers that it was given. What each
+//! word means is in the help of its command.
 use sipd_exit::{RecordFault, RecordPlace};
 
 /// What is to be done.
@@ -55,15 +57,36 @@ pub struct ServeCall {
     pub reload: bool,
 }
 
+/// What a decision may be expected to be.
+#[derive(Clone, Copy, PartialEq, Eq)]
+pub enum Verdict {
+    /// A rule lets it through, wherever it goes then.
+    Allow,
+    /// It is denied, by a rule or since none matches.
+    Deny,
+    /// A password is asked for.
+    Challenge,
+}
+
 /// `decide`: which rule would decide.
 #[derive(Drop)]
-pub struct DecideCall {
+pub enum DecideCall {
+    Question(QuestionCall),
+    /// About each request of the log on standard input, under the configuration of this file.
+    Log { config: String },
+}
+
+/// What is asked of `decide` in words.
+#[derive(Drop)]
+pub struct QuestionCall {
     /// The file of the configuration.
     pub config: String,
     /// The user who is proven; nobody where none is named.
     pub user: Option<String>,
     /// The minute of the office's day, from 0; the present one where none is named.
     pub minute: Option<u16>,
+    /// What is expected to be decided; anything, where nothing is said.
+    pub expect: Option<Verdict>,
     /// A method, or `register` or `list`.
     pub method: String,
     /// `USER@HOST`, or a SIP URI.
@@ -77,6 +100,12 @@ pub struct MatrixCall {
     pub config: String,
     /// A method, or `register` or `list`; INVITE where none is named.
     pub method: Option<String>,
+    /// The file of the configuration against which the cells are told that change; the whole table is, where none is named.
+    pub against: Option<String>,
+    /// Whether comma-separated values are printed.
+    pub csv: bool,
+    /// Whether a page of HTML is printed.
+    pub html: bool,
 }
 
 /// `report`: audit lines on standard input are made a table.

@@ -65,6 +65,18 @@ fn word<'a>(alloc: Global, name: &'a str, place: usize, help: &'a str) -> Arg<'a
         .action(ArgAction::Set)
 }
 
+/// A word at its place, if one is said.
+fn spare_word<'a>(alloc: Global, name: &'a str, place: usize, help: &'a str) -> Arg<'a>
+    ensures rule { rule_of result ≡ Definitions.spare_word name.entry.now place }
+    ensures local { result.global ≡ false }
+{
+    Arg::new(alloc, name)
+        .index(place)
+        .value_name(name)
+        .help(help)
+        .action(ArgAction::Set)
+}
+
 /// `--config FILE`.
 fn config_argument<'a>(alloc: Global) -> Arg<'a>
     ensures rule { rule_of result ≡ Definitions.option (codes "config") }
@@ -190,13 +202,17 @@ fn decide_command<'a>(alloc: Global) -> Result<Command<'a>, AllocError>
     ensures { IfOk result (IsCommand Definitions.decide_command) }
 {
     let user = "The proven user; nobody, if not given";
+    let log = "Tell which requests of the log on standard input would be decided otherwise";
+    let expect = "End with status 6 unless this is decided: allow, deny or challenge";
     Command::new(alloc, "decide")
         .about("Tells which rule would decide, and where a call would go")
         .arg(config_argument(alloc).required(true))?
         .arg(option(alloc, "user", "NAME", user))?
         .arg(minute_argument(alloc))?
-        .arg(word(alloc, "METHOD", 1, "A method, or register or list"))?
-        .arg(word(alloc, "TARGET", 2, "USER@HOST or a SIP URI"))
+        .arg(option(alloc, "expect", "WORD", expect))?
+        .arg(flag(alloc, "log", log))?
+        .arg(spare_word(alloc, "METHOD", 1, "A method, or register or list"))?
+        .arg(spare_word(alloc, "TARGET", 2, "USER@HOST or a SIP URI"))
 }
 
 /// `--method M`.
@@ -211,10 +227,14 @@ fn method_argument<'a>(alloc: Global) -> Arg<'a>
 fn matrix_command<'a>(alloc: Global) -> Result<Command<'a>, AllocError>
     ensures { IfOk result (IsCommand Definitions.matrix_command) }
 {
+    let against = "Tell the cells alone that change from this file or record";
     Command::new(alloc, "matrix")
         .about("Prints who may ask for whom, by which rule, as a table that is all of it")
         .arg(config_argument(alloc).required(true))?
-        .arg(method_argument(alloc))
+        .arg(method_argument(alloc))?
+        .arg(option(alloc, "against", "OLD", against))?
+        .arg(flag(alloc, "csv", "Comma-separated values"))?
+        .arg(flag(alloc, "html", "A page of HTML that needs no other file"))
 }
 
 /// `--rule ID`.

@@ -1,12 +1,12 @@
 //! What stands at the end of a command's help: how it may be called, how it ends, and which page has more.
 
 pub(crate) const PROGRAM: &str = "\
-Ends with 0 done, 1 usage, 2 configuration, 3 script or record, 4 device, 5 memory.
+Ends with 0 done, 1 usage, no answer, or a policy that changes, 2 configuration, or a policy that isn't as expected, 3 script or record, 4 device, 5 memory, 6 another decision.
 More: man sipd, man sipd.toml, docs/OPERATING.md";
 
 pub(crate) const CHECK: &str = "\
-Example: sipd check --config new.toml --against office.toml
-Ends with 0 where it is taken, 1 usage, 2 refused, 3 a server that runs can't take the change, or OLD is damaged, 4 device, 5 memory.
+Example: sipd check --config new.toml --against office.toml --expect office.expected
+Ends with 0 where it is taken, 1 usage, or a line of FILE isn't one, 2 refused, or the policy isn't as a line, 3 a server that runs can't take the change, or OLD is damaged, 4 device, 5 memory.
 More: man sipd.toml, docs/CONFIGURATION.md";
 
 pub(crate) const REPLAY: &str = "\
@@ -21,12 +21,12 @@ More: docs/OPERATING.md";
 
 pub(crate) const DECIDE: &str = "\
 Example: sipd decide --config office.toml --user alice INVITE bob@office.local
-Ends with 0 whatever is decided, 1 usage or no answer, 2 configuration, 4 device, 5 memory.
+Ends with 0 done, 1 usage or no answer, 2 configuration, 4 device, 5 memory, 6 where another decision is expected.
 More: docs/OPERATING.md";
 
 pub(crate) const MATRIX: &str = "\
-Example: sipd matrix --config office.toml --method register
-Ends with 0 done, 1 usage or no such method, 2 configuration, 4 device, 5 memory.
+Example: sipd matrix --config new.toml --against office.toml
+Ends with 0 done, 1 where a cell changes, usage or no such method, 2 configuration, 3 OLD is damaged, 4 device, 5 memory.
 More: docs/CONFIGURATION.md";
 
 pub(crate) const REPORT: &str = "\

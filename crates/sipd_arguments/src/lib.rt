@@ -15,7 +15,8 @@ mod misuse;
 mod summary;
 
 pub use call::{
-    Call, CheckCall, DecideCall, MatrixCall, ReplayCall, ReportCall, ServeCall, UserCall,
+    Call, CheckCall, DecideCall, MatrixCall, QuestionCall, ReplayCall, ReportCall, ServeCall,
+    UserCall, Verdict,
 };
 pub use commands::{Parsed, parse};
 pub use summary::summary_of;

@@ -6,7 +6,8 @@ ghost use Rattle.sipd_arguments.specs.CommandLine.{IsCall, IsCallOf, IsPlace};
 ghost use Rattle.sipd_arguments.specs.Commands.{IsWhy};
 
 use crate::call::{
-    Call, CheckCall, DecideCall, MatrixCall, ReplayCall, ReportCall, ServeCall, UserCall,
+    Call, CheckCall, DecideCall, MatrixCall, QuestionCall, ReplayCall, ReportCall, ServeCall,
+    UserCall, Verdict,
 };
 use crate::misuse::Misuse;
 use clap::ArgMatches;
@@ -183,24 +184,129 @@ fn serve_call(alloc: Global, matches: &ArgMatches<'_>) -> Result<ServeCall, Unca
     })
 }
 
-fn decide_call(alloc: Global, matches: &ArgMatches<'_>) -> Result<DecideCall, AllocError>
-    ensures { IfOk result (Definitions.IsDecide (rows_of (found_of matches.now))) }
+/// The decision that a word means, if it is one that is known.
+fn verdict_named(word: &str) -> Option<Verdict>
+    ensures { result ≡ Definitions.verdict_named word.now }
 {
-    Ok(DecideCall {
+    if word == "allow" {
+        return Some(Verdict::Allow);
+    }
+    if word == "deny" {
+        return Some(Verdict::Deny);
+    }
+    if word == "challenge" {
+        return Some(Verdict::Challenge);
+    }
+    None
+}
+
+/// What is expected to be decided, if that is a word that is known; anything, where nothing is said.
+#[tactic(auto, using(crate::proofs::Found::text_found))]
+fn expected_said(matches: &ArgMatches<'_>) -> Option<Option<Verdict>>
+    ensures { result ≡ Definitions.expected_said (rows_of (found_of matches.now)) }
+{
+    match matches.get_str("expect") {
+        Some(word) => Some(Some(verdict_named(word)?)),
+        None => Some(None),
+    }
+}
+
+/// Whether something of a question is said.
+fn is_asking(matches: &ArgMatches<'_>) -> bool
+    ensures { result ≡ Definitions.is_asking (rows_of (found_of matches.now)) }
+{
+    has(matches, "METHOD")
+        || has(matches, "user")
+        || has(matches, "minute")
+        || has(matches, "expect")
+}
+
+/// Whether a whole question is.
+fn is_question(matches: &ArgMatches<'_>) -> bool
+    ensures { result ≡ Definitions.is_question (rows_of (found_of matches.now)) }
+{
+    has(matches, "METHOD") && has(matches, "TARGET")
+}
+
+/// What is expected to be decided, where what is said to `decide` stands together.
+fn expected(matches: &ArgMatches<'_>) -> Result<Option<Verdict>, Misuse>
+    ensures expected { IfOk result (λ expect. (Definitions.expected_said (rows_of (found_of matches.now)) ≡ Some expect) × (Definitions.decide_misuse (rows_of (found_of matches.now)) ≡ None)) }
+    ensures misuse { IfErr result (λ why. Definitions.decide_misuse (rows_of (found_of matches.now)) ≡ Some why) }
+{
+    let log = is_on(matches, "log");
+    if log && is_asking(matches) {
+        return Err(Misuse::LogAlone);
+    }
+    if !log && !is_question(matches) {
+        return Err(Misuse::NoQuestion);
+    }
+    expected_said(matches).ok_or(Misuse::NoSuchVerdict)
+}
+
+fn question_call(
+    alloc: Global,
+    matches: &ArgMatches<'_>,
+    expect: Option<Verdict>,
+) -> Result<QuestionCall, AllocError>
+    requires { Definitions.expected_said (rows_of (found_of matches.now)) ≡ Some expect }
+    ensures { IfOk result (Definitions.IsQuestion (rows_of (found_of matches.now))) }
+{
+    Ok(QuestionCall {
         config: needed_text(alloc, matches, "config")?,
         user: text_of(alloc, matches, "user")?,
         minute: minute_of(matches, "minute"),
+        expect,
         method: needed_text(alloc, matches, "METHOD")?,
         target: needed_text(alloc, matches, "TARGET")?,
     })
 }
 
-fn matrix_call(alloc: Global, matches: &ArgMatches<'_>) -> Result<MatrixCall, AllocError>
-    ensures { IfOk result (Definitions.IsMatrix (rows_of (found_of matches.now))) }
+fn decide_call(alloc: Global, matches: &ArgMatches<'_>) -> Result<DecideCall, Uncalled>
+    ensures call { IfOk result (λ call. Definitions.IsDecide (rows_of (found_of matches.now)) call × (Definitions.decide_misuse (rows_of (found_of matches.now)) ≡ None)) }
+    ensures refused { IfErr result (IsWhy (Definitions.decide_misuse (rows_of (found_of matches.now)))) }
 {
+    let expect = expected(matches)?;
+    if is_on(matches, "log") {
+        let config = needed_text(alloc, matches, "config")?;
+        return Ok(DecideCall::Log { config });
+    }
+    Ok(DecideCall::Question(question_call(alloc, matches, expect)?))
+}
+
+/// Why these options of `matrix` don't stand together: what is told has one form.
+fn matrix_misuse(matches: &ArgMatches<'_>) -> Option<Misuse>
+    ensures { result ≡ Definitions.matrix_misuse (rows_of (found_of matches.now)) }
+{
+    let against = has(matches, "against");
+    let csv = is_on(matches, "csv");
+    let html = is_on(matches, "html");
+    if against && csv {
+        return Some(Misuse::TwoForms);
+    }
+    if against && html {
+        return Some(Misuse::TwoForms);
+    }
+    if csv && html {
+        return Some(Misuse::TwoForms);
+    }
+    None
+}
+
+fn matrix_call(alloc: Global, matches: &ArgMatches<'_>) -> Result<MatrixCall, Uncalled>
+    ensures call { IfOk result (λ call. Definitions.IsMatrix (rows_of (found_of matches.now)) call
+        × (Definitions.matrix_misuse (rows_of (found_of matches.now)) ≡ None)) }
+    ensures refused { IfErr result (IsWhy (Definitions.matrix_misuse (rows_of (found_of matches.now)))) }
+{
+    if let Some(why) = matrix_misuse(matches) {
+        return Err(Uncalled::Misused(why));
+    }
+    let against = text_of(alloc, matches, "against")?;
     Ok(MatrixCall {
         config: needed_text(alloc, matches, "config")?,
         method: text_of(alloc, matches, "method")?,
+        against,
+        csv: is_on(matches, "csv"),
+        html: is_on(matches, "html"),
     })
 }
 

@@ -18,6 +18,14 @@ pub(crate) enum Misuse {
     NoRealm,
     /// `--sha256` stands beside `--config`, which says it.
     Sha256Said,
+    /// `--expect` of `decide` has a word that it doesn't know.
+    NoSuchVerdict,
+    /// `decide` is asked nothing.
+    NoQuestion,
+    /// `--log` stands beside what asks a question of its own.
+    LogAlone,
+    /// Two of `--against`, whose lines have a form of their own, `--csv` and `--html` stand beside each other.
+    TwoForms,
 }
 
 impl Misuse {
@@ -38,8 +46,16 @@ impl Misuse {
             Misuse::NoRealm => {
                 "error: no realm: '--realm <R>', or '--config <FILE>' that states it"
             }
+            Misuse::TwoForms => {
+                "error: '--against <OLD>', '--csv' and '--html' don't stand together"
+            }
             Misuse::Sha256Said => {
                 "error: '--sha256' isn't for '--config <FILE>', whose users say whether"
+            }
+            Misuse::NoSuchVerdict => "error: '--expect <WORD>' is 'allow', 'deny' or 'challenge'",
+            Misuse::NoQuestion => "error: no question: METHOD and TARGET, or '--log'",
+            Misuse::LogAlone => {
+                "error: '--log' asks what each line says: '--config <FILE>' alone stands beside it"
             }
         }
     }

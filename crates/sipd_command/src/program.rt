@@ -5,6 +5,7 @@ use sip_policy::Rules;
 use sip_timers::Timers;
 use sipd_arguments::{Call, Parsed, ReplayCall, parse};
 use sipd_exit::{Exit, print};
+use sipd_progress::Watched;
 use sipd_replay::{replay_record, replay_script};
 use sipd_tools::{check, decide, make_report, make_user, matrix};
 use std::io::{Read, Write};
@@ -13,9 +14,17 @@ use std::random::RandomSource;
 use std::rt::{Clock, Files};
 
 /// Replays the script of the input, or a record.
-fn replay_call<T: Timers, P: Rules, R: Files + AllocGlobal, I: Read, W: Write, C: Write>(
+fn replay_call<
+    T: Timers,
+    P: Rules,
+    R: Files + Clock + Eprint + AllocGlobal,
+    I: Read,
+    W: Write,
+    C: Write,
+>(
     rt: &R,
     call: &ReplayCall,
+    seen: bool,
     input: &mut I,
     output: &mut W,
     complaints: &mut C,
@@ -23,11 +32,12 @@ fn replay_call<T: Timers, P: Rules, R: Files + AllocGlobal, I: Read, W: Write, C
     match call {
         ReplayCall::Script { config } => {
             let config = config.as_ref().map(String::as_str);
-            replay_script::<T, P, R, I, W>(rt, config, input, output)
+            let mut script = Watched::new(rt, input, "the script", None, seen);
+            replay_script::<T, P, R, _, W>(rt, config, &mut script, output)
         }
         ReplayCall::Record { config, path } => {
             let config = config.as_ref().map(String::as_str);
-            replay_record::<T, P, R, W, C>(rt, config, path.as_str(), output, complaints)
+            replay_record::<T, P, R, W, C>(rt, config, path.as_str(), seen, output, complaints)
         }
     }
 }
@@ -35,17 +45,28 @@ fn replay_call<T: Timers, P: Rules, R: Files + AllocGlobal, I: Read, W: Write, C
 fn carry_out<
     T: Timers,
     P: Rules,
-    R: Files + Net + Clock + RandomSource + AllocGlobal,
+    R: Files + Net + Clock + RandomSource + Eprint + AllocGlobal,
     I: Read,
     W: Write,
     C: Write,
->(rt: &R, call: &Call, input: &mut I, output: &mut W, complaints: &mut C) -> Result<(), Exit> {
+>(
+    rt: &R,
+    call: &Call,
+    seen: bool,
+    input: &mut I,
+    output: &mut W,
+    complaints: &mut C,
+) -> Result<(), Exit> {
     match call {
         Call::Check(call) => check(rt, call, output, complaints),
-        Call::Replay(call) => replay_call::<T, P, R, I, W, C>(rt, call, input, output, complaints),
-        Call::Serve(call) => { serve_file::<T, P, R, I, W, C>(rt, call, input, output, complaints) }
-        Call::Decide(call) => decide(rt, call, output),
-        Call::Matrix(call) => matrix(rt, call, output),
+        Call::Replay(call) => replay_call::<T, P, R, I, W, C>(
+            rt, call, seen, input, output, complaints,
+        ),
+        Call::Serve(call) => {
+            serve_file::<T, P, R, I, W, C>(rt, call, seen, input, output, complaints)
+        }
+        Call::Decide(call) => decide(rt, call, input, output, complaints),
+        Call::Matrix(call) => matrix(rt, call, output, complaints),
         Call::Report(call) => make_report(rt, call, input, output, complaints),
         Call::User(call) => make_user(rt, call, input, output, complaints),
     }
@@ -54,32 +75,42 @@ fn carry_out<
 fn run<
     T: Timers,
     P: Rules,
-    R: Files + Net + Clock + RandomSource + AllocGlobal,
+    R: Files + Net + Clock + RandomSource + Eprint + AllocGlobal,
     I: Read,
     W: Write,
     C: Write,
->(rt: &R, words: &[String], input: &mut I, output: &mut W, complaints: &mut C) -> Result<(), Exit> {
+>(
+    rt: &R,
+    words: &[String],
+    seen: bool,
+    input: &mut I,
+    output: &mut W,
+    complaints: &mut C,
+) -> Result<(), Exit> {
     match parse(rt.alloc(), words)? {
         Parsed::Text(text) => print(text.as_bytes(), output),
-        Parsed::Call(call) => carry_out::<T, P, R, I, W, C>(rt, &call, input, output, complaints),
+        Parsed::Call(call) => {
+            carry_out::<T, P, R, I, W, C>(rt, &call, seen, input, output, complaints)
+        }
     }
 }
 
 /// Does what the words of a command line say, the program's own name first, on these kinds of timers and rules, and gives
 /// the exit status: 0 done; 1 usage, or a question without an answer; 2 a configuration that is refused; 3 a script or a record that
 /// isn't taken, or a configuration that can't come in another one's place; 4 a device, or a record that can't be made or written; 5
-/// memory, or the stack. The last line that it complains of says why, but for the text on usage.
+/// memory, or the stack; 6 a decision that isn't as expected. The last line that it complains of says why, but for the text on usage.
+/// `seen`: whether somebody looks at the process's standard error, where long work says then how far it is.
 pub fn command<
     T: Timers,
     P: Rules,
-    R: Files + Net + Clock + RandomSource + AllocGlobal,
+    R: Files + Net + Clock + RandomSource + Eprint + AllocGlobal,
     I: Read,
     W: Write,
     C: Write,
->(rt: &R, words: &[String], input: &mut I, output: &mut W, complaints: &mut C) -> u8
-    ensures { result ≤ 5 }
+>(rt: &R, words: &[String], seen: bool, input: &mut I, output: &mut W, complaints: &mut C) -> u8
+    ensures { result ≤ 6 }
 {
-    match run::<T, P, R, I, W, C>(rt, words, input, output, complaints) {
+    match run::<T, P, R, I, W, C>(rt, words, seen, input, output, complaints) {
         Ok(()) => 0,
         Err(exit) => {
             let _ = writeln!(complaints, "{exit}");

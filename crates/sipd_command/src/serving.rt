@@ -22,6 +22,7 @@ use sipd_arguments::ServeCall;
 use sipd_boot::secret;
 use sipd_exit::{DeviceFault, Exit, Stated, config_of_bytes, stated_in};
 use sipd_journal::WatchedJournal;
+use sipd_progress::Watched;
 use sipd_reload::{PathFile, Watch, WatchedFile};
 use sipd_service::engine::Engine;
 use sipd_service::{LinePrinter, Said, Service, Serving, hops_of, serve_turns};
@@ -259,7 +260,7 @@ fn watch_of<'a, R: Files + AllocGlobal>(
 fn serve_recorded<
     T: Timers,
     P: Rules,
-    R: Files + Net + rt::Clock + AllocGlobal,
+    R: Files + Net + rt::Clock + Eprint + AllocGlobal,
     I: Read,
     F: WatchedFile,
     W: Write + Drop,
@@ -327,11 +328,18 @@ fn serve_unrecorded<
 pub fn serve_file<
     T: Timers,
     P: Rules,
-    R: Files + Net + rt::Clock + RandomSource + AllocGlobal,
+    R: Files + Net + rt::Clock + RandomSource + Eprint + AllocGlobal,
     I: Read,
     W: Write,
     M: Write,
->(rt: &R, call: &ServeCall, input: &mut I, output: &mut W, complaints: &mut M) -> Result<(), Exit> {
+>(
+    rt: &R,
+    call: &ServeCall,
+    seen: bool,
+    input: &mut I,
+    output: &mut W,
+    complaints: &mut M,
+) -> Result<(), Exit> {
     check_stack(rt)?;
     let alloc = rt.alloc();
     let stated = stated_in(rt, call.config.as_str())?;
@@ -345,8 +353,17 @@ pub fn serve_file<
             rt, call, &config, &stated, words, watch, printer, complaints,
         );
     };
-    let beginning = Beginning::new(rt, &stated, place, call.record_fault)?;
-    serve_recorded::<T, P, R, I, _, _, M>(
-        rt, call, &config, &beginning, words, watch, input, printer, complaints,
+    let beginning = Beginning::new(rt, &stated, place, call.record_fault, seen)?;
+    let mut record = Watched::new(rt, input, "the record that comes", None, seen);
+    serve_recorded::<T, P, R, _, _, _, M>(
+        rt,
+        call,
+        &config,
+        &beginning,
+        words,
+        watch,
+        &mut record,
+        printer,
+        complaints,
     )
 }

@@ -8,7 +8,7 @@ use Rattle.sipd_exit.specs.declared.device_fault.DeviceFault.{DeviceFault}
 use Rattle.sipd_exit.specs.declared.device_fault.DeviceFault.TheVariants.{PortTaken, NoSuchAddress, NoFile, NoRightToRead, DiskFull, OutputClosed, Other}
 use Rattle.sipd_exit.specs.declared.exit.Exit.{Exit}
 use Rattle.sipd_exit.specs.declared.exit.Exit.TheVariants.{Usage, Configuration, LongConfiguration, Script, Device, Memory, Stack, Question, NoRecord, OtherConfiguration}
-use Rattle.sipd_exit.specs.declared.exit.Exit.TheVariants.{BareRecord, OtherFrame, PipedRecord, NewRecord, Recording, Unexpected}
+use Rattle.sipd_exit.specs.declared.exit.Exit.TheVariants.{BareRecord, OtherFrame, PipedRecord, NewRecord, Recording, Unexpected, OtherPolicy, OtherDecision}
 use Rattle.sipd_reload.specs.declared.file_fault.FileFault.{FileFault}
 use Rattle.sipd_reload.specs.declared.file_fault.FileFault.TheVariants as files
 
@@ -30,6 +30,8 @@ status_of PipedRecord = 4
 status_of NewRecord = 4
 status_of Recording = 4
 status_of Unexpected = 2
+status_of OtherPolicy = 1
+status_of OtherDecision = 6
 
 -- what a refused configuration is to the program
 abbrev pub exit_of_config : ConfigError → Exit

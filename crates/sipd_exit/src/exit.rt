@@ -44,6 +44,10 @@ pub enum Exit {
     Recording,
     /// A policy isn't as it is expected to be.
     Unexpected,
+    /// A policy decides otherwise than that of another configuration.
+    OtherPolicy,
+    /// A decision isn't as it is expected to be.
+    OtherDecision,
 }
 
 impl Exit {
@@ -52,7 +56,7 @@ impl Exit {
         ensures { result ≡ status_of self.now }
     {
         match self {
-            Exit::Usage(_) | Exit::Question(_) => 1,
+            Exit::Usage(_) | Exit::Question(_) | Exit::OtherPolicy => 1,
             Exit::Configuration(_) | Exit::LongConfiguration | Exit::Unexpected => 2,
             Exit::Script(_)
             | Exit::NoRecord
@@ -61,6 +65,7 @@ impl Exit {
             | Exit::OtherFrame => 3,
             Exit::Device(_) | Exit::PipedRecord | Exit::NewRecord | Exit::Recording => 4,
             Exit::Memory | Exit::Stack { .. } => 5,
+            Exit::OtherDecision => 6,
         }
     }
 }
@@ -99,6 +104,8 @@ impl fmt::Display for Exit {
             ),
             Exit::Recording => write!(f, "sipd: the record can't be written"),
             Exit::Unexpected => write!(f, "sipd: the policy isn't as expected"),
+            Exit::OtherPolicy => write!(f, "sipd: the policy changes"),
+            Exit::OtherDecision => write!(f, "sipd: the decision isn't as expected"),
         }
     }
 }

@@ -15,7 +15,7 @@ use sip_text::{Bytes, same_bytes, split_word};
 use sipd_questions::{QuestionError, operation_asked};
 use std::alloc::{AllocError, Global};
 
-/// Who is meant to ask.
+/// Who is meant to ask, and which users.
 #[derive(Drop)]
 struct Asked {
     askers: Askers,

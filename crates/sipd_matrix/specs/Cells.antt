@@ -56,11 +56,15 @@ rule_at config operation row column own piece = rule_in config.rules config.user
 abbrev pub number_at : Config → Operation → Option (List ℕ) → Column → Bool → ℕ → ℕ
 number_at config operation row column own piece = number_of (rule_at config operation row column own piece)
 
+-- what comes of it
+abbrev pub mark_at : Config → Operation → Option (List ℕ) → Column → Bool → ℕ → List ℕ
+mark_at config operation row column own piece =
+    mark_of operation config.hops (are_known config column) (decision_with row (rule_at config operation row column own piece))
+
 -- its number, and what comes of it
 abbrev pub value_text : Config → Operation → Option (List ℕ) → Column → Bool → ℕ → List ℕ
 value_text config operation row column own piece =
-    decimal (number_at config operation row column own piece)
-    ++ mark_of operation config.hops (are_known config column) (decision_with row (rule_at config operation row column own piece))
+    decimal (number_at config operation row column own piece) ++ mark_at config operation row column own piece
 
 -- whether a column is the address of a configured user of this name
 abbrev pub is_address_of : Config → List ℕ → Column → Bool

@@ -1,5 +1,5 @@
 -- The text of a table: for each piece of the day a line for each class of addresses, and in it a cell for each row of who asks.
-use Rattle.std.specs.Prelude.{ℕ, ◌/◌, ◌%◌, ◌==◌, nat_lt, if◌then◌else◌, List, [], ◌++◌, codes, decimal, length, drop, ℤ, pos, negsuc, ◌+◌, Some, None}
+use Rattle.std.specs.Prelude.{ℕ, ◌/◌, ◌%◌, ◌==◌, nat_lt, if◌then◌else◌, List, [], ◌++◌, codes, decimal, length, drop, find, unwrap_or, ℤ, pos, negsuc, ◌+◌, Some, None}
 use Rattle.std.specs.List.{flat_map, list_any}
 use Rattle.sip_policy.specs.declared.operation.Operation.{Operation}
 use Rattle.sip_policy.specs.declared.user.User.{User}
@@ -37,6 +37,10 @@ signed (negsuc n) = codes "-" ++ decimal (n + 1)
 -- a minute of the day, as `8:05`
 abbrev pub clock_text : ℕ → List ℕ
 clock_text minute = decimal (minute / 60) ++ codes ":" ++ decimal (minute % 60 / 10) ++ decimal (minute % 10)
+
+-- where a piece of the day ends: where the next one begins, or at midnight
+abbrev pub end_of : List ℕ → ℕ → ℕ
+end_of pieces piece = unwrap_or (find (λ next. nat_lt piece next) pieces) 1440
 
 -- the addresses of a column: one, those that begin so and have no longer prefix and no name of their own, or those at all other hosts
 abbrev pub column_text : Column → List ℕ

@@ -29,8 +29,8 @@ fn put_hop(text: &mut Bytes, hop: Option<&Hop>) -> Result<(), AllocError>
     }
 }
 
-/// The hop at a place of a list, counted from 0.
-pub(crate) fn hop_at(hops: &[Hop], place: usize) -> Option<&Hop>
+/// The hop at a place of a list, counted from 0. Takes no memory.
+pub fn hop_at(hops: &[Hop], place: usize) -> Option<&Hop>
     ensures { option_copied result ≡ slice_get hops.now place }
 {
     hops.get(place)
@@ -80,15 +80,15 @@ fn number_of(rule: Option<&Rule>) -> u32
     }
 }
 
-/// Whether the addresses of a column are known.
-pub(crate) fn are_known(config: &Config, column: &Column) -> bool
+/// Whether the addresses of a column are a configured user's. Takes no memory.
+pub fn are_known(config: &Config, column: &Column) -> bool
     ensures { result ≡ Definitions.are_known config.now column.now }
 {
     column.is_known(&config.users, config.own.domains.as_slice())
 }
 
-/// The rule of a cell.
-fn rule_at<'a>(
+/// The rule of a cell. Takes no memory.
+pub fn rule_at<'a>(
     config: &'a Config,
     operation: &Operation,
     row: Option<&[u8]>,
@@ -109,8 +109,8 @@ fn rule_at<'a>(
     )
 }
 
-/// Its number.
-pub(crate) fn number_at(
+/// Its number, 0 without one. Takes no memory.
+pub fn number_at(
     config: &Config,
     operation: &Operation,
     row: Option<&[u8]>,
@@ -123,8 +123,26 @@ pub(crate) fn number_at(
     number_of(rule_at(config, operation, row, column, own, piece))
 }
 
-/// Adds its number, and what comes of it.
-fn put_value(
+/// Adds what comes of it. `AllocError` is the only refusal.
+pub fn put_mark_at(
+    text: &mut Bytes,
+    config: &Config,
+    operation: &Operation,
+    row: Option<&[u8]>,
+    column: &Column,
+    own: bool,
+    piece: u16,
+) -> Result<(), AllocError>
+    ensures { OnOk result (text.new ≡ text.old ++ Definitions.mark_at config.now operation.now (option_copied row.entry) column.now own piece) }
+{
+    let rule = rule_at(config, operation, row, column, own, piece);
+    let decision = ruling_by(rule, row, piece).decision;
+    let known = are_known(config, column);
+    put_mark(text, operation, config.hops.as_slice(), known, decision)
+}
+
+/// Adds its number, and what comes of it. `AllocError` is the only refusal.
+pub fn put_value(
     text: &mut Bytes,
     config: &Config,
     operation: &Operation,
@@ -155,8 +173,8 @@ fn is_address_of(config: &Config, name: &[u8], column: &Column) -> bool
     }
 }
 
-/// Whether two columns are of one class.
-pub(crate) fn are_of_class(config: &Config, class: &Column, column: &Column) -> bool
+/// Whether two columns are of one class. Takes no memory.
+pub fn are_of_class(config: &Config, class: &Column, column: &Column) -> bool
     ensures { result ≡ are_asked_alike config.now.rules config.now.users config.now.own.domains class.now column.now }
 {
     class.is_asked_as(
@@ -176,8 +194,8 @@ fn has_address_of(config: &Config, columns: &[Column], class: &Column, name: &[u
     })
 }
 
-/// Whether two users are of one row.
-pub(crate) fn are_of_row(config: &Config, row: &[u8], name: &[u8]) -> bool
+/// Whether two users are of one row. Takes no memory.
+pub fn are_of_row(config: &Config, row: &[u8], name: &[u8]) -> bool
     ensures { result ≡ Asker.ask_alike config.now.rules config.now.users row.now name.now }
 {
     ask_alike(config.rules.as_slice(), &config.users, row, name)
@@ -200,8 +218,8 @@ pub(crate) fn has_own(config: &Config, columns: &[Column], class: &Column, row: 
     are_known(config, class) && has_address_of_row(config, columns, class, row)
 }
 
-/// Whether a cell has a second value, for the asker's own address.
-fn has_second(
+/// Whether a cell has a second value, for the asker's own address. Takes no memory.
+pub fn has_second(
     config: &Config,
     operation: &Operation,
     columns: &[Column],
@@ -238,8 +256,8 @@ fn put_second(
     put_value(text, config, operation, Some(row), class, true, piece)
 }
 
-/// Adds what stands in a cell.
-pub(crate) fn put_cell(
+/// Adds what stands in a cell. `AllocError` is the only refusal.
+pub fn put_cell(
     text: &mut Bytes,
     config: &Config,
     operation: &Operation,

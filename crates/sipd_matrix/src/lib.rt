@@ -1,7 +1,7 @@
 //! The whole policy of a configuration as text: for each piece of the day a line for each class of addresses, and in it a cell for
 //! each class of who asks.
 //!
-//! - Used: `sipd_tools`, for the command `matrix`.
+//! - Used: `sipd_tools`, for the command `matrix`; `sipd_matrix_forms` and `sipd_matrix_changes`, for what stands in a cell and its words.
 //! - Not here: which cells there are, and that they are all (`sip_matrix`); one question (`sipd_questions`).
 //! - Tried: a worked example in `src/examples.rt`, as a contract that computes.
 #![tactic(auto)]
@@ -13,4 +13,10 @@ mod text;
 mod unused;
 mod words;
 
-pub use text::matrix_text;
+pub use cells::{
+    are_known, are_of_class, are_of_row, has_second, hop_at, number_at, put_cell, put_mark_at,
+    put_value, rule_at,
+};
+pub use numbers::numbers_of;
+pub use text::{matrix_text, put_foot, put_legend, put_members, put_title, put_users};
+pub use words::{end_of, operation_word, put_both, put_clock, put_column};

@@ -114,8 +114,8 @@ fn add_pieces(
     Ok(())
 }
 
-/// Those of the whole table, each as often as it decides.
-pub(crate) fn numbers_of(
+/// The numbers of the rules that decide in some cell of a table, each as often as it decides. `AllocError` is the only refusal.
+pub fn numbers_of(
     alloc: Global,
     config: &Config,
     operation: &Operation,

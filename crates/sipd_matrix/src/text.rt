@@ -83,7 +83,8 @@ fn put_member(
     put_column(text, column)
 }
 
-fn put_members(
+/// Adds the columns of a class, each behind a blank. `AllocError` is the only refusal.
+pub fn put_members(
     text: &mut Bytes,
     config: &Config,
     class: &Column,
@@ -198,7 +199,8 @@ fn put_user(text: &mut Bytes, config: &Config, row: &[u8], user: &User) -> Resul
     }
 }
 
-fn put_users(
+/// Adds the users of a row, each behind a blank. `AllocError` is the only refusal.
+pub fn put_users(
     text: &mut Bytes,
     config: &Config,
     row: &[u8],
@@ -273,8 +275,8 @@ fn put_all_unused(text: &mut Bytes, numbers: &[u32], rules: &[Rule]) -> Result<(
     Ok(())
 }
 
-/// Adds what the table is of.
-fn put_title(text: &mut Bytes, config: &Config, operation: &Operation) -> Result<(), AllocError>
+/// Adds what the table is of. `AllocError` is the only refusal.
+pub fn put_title(text: &mut Bytes, config: &Config, operation: &Operation) -> Result<(), AllocError>
     ensures { OnOk result (text.new ≡ text.old ++ Definitions.title config.now operation.now) }
 {
     put_both(text, operation_word(operation), b", offset ")?;
@@ -293,7 +295,8 @@ fn put_unnamed(text: &mut Bytes, config: &Config) -> Result<(), AllocError>
 }
 
 /// Adds what stands under the cells: the users of each row, and the rules, the hops and the groups that decide nothing.
-fn put_foot(
+/// `AllocError` is the only refusal.
+pub fn put_foot(
     text: &mut Bytes,
     config: &Config,
     table: &Table,
@@ -307,8 +310,8 @@ fn put_foot(
     put_unnamed(text, config)
 }
 
-/// Adds what the signs in the cells mean.
-fn put_legend(text: &mut Bytes) -> Result<(), AllocError>
+/// Adds what the signs in the cells mean. `AllocError` is the only refusal.
+pub fn put_legend(text: &mut Bytes) -> Result<(), AllocError>
     ensures { OnOk result (text.new ≡ text.old ++ Definitions.legend) }
 {
     text.extend(LEGEND)

@@ -1,5 +1,5 @@
 //! The words of the text: fields, numbers, times, and columns by their addresses.
-ghost use Rattle.std.specs.Prelude.{◌≡◌, ◌++◌, OnOk};
+ghost use Rattle.std.specs.Prelude.{◌≡◌, ◌++◌, find, nat_lt, OnOk};
 ghost use Rattle.sipd_matrix.specs.Text as Definitions;
 
 use sip_matrix::Column;
@@ -7,11 +7,14 @@ use sip_policy::Operation;
 use sip_text::Bytes;
 use std::alloc::AllocError;
 
+/// The minutes of a day.
+const DAY: u16 = 1_440;
+
 /// The blanks of an empty field.
 const BLANKS: &[u8] = b"          ";
 
-/// Adds two texts.
-pub(crate) fn put_both(text: &mut Bytes, first: &[u8], second: &[u8]) -> Result<(), AllocError>
+/// Adds two texts. `AllocError` is the only refusal.
+pub fn put_both(text: &mut Bytes, first: &[u8], second: &[u8]) -> Result<(), AllocError>
     ensures { OnOk result (text.new ≡ text.old ++ first.now ++ second.now) }
 {
     text.extend(first)?;
@@ -48,8 +51,8 @@ pub(crate) fn put_signed(text: &mut Bytes, number: i16) -> Result<(), AllocError
     text.push_decimal(u64::from(number.unsigned_abs()))
 }
 
-/// Adds a minute of the day.
-pub(crate) fn put_clock(text: &mut Bytes, minute: u16) -> Result<(), AllocError>
+/// Adds a minute of the day, as `8:05`. `AllocError` is the only refusal.
+pub fn put_clock(text: &mut Bytes, minute: u16) -> Result<(), AllocError>
     ensures { OnOk result (text.new ≡ text.old ++ Definitions.clock_text minute) }
 {
     text.push_decimal(u64::from(minute / 60))?;
@@ -58,8 +61,30 @@ pub(crate) fn put_clock(text: &mut Bytes, minute: u16) -> Result<(), AllocError>
     text.push_decimal(u64::from(minute % 10))
 }
 
-/// What is asked for, by its word.
-pub(crate) fn operation_word(operation: &Operation) -> &[u8]
+/// The first minute of the next piece of the day, if there is one.
+fn next_of(pieces: &[u16], piece: u16) -> Option<u16>
+    ensures { result ≡ find (λ next. nat_lt piece next) pieces.now }
+{
+    for next in pieces {
+        if piece < *next {
+            return Some(*next);
+        }
+    }
+    None
+}
+
+/// Where a piece of the day ends: at the minute where the next of them begins, or at midnight. Takes no memory.
+pub fn end_of(pieces: &[u16], piece: u16) -> u16
+    ensures { result ≡ Definitions.end_of pieces.now piece }
+{
+    match next_of(pieces, piece) {
+        Some(next) => next,
+        None => DAY,
+    }
+}
+
+/// What is asked for, by its word. Takes no memory.
+pub fn operation_word(operation: &Operation) -> &[u8]
     ensures { result.now ≡ Definitions.operation_word operation.now }
 {
     match operation {
@@ -69,8 +94,8 @@ pub(crate) fn operation_word(operation: &Operation) -> &[u8]
     }
 }
 
-/// Adds the addresses of a column.
-pub(crate) fn put_column(text: &mut Bytes, column: &Column) -> Result<(), AllocError>
+/// Adds the addresses of a column. `AllocError` is the only refusal.
+pub fn put_column(text: &mut Bytes, column: &Column) -> Result<(), AllocError>
     ensures { OnOk result (text.new ≡ text.old ++ Definitions.column_text column.now) }
 {
     match column {

@@ -1,5 +1,5 @@
--- What is answered to a question: the rule that decides, its verdict, and where the request goes.
-use Rattle.std.specs.Prelude.{ℕ, Bool, true, false, not, ◌&&◌, ◌||◌, ◌==◌, nat_lt, if◌then◌else◌, List, [], ◌++◌, codes, decimal, Option, Some, None, Result, Ok, Err}
+-- What is decided: the rule that decides, its verdict, and where the request goes; and what is refused before any rule is asked.
+use Rattle.std.specs.Prelude.{ℕ, Bool, true, false, not, ◌&&◌, ◌||◌, ◌==◌, if◌then◌else◌, List, [], ◌++◌, codes, decimal, Option, Some, None, Result, Ok, Err}
 use Rattle.std.specs.Char.{is_ascii_graphic}
 use Rattle.std.specs.List.{slice_get, list_all}
 use Rattle.std.specs.Option.{option_map_or}
@@ -8,9 +8,7 @@ use Rattle.sip_text.specs.Splits.{split_at_byte}
 use Rattle.sip_text.specs.Words.{is_same_text}
 use Rattle.sip_uri.specs.declared.uri.Uri.{Uri}
 use Rattle.sip_uri.specs.declared.error.UriError.{UriError}
-use Rattle.sip_uri.specs.Reading.{reading_of}
 use Rattle.sip_uri.specs.declared.aor.Aor.{Aor}
-use Rattle.sip_uri.specs.Aor.{aor_of}
 use Rattle.sip_uri.specs.Addresses.{addr_text}
 use Rattle.sip_policy.specs.declared.decision.Decision.{Decision}
 use Rattle.sip_policy.specs.declared.operation.Operation.{Operation}
@@ -19,12 +17,8 @@ use Rattle.sip_policy.specs.Decision.{deciding_rule, decision_of}
 use Rattle.sip_hops.specs.declared.hop.Hop.{Hop as ConfiguredHop}
 use Rattle.sip_config_types.specs.declared.config.Config.{Config}
 use Rattle.sip_validate.specs.Faults.{has_sip_scheme}
-use Rattle.sipd_questions.specs.declared.error.QuestionError.{QuestionError}
-use Rattle.sipd_questions.specs.declared.error.QuestionError.TheVariants.{BadMinute, UnknownUser}
 use Rattle.sipd_questions.specs.declared.destination.Destination.{Destination}
 use Rattle.sipd_questions.specs.declared.destination.Destination.TheVariants.{Nowhere, Registrar, Bindings, Hop, NotFound}
-use Rattle.sipd_questions.specs.Refusals.{◌>>=◌, confirmed}
-use Rattle.sipd_questions.specs.Question.{ShownQuestion, is_configured, operation_asked, uri_text, uri_read}
 use Rattle.sipd_questions.specs.Destination.{destination_of}
 
 -- a number between two texts
@@ -73,7 +67,7 @@ destination_text config aor Bindings = codes "to the bindings of " ++ aor_text a
 destination_text config aor (Hop place) = hop_text (slice_get config.hops place)
 destination_text config aor NotFound = codes "404, no user of an own domain: " ++ aor_text aor
 
--- ---- the answer
+-- ---- the rule
 
 -- the first rule that holds at the minute and matches
 abbrev pub rule_for : Config → Option (List ℕ) → Operation → Aor → ℕ → Option Rule
@@ -131,20 +125,3 @@ abbrev pub bad_text : Operation → List ℕ
 bad_text Operation.Register = codes "400 before any rule: To of a REGISTER is no URI\n"
 bad_text Operation.List = codes "400 before any rule: To of a REGISTER is no URI\n"
 bad_text (Operation.Send method) = codes "400 before any rule: the Request-URI is no URI\n"
-
--- what the server answers to what is asked, where the text of the URI that the target means reads so; a text that is none is no target
-abbrev pub answer_by : Config → ShownQuestion → Operation → List ℕ → Result Uri UriError → Result (List ℕ) QuestionError
-answer_by config question operation text reading =
-    if is_refused_before operation text reading then Ok (refusal_text operation)
-    else if is_bad_before question.target reading then Ok (bad_text operation)
-    else do
-      uri ← uri_read reading
-      Ok (line_for config question.user operation (aor_of uri) question.minute)
-
--- the answer to a question, or why there is none
-abbrev pub answer_to : Config → ShownQuestion → Result (List ℕ) QuestionError
-answer_to config question = do
-  _ ← confirmed (nat_lt question.minute 1440) BadMinute
-  operation ← operation_asked question.operation
-  _ ← confirmed (is_configured config.users question.user) UnknownUser
-  answer_by config question operation (uri_text question.target) (reading_of (uri_text question.target))

@@ -1,14 +1,25 @@
 -- Questions about the sample, and a user.
-use Rattle.std.specs.Prelude.{ℕ, List, [], ◌∷◌, codes, Option, Some, Result}
+use Rattle.std.specs.Prelude.{ℕ, List, [], ◌∷◌, codes, Option, Some, Result, Ok, Err}
 use Rattle.sip_policy.specs.declared.user.User.{User}
 use Rattle.sip_config_types.specs.declared.config.Config.{Config}
 use Rattle.sip_config_types.specs.Sample.{sample}
 use Rattle.sipd_questions.specs.declared.error.QuestionError.{QuestionError}
-use Rattle.sipd_questions.specs.Decide.{answer_to}
+use Rattle.sipd_questions.specs.declared.answer.Answer.{Answer}
+use Rattle.sipd_questions.specs.Fronts.{front_before}
+use Rattle.sipd_questions.specs.Answers.{answer_to}
 
--- what is answered to a question about the sample, at midnight; its rules hold at every minute
+-- what is answered to a question about the sample, at 10:05; its rules hold at every minute
+abbrev pub answered : Option (List ℕ) → List ℕ → List ℕ → Result Answer QuestionError
+answered user operation target = answer_to sample (record { user = user; minute = 605; operation = operation; target = target })
+
+-- the first line of an answer
+abbrev pub first_of : Result Answer QuestionError → Result (List ℕ) QuestionError
+first_of (Ok answer) = Ok (front_before 10 answer.text)
+first_of (Err e) = Err e
+
+-- the first line of what is answered
 abbrev pub asked : Option (List ℕ) → List ℕ → List ℕ → Result (List ℕ) QuestionError
-asked user operation target = answer_to sample (record { user = user; minute = 0; operation = operation; target = target })
+asked user operation target = first_of (answered user operation target)
 
 -- SHA-256 of `Mufasa:testrealm@host.com:Circle Of Life`, the words of RFC 2617 3.5
 abbrev pub mufasas_sha256 : List ℕ

@@ -9,4 +9,5 @@ pub mod User
 pub mod Password
 pub mod Warnings
 pub mod Show
+pub mod Answers
 pub mod Examples

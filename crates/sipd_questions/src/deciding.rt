@@ -1,5 +1,5 @@
-//! What a server with a configuration would answer to a request, as one line, for the command `decide`. No server runs for it.
-ghost use Rattle.std.specs.Prelude.{◌≡◌, false, IfOk, Ok, Err};
+//! What a server with a configuration would answer to a request, in lines, for the command `decide`. No server runs for it.
+ghost use Rattle.std.specs.Prelude.{◌≡◌, ◌++◌, false, IfOk, OnOk, Ok, Err};
 ghost use Rattle.std.specs.Char.{is_ascii_graphic};
 ghost use Rattle.std.specs.List.{list_all};
 ghost use Rattle.std.specs.Option.{option_copied, option_map_or};
@@ -10,20 +10,45 @@ ghost use Rattle.sip_uri.specs.Reading.{reading_of};
 ghost use Rattle.sip_uri.specs.declared.error.UriError.TheVariants.{Syntax};
 ghost use Rattle.sip_validate.specs.Faults;
 ghost use Rattle.sipd_questions.specs.Question.{shown};
+ghost use Rattle.sipd_questions.specs.Answers;
 ghost use Rattle.sipd_questions.specs.Decide as Definitions;
 
+use crate::answer::Answer;
 use crate::asked::{is_configured, operation_asked, uri_text};
 use crate::error::{QuestionError, confirm};
 use crate::question::DecideQuestion;
-use crate::telling::line_by;
+use crate::showing::{put_clock, put_rule};
+use crate::telling::{line_by, put_number};
 use sip_config_types::Config;
-use sip_policy::{Operation, deciding_rule, ruling_by};
+use sip_hops::Hop;
+use sip_policy::{Operation, Rule, deciding_rule, ruling_by};
 use sip_text::{Bytes, same_no_case, split_once};
 use sip_uri::{Aor, Uri, UriError, aor_of, parse_uri};
 use std::alloc::{AllocError, Global};
 
 /// The minutes of a day.
 const DAY: u16 = 1_440;
+
+/// The rule that decides about a request for an address of record at a minute, if one does. Takes no memory.
+pub fn rule_for<'c>(
+    config: &'c Config,
+    proven: Option<&[u8]>,
+    operation: &Operation,
+    aor: &Aor,
+    minute: u16,
+) -> Option<&'c Rule>
+    ensures { option_copied result ≡ Definitions.rule_for config.now (option_copied proven.entry) operation.now aor.now minute }
+{
+    deciding_rule(
+        config.rules.as_slice(),
+        &config.users,
+        config.own.domains.as_slice(),
+        proven,
+        operation,
+        aor,
+        minute,
+    )
+}
 
 /// What the server decides of a request for an address of record at a minute, as a line. `AllocError` is the only refusal.
 pub fn line_for(
@@ -36,17 +61,60 @@ pub fn line_for(
 ) -> Result<Bytes, AllocError>
     ensures { IfOk result (λ line. line ≡ Definitions.line_for config.now (option_copied proven.entry) operation.now aor.now minute) }
 {
-    let rule = deciding_rule(
-        config.rules.as_slice(),
-        &config.users,
-        config.own.domains.as_slice(),
-        proven,
-        operation,
-        aor,
-        minute,
-    );
+    let rule = rule_for(config, proven, operation, aor, minute);
     let decision = ruling_by(rule, proven, minute).decision;
     line_by(alloc, config, operation, aor, rule, decision)
+}
+
+/// Adds the rule that decides, if one does.
+fn put_ruling(text: &mut Bytes, hops: &[Hop], rule: Option<&Rule>) -> Result<(), AllocError>
+    ensures { OnOk result (text.new ≡ text.old ++ Answers.ruling_text hops.now (option_copied rule.entry)) }
+{
+    match rule {
+        Some(rule) => put_rule(text, hops, rule),
+        None => Ok(()),
+    }
+}
+
+/// Adds the minute that was taken.
+fn put_minute(text: &mut Bytes, minute: u16) -> Result<(), AllocError>
+    ensures { OnOk result (text.new ≡ text.old ++ Answers.minute_text minute) }
+{
+    put_number(text, b"minute ", u64::from(minute), b", ")?;
+    put_clock(text, minute)?;
+    text.push(b'\n')
+}
+
+/// What the rules decide of a request for an address of record at a minute.
+fn ruled(
+    alloc: Global,
+    config: &Config,
+    proven: Option<&[u8]>,
+    operation: &Operation,
+    aor: &Aor,
+    minute: u16,
+) -> Result<Answer, AllocError>
+    ensures { IfOk result (λ answer. answer ≡ Answers.ruled config.now (option_copied proven.entry) operation.now aor.now minute) }
+{
+    let rule = rule_for(config, proven, operation, aor, minute);
+    let decision = ruling_by(rule, proven, minute).decision;
+    let mut text = line_by(alloc, config, operation, aor, rule, decision)?;
+    put_ruling(&mut text, config.hops.as_slice(), rule)?;
+    put_minute(&mut text, minute)?;
+    Ok(Answer {
+        text,
+        decision: Some(decision),
+    })
+}
+
+/// What a check of the server refuses before any rule is asked.
+fn refused(alloc: Global, text: &[u8]) -> Result<Answer, AllocError>
+    ensures { IfOk result (λ answer. answer ≡ Answers.refused text.now) }
+{
+    Ok(Answer {
+        text: Bytes::copy(alloc, text)?,
+        decision: None,
+    })
 }
 
 /// Whether what stands before the first `:` is this scheme, in any case.
@@ -95,14 +163,14 @@ fn answer_for(
     operation: &Operation,
     text: &[u8],
     uri: &Uri,
-) -> Result<Bytes, QuestionError>
-    ensures { Reads (λ line. line) result (Definitions.answer_by config.now (shown question.now) operation.now text.now (Ok uri.now)) }
+) -> Result<Answer, QuestionError>
+    ensures { Reads (λ answer. answer) result (Answers.answer_by config.now (shown question.now) operation.now text.now (Ok uri.now)) }
 {
     if is_sent_elsewhere(operation, text) {
-        return Ok(Bytes::copy(alloc, refusal_text(operation))?);
+        return Ok(refused(alloc, refusal_text(operation))?);
     }
     let aor = aor_of(alloc, uri)?;
-    Ok(line_for(
+    Ok(ruled(
         alloc,
         config,
         question.user,
@@ -144,14 +212,14 @@ fn unread_answer(
     question: &DecideQuestion<'_>,
     operation: &Operation,
     text: &[u8],
-) -> Result<Bytes, QuestionError>
-    ensures { Reads (λ line. line) result (Definitions.answer_by config.now (shown question.now) operation.now text.now (Err Syntax)) }
+) -> Result<Answer, QuestionError>
+    ensures { Reads (λ answer. answer) result (Answers.answer_by config.now (shown question.now) operation.now text.now (Err Syntax)) }
 {
     if is_sent_elsewhere(operation, text) && is_of_scheme(b"sips", text) {
-        return Ok(Bytes::copy(alloc, refusal_text(operation))?);
+        return Ok(refused(alloc, refusal_text(operation))?);
     }
     if is_of_scheme(b"sip", question.target) || is_of_scheme(b"sips", question.target) {
-        return Ok(Bytes::copy(alloc, bad_text(operation))?);
+        return Ok(refused(alloc, bad_text(operation))?);
     }
     Err(QuestionError::BadTarget)
 }
@@ -163,30 +231,30 @@ fn answer_by(
     question: &DecideQuestion<'_>,
     operation: &Operation,
     text: &[u8],
-) -> Result<Bytes, QuestionError>
-    ensures { Reads (λ line. line) result (Definitions.answer_by config.now (shown question.now) operation.now text.now (reading_of text.now)) }
+) -> Result<Answer, QuestionError>
+    ensures { Reads (λ answer. answer) result (Answers.answer_by config.now (shown question.now) operation.now text.now (reading_of text.now)) }
 {
     match parse_uri(alloc, text) {
         Ok(uri) => answer_for(alloc, config, question, operation, text, &uri),
-        Err(UriError::Scheme) => Ok(Bytes::copy(alloc, refusal_text(operation))?),
+        Err(UriError::Scheme) => Ok(refused(alloc, refusal_text(operation))?),
         Err(UriError::NoMemory) => Err(QuestionError::NoMemory),
         Err(UriError::Syntax) => unread_answer(alloc, config, question, operation, text),
     }
 }
 
-/// Who may call whom: the rule that decides, its verdict and where the request goes, as a line, by the definition by
-/// which a server with this configuration decides (`decision_of` of `sip_policy`). Where it goes is said as far as it is
+/// Who may call whom: the rule that decides, its verdict and where the request goes, by the definition by which a server with this
+/// configuration decides (`decision_of` of `sip_policy`), what that rule says, and the minute. Where it goes is said as far as it is
 /// known without bindings. What a check of the server refuses before any rule is asked is said so: for the scheme of the target's
 /// URI, 416 or in a REGISTER 400, and 400 where what begins as a SIP or SIPS URI is none (RFC 3261 16.3, 10.3).
 ///
 /// Refuses, in this order: BadMinute, BadMethod or SmallLetter, UnknownUser, BadTarget. NoMemory may come in place of any
 /// answer.
-pub fn decision_text(
+pub fn answer_to(
     alloc: Global,
     config: &Config,
     question: &DecideQuestion<'_>,
-) -> Result<Bytes, QuestionError>
-    ensures { Reads (λ line. line) result (Definitions.answer_to config.now (shown question.now)) }
+) -> Result<Answer, QuestionError>
+    ensures { Reads (λ answer. answer) result (Answers.answer_to config.now (shown question.now)) }
 {
     confirm(question.minute < DAY, QuestionError::BadMinute)?;
     let operation = operation_asked(alloc, question.operation)?;

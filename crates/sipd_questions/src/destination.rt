@@ -34,7 +34,7 @@ fn let_through(config: &Config, operation: &Operation, aor: &Aor) -> Destination
 }
 
 /// Where a request for an address of record goes, by what policy decided. Takes no memory.
-pub(crate) fn destination_of(
+pub fn destination_of(
     config: &Config,
     operation: &Operation,
     aor: &Aor,

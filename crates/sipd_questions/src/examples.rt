@@ -9,41 +9,42 @@ ghost use Rattle.sip_config_types.specs.Sample.{sample};
 ghost use Rattle.sip_config.specs.Configuration.{stated_in};
 ghost use Rattle.sip_config.specs.Examples.{sample_head};
 ghost use Rattle.sip_policy.specs.Examples.{mufasas_a1};
-ghost use Rattle.sipd_questions.specs.Examples.{asked, mufasas_sha256, with_sha256};
+ghost use Rattle.sip_policy.specs.declared.decision.Decision.TheVariants.{Via, Deny, Challenge};
+ghost use Rattle.sipd_questions.specs.Examples.{answered, asked, mufasas_sha256, with_sha256};
 ghost use Rattle.sipd_questions.specs.Show.{shown_lines, clock_text, signed};
 ghost use Rattle.sipd_questions.specs.Warnings.{port_warning, register_warning, digest_warning, small_letter_warning, any_address_warning};
 
 /// On the sample: a rule without a user allows, a rule denies, none matches.
 #[tactic(auto, unfolding(sip_uri::specs::Reading::reading_of, sip_uri::specs::Reading::rest_of))]
 pub fn anyone()
-    ensures allowed { asked None (codes "INVITE") (codes "help@host.com") ≡ Ok (codes "rule 4 allows: to the bindings of help@host.com\n") }
-    ensures denied { asked None (codes "INVITE") (codes "vault@host.com") ≡ Ok (codes "rule 3 denies: 403\n") }
-    ensures none { asked (Some (codes "alice")) (codes "MESSAGE") (codes "x@other.net") ≡ Ok (codes "no rule matches: denied, 403, rule 0\n") }
+    ensures allowed { asked None (codes "INVITE") (codes "help@host.com") ≡ Ok (codes "rule 4 allows: to the bindings of help@host.com") }
+    ensures denied { asked None (codes "INVITE") (codes "vault@host.com") ≡ Ok (codes "rule 3 denies: 403") }
+    ensures none { asked (Some (codes "alice")) (codes "MESSAGE") (codes "x@other.net") ≡ Ok (codes "no rule matches: denied, 403, rule 0") }
     ensures challenged { asked None (codes "INVITE") (codes "alice@host.com")
-        ≡ Ok (codes "challenged, 407: rule 6 may match once the caller has proved who he is\n") }
+        ≡ Ok (codes "challenged, 407: rule 6 may match once the caller has proved who he is") }
 {}
 
 /// A user of the group staff calls by the gateway, and another user, by the same words, nobody; a URI says the same as an
 /// address, without case of the host.
 #[tactic(auto, unfolding(sip_uri::specs::Reading::reading_of, sip_uri::specs::Reading::rest_of))]
 pub fn users()
-    ensures gateway { asked (Some (codes "Mufasa")) (codes "INVITE") (codes "911@host.com") ≡ Ok (codes "rule 5 allows: to the hop gw, 127.0.0.1:5090\n") }
+    ensures gateway { asked (Some (codes "Mufasa")) (codes "INVITE") (codes "911@host.com") ≡ Ok (codes "rule 5 allows: to the hop gw, 127.0.0.1:5090") }
     ensures nobody { asked (Some (codes "alice")) (codes "INVITE") (codes "911@host.com")
-        ≡ Ok (codes "rule 6 allows: 404, no user of an own domain: 911@host.com\n") }
+        ≡ Ok (codes "rule 6 allows: 404, no user of an own domain: 911@host.com") }
     ensures uri { asked (Some (codes "alice")) (codes "INVITE") (codes "sip:%68elp@HOST.com:5070;transport=udp")
-        ≡ Ok (codes "rule 4 allows: to the bindings of help@host.com\n") }
+        ≡ Ok (codes "rule 4 allows: to the bindings of help@host.com") }
 {}
 
 /// A user registers his own address and lists it; nobody is asked for proof with 401.
 #[tactic(auto, unfolding(sip_uri::specs::Reading::reading_of, sip_uri::specs::Reading::rest_of))]
 pub fn registration()
     ensures registers { asked (Some (codes "alice")) (codes "register") (codes "alice@host.com")
-        ≡ Ok (codes "rule 1 allows: to the registrar, for alice@host.com\n") }
+        ≡ Ok (codes "rule 1 allows: to the registrar, for alice@host.com") }
     ensures lists { asked (Some (codes "alice")) (codes "list") (codes "alice@host.com")
-        ≡ Ok (codes "rule 2 allows: to the registrar, for alice@host.com\n") }
-    ensures other { asked (Some (codes "alice")) (codes "register") (codes "help@host.com") ≡ Ok (codes "no rule matches: denied, 403, rule 0\n") }
+        ≡ Ok (codes "rule 2 allows: to the registrar, for alice@host.com") }
+    ensures other { asked (Some (codes "alice")) (codes "register") (codes "help@host.com") ≡ Ok (codes "no rule matches: denied, 403, rule 0") }
     ensures unproven { asked None (codes "register") (codes "help@host.com")
-        ≡ Ok (codes "challenged, 401: rule 1 may match once the caller has proved who he is\n") }
+        ≡ Ok (codes "challenged, 401: rule 1 may match once the caller has proved who he is") }
 {}
 
 /// What is sent on to `sips:`, whatever stands behind it, or to another scheme, is answered 416, whatever the rules say of its address
@@ -51,18 +52,18 @@ pub fn registration()
 /// SIP URI and is none.
 #[tactic(auto, unfolding(sip_uri::specs::Reading::reading_of, sip_uri::specs::Reading::rest_of))]
 pub fn before_rules()
-    ensures allowed { asked None (codes "INVITE") (codes "sips:help@host.com") ≡ Ok (codes "416 before any rule: a Request-URI is sip:\n") }
-    ensures denied { asked None (codes "INVITE") (codes "SIPS:vault@host.com") ≡ Ok (codes "416 before any rule: a Request-URI is sip:\n") }
+    ensures allowed { asked None (codes "INVITE") (codes "sips:help@host.com") ≡ Ok (codes "416 before any rule: a Request-URI is sip:") }
+    ensures denied { asked None (codes "INVITE") (codes "SIPS:vault@host.com") ≡ Ok (codes "416 before any rule: a Request-URI is sip:") }
     ensures registers { asked (Some (codes "alice")) (codes "register") (codes "sips:alice@host.com")
-        ≡ Ok (codes "rule 1 allows: to the registrar, for alice@host.com\n") }
-    ensures capitals { asked None (codes "INVITE") (codes "SIP:vault@host.com") ≡ Ok (codes "rule 3 denies: 403\n") }
-    ensures telephone { asked None (codes "INVITE") (codes "tel:+1-201-555-0123") ≡ Ok (codes "416 before any rule: a Request-URI is sip:\n") }
+        ≡ Ok (codes "rule 1 allows: to the registrar, for alice@host.com") }
+    ensures capitals { asked None (codes "INVITE") (codes "SIP:vault@host.com") ≡ Ok (codes "rule 3 denies: 403") }
+    ensures telephone { asked None (codes "INVITE") (codes "tel:+1-201-555-0123") ≡ Ok (codes "416 before any rule: a Request-URI is sip:") }
     ensures registers_telephone { asked None (codes "register") (codes "tel:+1-201-555-0123")
-        ≡ Ok (codes "400 before any rule: To of a REGISTER is sip: or sips:\n") }
-    ensures no_sips_uri { asked None (codes "INVITE") (codes "SIPS:@host.com") ≡ Ok (codes "416 before any rule: a Request-URI is sip:\n") }
-    ensures no_uri { asked None (codes "INVITE") (codes "sip:@host.com") ≡ Ok (codes "400 before any rule: the Request-URI is no URI\n") }
+        ≡ Ok (codes "400 before any rule: To of a REGISTER is sip: or sips:") }
+    ensures no_sips_uri { asked None (codes "INVITE") (codes "SIPS:@host.com") ≡ Ok (codes "416 before any rule: a Request-URI is sip:") }
+    ensures no_uri { asked None (codes "INVITE") (codes "sip:@host.com") ≡ Ok (codes "400 before any rule: the Request-URI is no URI") }
     ensures registers_no_uri { asked None (codes "register") (codes "sips:@host.com")
-        ≡ Ok (codes "400 before any rule: To of a REGISTER is no URI\n") }
+        ≡ Ok (codes "400 before any rule: To of a REGISTER is no URI") }
 {}
 
 /// A method with a small letter is no method of a rule, and isn't taken for another one; `register` and `list` are words.
@@ -84,6 +85,32 @@ pub fn refusals()
     ensures no_scheme { asked None (codes "INVITE") (codes "+1:help@host.com") ≡ Err Refusal.BadTarget }
     ensures two_words { asked None (codes "INVITE") (codes "sip:help me@host.com") ≡ Err Refusal.BadTarget }
     ensures no_host { asked None (codes "INVITE") (codes "help@") ≡ Err Refusal.BadTarget }
+{}
+
+/// An answer says the rule in the words of the file, and the minute that was taken; where no rule matches, or a check refuses before any
+/// rule is asked, no rule is said.
+#[tactic(auto, unfolding(sip_uri::specs::Reading::reading_of, sip_uri::specs::Reading::rest_of))]
+pub fn whole_answers()
+    ensures allowed { answered (Some (codes "Mufasa")) (codes "INVITE") (codes "911@host.com") ≡ Ok (record {
+      text = codes "rule 5 allows: to the hop gw, 127.0.0.1:5090\nrule 5: group staff, send INVITE, 9*@host.com: via gw\nminute 605, 10:05\n";
+      decision = Some (Via 5 0);
+    }) }
+    ensures denied { answered None (codes "INVITE") (codes "vault@host.com") ≡ Ok (record {
+      text = codes "rule 3 denies: 403\nrule 3: anyone, send *, vault@host.com: deny\nminute 605, 10:05\n";
+      decision = Some (Deny 3);
+    }) }
+    ensures none { answered (Some (codes "alice")) (codes "MESSAGE") (codes "x@other.net") ≡ Ok (record {
+      text = codes "no rule matches: denied, 403, rule 0\nminute 605, 10:05\n";
+      decision = Some (Deny 0);
+    }) }
+    ensures challenged { answered None (codes "INVITE") (codes "alice@host.com") ≡ Ok (record {
+      text = codes "challenged, 407: rule 6 may match once the caller has proved who he is\nrule 6: proven, send *, @host.com: allow\nminute 605, 10:05\n";
+      decision = Some Challenge;
+    }) }
+    ensures before { answered None (codes "INVITE") (codes "tel:+1-201-555-0123") ≡ Ok (record {
+      text = codes "416 before any rule: a Request-URI is sip:\n";
+      decision = None;
+    }) }
 {}
 
 /// The table of the user of RFC 2617 3.5, whose digest stands there.

@@ -253,7 +253,8 @@ pub fn patterns_text(alloc: Global, rule: &Rule) -> Result<Bytes, AllocError>
     Ok(text)
 }
 
-fn put_rule(text: &mut Bytes, hops: &[Hop], rule: &Rule) -> Result<(), AllocError>
+/// Adds a rule as it is shown, on a line of its own.
+pub(crate) fn put_rule(text: &mut Bytes, hops: &[Hop], rule: &Rule) -> Result<(), AllocError>
     ensures { OnOk result (text.new ≡ text.old ++ Definitions.rule_line hops.now rule.now) }
 {
     put_number(text, b"rule ", u64::from(rule.id), b": ")?;

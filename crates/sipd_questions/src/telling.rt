@@ -74,7 +74,8 @@ fn put_denial(text: &mut Bytes, id: u32) -> Result<(), AllocError>
     }
 }
 
-fn put_verdict(
+/// Adds what a rule says; a challenge names the rule that asks for proof. `AllocError` is the only refusal.
+pub fn put_verdict(
     text: &mut Bytes,
     operation: &Operation,
     rule: Option<&Rule>,
@@ -107,7 +108,8 @@ pub fn put_address(alloc: Global, text: &mut Bytes, address: Addr) -> Result<(),
     text.extend(addr_text(alloc, address)?.as_slice())
 }
 
-fn put_hop(alloc: Global, text: &mut Bytes, hop: Option<&Hop>) -> Result<(), AllocError>
+/// Adds that it goes to a hop, or that there is none. `AllocError` is the only refusal.
+pub fn put_hop(alloc: Global, text: &mut Bytes, hop: Option<&Hop>) -> Result<(), AllocError>
     ensures { OnOk result (text.new ≡ text.old ++ Definitions.hop_text (option_copied hop.entry)) }
 {
     let Some(hop) = hop else {
@@ -119,8 +121,8 @@ fn put_hop(alloc: Global, text: &mut Bytes, hop: Option<&Hop>) -> Result<(), All
     put_address(alloc, text, hop.address)
 }
 
-/// The hop at a place of a list, counted from 0.
-pub(crate) fn hop_at(hops: &[Hop], place: usize) -> Option<&Hop>
+/// The hop at a place of a list, counted from 0. Takes no memory.
+pub fn hop_at(hops: &[Hop], place: usize) -> Option<&Hop>
     ensures { option_copied result ≡ slice_get hops.now place }
 {
     hops.get(place)

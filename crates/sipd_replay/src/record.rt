@@ -16,11 +16,12 @@ use sip_replay_script::{Lines, PrintStop, TellingReader, TellingWriter, hand_on}
 use sip_segment_config::SegmentStop;
 use sip_timers::Timers;
 use sipd_exit::{DeviceFault, Exit, Stated, config_of_bytes, stated_in};
-use sipd_old_record::{is_made_with, line_of_file, open_any_record, own_configuration};
+use sipd_old_record::{OldRecord, is_made_with, line_of_file, open_any_record, own_configuration};
+use sipd_progress::{Watched, size_of_file};
 use sipd_reload::MOST_BYTES;
 use std::alloc::Global;
 use std::io::Write;
-use std::rt::Files;
+use std::rt::{Clock, Files};
 
 /// How the program ends where the configuration isn't read with which a record begins.
 fn exit_of_segment(stop: SegmentStop) -> Exit
@@ -198,17 +199,27 @@ fn named_file<R: Files + AllocGlobal>(
 
 /// Replays a record, whatever became of it, with the configurations that it holds; one of before, which holds none, with that of the file
 /// with which it was made. Complains where it lacks events.
-pub fn replay_record<T: Timers, P: Rules, R: Files + AllocGlobal, W: Write, C: Write>(
+///
+/// `seen`: whether somebody looks at standard error, where it is said then how far it is.
+pub fn replay_record<
+    T: Timers,
+    P: Rules,
+    R: Files + Clock + Eprint + AllocGlobal,
+    W: Write,
+    C: Write,
+>(
     rt: &R,
     config: Option<&str>,
     path: &str,
+    seen: bool,
     output: &mut W,
     complaints: &mut C,
 ) -> Result<(), Exit> {
     let alloc = rt.alloc();
     let named = named_file(rt, config)?;
-    let mut record = open_any_record(rt, alloc, path)?;
-    if record.head.mark == RecordMark::Broken {
+    let OldRecord { head, events } = open_any_record(rt, alloc, path)?;
+    let mut events = Watched::new(rt, events, path, size_of_file(rt, path), seen);
+    if head.mark == RecordMark::Broken {
         let _ = writeln!(
             complaints,
             "sipd: the writing of {path} failed: it lacks what came behind"
@@ -217,9 +228,9 @@ pub fn replay_record<T: Timers, P: Rules, R: Files + AllocGlobal, W: Write, C: W
     let mut printer = Printer::new(alloc, output);
     let replayed = replay_whole::<T, P, _, _>(
         alloc,
-        &record.head,
+        &head,
         named.as_ref(),
-        &mut record.events,
+        &mut events,
         &mut printer,
     );
     if let Err(Exit::BareRecord) = &replayed {

@@ -8,7 +8,7 @@ use Rattle.sip_replay_script.specs.Devices.{WritesFront}
 pub front_none : (a : Option (List ℕ)) (text : List ℕ) → WritesFront a a text
 front_none a text = record { done = []; rest = text; cut = refl; written = Appends-nil a }
 
-appends_kept : (a b c : Option (List ℕ)) (text : List ℕ) → Appends a b text → Keeps b c → Appends a c text
+pub appends_kept : (a b c : Option (List ℕ)) (text : List ℕ) → Appends a b text → Keeps b c → Appends a c text
 appends_kept None b c text h k = tt
 appends_kept (Some x) None c text h k = absurd h
 appends_kept (Some x) (Some y) None text h k = k

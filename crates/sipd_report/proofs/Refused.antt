@@ -58,7 +58,7 @@ part_heading q (Some bytes) before after h =
     (front_first before after (row_text q.form column_names) (rows ++ ending_of q bytes) h)
 
 -- the rows of the lines so far
-begins : (a b : Option (List ℕ)) (done : List (List ℕ)) → GivesFronts a b done → BeginsWith done a
+pub begins : (a b : Option (List ℕ)) (done : List (List ℕ)) → GivesFronts a b done → BeginsWith done a
 begins None b done h = tt
 begins (Some xs) None done h = absurd h
 begins (Some xs) (Some ys) done h = (fronts_of ys, h)

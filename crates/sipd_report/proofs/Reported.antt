@@ -24,7 +24,7 @@ pub record IsReported (q : Query) (a b before after : Option (List ℕ)) (t : Ta
   pub counted : t ≡ tally_of q done
   pub written : Appends before after (row_text q.form column_names ++ rows_text q (asked_of q done))
 
-none_given : (a : Option (List ℕ)) (unread : List ℕ) → unread ≡ [] → GivesFronts a (pending (record { unread = unread; asks = 0 }) a) []
+pub none_given : (a : Option (List ℕ)) (unread : List ℕ) → unread ≡ [] → GivesFronts a (pending (record { unread = unread; asks = 0 }) a) []
 none_given None unread is = tt
 none_given (Some xs) unread is = ap (λ l. fronts_of (l ++ xs)) (sym is)
 
@@ -37,7 +37,7 @@ reported_first q a before after r t is none h = record {
   written = subst (λ l. Appends before after l) (sym (append-nil (row_text q.form column_names))) h;
 }
 
-one_given : (a b c : Option (List ℕ)) (done : List (List ℕ)) (line : List ℕ) → GivesFronts a b done → GivesFront b c line → GivesFronts a c (done ++ line ∷ [])
+pub one_given : (a b c : Option (List ℕ)) (done : List (List ℕ)) (line : List ℕ) → GivesFronts a b done → GivesFront b c line → GivesFronts a c (done ++ line ∷ [])
 one_given None b c done line h g = tt
 one_given (Some xs) None c done line h g = absurd h
 one_given (Some xs) (Some ys) None done line h g = absurd g

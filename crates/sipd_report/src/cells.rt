@@ -106,8 +106,8 @@ fn push_quoted(row: &mut Bytes, text: &[u8]) -> Result<(), AllocError>
     Ok(())
 }
 
-/// Adds a field of CSV.
-fn push_field(row: &mut Bytes, text: &[u8]) -> Result<(), AllocError>
+/// Adds a field of comma-separated values, quoted where it has to be (RFC 4180 2.5 to 2.7). `AllocError` is the only refusal.
+pub fn push_field(row: &mut Bytes, text: &[u8]) -> Result<(), AllocError>
     ensures { OnOk result (row.new ≡ row.old ++ Definitions.field_text text.now) }
 {
     if !has_special(text) {

@@ -7,8 +7,8 @@ use std::alloc::{AllocError, Global};
 /// The most bytes that an audit line has.
 const LONGEST_LINE: usize = 200_000;
 
-/// The record of a line, if it is an audit line.
-pub(crate) fn entry_of(alloc: Global, line: &[u8]) -> Result<Option<Record>, AllocError>
+/// The record of a line, if it is an audit line. `AllocError` is the only refusal.
+pub fn entry_of(alloc: Global, line: &[u8]) -> Result<Option<Record>, AllocError>
     ensures { IfOk result (λ entry. entry ≡ Definitions.entry_of line.now) }
 {
     if line.len() > LONGEST_LINE {

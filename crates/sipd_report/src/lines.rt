@@ -21,7 +21,7 @@ const BUFFER: usize = 8192;
 
 /// The lines of an input, through a buffer. The reader is asked at most 4,294,967,295 times.
 #[derive(Drop)]
-pub(crate) struct LogLines {
+pub struct LogLines {
     buffer: Vec<u8>,
     start: usize,
     end: usize,
@@ -41,8 +41,8 @@ impl Model for LogLines {
 }
 
 impl LogLines {
-    /// Nothing read yet.
-    pub(crate) fn new(alloc: Global) -> Result<LogLines, AllocError>
+    /// Nothing read yet. `AllocError` is the only refusal.
+    pub fn new(alloc: Global) -> Result<LogLines, AllocError>
         ensures { IfOk result (λ lines. lines ≡ record { unread = []; asks = 4294967295 }) }
     {
         let buffer = zeros(alloc, BUFFER)?;
@@ -54,9 +54,10 @@ impl LogLines {
         })
     }
 
-    /// The front of the next line, without its LF: 200,001 bytes of it at most; or nothing at the end of the input.
+    /// The front of the next line, without its LF: 200,001 bytes of it at most; or nothing at the end of the input. Refusals: `NoMemory`;
+    /// `Read`, where the reader fails or was asked as often as it may be.
     #[tactic(auto, using(crate::proofs::Ends::gathers_nothing))]
-    pub(crate) fn next<R: TellingReader>(
+    pub fn next<R: TellingReader>(
         &mut self,
         reader: &mut R,
         line: &mut Vec<u8>,

@@ -36,6 +36,7 @@ use sipd_exit::{Exit, RecordFault, RecordPlace, Stated, config_of_bytes};
 use sipd_journal::{RecordFile, mark_file};
 use sipd_old_record::laws::asks_add_up;
 use sipd_old_record::{head_in, open_file};
+use sipd_progress::{Watched, size_of_file};
 use std::fs;
 use std::io::{ErrorKind, Write};
 use std::os::unix::fs::FileTypeExt;
@@ -53,16 +54,19 @@ pub struct Beginning<'a, R> {
     /// Where the new record is made.
     pub place: RecordFiles,
     pub fault: RecordFault,
+    /// Whether somebody looks at standard error, where it is said then how far the older record is read.
+    pub seen: bool,
 }
 
 impl<'a, R: Files + Clock + AllocGlobal> Beginning<'a, R> {
     /// The beginning of a server with the configuration of a file, whose record is wanted at a place; what to do where that can't be
-    /// written.
+    /// written; and whether somebody looks at standard error.
     pub fn new(
         rt: &'a R,
         stated: &'a Stated,
         wanted: &RecordPlace,
         fault: RecordFault,
+        seen: bool,
     ) -> Result<Self, Exit>
         ensures stated { IfOk result (λ beginning. beginning.stated.now ≡ stated.now) }
         ensures place { IfOk result (λ beginning. IsPlaceOf wanted.now beginning.place) }
@@ -75,6 +79,7 @@ impl<'a, R: Files + Clock + AllocGlobal> Beginning<'a, R> {
             stated,
             place,
             fault,
+            seen,
         })
     }
 
@@ -415,7 +420,14 @@ fn begin_from<'a, T: Timers, P: Rules, R: Files + AllocGlobal, I: TellingReader,
 
 /// A server that goes on from where the record of a file leads, or of the input, where it can. What the file holds no clause can say.
 #[tactic(auto, using(crate::proofs::Beginnings::goes_on_from_input, crate::proofs::Beginnings::goes_on_from_file, crate::proofs::Refusals::input_not_resumed, crate::proofs::Refusals::file_not_resumed, crate::proofs::Refusals::unopened))]
-fn begin_again<'a, T: Timers, P: Rules, R: Files + AllocGlobal, I: TellingReader, W: Rng>(
+fn begin_again<
+    'a,
+    T: Timers,
+    P: Rules,
+    R: Files + Clock + Eprint + AllocGlobal,
+    I: TellingReader,
+    W: Rng,
+>(
     beginning: &Beginning<'a, R>,
     old: &str,
     input: &mut I,
@@ -433,8 +445,12 @@ fn begin_again<'a, T: Timers, P: Rules, R: Files + AllocGlobal, I: TellingReader
     if is_input(old) {
         return begin_from(beginning, input, words);
     }
-    match open_file(beginning.rt, beginning.rt.alloc(), old) {
-        Ok(mut reader) => begin_from(beginning, &mut reader, words),
+    let rt = beginning.rt;
+    match open_file(rt, rt.alloc(), old) {
+        Ok(file) => {
+            let mut reader = Watched::new(rt, file, old, size_of_file(rt, old), beginning.seen);
+            begin_from(beginning, &mut reader, words)
+        }
         Err(exit) => Err(unread(exit)),
     }
 }
@@ -508,7 +524,15 @@ fn pass_rest<I: TellingReader>(old: &str, why: NotResumed, input: &mut I)
 /// anew. The older record may be the input, which is read up to its end then, unless it can't be read. Where it goes on, `last` is the last
 /// step of that record; what it records isn't in it.
 #[tactic(auto, using(crate::proofs::Beginnings::begins_again, crate::proofs::Beginnings::begins_anew, crate::proofs::Beginnings::begins_alone, crate::proofs::Refusals::file_exits))]
-pub fn begin<'a, T: Timers, P: Rules, R: Files + AllocGlobal, I: TellingReader, W: Rng, C: Write>(
+pub fn begin<
+    'a,
+    T: Timers,
+    P: Rules,
+    R: Files + Clock + Eprint + AllocGlobal,
+    I: TellingReader,
+    W: Rng,
+    C: Write,
+>(
     beginning: &Beginning<'a, R>,
     input: &mut I,
     words: &mut W,

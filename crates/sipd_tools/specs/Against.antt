@@ -1,6 +1,7 @@
 -- The configuration from which a change is told: that of a file, or the last one of a record.
-use Rattle.std.specs.Prelude.{◌≡◌, ◌⊎◌, ℕ, List, Option, Some, None, true}
+use Rattle.std.specs.Prelude.{◌≡◌, ◌⊎◌, ℕ, List, [], Option, Some, None, true}
 use Rattle.std.specs.Io.KnownBytes.{Appends}
+use Rattle.sip_policy.specs.declared.operation.Operation.{Operation}
 use Rattle.sip_config_types.specs.declared.config.Config.{Config}
 use Rattle.sip_replay_script.specs.Devices.{later}
 use Rattle.sip_replay_script.specs.Lines.{IsSpent, Reading, pending}
@@ -14,6 +15,7 @@ use Rattle.sipd_exit.specs.declared.exit.Exit.{Exit}
 use Rattle.sipd_exit.specs.declared.exit.Exit.TheVariants.{BareRecord, Device, Memory, Script}
 use Rattle.sipd_changes.specs.Changes.{can_be_taken, changes_of}
 use Rattle.sipd_changes.specs.Telling.{told}
+use Rattle.sipd_matrix_changes.specs.Lines.{changes_text}
 use Rattle.sipd_old_record.specs.OldRecord.{line_of_file}
 use Rattle.sipd_old_record.specs.Own.{HoldsNone, HoldsOwn, OwnStops, unread}
 use Rattle.sipd_old_record.specs.Readers.{most_asks}
@@ -93,3 +95,10 @@ pub record TellsChange (old new : Option (List ℕ)) (config : Config) : Type 0 
   pub stated : IsStated before
   pub printed : Appends old new (told (changes_of before config))
   pub taken : can_be_taken (changes_of before config) ≡ true
+
+-- what a stated configuration decides of an operation this one decides, too, of whoever asks for whomever: no cell was printed
+pub record KeepsPolicy (old new : Option (List ℕ)) (config : Config) (operation : Operation) : Type 0 where
+  pub before : Config
+  pub stated : IsStated before
+  pub printed : Appends old new (changes_text before config operation)
+  pub same : changes_text before config operation ≡ []

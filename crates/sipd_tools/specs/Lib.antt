@@ -1,1 +1,3 @@
 pub mod Against
+pub mod Deciding
+pub mod Tables

@@ -2,13 +2,16 @@
 //! made.
 //!
 //! - Used: `sipd_command`.
-//! - Not here: what is said (`sipd_mistakes`, `sipd_questions`, `sipd_matrix`, `sipd_changes`, `sipd_expect`, `sipd_report`), and what a record holds
+//! - Not here: what is said (`sipd_mistakes`, `sipd_questions`, `sipd_matrix`, `sipd_changes`, `sipd_expect`, `sipd_report`,
+//!   `sipd_asked_again`), and what a record holds
 //!   (`sip_segment_config`).
 //! - Tried: `test_server`, `tests/mistakes.py`, `tests/changes.py`, `tests/expectations.py`, `tests/serve.py`, `tests/faults.py`.
 #![tactic(auto)]
 
 mod against;
+mod deciding;
 mod expected;
 mod tools;
 
-pub use tools::{check, decide, make_report, make_user, matrix};
+pub use deciding::decide;
+pub use tools::{check, make_report, make_user, matrix};

@@ -1,26 +1,31 @@
-//! The commands `check`, `decide`, `matrix`, `report` and `user` carried out: files read, answers printed, and the exit of each.
-ghost use Rattle.std.specs.Prelude.{OnOk};
-ghost use Rattle.sipd_tools.specs.Against.{TellsChange};
+//! The commands `check`, `matrix`, `report` and `user` carried out: files read, answers printed, and the exit of each.
+ghost use Rattle.std.specs.Prelude.{◌≡◌, [], IfErr, IfOk, Ok, OnOk};
+ghost use Rattle.std.specs.Io.KnownBytes.{Appends};
+ghost use Rattle.sipd_exit.specs.declared.exit.Exit.TheVariants.{OtherPolicy};
+ghost use Rattle.sipd_questions.specs.Question;
+ghost use Rattle.sipd_tools.specs.Against.{KeepsPolicy, TellsChange};
+ghost use Rattle.sipd_tools.specs.Tables;
 
 use crate::against::config_before;
 use crate::expected::{hold_against, lines_in};
 use sip_config_types::Config;
-use sip_policy::minute_of;
+use sip_policy::Operation;
 use sip_text::Bytes;
-use sipd_arguments::{CheckCall, DecideCall, MatrixCall, ReportCall, UserCall, summary_of};
+use sipd_arguments::{CheckCall, MatrixCall, ReportCall, UserCall, summary_of};
 use sipd_changes::{can_be_taken, changes_of, told};
 use sipd_exit::{DeviceFault, Exit, bytes_in, config_of, config_of_bytes, print};
 use sipd_matrix::matrix_text;
+use sipd_matrix_changes::changes_text;
+use sipd_matrix_forms::{csv_text, html_text};
 use sipd_mistakes::{Reading, explain_encoding, read_or_tell};
 use sipd_questions::{
-    DecideQuestion, QuestionError, UserDigests, added_user, decision_text, digest_warning,
-    operation_asked, password_in, show, user_table,
+    QuestionError, UserDigests, added_user, digest_warning, operation_asked, password_in, show,
+    user_table,
 };
 use sipd_report::{Form, Query, ReportError, report};
-use std::alloc::Global;
+use std::alloc::{AllocError, Global};
 use std::io::{Read, Write};
-use std::rt::{Clock, Files};
-use std::time::{SystemTime, UNIX_EPOCH};
+use std::rt::Files;
 
 /// How the program ends where a question has no answer.
 fn exit_of_question(alloc: Global, e: QuestionError) -> Exit {
@@ -34,7 +39,11 @@ fn exit_of_question(alloc: Global, e: QuestionError) -> Exit {
 }
 
 /// The same of a question about a method: where it has a small letter, with the one in capitals.
-fn exit_of_decision(alloc: Global, e: QuestionError, method: &str) -> Result<Exit, Exit> {
+pub(crate) fn exit_of_decision(
+    alloc: Global,
+    e: QuestionError,
+    method: &str,
+) -> Result<Exit, Exit> {
     if e != QuestionError::SmallLetter {
         return Ok(exit_of_question(alloc, e));
     }
@@ -51,61 +60,129 @@ fn answer(alloc: Global, answer: Result<Bytes, QuestionError>) -> Result<Bytes, 
 }
 
 /// How the program ends where a report can't be made.
-fn exit_of_report(e: ReportError) -> Exit {
+pub(crate) fn exit_of_report(e: ReportError) -> Exit {
     match e {
         ReportError::NoMemory => Exit::Memory,
         ReportError::Read | ReportError::Write => Exit::Device(DeviceFault::Other),
     }
 }
 
-/// The milliseconds of UTC since 1970.
-fn present<R: Clock>(rt: &R) -> Result<u64, Exit> {
-    let Ok(since) = SystemTime::now(rt)?.duration_since(UNIX_EPOCH) else {
-        return Err(Exit::Device(DeviceFault::Other));
-    };
-    Ok(u64::try_from(since.as_millis()).unwrap_or(u64::MAX))
-}
-
-/// Prints which rule would decide, and where a call would go.
-pub fn decide<R: Files + Clock + AllocGlobal, W: Write>(
-    rt: &R,
-    call: &DecideCall,
-    output: &mut W,
-) -> Result<(), Exit> {
-    let alloc = rt.alloc();
-    let config = config_of(rt, Some(call.config.as_str()))?;
-    let minute = match call.minute {
-        Some(minute) => minute,
-        None => minute_of(present(rt)?, config.offset),
-    };
-    let question = DecideQuestion {
-        user: call.user.as_ref().map(String::as_bytes),
-        minute,
-        operation: call.method.as_bytes(),
-        target: call.target.as_bytes(),
-    };
-    match decision_text(alloc, &config, &question) {
-        Ok(text) => print(text.as_slice(), output),
-        Err(e) => Err(exit_of_decision(alloc, e, call.method.as_str())?),
+/// How the program ends behind the lines of the cells that change: well, where there is none.
+fn ends_behind(lines: &[u8]) -> Result<(), Exit>
+    ensures same { OnOk result (lines.now ≡ []) }
+    ensures other { IfErr result (λ exit. exit ≡ OtherPolicy) }
+{
+    match lines.split_first() {
+        None => Ok(()),
+        Some(_) => Err(Exit::OtherPolicy),
     }
 }
 
-/// Prints which rule decides for whom, of what a method asks for, as a table that is all of it.
-pub fn matrix<R: Files + AllocGlobal, W: Write>(
+/// Prints the cells of the table that change from the configuration of a file, or from the last one of a record. It ends well where none does.
+fn tell_policy<R: Files + AllocGlobal, W: Write, C: Write>(
+    rt: &R,
+    path: &str,
+    new: &Config,
+    operation: &Operation,
+    output: &mut W,
+    complaints: &mut C,
+) -> Result<(), Exit>
+    ensures { OnOk result (KeepsPolicy (W.contents output.old) (W.contents output.new) new.now operation.now) }
+{
+    let alloc = rt.alloc();
+    let old = config_before(rt, path, complaints)?;
+    let text = changes_text(alloc, &old, new, operation)?;
+    print(text.as_slice(), output)?;
+    ends_behind(text.as_slice())?;
+    Ok(())
+}
+
+/// The whole table, as text, as comma-separated values or as a page of HTML.
+fn table_text(
+    alloc: Global,
+    csv: bool,
+    html: bool,
+    config: &Config,
+    operation: &Operation,
+) -> Result<Bytes, AllocError>
+    ensures { IfOk result (λ text. text ≡ Tables.table_text csv html config.now operation.now) }
+{
+    if csv {
+        csv_text(alloc, config, operation)
+    } else if html {
+        html_text(alloc, config, operation)
+    } else {
+        matrix_text(alloc, config, operation)
+    }
+}
+
+/// Prints the whole table.
+fn print_table<W: Write>(
+    alloc: Global,
+    call: &MatrixCall,
+    config: &Config,
+    operation: &Operation,
+    output: &mut W,
+) -> Result<(), Exit>
+    ensures { OnOk result (Appends (W.contents output.old) (W.contents output.new)
+        (Tables.table_text call.now.csv call.now.html config.now operation.now)) }
+{
+    let text = table_text(alloc, call.csv, call.html, config, operation)?;
+    print(text.as_slice(), output)
+}
+
+/// Prints that, or the cells alone that change.
+fn print_policy<R: Files + AllocGlobal, W: Write, C: Write>(
+    rt: &R,
+    call: &MatrixCall,
+    config: &Config,
+    operation: &Operation,
+    output: &mut W,
+    complaints: &mut C,
+) -> Result<(), Exit>
+    ensures { OnOk result (Tables.PrintsAgainst call.now.against call.now.csv call.now.html config.now operation.now
+        (W.contents output.old) (W.contents output.new)) }
+{
+    match &call.against {
+        Some(path) => tell_policy(rt, path.as_str(), config, operation, output, complaints),
+        None => print_table(rt.alloc(), call, config, operation, output),
+    }
+}
+
+/// The method that is asked for: INVITE, where none is named.
+fn method_of(call: &MatrixCall) -> &str
+    ensures { result.now ≡ Tables.method_of call.now }
+{
+    match &call.method {
+        Some(method) => method.as_str(),
+        None => "INVITE",
+    }
+}
+
+/// What is asked for.
+fn operation_of(alloc: Global, call: &MatrixCall) -> Result<Operation, Exit>
+    ensures { IfOk result (λ operation. Question.operation_asked (Tables.method_of call.now) ≡ Ok operation) }
+{
+    let method = method_of(call);
+    match operation_asked(alloc, method.as_bytes()) {
+        Ok(operation) => Ok(operation),
+        Err(e) => Err(exit_of_decision(alloc, e, method)?),
+    }
+}
+
+/// Prints which rule decides for whom, of what a method asks for, as a table that is all of it; or the cells alone that change.
+pub fn matrix<R: Files + AllocGlobal, W: Write, C: Write>(
     rt: &R,
     call: &MatrixCall,
     output: &mut W,
-) -> Result<(), Exit> {
-    let alloc = rt.alloc();
+    complaints: &mut C,
+) -> Result<(), Exit>
+    ensures { OnOk result (Tables.PrintsPolicy call.now (W.contents output.old) (W.contents output.new)) }
+{
     let config = config_of(rt, Some(call.config.as_str()))?;
-    let method = match &call.method {
-        Some(method) => method.as_str(),
-        None => "INVITE",
-    };
-    match operation_asked(alloc, method.as_bytes()) {
-        Ok(operation) => print(matrix_text(alloc, &config, &operation)?.as_slice(), output),
-        Err(e) => Err(exit_of_decision(alloc, e, method)?),
-    }
+    let operation = operation_of(rt.alloc(), call)?;
+    print_policy(rt, call, &config, &operation, output, complaints)?;
+    Ok(())
 }
 
 /// The time of day of a report: that of a configuration, or UTC.
@@ -203,14 +280,17 @@ pub fn make_user<R: Files + AllocGlobal, I: Read, W: Write, C: Write>(
     print(answer(alloc, table)?.as_slice(), output)
 }
 
-/// Prints all that was understood of a configuration, or what is wrong with it.
-fn show_config<W: Write>(alloc: Global, bytes: &[u8], output: &mut W) -> Result<(), Exit> {
+/// Prints all that was understood of a configuration, and gives it; or what is wrong with it.
+fn show_config<W: Write>(alloc: Global, bytes: &[u8], output: &mut W) -> Result<Config, Exit> {
     let Ok(text) = str::from_utf8(bytes) else {
         print(explain_encoding(alloc, bytes)?.as_slice(), output)?;
-        return config_of_bytes(alloc, bytes).map(|_| ());
+        return config_of_bytes(alloc, bytes);
     };
     match read_or_tell(alloc, text)? {
-        Reading::Stated(config) => print(show(alloc, &config)?.as_slice(), output),
+        Reading::Stated(config) => {
+            print(show(alloc, &config)?.as_slice(), output)?;
+            Ok(config)
+        }
         Reading::Refused(error, line) => {
             print(line.as_slice(), output)?;
             Err(Exit::from(error))
@@ -257,24 +337,44 @@ fn complain_of_mistake<C: Write>(
     Ok(())
 }
 
-/// Prints how much a configuration has, or what a change to it would do. Beside the first it complains of users with different digests.
+/// The configuration of a file; of a refused one it is complained what is wrong, and where.
+fn stated_config<C: Write>(
+    alloc: Global,
+    bytes: &[u8],
+    complaints: &mut C,
+) -> Result<Config, Exit> {
+    match config_of_bytes(alloc, bytes) {
+        Ok(config) => Ok(config),
+        Err(exit) => {
+            complain_of_mistake(alloc, bytes, complaints)?;
+            Err(exit)
+        }
+    }
+}
+
+/// Prints how much a configuration has, or what a change to it would do. Beside the first it complains of users with different digests, but
+/// where it was shown, which says so, too.
 fn tell<R: Files + AllocGlobal, W: Write, C: Write>(
     rt: &R,
-    against: Option<&str>,
+    call: &CheckCall,
     config: &Config,
     output: &mut W,
     complaints: &mut C,
 ) -> Result<(), Exit> {
-    if let Some(path) = against {
-        return tell_changes(rt, path, config, output, complaints);
+    if let Some(path) = &call.against {
+        return tell_changes(rt, path.as_str(), config, output, complaints);
     }
     let alloc = rt.alloc();
     print(summary_of(alloc, config)?.as_slice(), output)?;
+    if call.show {
+        return Ok(());
+    }
     complain(alloc, &digest_warning(alloc, config)?, complaints)
 }
 
-/// Checks the configuration of a file, and prints how much it has, all that was understood, or what a change to it would do; and what of its
-/// policy isn't as it is expected to be. Of a refused one it tells what is wrong, with `show` among what it prints.
+/// Checks the configuration of a file, and prints how much it has, behind all that was understood, if that is asked for, or what a change to
+/// it would do; and what of its policy isn't as it is expected to be. Of a refused one it tells what is wrong, with `show` among what it
+/// prints.
 pub fn check<R: Files + AllocGlobal, W: Write, C: Write>(
     rt: &R,
     call: &CheckCall,
@@ -284,23 +384,12 @@ pub fn check<R: Files + AllocGlobal, W: Write, C: Write>(
     let alloc = rt.alloc();
     let bytes = bytes_in(rt, call.config.as_str())?;
     let expected = lines_in(rt, &call.expect, complaints)?;
-    if call.show {
-        show_config(alloc, bytes.as_slice(), output)?;
-    }
-    if call.show && call.against.is_none() && expected.is_none() {
-        return Ok(());
-    }
-    let config = match config_of_bytes(alloc, bytes.as_slice()) {
-        Ok(config) => config,
-        Err(exit) => {
-            if !call.show {
-                complain_of_mistake(alloc, bytes.as_slice(), complaints)?;
-            }
-            return Err(exit);
-        }
+    let config = if call.show {
+        show_config(alloc, bytes.as_slice(), output)?
+    } else {
+        stated_config(alloc, bytes.as_slice(), complaints)?
     };
-    let against = call.against.as_ref().map(String::as_str);
-    tell(rt, against, &config, output, complaints)?;
+    tell(rt, call, &config, output, complaints)?;
     match &expected {
         Some(lines) => hold_against(alloc, lines.as_slice(), &config, output),
         None => Ok(()),

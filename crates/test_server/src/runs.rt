@@ -32,7 +32,7 @@ impl Count {
 }
 
 /// Does a run, by the program and, where it has a script, on plain lists; the name of one that doesn't agree is printed.
-fn do_run<R: Files + Net + Clock + RandomSource + Print + AllocGlobal>(
+fn do_run<R: Files + Net + Clock + RandomSource + Print + Eprint + AllocGlobal>(
     rt: &R,
     name: &str,
     by_program: &mut Count,
@@ -53,7 +53,7 @@ fn do_run<R: Files + Net + Clock + RandomSource + Print + AllocGlobal>(
 }
 
 /// Does these runs, and prints how many agree; then how many of those with a script do on plain lists of timers and rules.
-fn tell_runs<R: Files + Net + Clock + RandomSource + Print + AllocGlobal>(
+fn tell_runs<R: Files + Net + Clock + RandomSource + Print + Eprint + AllocGlobal>(
     rt: &R,
     names: &[String],
 ) -> io::Result<()> {
@@ -70,9 +70,9 @@ fn tell_runs<R: Files + Net + Clock + RandomSource + Print + AllocGlobal>(
 }
 
 /// Does every run of the folder.
-pub fn tell_all<R: Files + Net + Clock + RandomSource + Print + AllocGlobal + Clone + Drop>(
-    rt: &R,
-) -> io::Result<()> {
+pub fn tell_all<
+    R: Files + Net + Clock + RandomSource + Print + Eprint + AllocGlobal + Clone + Drop,
+>(rt: &R) -> io::Result<()> {
     let names = names_in(rt, ".")?;
     tell_runs(rt, names.as_slice())
 }

@@ -14,7 +14,7 @@ use test_engine::refusals::prints;
 use test_forms::stored::{agrees, file_of, input_of, script_of, words_of};
 
 /// Whether these words and this input give the output, the complaint and the status that a run's files say.
-fn gives<R: Files + Net + Clock + RandomSource + AllocGlobal>(
+fn gives<R: Files + Net + Clock + RandomSource + Eprint + AllocGlobal>(
     rt: &R,
     name: &str,
     words: &[String],
@@ -26,6 +26,7 @@ fn gives<R: Files + Net + Clock + RandomSource + AllocGlobal>(
     let status = command::<WheelTimers, IndexedRules, R, &[u8], Vec<u8>, Vec<u8>>(
         rt,
         words,
+        false,
         &mut input,
         &mut output,
         &mut complaints,
@@ -77,7 +78,7 @@ pub struct Agreement {
 }
 
 /// Whether a run agrees with its files.
-pub fn agreement_of<R: Files + Net + Clock + RandomSource + AllocGlobal>(
+pub fn agreement_of<R: Files + Net + Clock + RandomSource + Eprint + AllocGlobal>(
     rt: &R,
     name: &str,
 ) -> Agreement {

@@ -9,7 +9,9 @@ use Rattle.sipd_arguments.proofs.commands.decide_command.Goals as goal
 
 pub returns : goal.returns
 returns c =
-    IfOk-weaker c.arg-5.result _ _ (λ r h. added _ _ r _ _
+    IfOk-weaker c.arg-7.result _ _ (λ r h. added _ _ r _ _
+    (added _ _ _ _ _
+    (added _ _ _ _ _
     (added _ _ _ _ _
     (added _ _ _ _ _
     (added _ _ _ _ _
@@ -20,5 +22,7 @@ returns c =
     (ap (λ (x : Arg). x.global) c.required.ensures ∙ c.config_argument.ensures.local))
     c.in_ok-arg-2.ensures c.option.ensures.rule c.option.ensures.local)
     c.in_ok-arg-3.ensures c.minute_argument.ensures.rule c.minute_argument.ensures.local)
-    c.in_ok-arg-4.ensures c.word.ensures.rule c.word.ensures.local)
-    h c.word-2.ensures.rule c.word-2.ensures.local) c.arg-5.ensures
+    c.in_ok-arg-4.ensures c.option-2.ensures.rule c.option-2.ensures.local)
+    c.in_ok-arg-5.ensures c.flag.ensures.rule c.flag.ensures.local)
+    c.in_ok-arg-6.ensures c.spare_word.ensures.rule c.spare_word.ensures.local)
+    h c.spare_word-2.ensures.rule c.spare_word-2.ensures.local) c.arg-7.ensures

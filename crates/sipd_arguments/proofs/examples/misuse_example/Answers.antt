@@ -12,7 +12,17 @@ returns c = record {
   not_new = refl;
   no_record = refl;
   no_such_word = refl;
+  one_form = refl;
+  page = refl;
+  two_forms = refl;
+  page_of_values = refl;
   with_file = refl;
   no_realm = refl;
   said = refl;
+  verdict = refl;
+  no_verdict = refl;
+  log = refl;
+  log_asked = refl;
+  no_question = refl;
+  half_question = refl;
 }

@@ -12,4 +12,6 @@ returns c = record {
   no_reload = refl;
   ends = refl;
   goes_on = refl;
+  denied = refl;
+  anything = refl;
 }

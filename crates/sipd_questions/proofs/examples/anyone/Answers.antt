@@ -14,3 +14,7 @@ returns-clause-denied c = refl
 pub returns-clause-challenged : goal.returns-clause-challenged
 unfolding digits rest_of reading_of
 returns-clause-challenged c = refl
+
+pub returns-clause-none : goal.returns-clause-none
+unfolding digits rest_of reading_of
+returns-clause-none c = refl

@@ -14,3 +14,7 @@ returns-clause-lists c = refl
 pub returns-clause-unproven : goal.returns-clause-unproven
 unfolding digits rest_of reading_of
 returns-clause-unproven c = refl
+
+pub returns-clause-other : goal.returns-clause-other
+unfolding digits rest_of reading_of
+returns-clause-other c = refl

@@ -1,7 +1,7 @@
 use Rattle.std.proofs.Common.{List, ℕ, ◌∷◌, ◌++◌, [], ap, ◌∙◌, if◌then◌else◌}
 use Rattle.sip_matrix.specs.Day.{begins_piece}
 use Rattle.sip_matrix.proofs.Minutes.{no_pieces, piece_more}
-use Rattle.sip_matrix.proofs.pieces.pieces.Goals as goal
+use Rattle.sip_matrix.proofs.pieces.pieces_of.Goals as goal
 
 pub loop-minute-init : goal.loop-minute-init
 loop-minute-init c = c.new-pieces.ensures ∙ no_pieces c.args.rules.now

@@ -1,6 +1,6 @@
 use Rattle.std.proofs.Common.{◌≡◌}
 use Rattle.sip_matrix.specs.Day.{pieces_below}
-use Rattle.sip_matrix.proofs.pieces.pieces.Given as goal
+use Rattle.sip_matrix.proofs.pieces.pieces_of.Given as goal
 
 -- the pieces so far
 abbrev pub invariant-loop-minute : goal.invariant-loop-minute

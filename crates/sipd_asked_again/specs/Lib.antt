@@ -1,0 +1,5 @@
+pub mod Asking
+pub mod Telling
+pub mod Counts
+pub mod Steps
+pub mod Examples

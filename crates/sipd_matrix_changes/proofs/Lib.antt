@@ -1,0 +1,4 @@
+pub mod Written
+pub mod Sides
+pub mod Cells
+pub mod Nothing

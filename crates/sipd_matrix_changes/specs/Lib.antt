@@ -1,0 +1,4 @@
+pub mod Both
+pub mod Change
+pub mod Lines
+pub mod Examples

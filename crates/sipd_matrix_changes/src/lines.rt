@@ -1,0 +1,380 @@
+//! The lines of a change, and all of them.
+ghost use Rattle.std.specs.Prelude.{◌≡◌, ◌++◌, IfOk, OnOk};
+ghost use Rattle.std.specs.List.{flat_map};
+ghost use Rattle.std.specs.Option.{option_copied};
+ghost use Rattle.sipd_matrix_changes.specs.Lines as Definitions;
+
+use crate::both::{ask_alike, proven_to};
+use crate::change::{has_question, is_told, own_to};
+use crate::table::{are_asked_alike, table_of};
+use sip_config_types::Config;
+use sip_matrix::{Column, Table};
+use sip_policy::{Operation, User};
+use sip_text::Bytes;
+use sipd_matrix::{end_of, put_both, put_clock, put_column, put_value};
+use std::alloc::{AllocError, Global};
+
+/// Adds a piece of the day.
+fn put_span(text: &mut Bytes, pieces: &[u16], piece: u16) -> Result<(), AllocError>
+    ensures { OnOk result (text.new ≡ text.old ++ Definitions.span_text pieces.now piece) }
+{
+    put_clock(text, piece)?;
+    text.extend(b"-")?;
+    put_clock(text, end_of(pieces, piece))
+}
+
+/// Adds what a configuration says in a cell.
+fn put_value_of(
+    text: &mut Bytes,
+    config: &Config,
+    operation: &Operation,
+    row: Option<&[u8]>,
+    class: &Column,
+    own: bool,
+    piece: u16,
+) -> Result<(), AllocError>
+    ensures { OnOk result (text.new ≡ text.old ++ Definitions.value_of config.now operation.now (option_copied row.entry) class.now own piece) }
+{
+    let own = own_to(config, row, class, own);
+    let proven = proven_to(config, row);
+    put_value(text, config, operation, proven, class, own, piece)
+}
+
+/// Adds a user behind a blank, if he asks as a row does.
+fn put_user(
+    text: &mut Bytes,
+    old: &Config,
+    new: &Config,
+    row: &[u8],
+    user: &User,
+) -> Result<(), AllocError>
+    ensures { OnOk result (text.new ≡ text.old ++ Definitions.user_text old.now new.now row.now user.now) }
+{
+    if ask_alike(old, new, row, user.name.as_slice()) {
+        put_both(text, b" ", user.name.as_slice())
+    } else {
+        Ok(())
+    }
+}
+
+fn put_old_users(
+    text: &mut Bytes,
+    old: &Config,
+    new: &Config,
+    row: &[u8],
+    users: &[User],
+) -> Result<(), AllocError>
+    ensures { OnOk result (text.new ≡ text.old ++ flat_map (Definitions.user_text old.now new.now row.now) users.now) }
+{
+    for user in users {
+        put_user(text, old, new, row, user)?;
+    }
+    Ok(())
+}
+
+/// The same of a user of the new configuration, unless he is one of the old.
+fn put_new_user(
+    text: &mut Bytes,
+    old: &Config,
+    new: &Config,
+    row: &[u8],
+    user: &User,
+) -> Result<(), AllocError>
+    ensures { OnOk result (text.new ≡ text.old ++ Definitions.new_user_text old.now new.now row.now user.now) }
+{
+    if old.users.has_name(user.name.as_slice()) {
+        Ok(())
+    } else {
+        put_user(text, old, new, row, user)
+    }
+}
+
+fn put_new_users(
+    text: &mut Bytes,
+    old: &Config,
+    new: &Config,
+    row: &[u8],
+    users: &[User],
+) -> Result<(), AllocError>
+    ensures { OnOk result (text.new ≡ text.old ++ flat_map (Definitions.new_user_text old.now new.now row.now) users.now) }
+{
+    for user in users {
+        put_new_user(text, old, new, row, user)?;
+    }
+    Ok(())
+}
+
+/// Adds who asks.
+fn put_row(
+    text: &mut Bytes,
+    old: &Config,
+    new: &Config,
+    row: Option<&[u8]>,
+) -> Result<(), AllocError>
+    ensures { OnOk result (text.new ≡ text.old ++ Definitions.row_text old.now new.now (option_copied row.entry)) }
+{
+    match row {
+        None => text.extend(b" nobody"),
+        Some(row) => {
+            put_old_users(text, old, new, row, old.users.as_slice())?;
+            put_new_users(text, old, new, row, new.users.as_slice())
+        }
+    }
+}
+
+/// For whom.
+fn target_words(own: bool, some_own: bool) -> &'static [u8]
+    ensures { result.now ≡ Definitions.target_words own some_own }
+{
+    if own {
+        return b" for their own of";
+    }
+    if some_own {
+        b" for another of"
+    } else {
+        b" for"
+    }
+}
+
+/// Adds a column behind a blank, if it is of a class.
+fn put_member(
+    text: &mut Bytes,
+    old: &Config,
+    new: &Config,
+    class: &Column,
+    column: &Column,
+) -> Result<(), AllocError>
+    ensures { OnOk result (text.new ≡ text.old ++ Definitions.member_text old.now new.now class.now column.now) }
+{
+    if !are_asked_alike(old, new, class, column) {
+        return Ok(());
+    }
+    text.extend(b" ")?;
+    put_column(text, column)
+}
+
+fn put_members(
+    text: &mut Bytes,
+    old: &Config,
+    new: &Config,
+    class: &Column,
+    columns: &[Column],
+) -> Result<(), AllocError>
+    ensures { OnOk result (text.new ≡ text.old ++ flat_map (Definitions.member_text old.now new.now class.now) columns.now) }
+{
+    for column in columns {
+        put_member(text, old, new, class, column)?;
+    }
+    Ok(())
+}
+
+/// Adds both rules.
+fn put_values(
+    text: &mut Bytes,
+    old: &Config,
+    new: &Config,
+    operation: &Operation,
+    row: Option<&[u8]>,
+    class: &Column,
+    own: bool,
+    piece: u16,
+) -> Result<(), AllocError>
+    ensures { OnOk result (text.new ≡ text.old ++ Definitions.values_text old.now new.now operation.now (option_copied row.entry) class.now own piece) }
+{
+    put_value_of(text, old, operation, row, class, own, piece)?;
+    text.extend(b" becomes ")?;
+    put_value_of(text, new, operation, row, class, own, piece)
+}
+
+/// Adds who asks for whom.
+fn put_askers(
+    text: &mut Bytes,
+    old: &Config,
+    new: &Config,
+    columns: &[Column],
+    class: &Column,
+    row: Option<&[u8]>,
+    own: bool,
+) -> Result<(), AllocError>
+    ensures { OnOk result (text.new ≡ text.old ++ Definitions.askers_text old.now new.now columns.now class.now (option_copied row.entry) own) }
+{
+    text.extend(b" as")?;
+    put_row(text, old, new, row)?;
+    let some_own = has_question(old, new, columns, row, class, true);
+    text.extend(target_words(own, some_own))?;
+    put_members(text, old, new, class, columns)
+}
+
+/// Adds the line of a cell.
+fn put_cell(
+    text: &mut Bytes,
+    old: &Config,
+    new: &Config,
+    operation: &Operation,
+    table: &Table,
+    piece: u16,
+    class: &Column,
+    row: Option<&[u8]>,
+    own: bool,
+) -> Result<(), AllocError>
+    ensures { OnOk result (text.new ≡ text.old ++ Definitions.cell_line old.now new.now operation.now table.now piece class.now (option_copied row.entry) own) }
+{
+    put_span(text, table.pieces.as_slice(), piece)?;
+    text.extend(b" ")?;
+    put_values(text, old, new, operation, row, class, own, piece)?;
+    let columns = table.columns.as_slice();
+    put_askers(text, old, new, columns, class, row, own)?;
+    text.push(b'\n')
+}
+
+/// The same, if it is told.
+fn put_own(
+    alloc: Global,
+    text: &mut Bytes,
+    old: &Config,
+    new: &Config,
+    operation: &Operation,
+    table: &Table,
+    piece: u16,
+    class: &Column,
+    row: Option<&[u8]>,
+    own: bool,
+) -> Result<(), AllocError>
+    ensures { OnOk result (text.new ≡ text.old ++ Definitions.own_line old.now new.now operation.now table.now piece class.now (option_copied row.entry) own) }
+{
+    let columns = table.columns.as_slice();
+    let told = is_told(alloc, old, new, operation, columns, piece, class, row, own)?;
+    if told {
+        put_cell(text, old, new, operation, table, piece, class, row, own)
+    } else {
+        Ok(())
+    }
+}
+
+/// Adds the lines of a row: for other addresses, and for own ones.
+fn put_both_of(
+    alloc: Global,
+    text: &mut Bytes,
+    old: &Config,
+    new: &Config,
+    operation: &Operation,
+    table: &Table,
+    piece: u16,
+    class: &Column,
+    row: Option<&[u8]>,
+) -> Result<(), AllocError>
+    ensures { OnOk result (text.new ≡ text.old ++ Definitions.row_lines old.now new.now operation.now table.now piece class.now (option_copied row.entry)) }
+{
+    put_own(
+        alloc, text, old, new, operation, table, piece, class, row, false,
+    )?;
+    put_own(
+        alloc, text, old, new, operation, table, piece, class, row, true,
+    )
+}
+
+fn put_rows(
+    alloc: Global,
+    text: &mut Bytes,
+    old: &Config,
+    new: &Config,
+    operation: &Operation,
+    table: &Table,
+    piece: u16,
+    class: &Column,
+    rows: &[Bytes],
+) -> Result<(), AllocError>
+    ensures { OnOk result (text.new ≡ text.old ++ flat_map (Definitions.user_lines old.now new.now operation.now table.now piece class.now) rows.now) }
+{
+    for row in rows {
+        let row = Some(row.as_slice());
+        put_both_of(alloc, text, old, new, operation, table, piece, class, row)?;
+    }
+    Ok(())
+}
+
+/// Adds the lines of a class.
+fn put_class(
+    alloc: Global,
+    text: &mut Bytes,
+    old: &Config,
+    new: &Config,
+    operation: &Operation,
+    table: &Table,
+    piece: u16,
+    class: &Column,
+) -> Result<(), AllocError>
+    ensures { OnOk result (text.new ≡ text.old ++ Definitions.class_lines old.now new.now operation.now table.now piece class.now) }
+{
+    put_both_of(alloc, text, old, new, operation, table, piece, class, None)?;
+    let rows = table.rows.as_slice();
+    put_rows(alloc, text, old, new, operation, table, piece, class, rows)
+}
+
+fn put_classes(
+    alloc: Global,
+    text: &mut Bytes,
+    old: &Config,
+    new: &Config,
+    operation: &Operation,
+    table: &Table,
+    piece: u16,
+    classes: &[Column],
+) -> Result<(), AllocError>
+    ensures { OnOk result (text.new ≡ text.old ++ flat_map (Definitions.class_lines old.now new.now operation.now table.now piece) classes.now) }
+{
+    for class in classes {
+        put_class(alloc, text, old, new, operation, table, piece, class)?;
+    }
+    Ok(())
+}
+
+fn put_pieces(
+    alloc: Global,
+    text: &mut Bytes,
+    old: &Config,
+    new: &Config,
+    operation: &Operation,
+    table: &Table,
+    pieces: &[u16],
+) -> Result<(), AllocError>
+    ensures { OnOk result (text.new ≡ text.old ++ flat_map (Definitions.piece_lines old.now new.now operation.now table.now) pieces.now) }
+{
+    for piece in pieces {
+        let classes = table.classes.as_slice();
+        put_classes(alloc, text, old, new, operation, table, *piece, classes)?;
+    }
+    Ok(())
+}
+
+/// The lines of the table of both.
+fn lines_of(
+    alloc: Global,
+    old: &Config,
+    new: &Config,
+    operation: &Operation,
+    table: &Table,
+) -> Result<Bytes, AllocError>
+    ensures { IfOk result (λ text. text ≡ Definitions.lines_of old.now new.now operation.now table.now) }
+{
+    let mut text = Bytes::new(alloc);
+    let pieces = table.pieces.as_slice();
+    put_pieces(alloc, &mut text, old, new, operation, table, pieces)?;
+    Ok(text)
+}
+
+/// What changes of an operation where a new configuration takes the place of an old one: a line for each cell of both together whose
+/// questions go elsewhere, or are denied or asked for a proof as they weren't, with both rules; nothing where there is none. By the laws of
+/// this room a question is of a cell that is told exactly where it is decided otherwise. `AllocError` is the only refusal.
+pub fn changes_text(
+    alloc: Global,
+    old: &Config,
+    new: &Config,
+    operation: &Operation,
+) -> Result<Bytes, AllocError>
+    ensures { IfOk result (λ text. text ≡ Definitions.changes_text old.now new.now operation.now) }
+{
+    let table = table_of(alloc, old, new)?;
+    let text = lines_of(alloc, old, new, operation, &table)?;
+    Ok(text)
+}

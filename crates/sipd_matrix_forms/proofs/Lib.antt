@@ -1,0 +1,4 @@
+pub mod Written
+pub mod Lines
+pub mod Counted
+pub mod Escapes

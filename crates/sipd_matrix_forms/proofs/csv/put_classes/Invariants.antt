@@ -1,0 +1,8 @@
+use Rattle.std.proofs.Common.{◌≡◌, ◌++◌, take}
+use Rattle.std.specs.List.{flat_map}
+use Rattle.sipd_matrix_forms.specs.Csv.{class_lines}
+use Rattle.sipd_matrix_forms.proofs.csv.put_classes.Given as goal
+
+-- the lines so far are written
+abbrev pub invariant-loop-class : goal.invariant-loop-class
+invariant-loop-class l = l.text ≡ l.fn.text ++ flat_map (class_lines l.config l.operation l.table l.piece) (take l.class-index l.classes)

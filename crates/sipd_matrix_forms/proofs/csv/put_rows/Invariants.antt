@@ -1,0 +1,8 @@
+use Rattle.std.proofs.Common.{◌≡◌, ◌++◌, take}
+use Rattle.std.specs.List.{flat_map}
+use Rattle.sipd_matrix_forms.specs.Csv.{user_lines}
+use Rattle.sipd_matrix_forms.proofs.csv.put_rows.Given as goal
+
+-- the lines so far are written
+abbrev pub invariant-loop-row : goal.invariant-loop-row
+invariant-loop-row l = l.text ≡ l.fn.text ++ flat_map (user_lines l.config l.operation l.table l.piece l.class) (take l.row-index l.rows)

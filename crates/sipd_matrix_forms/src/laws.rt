@@ -1,0 +1,42 @@
+ghost use Rattle.std.specs.Prelude.{◌≡◌, ℕ, ◌<◌, ◌++◌, true, false, List, Option, count_by};
+ghost use Rattle.std.specs.List.{flat_map, list_any};
+ghost use Rattle.sip_uri.specs.declared.aor.Aor.{Aor};
+ghost use Rattle.sip_policy.specs.declared.operation.Operation.{Operation};
+ghost use Rattle.sip_policy.specs.Decision.{deciding_rule};
+ghost use Rattle.sip_config_types.specs.declared.config.Config.{Config};
+ghost use Rattle.sip_matrix.specs.declared.table.Table.{Table};
+ghost use Rattle.sip_matrix.specs.Expected.{is_asker};
+ghost use Rattle.sip_matrix.specs.Table.{columns_of, table_of};
+ghost use Rattle.sipd_matrix.specs.Cells.{number_at, number_of};
+ghost use Rattle.sipd_matrix_forms.specs.Cells.{Cell, cells_of, is_of};
+ghost use Rattle.sipd_matrix_forms.specs.Html.{are_references, escaped, is_markup};
+ghost use Rattle.sipd_matrix_forms.specs.Csv.{csv_of, header, line_of, own_at};
+
+/// Each question, of nobody or a configured user, for whatever address at whatever minute of the day, is of exactly one cell.
+pub fn each_question_has_one_cell()
+    ensures { (config : Config) (operation : Operation) (proven : Option (List ℕ)) (aor : Aor) (minute : ℕ)
+        → is_asker config.users proven ≡ true → minute < 1440
+        → count_by (is_of config operation (columns_of config.rules config.users config.own.domains) proven aor minute)
+        (cells_of config operation (table_of config.rules config.users config.own.domains)) ≡ 1 }
+{}
+
+/// The rule that decides about a question is the one in the line of its cell.
+pub fn its_line_decides()
+    ensures { (config : Config) (operation : Operation) (proven : Option (List ℕ)) (aor : Aor) (minute : ℕ) (cell : Cell)
+        → is_asker config.users proven ≡ true
+        → is_of config operation (columns_of config.rules config.users config.own.domains) proven aor minute cell ≡ true
+        → number_of (deciding_rule config.rules config.users config.own.domains proven operation aor minute)
+        ≡ number_at config operation cell.row cell.class (own_at config cell.class cell.row cell.second) cell.piece }
+{}
+
+/// No byte of an escaped text can begin or end a tag or an attribute, and each `&` in it begins one of five names or numbers.
+pub fn no_text_is_markup()
+    ensures marks { (text : List ℕ) → list_any is_markup (escaped text) ≡ false }
+    ensures references { (text : List ℕ) → are_references (escaped text) ≡ true }
+{}
+
+/// Behind the names of the fields there is a line for each cell, and no other.
+pub fn each_cell_has_one_line()
+    ensures { (config : Config) (operation : Operation) (table : Table)
+        → csv_of config operation table ≡ header ++ flat_map (line_of config operation table) (cells_of config operation table) }
+{}

@@ -1,0 +1,17 @@
+//! The whole policy of a configuration in other forms than text: comma-separated values, and a page of HTML.
+//!
+//! - Used: `sipd_tools`, for `matrix --csv` and `matrix --html`.
+//! - Not here: which cells there are (`sip_matrix`), and the table as text (`sipd_matrix`).
+//! - Tried: worked examples in `src/examples.rt`, as contracts that compute.
+//!
+//! That each cell has one line, each question one cell, and that no text of a configuration is markup, is said in `laws`.
+#![tactic(auto)]
+
+mod csv;
+pub mod examples;
+mod html;
+pub mod laws;
+mod outcome;
+
+pub use csv::csv_text;
+pub use html::html_text;

@@ -1,0 +1,118 @@
+//! What comes of a decision, in words: the verdict, and where the request goes.
+ghost use Rattle.std.specs.Prelude.{◌≡◌};
+ghost use Rattle.std.specs.Option.{option_copied};
+ghost use Rattle.sipd_matrix_forms.specs.Outcome as Definitions;
+
+use sip_config_types::Config;
+use sip_hops::Hop;
+use sip_matrix::Column;
+use sip_policy::{Decision, Operation, ruling_by};
+use sipd_matrix::{are_known, hop_at, rule_at};
+
+/// Where what is let through without a hop goes.
+fn sent_place(operation: &Operation, known: bool) -> &'static [u8]
+    ensures { result.now ≡ Definitions.sent_place operation.now known }
+{
+    if !known {
+        return b"nobody";
+    }
+    match operation {
+        Operation::Register => b"registrar",
+        Operation::List => b"registrar",
+        Operation::Send(_) => b"bindings",
+    }
+}
+
+/// Where it goes by a hop.
+fn hop_place<'a>(operation: &Operation, known: bool, hop: Option<&'a Hop>) -> &'a [u8]
+    ensures { result.now ≡ Definitions.hop_place operation.now known (option_copied hop.entry) }
+{
+    match operation {
+        Operation::Register => sent_place(operation, known),
+        Operation::List => sent_place(operation, known),
+        Operation::Send(_) => match hop {
+            None => b"nobody",
+            Some(hop) => hop.name.as_slice(),
+        },
+    }
+}
+
+fn place_of<'a>(operation: &Operation, hops: &'a [Hop], known: bool, decision: Decision) -> &'a [u8]
+    ensures { result.now ≡ Definitions.place_of operation.now hops.now known decision }
+{
+    match decision {
+        Decision::Allow(_) => sent_place(operation, known),
+        Decision::Via(_, place) => hop_place(operation, known, hop_at(hops, place)),
+        Decision::Deny(_) => b"",
+        Decision::Challenge => b"",
+    }
+}
+
+fn via_word(operation: &Operation, hop: Option<&Hop>) -> &'static [u8]
+    ensures { result.now ≡ Definitions.via_word operation.now (option_copied hop.entry) }
+{
+    match operation {
+        Operation::Register => b"allow",
+        Operation::List => b"allow",
+        Operation::Send(_) => match hop {
+            Some(_) => b"via",
+            None => b"allow",
+        },
+    }
+}
+
+fn verdict_of(operation: &Operation, hops: &[Hop], decision: Decision) -> &'static [u8]
+    ensures { result.now ≡ Definitions.verdict_of operation.now hops.now decision }
+{
+    match decision {
+        Decision::Allow(_) => b"allow",
+        Decision::Via(_, place) => via_word(operation, hop_at(hops, place)),
+        Decision::Deny(_) => b"deny",
+        Decision::Challenge => b"challenge",
+    }
+}
+
+fn decision_at(
+    config: &Config,
+    operation: &Operation,
+    row: Option<&[u8]>,
+    column: &Column,
+    own: bool,
+    piece: u16,
+) -> Decision
+    ensures { result ≡ Definitions.decision_at config.now operation.now (option_copied row.entry) column.now own piece }
+{
+    let rule = rule_at(config, operation, row, column, own, piece);
+    ruling_by(rule, row, piece).decision
+}
+
+/// The verdict of a cell: `allow`, `via`, `deny` or `challenge`.
+pub(crate) fn verdict_at(
+    config: &Config,
+    operation: &Operation,
+    row: Option<&[u8]>,
+    column: &Column,
+    own: bool,
+    piece: u16,
+) -> &'static [u8]
+    ensures { result.now ≡ Definitions.verdict_at config.now operation.now (option_copied row.entry) column.now own piece }
+{
+    let decision = decision_at(config, operation, row, column, own, piece);
+    verdict_of(operation, config.hops.as_slice(), decision)
+}
+
+/// Where the requests of a cell go: to the registrar, to bindings, by a hop of this name, to nobody; nothing, where they aren't let through.
+pub(crate) fn place_at<'a>(
+    config: &'a Config,
+    operation: &Operation,
+    row: Option<&[u8]>,
+    column: &Column,
+    own: bool,
+    piece: u16,
+) -> &'a [u8]
+    ensures { result.now ≡ Definitions.place_at config.now operation.now (option_copied row.entry) column.now own piece }
+{
+    let decision = decision_at(config, operation, row, column, own, piece);
+    let known = are_known(config, column);
+    place_of(operation, config.hops.as_slice(), known, decision)
+}

@@ -1,0 +1,70 @@
+-- What `decide` prints, and what is expected of it.
+use Rattle.std.specs.Prelude.{◌≡◌, ⊤, ℕ, ℤ, List, Option, Some, None, option_map, string_bytes, Ok}
+use Rattle.std.specs.Io.KnownBytes.{Appends}
+use Rattle.sip_policy.specs.declared.decision.Decision.{Decision}
+use Rattle.sip_policy.specs.Window.{minute_of}
+use Rattle.sip_config_types.specs.declared.config.Config.{Config}
+use Rattle.sipd_questions.specs.declared.answer.Answer.{Answer}
+use Rattle.sipd_questions.specs.Question.{ShownQuestion}
+use Rattle.sipd_questions.specs.Answers.{answer_to}
+use Rattle.sipd_arguments.specs.declared.call.DecideCall.{DecideCall}
+use Rattle.sipd_arguments.specs.declared.call.DecideCall.TheVariants.{Question, Log}
+use Rattle.sipd_arguments.specs.declared.call.QuestionCall.{QuestionCall}
+use Rattle.sipd_arguments.specs.declared.call.Verdict.{Verdict}
+use Rattle.sipd_arguments.specs.declared.call.Verdict.TheVariants.{Allow, Deny, Challenge}
+use Rattle.sipd_asked_again.specs.Steps.{AsksAgain}
+use Rattle.sipd_asked_again.specs.declared.counts.Counts.{Counts}
+use Rattle.sipd_tools.specs.Against.{IsStated}
+
+-- what a decision is to who expects one: a rule that lets a request through allows it, whether by a hop or not, and whether anybody is there
+abbrev pub verdict_of : Decision → Verdict
+verdict_of (Decision.Allow id) = Allow
+verdict_of (Decision.Via id place) = Allow
+verdict_of (Decision.Deny id) = Deny
+verdict_of Decision.Challenge = Challenge
+
+-- what the rules decide is what is expected, if something is; where a check refuses what is asked before any rule is, no rule decides so
+abbrev pub IsExpected : Option Verdict → Option Decision → Type 0
+IsExpected None decision = ⊤
+IsExpected (Some verdict) decision = option_map verdict_of decision ≡ Some verdict
+
+-- the minute of the office's day that is asked for: the one that is named, or that of a moment
+abbrev pub IsMinute : Option ℕ → ℤ → ℕ → Type 0
+IsMinute (Some named) offset minute = minute ≡ named
+IsMinute None offset minute = (moment : ℕ) × (minute ≡ minute_of moment offset)
+
+-- what a call asks at a minute
+abbrev pub question_at : QuestionCall → ℕ → ShownQuestion
+question_at call minute = record {
+  user = option_map string_bytes call.user;
+  minute = minute;
+  operation = string_bytes call.method;
+  target = string_bytes call.target;
+}
+
+-- it was answered by a configuration, and the answer was printed
+abbrev pub Answered : Config → QuestionCall → ℕ → Option (List ℕ) → Option (List ℕ) → Option Decision → Type 0
+Answered config call minute old new decision =
+    (answer : Answer) × (answer_to config (question_at call minute) ≡ Ok answer) × Appends old new answer.text × (decision ≡ answer.decision)
+
+-- The answer that a stated configuration gives at the minute that is asked for was printed, and it is the expected one.
+pub record DecidesOne (call : QuestionCall) (old new : Option (List ℕ)) : Type 0 where
+  pub config : Config
+  pub minute : ℕ
+  pub decision : Option Decision
+  pub stated : IsStated config
+  pub taken : IsMinute call.minute config.offset minute
+  pub answered : Answered config call minute old new decision
+  pub expected : IsExpected call.expect decision
+
+-- What a log tells was asked again under a stated configuration, and exactly what would be decided otherwise was printed.
+pub record DecidesLog (input old new : Option (List ℕ)) : Type 0 where
+  pub config : Config
+  pub counts : Counts
+  pub stated : IsStated config
+  pub asked : AsksAgain config input old new counts
+
+-- a question, or a log on standard input, is decided
+abbrev pub Decides : DecideCall → Option (List ℕ) → Option (List ℕ) → Option (List ℕ) → Type 0
+Decides (Question call) input old new = DecidesOne call old new
+Decides (Log config) input old new = DecidesLog input old new

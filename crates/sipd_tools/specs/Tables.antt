@@ -1,0 +1,34 @@
+-- The table of a policy in its forms, and what `matrix` prints.
+use Rattle.std.specs.Prelude.{◌≡◌, ℕ, Bool, true, false, List, codes, Option, Some, None, option_map, unwrap_or, string_bytes, Ok}
+use Rattle.std.specs.Io.KnownBytes.{Appends}
+use Rattle.sip_policy.specs.declared.operation.Operation.{Operation}
+use Rattle.sip_config_types.specs.declared.config.Config.{Config}
+use Rattle.sipd_questions.specs.Question.{operation_asked}
+use Rattle.sipd_matrix.specs.Text.{matrix_text}
+use Rattle.sipd_matrix_forms.specs.Csv.{csv_text}
+use Rattle.sipd_matrix_forms.specs.Html.{html_text}
+use Rattle.sipd_arguments.specs.declared.call.MatrixCall.{MatrixCall}
+use Rattle.sipd_tools.specs.Against.{IsStated, KeepsPolicy}
+
+-- as text, as comma-separated values, or as a page of HTML
+abbrev pub table_text : Bool → Bool → Config → Operation → List ℕ
+table_text false false config operation = matrix_text config operation
+table_text false true config operation = html_text config operation
+table_text true html config operation = csv_text config operation
+
+-- the method that is asked for: INVITE, if none is named
+abbrev pub method_of : MatrixCall → List ℕ
+method_of call = unwrap_or (option_map string_bytes call.method) (codes "INVITE")
+
+-- the whole table was printed; or, where a configuration is named from which cells would change, none does
+abbrev pub PrintsAgainst : {A : Type 0} → Option A → Bool → Bool → Config → Operation → Option (List ℕ) → Option (List ℕ) → Type 0
+PrintsAgainst None csv html config operation old new = Appends old new (table_text csv html config operation)
+PrintsAgainst (Some path) csv html config operation old new = KeepsPolicy old new config operation
+
+-- so it was of a stated configuration, for what is asked
+pub record PrintsPolicy (call : MatrixCall) (old new : Option (List ℕ)) : Type 0 where
+  pub config : Config
+  pub operation : Operation
+  pub stated : IsStated config
+  pub asked : operation_asked (method_of call) ≡ Ok operation
+  pub printed : PrintsAgainst call.against call.csv call.html config operation old new

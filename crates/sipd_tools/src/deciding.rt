@@ -1,0 +1,170 @@
+//! The command `decide` carried out: which rule decides about a request, and whether that is as expected; which requests of a log would be
+//! decided otherwise.
+ghost use Rattle.std.specs.Prelude.{◌≡◌, IfErr, IfOk, OnOk, option_map, string_bytes};
+ghost use Rattle.std.specs.Option.{option_copied};
+ghost use Rattle.sipd_exit.specs.declared.exit.Exit.TheVariants.{OtherDecision};
+ghost use Rattle.sipd_questions.specs.Question.{shown};
+ghost use Rattle.sipd_tools.specs.Deciding as Definitions;
+ghost use Rattle.sipd_tools.specs.Deciding.{Answered, Decides, DecidesLog, DecidesOne, IsExpected, IsMinute};
+
+use crate::tools::{exit_of_decision, exit_of_report};
+use sip_config_types::Config;
+use sip_policy::{Decision, minute_of};
+use sipd_arguments::{DecideCall, QuestionCall, Verdict};
+use sipd_asked_again::{Counts, ask_again};
+use sipd_exit::{DeviceFault, Exit, config_of, print};
+use sipd_questions::{DecideQuestion, answer_to};
+use std::alloc::Global;
+use std::io::{Read, Write};
+use std::rt::{Clock, Files};
+use std::time::{SystemTime, UNIX_EPOCH};
+
+/// The milliseconds of UTC since 1970.
+fn present<R: Clock>(rt: &R) -> Result<u64, Exit> {
+    let Ok(since) = SystemTime::now(rt)?.duration_since(UNIX_EPOCH) else {
+        return Err(Exit::Device(DeviceFault::Other));
+    };
+    Ok(u64::try_from(since.as_millis()).unwrap_or(u64::MAX))
+}
+
+/// The minute of the office's day that is asked for: the present one, where none is named.
+fn minute_asked<R: Clock>(rt: &R, named: Option<u16>, offset: i16) -> Result<u16, Exit>
+    ensures { IfOk result (IsMinute named offset) }
+{
+    match named {
+        Some(minute) => Ok(minute),
+        None => Ok(minute_of(present(rt)?, offset)),
+    }
+}
+
+/// What a decision is to who expects one.
+fn verdict_of(decision: Decision) -> Verdict
+    ensures { result ≡ Definitions.verdict_of decision }
+{
+    match decision {
+        Decision::Allow(_) | Decision::Via(_, _) => Verdict::Allow,
+        Decision::Deny(_) => Verdict::Deny,
+        Decision::Challenge => Verdict::Challenge,
+    }
+}
+
+/// Holds what the rules decide against what is expected. `OtherDecision` where it is another, or no rule decides.
+fn hold_decision(expected: Option<Verdict>, decision: Option<Decision>) -> Result<(), Exit>
+    ensures held { OnOk result (IsExpected expected decision) }
+    ensures refused { IfErr result (λ exit. (exit ≡ OtherDecision) × (IsExpected expected decision → ⊥)) }
+{
+    let Some(expected) = expected else {
+        return Ok(());
+    };
+    let Some(decision) = decision else {
+        return Err(Exit::OtherDecision);
+    };
+    if verdict_of(decision) == expected {
+        Ok(())
+    } else {
+        Err(Exit::OtherDecision)
+    }
+}
+
+/// The bytes of a name, if one is said.
+fn name_of(name: &Option<String>) -> Option<&[u8]>
+    ensures { option_copied result ≡ option_map string_bytes name.now }
+{
+    match name {
+        Some(name) => Some(name.as_bytes()),
+        None => None,
+    }
+}
+
+/// What a call asks at a minute.
+fn question_of(call: &QuestionCall, minute: u16) -> DecideQuestion<'_>
+    ensures { shown result ≡ Definitions.question_at call.now minute }
+{
+    DecideQuestion {
+        user: name_of(&call.user),
+        minute,
+        operation: call.method.as_bytes(),
+        target: call.target.as_bytes(),
+    }
+}
+
+/// Prints the answer to what a call asks at a minute, and says what the rules decide.
+fn answer_call<W: Write>(
+    alloc: Global,
+    config: &Config,
+    call: &QuestionCall,
+    minute: u16,
+    output: &mut W,
+) -> Result<Option<Decision>, Exit>
+    ensures { IfOk result (Answered config.now call.now minute (W.contents output.old) (W.contents output.new)) }
+{
+    match answer_to(alloc, config, &question_of(call, minute)) {
+        Ok(answer) => {
+            print(answer.text.as_slice(), output)?;
+            Ok(answer.decision)
+        }
+        Err(e) => Err(exit_of_decision(alloc, e, call.method.as_str())?),
+    }
+}
+
+/// Prints which rule would decide, what it says, where a call would go, and the minute; `OtherDecision` behind that, where another decision
+/// is expected.
+fn decide_one<R: Files + Clock + AllocGlobal, W: Write>(
+    rt: &R,
+    call: &QuestionCall,
+    output: &mut W,
+) -> Result<(), Exit>
+    ensures { OnOk result (DecidesOne call.now (W.contents output.old) (W.contents output.new)) }
+{
+    let config = config_of(rt, Some(call.config.as_str()))?;
+    let minute = minute_asked(rt, call.minute, config.offset)?;
+    let decision = answer_call(rt.alloc(), &config, call, minute, output)?;
+    hold_decision(call.expect, decision)
+}
+
+/// Complains of how many lines were asked, and of how many couldn't be.
+fn complain_of_counts<C: Write>(counts: Counts, complaints: &mut C) {
+    let Counts { asked, told, none } = counts;
+    let _ = writeln!(
+        complaints,
+        "sipd: {told} of {asked} requests would be decided otherwise"
+    );
+    if none > 0 {
+        let _ = writeln!(complaints, "sipd: {none} lines are no audit lines");
+    }
+}
+
+/// Prints the lines of a log that would be decided otherwise.
+fn decide_log<R: Files + AllocGlobal, I: Read, W: Write, C: Write>(
+    rt: &R,
+    path: &str,
+    input: &mut I,
+    output: &mut W,
+    complaints: &mut C,
+) -> Result<(), Exit>
+    ensures { OnOk result (DecidesLog (I.remaining input.old) (W.contents output.old) (W.contents output.new)) }
+{
+    let config = config_of(rt, Some(path))?;
+    let counts = match ask_again(rt.alloc(), &config, input, output) {
+        Ok(counts) => counts,
+        Err(e) => return Err(exit_of_report(e)),
+    };
+    complain_of_counts(counts, complaints);
+    Ok(())
+}
+
+/// Prints which rule would decide about a request, or which requests of a log would be decided otherwise.
+pub fn decide<R: Files + Clock + AllocGlobal, I: Read, W: Write, C: Write>(
+    rt: &R,
+    call: &DecideCall,
+    input: &mut I,
+    output: &mut W,
+    complaints: &mut C,
+) -> Result<(), Exit>
+    ensures { OnOk result (Decides call.now (I.remaining input.old) (W.contents output.old) (W.contents output.new)) }
+{
+    match call {
+        DecideCall::Question(call) => decide_one(rt, call, output),
+        DecideCall::Log { config } => decide_log(rt, config.as_str(), input, output, complaints),
+    }
+}
