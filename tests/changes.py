@@ -171,7 +171,7 @@ def try_refusals(tally, office, old):
     status, said, _ = ended("--show", "--config", bad, "--against", old)
     tally.expect("NEW is refused, with --show", (status, any("[[hop]]" in line for line in said)), (2, True))
     status, said, _ = ended("--show", "--config", old, "--against", old)
-    tally.expect("with --show", (status, said[0], said[-1]), (0, "realm office", "nothing differs"))
+    tally.expect("with --show", (status, said[0], said[-1]), (0, "realm        office", "nothing differs"))
 
 
 class Day:

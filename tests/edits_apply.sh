@@ -1,6 +1,6 @@
 #!/bin/sh
-# Whether each must-fail edit can be made, also one that the gate leaves out (.edit.md), and each double edit: each of its old texts stands exactly once
-# in its file. Proves nothing and takes a second; run it at the top of the repository after `rt fmt`, or from anywhere.
+# Whether each must-fail edit can be made, also one that the gate leaves out (.edit.md), each double edit, and each body of tests/edges.list: each of its
+# old texts stands exactly once in its file. Proves nothing and takes a second; run it at the top of the repository after `rt fmt`, or from anywhere.
 cd "$(dirname "$0")/.." || exit 2
 exec python3 - <<'PY'
 import glob
@@ -42,6 +42,16 @@ with tempfile.TemporaryDirectory() as room:
         if wrong:
             faults += 1
             print(f"{edit.crate} {edit.name}: {wrong}")
-print(f"{len(edits)} edits, {len(double)} double edits, {faults} faults")
+bodies = double_edits.edits_in("tests/edges.list")
+for body in bodies:
+    for file, old, _ in body.changes:
+        try:
+            count = open(f"crates/{file}", encoding="utf-8").read().count("\n".join(old))
+        except OSError:
+            count = 0
+        if count != 1:
+            faults += 1
+            print(f"edges {body.name}: this stands {count} times in {file}: {old[0].strip()}")
+print(f"{len(edits)} edits, {len(double)} double edits, {len(bodies)} bodies of the edge, {faults} faults")
 sys.exit(1 if faults else 0)
 PY

@@ -1,7 +1,7 @@
 #!/usr/bin/env python3
 """Tries faults that running `sipd` once showed: around its record, its clock, its start, and the hand on it. `tests/faults.py
 [PROGRAM]`, after `rt run` in crates/sipd. As root it goes into a network namespace of its own (`unshare -n -m`), where some of
-the trials need to be; elsewhere it says which it leaves out. It takes a minute, prints a line for each trial, `good` or `BAD`, and
+the trials need to be; elsewhere it says which it leaves out. It takes one to two minutes, prints a line for each trial, `good` or `BAD`, and
 last how many fell short, and ends with 1 where one did. It writes in a temporary folder alone."""
 
 import concurrent.futures
@@ -11,6 +11,7 @@ import os
 import re
 import shlex
 import shutil
+import signal
 import socket
 import struct
 import subprocess
@@ -744,22 +745,79 @@ def fed_slowly(words, parts, complaints):
         call.kill()
 
 
-def says_how_far_it_is(folder, expect):
-    """A replay that takes long says on standard error how far it is, once a second, where that is a terminal, and nothing elsewhere."""
-    script = read(os.path.join(phone.TOP, "crates", "test_server", "data", "call_to_help.script"))
-    third = len(script) // 3
-    parts = [script[:third], script[third : 2 * third], script[2 * third :]]
+def held_up(words, complaints):
+    """A call that is stopped twice, for 1.2 seconds, while it reads, and which complains there: what it prints, and its status."""
+    call = subprocess.Popen([PROGRAM, *words], stdin=subprocess.DEVNULL, stdout=subprocess.PIPE, stderr=complaints)
+    try:
+        for _ in range(2):
+            time.sleep(0.05)
+            call.send_signal(signal.SIGSTOP)
+            time.sleep(1.2)
+            call.send_signal(signal.SIGCONT)
+        return call.communicate(timeout=20)[0], call.returncode
+    finally:
+        call.kill()
+
+
+def both_ways(folder, expect, what, call):
+    """What a call says on a terminal, line by line: how far it is, and what else. In a file it says the latter alone, and prints the same."""
     terminal, behind = os.openpty()
-    printed, status = fed_slowly(["replay"], parts, behind)
+    given = call(behind)
     os.close(behind)
-    said = os.read(terminal, 65536).decode().splitlines()
+    said, silent = b"", new(folder)
+    with contextlib.suppress(OSError):
+        while more := os.read(terminal, 65536):
+            said += more
     os.close(terminal)
-    wanted = [f"sipd: the script: {read_then} bytes are read" for read_then in (2 * third, len(script))]
-    expect((status, said) == (0, wanted), f"on a terminal: {status} {said}")
-    silent = new(folder)
     with open(silent, "wb") as file:
-        printed_there, status = fed_slowly(["replay"], parts, file)
-    expect((status, printed_there, read(silent)) == (0, printed, b""), f"in a file: {status} {read(silent)}")
+        expect(given[1] == 0 and call(file) == given, f"{what}: status {given[1]}, or in a file it prints something else")
+    far = [line for line in said.decode().splitlines() if line.endswith(" bytes are read")]
+    rest = [line for line in said.decode().splitlines() if line not in far]
+    names = re.compile(re.escape(folder) + r"/new_\d+")
+    there = [names.sub("FILE", line) for line in read(silent).decode().splitlines()]
+    expect([names.sub("FILE", line) for line in rest] == there, f"{what}: on a terminal it says {rest}, in a file {there}")
+    return far, rest
+
+
+def fed(folder, expect, words, what, data):
+    """What a call says of an input that comes in three parts: how much was read of it when the second part and the third had come."""
+    parts = [data[: len(data) // 3], data[len(data) // 3 : 2 * len(data) // 3], data[2 * len(data) // 3 :]]
+    far, rest = both_ways(folder, expect, what, lambda complaints: fed_slowly(words(), parts, complaints))
+    wanted = [f"sipd: {what}: {read_then} bytes are read" for read_then in (2 * len(data) // 3, len(data))]
+    expect(far == wanted, f"{what}: on a terminal {far}")
+    return rest
+
+
+def read_long(folder, expect, words, what, long):
+    """What a call says of a file that is long enough to be stopped in: how much was read of how much."""
+    size, start = os.path.getsize(long), time.monotonic()
+    far, rest = both_ways(folder, expect, what, lambda complaints: held_up(words(shutil.copy(long, new(folder))), complaints))
+    found = [re.fullmatch(rf"sipd: {re.escape(folder)}/new_\d+: (\d+) of {size} bytes are read", line) for line in far]
+    counts = [int(line[1]) for line in found if line]
+    expect(0 < len(counts) == len(far) < time.monotonic() - start, f"{what}: on a terminal {far}")
+    expect(counts == sorted(counts) and all(0 < count <= size for count in counts), f"{what}: on a terminal {far}")
+    return rest
+
+
+def says_how_far_it_is(folder, expect):
+    """What takes long to read says on standard error how far it is, once a second, where that is a terminal, and nothing of it elsewhere: a script,
+    a record that comes through the input, one that is replayed, and one that is gone on from."""
+    port = free_port()
+    config = office(folder, port)
+    record = recorded(folder, config, port)
+    script = os.path.join(phone.TOP, "crates", "test_server", "data", "call_to_help.script")
+    long = write(new(folder), read(record) + f"time {int(time.time() * 1000)}\n".encode() * 500_000)
+
+    def serve(old):
+        return ["serve", "--config", config, "--record", new(folder), "--resume", old, "--turns", "0"]
+
+    expect(fed(folder, expect, lambda: ["replay"], "the script", read(script)) == [], "a replay says more")
+    expect(read_long(folder, expect, lambda path: ["replay", "--record", path], "a record", long) == [], "a replay of a record says more")
+    for rest in (
+        fed(folder, expect, lambda: serve("-"), "the record that comes", read(record)),
+        read_long(folder, expect, serve, "a record that is gone on from", long),
+    ):
+        expect(len(rest) == 1 and rest[0].startswith("sipd: goes on behind "), f"a start says {rest}")
 
 
 def seldom_meant(folder, expect):
@@ -842,9 +900,10 @@ def address_everywhere(folder, expect):
     shutil.copytree(os.path.join(phone.TOP, "examples"), os.path.join(there, "examples"))
     subprocess.run(["sh", "-c", found[1]], check=True, cwd=there)
     _, printed, _ = ended("check", "--show", "--config", os.path.join(there, "office.toml"))
-    for line in ("host 192.0.2.10", "address 192.0.2.10:5060", "domain 192.0.2.10"):
+    for line in ("host         192.0.2.10", "address      192.0.2.10:5060", "domain       192.0.2.10"):
         expect(line in printed.splitlines(), f"no {line}")
-    expect("hop gateway at " in printed and "hop gateway at 192.0.2.10:" not in printed, "the gateway is at the server's own address")
+    gateway = "hop          gateway at "
+    expect(gateway in printed and f"{gateway}192.0.2.10:" not in printed, "the gateway is at the server's own address")
 
 
 TRIALS = (

@@ -351,6 +351,40 @@ def upgraded(inside, alice, bob, process):
     say("and a phone that registered before is called and answers")
 
 
+def started_again(inside, alice, bob):
+    """Ended by a signal that systemd takes for an orderly end, under a standing call."""
+    dialog, process, before = established(alice, bob), inside.shows("MainPID"), inside.journal()
+    inside.done("systemctl", "kill", "-s", "HUP", "sipd")
+    serves = inside.serves(before.count("sipd: serving ") + 1)
+    say("HUP ends it, and it is started again, as another process", serves and inside.shows("MainPID") not in ("0", process), inside.journal()[-500:])
+    told = inside.journal()[len(before) :]
+    say("which goes on from the record", bool(re.search(r"sipd: goes on behind \d+ lines of /var/lib/sipd/records/", told)), told)
+    hung_up(alice, bob, dialog)
+    hung_up(alice, bob, established(alice, bob))
+    say("the standing call is hung up through it, and another one made")
+
+
+def reloaded(inside, alice, bob):
+    """Reloads that fail say what is wrong, and leave what serves as it was."""
+    dialog, process, path = established(alice, bob), inside.shows("MainPID"), f"{inside.root}/etc/sipd.toml"
+    good = read(path).decode()
+    for what, bad, wanted in (
+        ("that is refused", good.replace("via gateway", "via nobody", 1), (r"line \d+: .*no \[\[hop\]\] has this name", "sipd: configuration refused 6")),
+        ("of another realm", re.sub(r'(?m)^realm = ".*"$', 'realm = "home"', good), ("realm differs: ", "sipd: a server that runs can't take it")),
+    ):
+        write(path, bad, 0o644)
+        before = len(inside.journal())
+        status, told = inside.ran("systemctl", "reload", "sipd")
+        says = until(lambda: all(re.search(f"(?m)^{words}", inside.journal()[before:]) for words in wanted), 10)
+        say(f"a reload of a file {what} fails, and says what is wrong", bad != good and status != 0 and says, (status, told, inside.journal()[before:]))
+        states = inside.shows("MainPID"), inside.shows("ActiveState"), inside.shows("SubState")
+        say("and leaves the service as it was", states == (process, "active", "running"), states)
+    write(path, good, 0o644)
+    hung_up(alice, bob, dialog)
+    hung_up(alice, bob, established(alice, bob))
+    say("a call that stood meanwhile is hung up, and another one made")
+
+
 def kept_back(inside, alice, bob):
     """An upgrade that can't be restarted leaves what serves."""
     process, good = inside.shows("MainPID"), read(f"{inside.root}/etc/sipd.toml").decode()
@@ -387,6 +421,8 @@ def tried_container(root, packages):
         assert alice.register() == [401, 200] and bob.register() == [401, 200]
         added(inside)
         upgraded(inside, alice, bob, process)
+        started_again(inside, alice, bob)
+        reloaded(inside, alice, bob)
         kept_back(inside, alice, bob)
         return removed(inside, before)
     finally:

@@ -1,5 +1,5 @@
 #!/bin/sh
-# Whether each sentence of six pages that says "always", "never", "exactly" or "before" stands in the table at the end of
+# Whether each sentence of seven pages that says "always", "never", "exactly" or "before" stands in the table at the end of
 # docs/PROVED.md, or in the list behind it of what is no promise; whether each of these still fits a sentence; whether each
 # clause, law and test that the table names is there, and each place that docs/PROMISES.md leads to; and whether each promise of
 # PROVED is a line. Proves nothing.
@@ -10,7 +10,7 @@ import re
 import sys
 
 PAGES = {"PROVED": "docs/PROVED.md", "SPECIFICATION": "docs/SPECIFICATION.md", "OPERATING": "docs/OPERATING.md",
-    "README": "README.md", "DECISIONS": "docs/DECISIONS.md", "DESIGN": "docs/DESIGN.md"}
+    "CONFIGURATION": "docs/CONFIGURATION.md", "README": "README.md", "DECISIONS": "docs/DECISIONS.md", "DESIGN": "docs/DESIGN.md"}
 PROMISES = "docs/PROMISES.md"
 LONGEST = 300
 OWN = "Sentences, and what carries them"
@@ -36,11 +36,13 @@ def plain(text):
 
 def lines_of(path):
     """The lines of a page with their headings, without the code that it shows."""
-    heading = ""
+    heading, shown = "", False
     for line in open(path, encoding="utf-8"):
-        if re.match(r"##? ", line):
+        if line.startswith("```"):
+            shown = not shown
+        elif re.match(r"##? ", line) and not shown:
             heading = plain(line.lstrip("#"))
-        if not line.startswith("    "):
+        if not shown and not line.startswith(("    ", "```")):
             yield heading, line.rstrip("\n")
 
 

@@ -136,14 +136,13 @@ def failed_send(folder):
 
 
 def failed_receive(folder):
-    """A socket of which the system refuses to receive ends the server as by a fault of the device; where no process may be refused that, this
-    isn't tried."""
+    """A socket of which the system refuses to receive ends the server as by a fault of the device."""
     port = free_port()
     words, none = [PROGRAM, "serve", "--config", office(folder, port), "--turns", "3"], subprocess.DEVNULL
     try:
         server = subprocess.Popen(words, stdin=none, stdout=subprocess.PIPE, stderr=subprocess.PIPE, preexec_fn=without_receiving)
-    except subprocess.SubprocessError:
-        return
+    except subprocess.SubprocessError as fault:
+        raise AssertionError("no process here may be kept from receiving (seccomp), so that a fault of the socket can't be tried") from fault
     phone.SERVERS.append(server)
     printed, complaints = server.communicate(timeout=10)
     ends = server.returncode, printed.decode(), complaints.decode()
@@ -174,13 +173,13 @@ def stop_and_continue(folder):
 
 
 def turns(folder):
-    """So many turns, and nothing else printed."""
+    """So many turns, and nothing else printed, also where it records."""
     port = free_port()
     config = office(folder, port)
-    for count in (0, 1, 3):
+    for count, *words in ((0,), (1,), (3,), (2, "--record", os.path.join(folder, "turns"))):
         wanted = (0, f"sipd: serving 127.0.0.1:{port}\nsipd: {count} turns\n", "")
         before = time.monotonic()
-        assert ended("serve", "--config", config, "--turns", str(count)) == wanted
+        assert ended("serve", "--config", config, "--turns", str(count), *words) == wanted
         passed = time.monotonic() - before
         assert count - 0.5 <= passed <= count + 5, passed
 
@@ -532,9 +531,10 @@ def folder_of_records(folder):
     assert alice.register() == [401, 200] and bob.register() == [401, 200]
     dialog = established(alice, bob)
     _, complaints = killed(server)
-    assert complaints == "", complaints
     (first,), (copy,) = made_in(records, "record"), made_in(records, "toml")
     assert sorted(os.listdir(records)) == sorted([first, copy, "9999999999999.record.old"])
+    yet = f"sipd: starts anew, since no record stands beside {os.path.join(records, first)} yet; phones are found when they register\n"
+    assert complaints == yet, complaints
     assert re.fullmatch(r"\d{13}\.record", first) and copy == first.replace("record", "toml"), (first, copy)
     assert abs(int(first.split(".")[0]) - time.time() * 1000) < 60000
     with open(config, "rb") as one, open(os.path.join(records, copy), "rb") as other:
@@ -587,8 +587,13 @@ def small_stack(folder):
 
 
 def guard(folder):
-    """A scanner of 400 REGISTERs a second turns no phone away, and how many of its datagrams weren't heard is said."""
-    server, port = started(PROGRAM, office(folder, free_port()), "--per-source", "20")
+    """A scanner of 400 REGISTERs a second turns no phone away, and how many of its datagrams weren't heard is said, also where it records."""
+    for words in ((), ("--record", os.path.join(folder, "guarded"))):
+        turned_away(*started(PROGRAM, office(folder, free_port()), "--per-source", "20", *words))
+
+
+def turned_away(server, port):
+    """The scanner alone is."""
     alice, bob = phones(port)
     with socket.socket(socket.AF_INET, socket.SOCK_DGRAM) as scanner:
         scanner.bind(("127.0.0.2", 0))
@@ -608,6 +613,15 @@ def guard(folder):
     assert complaints.startswith("sipd: ") and "of 127.0.0.2" in complaints and "127.0.0.1" not in complaints, complaints
     scanned = [line for line in printed.splitlines() if " x@127.0.0.1 " in line]
     assert 40 <= len(scanned) <= 40 + 20 * (passed + 2), (len(scanned), passed)
+
+
+def decided_now(folder):
+    """`decide` without `--minute` asks at the present minute of the office's day, an hour ahead of UTC."""
+    before = time.time()
+    status, printed, complaints = ended("decide", "--config", office(folder, free_port()), "--user", "alice", "INVITE", "bob@127.0.0.1")
+    minutes = {(int(moment) // 60 + 60) % 1440 for moment in (before, time.time())}
+    found = re.search(r"(?m)^minute (\d+), ", printed)
+    assert (status, complaints) == (0, "") and found and int(found[1]) in minutes, (status, printed, complaints)
 
 
 def in_force(config, words):
@@ -771,7 +785,7 @@ def told_against(folder):
 
 TRIALS = (
     call, another_address, turns, timer_a, guarded_timer, failed_send, failed_receive, drawn_anew, stop_and_continue, bad_starts, closed_output, record, restart, restart_with_another, standby,
-    no_count_twice, not_resumed, full_device, full_start, lost_record, folder_of_records, clock_behind, small_stack, guard, changed, not_taken, changed_record, told_against,
+    no_count_twice, not_resumed, full_device, full_start, lost_record, folder_of_records, clock_behind, small_stack, guard, decided_now, changed, not_taken, changed_record, told_against,
 )
 
 

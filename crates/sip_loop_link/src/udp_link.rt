@@ -114,15 +114,27 @@ impl UdpLink {
         if self.at_once {
             self.set_at_once(false)?;
         }
-        if self.timeout != milliseconds {
-            let timeout = Duration::from_millis(milliseconds);
-            match self.socket.set_read_timeout(Some(timeout)) {
-                Ok(()) => self.timeout = milliseconds,
-                Err(_) => return Err(LinkFault),
-            }
+        match self.hear_for(milliseconds)? {
+            Some(Addr { port: 0, .. }) => self.hear_at_once(),
+            found => Ok(found),
+        }
+    }
+
+    /// The next datagram, from port 0 too, waited for so many milliseconds at most. Where the socket was told to wait for less, it is
+    /// told the rest only once nothing came by then: to tell it is a call of the system, and while phones speak something comes sooner.
+    fn hear_for(&mut self, milliseconds: u64) -> Result<Option<Addr>, LinkFault>
+        ensures same { (self.new.receives ≡ self.old.receives) × (self.new.failures ≡ self.old.failures) × (self.new.kept ≡ self.old.kept) }
+        ensures few { OnOk result (length self.new.held ≤ most_bytes) }
+    {
+        if self.timeout == 0 || milliseconds < self.timeout {
+            self.set_timeout(milliseconds)?;
         }
         match self.hear()? {
-            Some(Addr { port: 0, .. }) => self.hear_at_once(),
+            None if self.timeout < milliseconds => {
+                let rest = milliseconds.saturating_sub(self.timeout);
+                self.set_timeout(rest)?;
+                self.hear()
+            }
             found => Ok(found),
         }
     }
@@ -151,6 +163,20 @@ impl UdpLink {
         match self.socket.set_nonblocking(at_once) {
             Ok(()) => {
                 self.at_once = at_once;
+                Ok(())
+            }
+            Err(_) => Err(LinkFault),
+        }
+    }
+
+    /// Lets the socket wait so many milliseconds, where it waits.
+    fn set_timeout(&mut self, milliseconds: u64) -> Result<(), LinkFault>
+        ensures { self.new ≡ self.old }
+    {
+        let timeout = Duration::from_millis(milliseconds);
+        match self.socket.set_read_timeout(Some(timeout)) {
+            Ok(()) => {
+                self.timeout = milliseconds;
                 Ok(())
             }
             Err(_) => Err(LinkFault),

@@ -8,3 +8,4 @@ pub mod Found
 pub mod Stars
 pub mod Everywhere
 pub mod Owned
+pub mod Others

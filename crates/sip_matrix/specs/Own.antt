@@ -1,5 +1,5 @@
--- Where users of a row have addresses of their own in a class.
-use Rattle.std.specs.Prelude.{◌≡◌, ℕ, Bool, true, false, ◌&&◌, List, Some}
+-- Where users of a row have addresses of their own in a class, and where it has addresses of others for them.
+use Rattle.std.specs.Prelude.{◌≡◌, ℕ, Bool, true, false, not, ◌&&◌, List, Some}
 use Rattle.std.specs.List.{list_any}
 use Rattle.std.specs.Str.{bytes_eq}
 use Rattle.sip_uri.specs.declared.aor.Aor.{Aor}
@@ -39,4 +39,23 @@ pub record AsksForOwn (rules : List Rule) (users : List User) (domains : List (L
   pub is_user : is_users_name users name ≡ true
   pub in_row : ask_alike rules users row name ≡ true
   pub own : is_own users domains (Some name) aor ≡ true
+  pub in_class : are_asked_alike rules users domains (column_of rules users domains aor) class ≡ true
+
+-- whether a class has an address, among these columns, that is none of a user of this name
+abbrev pub has_other_than : List Rule → List User → List (List ℕ) → List Column → Column → List ℕ → Bool
+has_other_than rules users domains columns class name =
+    list_any (λ column. not (is_address_of users domains name column) && are_asked_alike rules users domains class column) columns
+
+-- whether some user of a row may ask for an address in a class that isn't his own
+abbrev pub has_others : List Rule → List User → List (List ℕ) → List Column → Column → List ℕ → Bool
+has_others rules users domains columns class row =
+    list_any (λ user. ask_alike rules users row user.name && has_other_than rules users domains columns class user.name) users
+
+-- a configured user asks as a row does, and an address that isn't his own is asked about as a class is
+pub record AsksForOther (rules : List Rule) (users : List User) (domains : List (List ℕ)) (class : Column) (row : List ℕ) : Type 0 where
+  pub name : List ℕ
+  pub aor : Aor
+  pub is_user : is_users_name users name ≡ true
+  pub in_row : ask_alike rules users row name ≡ true
+  pub other : is_own users domains (Some name) aor ≡ false
   pub in_class : are_asked_alike rules users domains (column_of rules users domains aor) class ≡ true

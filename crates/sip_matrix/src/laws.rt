@@ -13,7 +13,7 @@ ghost use Rattle.sip_matrix.specs.Address.{column_of};
 ghost use Rattle.sip_matrix.specs.Day.{piece_of, pieces_of};
 ghost use Rattle.sip_matrix.specs.Cell.{decision_in, rule_in};
 ghost use Rattle.sip_matrix.specs.Finer.{AreAmong};
-ghost use Rattle.sip_matrix.specs.Own.{has_own, AsksForOwn};
+ghost use Rattle.sip_matrix.specs.Own.{has_others, has_own, AsksForOther, AsksForOwn};
 ghost use Rattle.sip_matrix.specs.Table.{classes_of, columns_of};
 ghost use Rattle.sip_matrix.specs.Example.{are_plain};
 ghost use Rattle.sip_matrix.specs.Expected.{is_fault, is_free, pattern_of};
@@ -91,6 +91,13 @@ pub fn own_values_are_asked()
         → AsksForOwn rules users domains class row → has_own rules users domains (columns_of rules users domains) class row ≡ true }
     ensures only { (rules : List Rule) (users : List User) (domains : List (List ℕ)) (class : Column) (row : List ℕ)
         → has_own rules users domains (columns_of rules users domains) class row ≡ true → AsksForOwn rules users domains class row }
+{}
+
+/// Where a user of a row asks for an address in a class that isn't his own, the class is said to have one for the row. So the rule that
+/// decides about it isn't told as one that decides nothing.
+pub fn others_are_asked_for()
+    ensures { (rules : List Rule) (users : List User) (domains : List (List ℕ)) (class : Column) (row : List ℕ)
+        → AsksForOther rules users domains class row → has_others rules users domains (columns_of rules users domains) class row ≡ true }
 {}
 
 /// What is decided as expected at an example of each class of questions is decided so everywhere: for each user and nobody, each operation,

@@ -1,5 +1,6 @@
 -- What a line of the log asked, and whether a configuration would decide otherwise about it.
 use Rattle.std.specs.Prelude.{ℕ, Bool, true, false, ◌==◌, if◌then◌else◌, List, Option, Some, None}
+use Rattle.std.specs.Prelude.{not, ◌&&◌}
 use Rattle.sip_audit.specs.declared.record.Operation.{Operation as LoggedOperation}
 use Rattle.sip_audit.specs.declared.record.Operation.TheVariants as Logged
 use Rattle.sip_audit.specs.declared.record.Outcome.{Outcome}
@@ -12,7 +13,10 @@ use Rattle.sip_policy.specs.User.{is_users_name}
 use Rattle.sip_policy.specs.Window.{minute_of}
 use Rattle.sip_config_types.specs.declared.config.Config.{Config}
 use Rattle.sip_policy.specs.declared.rule.Rule.{Rule}
+use Rattle.sipd_questions.specs.declared.destination.Destination.{Destination}
+use Rattle.sipd_questions.specs.declared.destination.Destination.TheVariants.{Nowhere, Registrar, Bindings, Hop, NotFound}
 use Rattle.sipd_questions.specs.Decide.{decision_for, rule_for}
+use Rattle.sipd_questions.specs.Destination.{destination_of}
 
 -- ---- the question
 
@@ -44,6 +48,10 @@ decision_about config r = decision_for config (asker_of config.users r.who) (ope
 abbrev pub rule_about : Config → Record → Option Rule
 rule_about config r = rule_for config (asker_of config.users r.who) (operation_by r.operation r.method) r.target (minute_at config r)
 
+-- where that leads
+abbrev pub destination_about : Config → Record → Destination
+destination_about config r = destination_of config (operation_by r.operation r.method) r.target (decision_about config r)
+
 -- ---- the decision of before
 
 -- whether the rule of this number let it through
@@ -66,10 +74,28 @@ is_challenge (Decision.Allow id) = false
 is_challenge (Decision.Via id place) = false
 is_challenge (Decision.Deny id) = false
 
--- Whether what became of a request is what is decided about it: challenged, denied, or let through, and the last two by a rule of the same
--- number. Where a rule let it through, a line doesn't say by which hop.
-abbrev pub is_same : Outcome → Decision → Bool
-is_same (Challenge status) decision = is_challenge decision
-is_same (Deny rule) decision = is_denied rule decision
-is_same (Sent rule targets) decision = is_let_through rule decision
-is_same (Answer rule status) decision = is_let_through rule decision
+-- whether what goes there is sent on: to phones, or by a hop
+abbrev pub is_sent : Destination → Bool
+is_sent Bindings = true
+is_sent (Hop place) = true
+is_sent Nowhere = false
+is_sent Registrar = false
+is_sent NotFound = false
+
+-- Whether what goes there may be answered here with a status: where the address is no user's with 404 (RFC 3261 16.5), where it is and no
+-- phone is registered with another. The registrar answers with each, also with 404, where a REGISTER's Request-URI is no own domain (RFC 3261
+-- 10.3 step 1), which a line doesn't have. What goes by a hop isn't answered here.
+abbrev pub is_answered : ℕ → Destination → Bool
+is_answered status Registrar = true
+is_answered status Bindings = not (status == 404)
+is_answered status NotFound = status == 404
+is_answered status Nowhere = false
+is_answered status (Hop place) = false
+
+-- Whether what became of a request is what is decided about it, and may come of it where that leads: challenged, denied, sent on or answered
+-- here, all but the first by a rule of the same number. Where a rule let it through, a line doesn't say by which hop.
+abbrev pub is_same : Outcome → Decision → Destination → Bool
+is_same (Challenge status) decision destination = is_challenge decision
+is_same (Deny rule) decision destination = is_denied rule decision
+is_same (Sent rule targets) decision destination = is_let_through rule decision && is_sent destination
+is_same (Answer rule status) decision destination = is_let_through rule decision && is_answered status destination

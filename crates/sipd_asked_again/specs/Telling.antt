@@ -14,7 +14,7 @@ use Rattle.sipd_questions.specs.Decide.{hop_text, verdict_text}
 use Rattle.sipd_questions.specs.Destination.{destination_of}
 use Rattle.sipd_questions.specs.Show.{clock_text}
 use Rattle.sipd_report.specs.Entries.{entry_of, fronts_of}
-use Rattle.sipd_asked_again.specs.Asking.{decision_about, is_same, minute_at, operation_by, rule_about}
+use Rattle.sipd_asked_again.specs.Asking.{decision_about, destination_about, is_same, minute_at, operation_by, rule_about}
 
 -- where a request goes; the line says for whom it is, with its bytes that don't print as escapes
 abbrev pub there_text : Config → Destination → List ℕ
@@ -40,7 +40,7 @@ told_text line minute words = line ++ codes " -> at " ++ clock_text minute ++ co
 -- an audit line is told exactly where the configuration decides otherwise about it
 abbrev pub told_for : Config → List ℕ → Record → Option (List ℕ)
 told_for config line r =
-    if is_same r.outcome (decision_about config r) then None else Some (told_text line (minute_at config r) (words_about config r))
+    if is_same r.outcome (decision_about config r) (destination_about config r) then None else Some (told_text line (minute_at config r) (words_about config r))
 
 -- what is told of a line, if something is
 abbrev pub told_of : Config → List ℕ → Option (List ℕ)

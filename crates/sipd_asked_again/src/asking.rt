@@ -6,7 +6,11 @@ ghost use Rattle.sipd_asked_again.specs.Asking as Definitions;
 use sip_audit::{Operation as LoggedOperation, Outcome, Record};
 use sip_policy::{Decision, Operation, Users};
 use sip_text::Bytes;
+use sipd_questions::Destination;
 use std::alloc::{AllocError, Global};
+
+/// The status of an answer to a request for an address that is no user's (RFC 3261 21.4.5).
+const NOT_FOUND: u16 = 404;
 
 /// What a line asked for.
 pub(crate) fn operation_of(alloc: Global, logged: &Record) -> Result<Operation, AllocError>
@@ -69,14 +73,40 @@ fn is_challenge(decision: Decision) -> bool
     }
 }
 
-/// Whether what became of a request is what is decided about it: the same, by a rule of the same number.
-pub(crate) fn is_same(outcome: Outcome, decision: Decision) -> bool
-    ensures { result ≡ Definitions.is_same outcome decision }
+/// Whether what goes there is sent on.
+fn is_sent(destination: Destination) -> bool
+    ensures { result ≡ Definitions.is_sent destination }
+{
+    match destination {
+        Destination::Bindings | Destination::Hop(_) => true,
+        Destination::Nowhere | Destination::Registrar | Destination::NotFound => false,
+    }
+}
+
+/// Whether what goes there may be answered here with a status.
+fn is_answered(status: u16, destination: Destination) -> bool
+    ensures { result ≡ Definitions.is_answered status destination }
+{
+    match destination {
+        Destination::Registrar => true,
+        Destination::Bindings => status != NOT_FOUND,
+        Destination::NotFound => status == NOT_FOUND,
+        Destination::Nowhere | Destination::Hop(_) => false,
+    }
+}
+
+/// Whether what became of a request is what is decided about it, by a rule of the same number, and may come of it where that leads.
+pub(crate) fn is_same(outcome: Outcome, decision: Decision, destination: Destination) -> bool
+    ensures { result ≡ Definitions.is_same outcome decision destination }
 {
     match outcome {
         Outcome::Challenge { status: _ } => is_challenge(decision),
         Outcome::Deny { rule } => is_denied(rule, decision),
-        Outcome::Sent { rule, targets: _ } => is_let_through(rule, decision),
-        Outcome::Answer { rule, status: _ } => is_let_through(rule, decision),
+        Outcome::Sent { rule, targets: _ } => {
+            is_let_through(rule, decision) && is_sent(destination)
+        }
+        Outcome::Answer { rule, status } => {
+            is_let_through(rule, decision) && is_answered(status, destination)
+        }
     }
 }

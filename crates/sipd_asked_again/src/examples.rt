@@ -28,6 +28,19 @@ pub fn otherwise()
         ≡ Some (codes "line -> at 0:01, no rule matches: denied, 403, rule 0\n") }
 {}
 
+/// A call that was sent on is told where its user is gone, since it would get a 404 now; and one that got a 404 where there is such a
+/// user now. A REGISTER's 404 may be that of its Request-URI, which a line doesn't have.
+pub fn users_come_and_go()
+    ensures gone { told (call (Some (codes "alice")) (codes "scar") (Sent 6 1))
+        ≡ Some (codes "line -> at 0:01, rule 6 allows: 404, no user of an own domain\n") }
+    ensures no_phone { told (call (Some (codes "alice")) (codes "scar") (Answer 6 480))
+        ≡ Some (codes "line -> at 0:01, rule 6 allows: 404, no user of an own domain\n") }
+    ensures come { told (call (Some (codes "alice")) (codes "Mufasa") (Answer 6 404))
+        ≡ Some (codes "line -> at 0:01, rule 6 allows: to the bindings\n") }
+    ensures nobody { told (call (Some (codes "alice")) (codes "scar") (Answer 6 404)) ≡ None }
+    ensures registered { told (registration (Some (codes "alice")) (codes "alice") (Answer 1 404)) ≡ None }
+{}
+
 /// A user who isn't configured is nobody.
 pub fn unknown_user()
     ensures { told (call (Some (codes "zazu")) (codes "alice") (Sent 6 1))

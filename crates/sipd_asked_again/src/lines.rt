@@ -23,7 +23,8 @@ use std::alloc::Global;
 /// Writes the lines of a log that a configuration would decide otherwise about, each with what it would decide, in their order, and nothing
 /// else. A line asks as what it says: the same method, for the same address of record, at the same moment, by the same proven user; where
 /// nobody was proven, or the user isn't configured, by nobody. It is decided otherwise where it was let through, denied or challenged and
-/// wouldn't be, or by a rule of another number. Lines are read as a report reads them.
+/// wouldn't be, or by a rule of another number; and where it was sent on or answered here and wouldn't be, as for a user who came or
+/// went since. Lines are read as a report reads them.
 ///
 /// Answers how many lines there were; all is handed on then. Refusals: `NoMemory`; `Read`, where the reader fails or was asked 4,294,967,295
 /// times; `Write`. What was written before a refusal stays: a front of what is told, at `Read` of whole lines.

@@ -75,7 +75,8 @@ fn told_for(
     let minute = minute_of(logged.at, config.offset);
     let rule = rule_for(config, asker, &operation, &logged.target, minute);
     let decision = ruling_by(rule, asker, minute).decision;
-    if is_same(logged.outcome, decision) {
+    let destination = destination_of(config, &operation, &logged.target, decision);
+    if is_same(logged.outcome, decision, destination) {
         return Ok(None);
     }
     let mut text = begun_text(alloc, line, minute)?;

@@ -7,6 +7,7 @@ use sipd_arguments::{Call, Parsed, ReplayCall, parse};
 use sipd_exit::{Exit, print};
 use sipd_progress::Watched;
 use sipd_replay::{replay_record, replay_script};
+use sipd_service::LinePrinter;
 use sipd_tools::{check, decide, make_report, make_user, matrix};
 use std::io::{Read, Write};
 use std::net::Net;
@@ -63,7 +64,8 @@ fn carry_out<
             rt, call, seen, input, output, complaints,
         ),
         Call::Serve(call) => {
-            serve_file::<T, P, R, I, W, C>(rt, call, seen, input, output, complaints)
+            let mut printer = LinePrinter::new(rt.alloc(), output);
+            serve_file::<T, P, R, I, _, C>(rt, call, seen, input, &mut printer, complaints)
         }
         Call::Decide(call) => decide(rt, call, input, output, complaints),
         Call::Matrix(call) => matrix(rt, call, output, complaints),

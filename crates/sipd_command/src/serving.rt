@@ -1,16 +1,16 @@
 //! The command `serve` carried out: the configuration is read, the address bound, the record begun, and a guard put over the socket.
 //! The turns themselves are in `sipd_service`.
-ghost use Rattle.std.specs.Prelude.{◌≡◌, is_some, IfOk, IfSome, OnOk, string_bytes};
+ghost use Rattle.std.specs.Prelude.{◌≡◌, [], is_some, IfOk, IfSome, OnOk, string_bytes};
 ghost use Rattle.sip_guard.specs.Guard.{guard_over, link_told};
 ghost use Rattle.sipd_boot.specs.Boots.{behind_secret, secret_from};
-ghost use Rattle.sipd_service.specs.Printing.{PrintsServed};
 ghost use Rattle.sipd_service.specs.Hops.{hop_addresses};
-ghost use Rattle.sipd_command.specs.Starts.{bound_address};
+ghost use Rattle.sipd_command.specs.Starts.{bound_address, decided_before, PrintsAt, PrintsFor, PrintsSomewhere};
 
 use rand::rngs::StdRng;
 use rand_core::Rng;
 use sip_audit::Record;
 use sip_config_types::Config;
+use sip_event::StepOut;
 use sip_guard::Guard;
 use sip_loop_link::{Clock, Link, SteadyClock, UdpLink};
 use sip_policy::Rules;
@@ -184,7 +184,7 @@ fn serve_with<
     printer: &mut LinePrinter<W>,
     complaints: &mut M,
 ) -> Result<(), Exit>
-    ensures { IfSome start.turns (λ turns. OnOk result (PrintsServed start.address decided.now turns (W.contents printer.old.output) (W.contents printer.new.output))) }
+    ensures { OnOk result (PrintsFor start.turns start.address decided.now (W.contents printer.old.output) (W.contents printer.new.output)) }
 {
     let alloc = rt.alloc();
     let clock = clock_from(rt, engine.moment(), complaints);
@@ -196,6 +196,16 @@ fn serve_with<
     let aside = SteadyClock::new(rt);
     let mut service = service_of(alloc, start, engine, journal, aside, clock, watch)?;
     serve_turns(alloc, &mut service, &serving, printer, complaints)
+}
+
+/// What the last step of an older record decided, where there is one.
+fn decided_by(last: &Option<StepOut>) -> &[Record]
+    ensures { result.now ≡ decided_before last.now }
+{
+    match last {
+        Some(out) => out.records.as_slice(),
+        None => &[],
+    }
 }
 
 /// Serves with a server that is begun, which records, or couldn't.
@@ -214,16 +224,16 @@ fn serve_begun<
     watch: Option<Watch<F>>,
     printer: &mut LinePrinter<W>,
     complaints: &mut M,
-) -> Result<(), Exit> {
+) -> Result<(), Exit>
+    ensures { OnOk result (PrintsFor start.turns start.address (decided_before begun.entry.last) (W.contents printer.old.output)
+        (W.contents printer.new.output)) }
+{
     let Begun {
         engine,
         recorder,
         last,
     } = begun;
-    let decided = match &last {
-        Some(out) => out.records.as_slice(),
-        None => &[],
-    };
+    let decided = decided_by(&last);
     if let Some(recorder) = recorder {
         return serve_with(
             rt, start, engine, recorder, decided, watch, printer, complaints,
@@ -275,7 +285,9 @@ fn serve_recorded<
     input: &mut I,
     printer: &mut LinePrinter<W>,
     complaints: &mut M,
-) -> Result<(), Exit> {
+) -> Result<(), Exit>
+    ensures { OnOk result (PrintsAt call.now.turns (bound_address config.now) (W.contents printer.old.output) (W.contents printer.new.output)) }
+{
     let address = address_of(config);
     let bound = if beginning.reads_input() {
         None
@@ -308,7 +320,9 @@ fn serve_unrecorded<
     watch: Option<Watch<F>>,
     printer: &mut LinePrinter<W>,
     complaints: &mut M,
-) -> Result<(), Exit> {
+) -> Result<(), Exit>
+    ensures { OnOk result (PrintsFor call.now.turns (bound_address config.now) [] (W.contents printer.old.output) (W.contents printer.new.output)) }
+{
     let link = bind(rt, address_of(config))?;
     let mut start = start_of(rt.alloc(), call, config, link, words)?;
     let engine = begin_unrecorded::<T, P, _, _>(rt, stated, &mut start.words)?;
@@ -324,30 +338,30 @@ fn serve_unrecorded<
     )
 }
 
-/// Serves with the configuration of a file.
+/// Serves with the configuration of a file, for as many turns as a command line asks for.
 pub fn serve_file<
     T: Timers,
     P: Rules,
     R: Files + Net + rt::Clock + RandomSource + Eprint + AllocGlobal,
     I: Read,
-    W: Write,
+    W: Write + Drop,
     M: Write,
 >(
     rt: &R,
     call: &ServeCall,
     seen: bool,
     input: &mut I,
-    output: &mut W,
+    printer: &mut LinePrinter<W>,
     complaints: &mut M,
-) -> Result<(), Exit> {
+) -> Result<(), Exit>
+    ensures { OnOk result (PrintsSomewhere call.now.turns (W.contents printer.old.output) (W.contents printer.new.output)) }
+{
     check_stack(rt)?;
     let alloc = rt.alloc();
     let stated = stated_in(rt, call.config.as_str())?;
     let config = config_of_bytes(alloc, stated.bytes.as_slice())?;
     let words: StdRng = rand::make_rng(rt)?;
     let watch = watch_of(rt, call, &stated)?;
-    let mut printer = LinePrinter::new(alloc, output);
-    let printer = &mut printer;
     let Some(place) = &call.record else {
         return serve_unrecorded::<T, P, R, _, _, M>(
             rt, call, &config, &stated, words, watch, printer, complaints,

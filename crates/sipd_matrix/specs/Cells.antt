@@ -82,6 +82,14 @@ has_address_of_row config columns class row = Owned.has_address_of_row config.ru
 abbrev pub has_own : Config → List Column → Column → List ℕ → Bool
 has_own config columns class row = Owned.has_own config.rules config.users config.own.domains columns class row
 
+-- whether a class has an address that is none of a user of this name
+abbrev pub has_other_than : Config → List Column → Column → List ℕ → Bool
+has_other_than config columns class name = Owned.has_other_than config.rules config.users config.own.domains columns class name
+
+-- whether some user of a row may ask for an address in a class that isn't his own
+abbrev pub has_others : Config → List Column → Column → List ℕ → Bool
+has_others config columns class row = Owned.has_others config.rules config.users config.own.domains columns class row
+
 -- whether a cell has a second value, for the asker's own address
 abbrev pub has_second : Config → Operation → List Column → Column → List ℕ → ℕ → Bool
 has_second config operation columns class row piece =
@@ -101,11 +109,20 @@ cell_text config operation columns class piece (Some row) =
 
 -- ---- which rules decide
 
+-- the number of the rule that decides in a cell of a row of users about others' addresses, where one may be asked for
+abbrev pub number_of_others : Config → Operation → List Column → Column → ℕ → List ℕ → List ℕ
+number_of_others config operation columns class piece row =
+    if has_others config columns class row then number_at config operation (Some row) class false piece ∷ [] else []
+
+-- and about own ones
+abbrev pub number_of_own : Config → Operation → List Column → Column → ℕ → List ℕ → List ℕ
+number_of_own config operation columns class piece row =
+    if has_own config columns class row then number_at config operation (Some row) class true piece ∷ [] else []
+
 -- the numbers of the rules that decide in a cell of a row of users
 abbrev pub numbers_of_row : Config → Operation → List Column → Column → ℕ → List ℕ → List ℕ
 numbers_of_row config operation columns class piece row =
-    number_at config operation (Some row) class false piece
-    ∷ (if has_own config columns class row then number_at config operation (Some row) class true piece ∷ [] else [])
+    number_of_others config operation columns class piece row ++ number_of_own config operation columns class piece row
 
 -- of all rows, for a class
 abbrev pub numbers_of_class : Config → Operation → Table → ℕ → Column → List ℕ

@@ -1,9 +1,12 @@
 -- The text of a table: for each piece of the day a line for each class of addresses, and in it a cell for each row of who asks.
 use Rattle.std.specs.Prelude.{ℕ, ◌/◌, ◌%◌, ◌==◌, nat_lt, if◌then◌else◌, List, [], ◌++◌, codes, decimal, length, drop, find, unwrap_or, ℤ, pos, negsuc, ◌+◌, Some, None}
+use Rattle.std.specs.Prelude.{Bool, not, ◌&&◌}
 use Rattle.std.specs.List.{flat_map, list_any}
+use Rattle.std.specs.Str.{bytes_eq}
 use Rattle.sip_policy.specs.declared.operation.Operation.{Operation}
 use Rattle.sip_policy.specs.declared.user.User.{User}
 use Rattle.sip_policy.specs.declared.rule.Rule.{Rule}
+use Rattle.sip_policy.specs.Operation.{matches_operation}
 use Rattle.sip_config_types.specs.declared.config.Config.{Config}
 use Rattle.sip_matrix.specs.declared.column.Column.{Column}
 use Rattle.sip_matrix.specs.declared.column.Column.TheVariants.{Named, Begins, Elsewhere}
@@ -12,7 +15,7 @@ use Rattle.sip_matrix.specs.Asker.{ask_alike}
 use Rattle.sip_matrix.specs.Column.{are_asked_alike}
 use Rattle.sip_matrix.specs.Table.{table_of}
 use Rattle.sipd_matrix.specs.Cells.{cell_text, numbers_of}
-use Rattle.sipd_matrix.specs.Unused.{hop_line, user_lines}
+use Rattle.sipd_matrix.specs.Unused.{hop_line, is_named, user_lines}
 
 -- ---- words
 
@@ -80,9 +83,18 @@ piece_lines config operation table piece =
 abbrev pub user_text : Config → List ℕ → User → List ℕ
 user_text config row user = if ask_alike config.rules config.users row user.name then codes " " ++ user.name else []
 
--- the users of a row
+-- a group, if some rule names it
+abbrev pub named_group : Config → List ℕ → List ℕ
+named_group config group = if is_named config.rules group then codes ", of " ++ group else []
+
+-- the groups of a user, if he has this name
+abbrev pub groups_text : Config → List ℕ → User → List ℕ
+groups_text config row user = if bytes_eq user.name row then flat_map (named_group config) user.groups else []
+
+-- the users of a row, and the groups that rules name of its first; all others of the row are of these, and of no others that rules name
 abbrev pub row_line : Config → List ℕ → List ℕ
-row_line config row = codes "as " ++ row ++ codes " ask:" ++ flat_map (user_text config row) config.users ++ codes "\n"
+row_line config row =
+    codes "as " ++ row ++ codes " ask:" ++ flat_map (user_text config row) config.users ++ flat_map (groups_text config row) config.users ++ codes "\n"
 
 -- a number between two texts
 abbrev pub numbered : List ℕ → ℕ → List ℕ → List ℕ
@@ -92,9 +104,13 @@ numbered before number behind = before ++ decimal number ++ behind
 abbrev pub nothing_text : ℕ → List ℕ
 nothing_text id = numbered (codes "rule ") id (codes " decides nothing here\n")
 
--- the same of a rule, unless it decides something
-abbrev pub unused_line : List ℕ → Rule → List ℕ
-unused_line numbers rule = if list_any (λ number. number == rule.id) numbers then [] else nothing_text rule.id
+-- whether a rule is for an operation, and decides nothing of it
+abbrev pub is_unused : Operation → List ℕ → Rule → Bool
+is_unused operation numbers rule = matches_operation operation rule.operation && not (list_any (λ number. number == rule.id) numbers)
+
+-- the same of a rule, if that is so
+abbrev pub unused_line : Operation → List ℕ → Rule → List ℕ
+unused_line operation numbers rule = if is_unused operation numbers rule then nothing_text rule.id else []
 
 -- ---- the whole
 
@@ -113,15 +129,15 @@ title config operation = operation_word operation ++ codes ", offset " ++ signed
 abbrev pub unnamed : Config → List ℕ
 unnamed config = flat_map (hop_line config.hops config.rules) config.hops ++ flat_map (user_lines config.rules) config.users
 
--- the users of each row, and the rules, the hops and the groups that decide nothing
-abbrev pub foot : Config → Table → List ℕ → List ℕ
-foot config table numbers =
-    codes "\n" ++ flat_map (row_line config) table.rows ++ flat_map (unused_line numbers) config.rules ++ unnamed config
+-- the users of each row, and the rules for the operation, the hops and the groups that decide nothing
+abbrev pub foot : Config → Operation → Table → List ℕ → List ℕ
+foot config operation table numbers =
+    codes "\n" ++ flat_map (row_line config) table.rows ++ flat_map (unused_line operation numbers) config.rules ++ unnamed config
 
 abbrev pub text_of : Config → Operation → Table → List ℕ
 text_of config operation table =
     title config operation ++ legend ++ flat_map (piece_lines config operation table) table.pieces
-    ++ foot config table (numbers_of config operation table)
+    ++ foot config operation table (numbers_of config operation table)
 
 -- the table of a configuration for an operation, as text
 abbrev pub matrix_text : Config → Operation → List ℕ

@@ -218,6 +218,25 @@ pub(crate) fn has_own(config: &Config, columns: &[Column], class: &Column, row: 
     are_known(config, class) && has_address_of_row(config, columns, class, row)
 }
 
+/// Whether a class has an address that is none of a user of a name.
+fn has_other_than(config: &Config, columns: &[Column], class: &Column, name: &[u8]) -> bool
+    ensures { result ≡ Definitions.has_other_than config.now columns.now class.now name.now }
+{
+    columns.iter().any(|column| {
+        !is_address_of(config, name, column) && are_of_class(config, class, column)
+    })
+}
+
+/// Whether some user of a row may ask for an address in a class that isn't his own.
+pub(crate) fn has_others(config: &Config, columns: &[Column], class: &Column, row: &[u8]) -> bool
+    ensures { result ≡ Definitions.has_others config.now columns.now class.now row.now }
+{
+    config.users.as_slice().iter().any(|user| {
+        are_of_row(config, row, user.name.as_slice())
+            && has_other_than(config, columns, class, user.name.as_slice())
+    })
+}
+
 /// Whether a cell has a second value, for the asker's own address. Takes no memory.
 pub fn has_second(
     config: &Config,

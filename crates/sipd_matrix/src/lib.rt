@@ -3,11 +3,14 @@
 //!
 //! - Used: `sipd_tools`, for the command `matrix`; `sipd_matrix_forms` and `sipd_matrix_changes`, for what stands in a cell and its words.
 //! - Not here: which cells there are, and that they are all (`sip_matrix`); one question (`sipd_questions`).
-//! - Tried: a worked example in `src/examples.rt`, as a contract that computes.
+//! - Tried: worked examples in `src/examples.rt`, as contracts that compute.
+//!
+//! That no rule which decides is told to decide nothing, and that all users of a row are of its groups, is said in `laws`.
 #![tactic(auto)]
 
 mod cells;
 pub mod examples;
+pub mod laws;
 mod numbers;
 mod text;
 mod unused;

@@ -3,12 +3,48 @@ ghost use Rattle.std.specs.Prelude.{◌≡◌, ◌++◌, Some, false, IfOk, OnOk
 ghost use Rattle.std.specs.List.{flat_map};
 ghost use Rattle.sipd_matrix.specs.Cells as Definitions;
 
-use crate::cells::{are_known, has_own, number_at};
+use crate::cells::{are_known, has_others, has_own, number_at};
 use sip_config_types::Config;
 use sip_matrix::{Column, Table};
 use sip_policy::Operation;
 use sip_text::{Bytes, Items};
 use std::alloc::{AllocError, Global};
+
+/// Adds that of a cell of a row of users, about others' addresses, where one may be asked for.
+fn add_others(
+    numbers: &mut Items<u32>,
+    config: &Config,
+    operation: &Operation,
+    columns: &[Column],
+    class: &Column,
+    piece: u16,
+    row: &[u8],
+) -> Result<(), AllocError>
+    ensures { OnOk result (numbers.new ≡ numbers.old ++ Definitions.number_of_others config.now operation.now columns.now class.now piece row.now) }
+{
+    if !has_others(config, columns, class, row) {
+        return Ok(());
+    }
+    numbers.push(number_at(config, operation, Some(row), class, false, piece))
+}
+
+/// Adds that about own ones, where one may be asked for.
+fn add_own(
+    numbers: &mut Items<u32>,
+    config: &Config,
+    operation: &Operation,
+    columns: &[Column],
+    class: &Column,
+    piece: u16,
+    row: &[u8],
+) -> Result<(), AllocError>
+    ensures { OnOk result (numbers.new ≡ numbers.old ++ Definitions.number_of_own config.now operation.now columns.now class.now piece row.now) }
+{
+    if !has_own(config, columns, class, row) {
+        return Ok(());
+    }
+    numbers.push(number_at(config, operation, Some(row), class, true, piece))
+}
 
 /// Adds those of a cell of a row of users.
 fn add_row(
@@ -22,13 +58,8 @@ fn add_row(
 ) -> Result<(), AllocError>
     ensures { OnOk result (numbers.new ≡ numbers.old ++ Definitions.numbers_of_row config.now operation.now columns.now class.now piece row.now) }
 {
-    let others = number_at(config, operation, Some(row), class, false, piece);
-    numbers.push(others)?;
-    if has_own(config, columns, class, row) {
-        let own = number_at(config, operation, Some(row), class, true, piece);
-        return numbers.push(own);
-    }
-    Ok(())
+    add_others(numbers, config, operation, columns, class, piece, row)?;
+    add_own(numbers, config, operation, columns, class, piece, row)
 }
 
 fn add_rows(

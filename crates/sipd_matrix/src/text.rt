@@ -7,12 +7,12 @@ ghost use Rattle.sipd_matrix.specs.Cells.{cell_text};
 
 use crate::cells::{are_of_class, are_of_row, put_cell};
 use crate::numbers::numbers_of;
-use crate::unused::{put_all_groups, put_hops};
+use crate::unused::{is_named, put_all_groups, put_hops};
 use crate::words::{operation_word, put_both, put_clock, put_column, put_padded, put_signed};
 use sip_config_types::Config;
 use sip_matrix::{Column, Table, table_of};
 use sip_policy::{Operation, Rule, User};
-use sip_text::{Bytes, Items};
+use sip_text::{Bytes, Items, same_bytes};
 use std::alloc::{AllocError, Global};
 
 /// What the signs in the cells mean.
@@ -214,13 +214,65 @@ pub fn put_users(
     Ok(())
 }
 
-/// Adds the users of a row.
+/// Adds a group, if some rule names it.
+fn put_named_group(text: &mut Bytes, config: &Config, group: &[u8]) -> Result<(), AllocError>
+    ensures { OnOk result (text.new ≡ text.old ++ Definitions.named_group config.now group.now) }
+{
+    if is_named(config.rules.as_slice(), group) {
+        put_both(text, b", of ", group)
+    } else {
+        Ok(())
+    }
+}
+
+fn put_named_groups(text: &mut Bytes, config: &Config, groups: &[Bytes]) -> Result<(), AllocError>
+    ensures { OnOk result (text.new ≡ text.old ++ flat_map (Definitions.named_group config.now) groups.now) }
+{
+    for group in groups {
+        put_named_group(text, config, group.as_slice())?;
+    }
+    Ok(())
+}
+
+/// Adds the groups of a user, if he has this name.
+fn put_groups_of(
+    text: &mut Bytes,
+    config: &Config,
+    row: &[u8],
+    user: &User,
+) -> Result<(), AllocError>
+    ensures { OnOk result (text.new ≡ text.old ++ Definitions.groups_text config.now row.now user.now) }
+{
+    if same_bytes(user.name.as_slice(), row) {
+        put_named_groups(text, config, user.groups.as_slice())
+    } else {
+        Ok(())
+    }
+}
+
+/// Adds the groups of a row that rules name.
+fn put_row_groups(
+    text: &mut Bytes,
+    config: &Config,
+    row: &[u8],
+    users: &[User],
+) -> Result<(), AllocError>
+    ensures { OnOk result (text.new ≡ text.old ++ flat_map (Definitions.groups_text config.now row.now) users.now) }
+{
+    for user in users {
+        put_groups_of(text, config, row, user)?;
+    }
+    Ok(())
+}
+
+/// Adds the users of a row, and its groups.
 fn put_row(text: &mut Bytes, config: &Config, row: &[u8]) -> Result<(), AllocError>
     ensures { OnOk result (text.new ≡ text.old ++ Definitions.row_line config.now row.now) }
 {
     put_both(text, b"as ", row)?;
     text.extend(b" ask:")?;
     put_users(text, config, row, config.users.as_slice())?;
+    put_row_groups(text, config, row, config.users.as_slice())?;
     text.push(b'\n')
 }
 
@@ -255,22 +307,39 @@ fn put_nothing(text: &mut Bytes, id: u32) -> Result<(), AllocError>
     put_number(text, b"rule ", u64::from(id), b" decides nothing here\n")
 }
 
-/// Adds the same of a rule, unless it decides something.
-fn put_unused(text: &mut Bytes, numbers: &[u32], rule: &Rule) -> Result<(), AllocError>
-    ensures { OnOk result (text.new ≡ text.old ++ Definitions.unused_line numbers.now rule.now) }
+/// Whether a rule is for an operation, and decides nothing of it.
+fn is_unused(operation: &Operation, numbers: &[u32], rule: &Rule) -> bool
+    ensures { result ≡ Definitions.is_unused operation.now numbers.now rule.now }
 {
-    if has_number(numbers, rule.id) {
-        Ok(())
-    } else {
+    rule.operation.matches(operation) && !has_number(numbers, rule.id)
+}
+
+/// Adds the same of a rule, if that is so.
+fn put_unused(
+    text: &mut Bytes,
+    operation: &Operation,
+    numbers: &[u32],
+    rule: &Rule,
+) -> Result<(), AllocError>
+    ensures { OnOk result (text.new ≡ text.old ++ Definitions.unused_line operation.now numbers.now rule.now) }
+{
+    if is_unused(operation, numbers, rule) {
         put_nothing(text, rule.id)
+    } else {
+        Ok(())
     }
 }
 
-fn put_all_unused(text: &mut Bytes, numbers: &[u32], rules: &[Rule]) -> Result<(), AllocError>
-    ensures { OnOk result (text.new ≡ text.old ++ flat_map (Definitions.unused_line numbers.now) rules.now) }
+fn put_all_unused(
+    text: &mut Bytes,
+    operation: &Operation,
+    numbers: &[u32],
+    rules: &[Rule],
+) -> Result<(), AllocError>
+    ensures { OnOk result (text.new ≡ text.old ++ flat_map (Definitions.unused_line operation.now numbers.now) rules.now) }
 {
     for rule in rules {
-        put_unused(text, numbers, rule)?;
+        put_unused(text, operation, numbers, rule)?;
     }
     Ok(())
 }
@@ -294,19 +363,20 @@ fn put_unnamed(text: &mut Bytes, config: &Config) -> Result<(), AllocError>
     put_all_groups(text, rules, config.users.as_slice())
 }
 
-/// Adds what stands under the cells: the users of each row, and the rules, the hops and the groups that decide nothing.
+/// Adds what stands under the cells: the users of each row, and the rules for the operation, the hops and the groups that decide nothing.
 /// `AllocError` is the only refusal.
 pub fn put_foot(
     text: &mut Bytes,
     config: &Config,
+    operation: &Operation,
     table: &Table,
     numbers: &Items<u32>,
 ) -> Result<(), AllocError>
-    ensures { OnOk result (text.new ≡ text.old ++ Definitions.foot config.now table.now numbers.now) }
+    ensures { OnOk result (text.new ≡ text.old ++ Definitions.foot config.now operation.now table.now numbers.now) }
 {
     text.push(b'\n')?;
     put_rows(text, config, table.rows.as_slice())?;
-    put_all_unused(text, numbers.as_slice(), config.rules.as_slice())?;
+    put_all_unused(text, operation, numbers.as_slice(), config.rules.as_slice())?;
     put_unnamed(text, config)
 }
 
@@ -332,7 +402,7 @@ fn text_of(
     put_legend(&mut text)?;
     let pieces = table.pieces.as_slice();
     put_pieces(alloc, &mut text, config, operation, table, pieces)?;
-    put_foot(&mut text, config, table, &numbers)?;
+    put_foot(&mut text, config, operation, table, &numbers)?;
     Ok(text)
 }
 

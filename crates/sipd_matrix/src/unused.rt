@@ -71,7 +71,8 @@ fn is_of_group(group: &[u8], who: &Who) -> bool
     }
 }
 
-fn is_named(rules: &[Rule], group: &[u8]) -> bool
+/// Whether some rule's users are those of a group.
+pub(crate) fn is_named(rules: &[Rule], group: &[u8]) -> bool
     ensures { result ≡ Definitions.is_named rules.now group.now }
 {
     rules.iter().any(|rule| is_of_group(group, &rule.who))

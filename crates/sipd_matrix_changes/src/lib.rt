@@ -2,7 +2,7 @@
 //!
 //! - Used: `sipd_tools`, for `matrix --against`.
 //! - Not here: the table of one configuration (`sip_matrix`, `sipd_matrix`); what else a change does (`sipd_changes`).
-//! - Tried: a worked example in `src/examples.rt`, as a contract that computes.
+//! - Tried: worked examples in `src/examples.rt`, as contracts that compute.
 //!
 //! That no question is missing that is decided otherwise, and none is told that isn't, is said in `laws`.
 #![tactic(auto)]

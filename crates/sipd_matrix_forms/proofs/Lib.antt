@@ -2,3 +2,4 @@ pub mod Written
 pub mod Lines
 pub mod Counted
 pub mod Escapes
+pub mod Destined

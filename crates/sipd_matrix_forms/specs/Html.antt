@@ -121,13 +121,13 @@ abbrev pub signs : List ℕ
 signs = text_block legend
 
 -- what stands under the cells: the users of each row, and the rules, the hops and the groups that decide nothing
-abbrev pub text_end : Config → Table → List ℕ → List ℕ
-text_end config table numbers = text_block (foot config table numbers) ++ codes "</body>\n</html>\n"
+abbrev pub text_end : Config → Operation → Table → List ℕ → List ℕ
+text_end config operation table numbers = text_block (foot config operation table numbers) ++ codes "</body>\n</html>\n"
 
 abbrev pub html_of : Config → Operation → Table → List ℕ
 html_of config operation table =
     page_begin ++ heading config operation ++ signs ++ flat_map (piece_table config operation table) table.pieces
-    ++ text_end config table (numbers_of config operation table)
+    ++ text_end config operation table (numbers_of config operation table)
 
 -- the table of a configuration for an operation
 abbrev pub html_text : Config → Operation → List ℕ

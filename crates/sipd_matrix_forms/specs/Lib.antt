@@ -1,4 +1,5 @@
 pub mod Outcome
+pub mod Destinations
 pub mod Cells
 pub mod Csv
 pub mod Html

@@ -311,13 +311,14 @@ fn put_end(
     alloc: Global,
     text: &mut Bytes,
     config: &Config,
+    operation: &Operation,
     table: &Table,
     numbers: &Items<u32>,
 ) -> Result<(), AllocError>
-    ensures { OnOk result (text.new ≡ text.old ++ Definitions.text_end config.now table.now numbers.now) }
+    ensures { OnOk result (text.new ≡ text.old ++ Definitions.text_end config.now operation.now table.now numbers.now) }
 {
     let mut foot = Bytes::new(alloc);
-    put_foot(&mut foot, config, table, numbers)?;
+    put_foot(&mut foot, config, operation, table, numbers)?;
     put_block(text, foot.as_slice())?;
     text.extend(b"</body>\n</html>\n")
 }
@@ -345,7 +346,7 @@ fn html_of(
     put_signs(alloc, &mut text)?;
     let pieces = table.pieces.as_slice();
     put_pieces(alloc, &mut text, config, operation, table, pieces)?;
-    put_end(alloc, &mut text, config, table, &numbers)?;
+    put_end(alloc, &mut text, config, operation, table, &numbers)?;
     Ok(text)
 }
 

@@ -1,3 +1,4 @@
+pub mod Columns
 pub mod Lines
 pub mod PasswordLines
 pub mod ReadPasswords

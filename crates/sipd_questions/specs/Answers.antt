@@ -15,12 +15,16 @@ use Rattle.sipd_questions.specs.declared.error.QuestionError.TheVariants.{BadMin
 use Rattle.sipd_questions.specs.Refusals.{◌>>=◌, confirmed}
 use Rattle.sipd_questions.specs.Question.{ShownQuestion, is_configured, operation_asked, uri_text, uri_read}
 use Rattle.sipd_questions.specs.Decide.{numbered, rule_for, decision_for, line_for, is_refused_before, is_bad_before, refusal_text, bad_text}
-use Rattle.sipd_questions.specs.Show.{clock_text, rule_line}
+use Rattle.sipd_questions.specs.Show.{clock_text, rule_text}
+
+-- what a rule says, behind its number
+abbrev pub ruling_line : List Hop → Rule → List ℕ
+ruling_line hops rule = numbered (codes "rule ") rule.id (codes ": ") ++ rule_text hops rule ++ codes "\n"
 
 -- the rule that decides, if one does
 abbrev pub ruling_text : List Hop → Option Rule → List ℕ
 ruling_text hops None = []
-ruling_text hops (Some rule) = rule_line hops rule
+ruling_text hops (Some rule) = ruling_line hops rule
 
 -- the minute of the day that was taken, as a number and as a clock shows it
 abbrev pub minute_text : ℕ → List ℕ

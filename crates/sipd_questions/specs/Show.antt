@@ -1,5 +1,5 @@
 -- What a configuration was understood to say, line by line.
-use Rattle.std.specs.Prelude.{ℕ, ℤ, pos, negsuc, ◌+◌, ◌/◌, ◌%◌, List, [], ◌∷◌, ◌++◌, codes, decimal, Option, Some, None}
+use Rattle.std.specs.Prelude.{ℕ, ℤ, pos, negsuc, ◌+◌, ◌/◌, ◌%◌, List, [], ◌∷◌, ◌++◌, length, drop, codes, decimal, Option, Some, None}
 use Rattle.std.specs.List.{flat_map, slice_get}
 use Rattle.sip_uri.specs.Addresses.{addr_text}
 use Rattle.sip_hops.specs.declared.hop.Hop.{Hop}
@@ -30,20 +30,35 @@ signed (negsuc n) = codes "-" ++ decimal (n + 1)
 abbrev pub clock_text : ℕ → List ℕ
 clock_text minute = decimal (minute / 60) ++ codes ":" ++ decimal (minute % 60 / 10) ++ decimal (minute % 10)
 
+-- ---- columns
+
+-- the blanks by which so many bytes are fewer than those of the longest key, `host_address`
+abbrev pub blanks_behind : ℕ → List ℕ
+blanks_behind n = drop n (codes "            ")
+
+-- a key in its column of thirteen bytes, with a blank at least behind it
+unfoldable pub key_column : List ℕ → List ℕ
+key_column key = key ++ blanks_behind (length key) ++ codes " "
+
+-- a key in its column, and a value
+abbrev pub line_of : List ℕ → List ℕ → List ℕ
+line_of key value = key_column key ++ value ++ codes "\n"
+
 -- ---- users and places
 
 -- a user with the groups, and without the digests
 abbrev pub user_line : User → List ℕ
-user_line user = codes "user " ++ user.name ++ flat_map (λ group. codes ", group " ++ group) user.groups ++ codes "\n"
+user_line user = key_column (codes "user") ++ user.name ++ flat_map (λ group. codes ", group " ++ group) user.groups ++ codes "\n"
 
 abbrev pub domain_line : List ℕ → List ℕ
-domain_line domain = codes "domain " ++ domain ++ codes "\n"
+domain_line domain = line_of (codes "domain") domain
 
 abbrev pub hop_line : Hop → List ℕ
-hop_line hop = codes "hop " ++ hop.name ++ codes " at " ++ addr_text hop.address ++ codes "\n"
+hop_line hop = key_column (codes "hop") ++ hop.name ++ codes " at " ++ addr_text hop.address ++ codes "\n"
 
 unfoldable pub row_line : HostAddress → List ℕ
-row_line row = codes "host_address " ++ row.host ++ numbered (codes ":") row.port (codes " at ") ++ addr_text row.address ++ codes "\n"
+row_line row =
+    key_column (codes "host_address") ++ row.host ++ numbered (codes ":") row.port (codes " at ") ++ addr_text row.address ++ codes "\n"
 
 -- ---- rules, in the words of the file
 
@@ -97,20 +112,24 @@ conditions_text rule = patterns_text rule ++ window_text rule.window
 abbrev pub rule_text : List Hop → Rule → List ℕ
 rule_text hops rule = conditions_text rule ++ codes ": " ++ verdict_text hops rule.verdict
 
+-- the key of a rule, with its number
+abbrev pub rule_key : ℕ → List ℕ
+rule_key id = numbered (codes "rule ") id (codes ":")
+
 abbrev pub rule_line : List Hop → Rule → List ℕ
-rule_line hops rule = numbered (codes "rule ") rule.id (codes ": ") ++ rule_text hops rule ++ codes "\n"
+rule_line hops rule = line_of (rule_key rule.id) (rule_text hops rule)
 
 -- ---- the whole
 
 -- where the server is: how it calls itself, and the address with the port that it binds
 abbrev pub own_lines : Config → List ℕ
 own_lines config =
-    codes "host " ++ config.own.host ++ codes "\nport " ++ decimal config.own.port ++ codes "\naddress "
-    ++ addr_text (record { ip = config.own.ip; port = config.bound_port })
+    line_of (codes "host") config.own.host ++ line_of (codes "port") (decimal config.own.port)
+    ++ line_of (codes "address") (addr_text (record { ip = config.own.ip; port = config.bound_port }))
 
 -- realm, host, port, address and offset
 abbrev pub head_lines : Config → List ℕ
-head_lines config = codes "realm " ++ config.realm ++ codes "\n" ++ own_lines config ++ codes "\noffset " ++ signed config.offset ++ codes "\n"
+head_lines config = line_of (codes "realm") config.realm ++ own_lines config ++ line_of (codes "offset") (signed config.offset)
 
 -- the domains, the users, and where hops and hosts are
 abbrev pub place_lines : Config → List ℕ

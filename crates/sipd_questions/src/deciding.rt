@@ -17,7 +17,7 @@ use crate::answer::Answer;
 use crate::asked::{is_configured, operation_asked, uri_text};
 use crate::error::{QuestionError, confirm};
 use crate::question::DecideQuestion;
-use crate::showing::{put_clock, put_rule};
+use crate::showing::{put_clock, put_rule_text};
 use crate::telling::{line_by, put_number};
 use sip_config_types::Config;
 use sip_hops::Hop;
@@ -66,12 +66,21 @@ pub fn line_for(
     line_by(alloc, config, operation, aor, rule, decision)
 }
 
+/// Adds what a rule says, on a line of its own.
+fn put_ruling_line(text: &mut Bytes, hops: &[Hop], rule: &Rule) -> Result<(), AllocError>
+    ensures { OnOk result (text.new ≡ text.old ++ Answers.ruling_line hops.now rule.now) }
+{
+    put_number(text, b"rule ", u64::from(rule.id), b": ")?;
+    put_rule_text(text, hops, rule)?;
+    text.push(b'\n')
+}
+
 /// Adds the rule that decides, if one does.
 fn put_ruling(text: &mut Bytes, hops: &[Hop], rule: Option<&Rule>) -> Result<(), AllocError>
     ensures { OnOk result (text.new ≡ text.old ++ Answers.ruling_text hops.now (option_copied rule.entry)) }
 {
     match rule {
-        Some(rule) => put_rule(text, hops, rule),
+        Some(rule) => put_ruling_line(text, hops, rule),
         None => Ok(()),
     }
 }

@@ -11,7 +11,7 @@ ghost use Rattle.sip_config.specs.Examples.{sample_head};
 ghost use Rattle.sip_policy.specs.Examples.{mufasas_a1};
 ghost use Rattle.sip_policy.specs.declared.decision.Decision.TheVariants.{Via, Deny, Challenge};
 ghost use Rattle.sipd_questions.specs.Examples.{answered, asked, mufasas_sha256, with_sha256};
-ghost use Rattle.sipd_questions.specs.Show.{shown_lines, clock_text, signed};
+ghost use Rattle.sipd_questions.specs.Show.{shown_lines, key_column, rule_key, clock_text, signed};
 ghost use Rattle.sipd_questions.specs.Warnings.{port_warning, register_warning, digest_warning, small_letter_warning, any_address_warning};
 
 /// On the sample: a rule without a user allows, a rule denies, none matches.
@@ -170,13 +170,22 @@ pub fn first_lines()
 
 /// The sample, line by line.
 pub fn sample_is_shown()
-    ensures { shown_lines sample ≡ codes "realm testrealm@host.com\nhost sip.host.com\nport 5060\naddress 127.0.0.1:5060\noffset 0\n"
-        ++ codes "domain host.com\nuser Mufasa, group staff\nuser alice\nuser help\nhop gw at 127.0.0.1:5090\n"
-        ++ codes "host_address pc.host.com:5060 at 127.0.0.1:5091\nrule 1: proven, register, self: allow\n"
-        ++ codes "rule 2: proven, list, self: allow\nrule 3: anyone, send *, vault@host.com: deny\n"
-        ++ codes "rule 4: anyone, send *, help@host.com: allow\nrule 5: group staff, send INVITE, 9*@host.com: via gw\n"
-        ++ codes "rule 6: proven, send *, @host.com: allow\n"
+    ensures { shown_lines sample ≡ codes "realm        testrealm@host.com\nhost         sip.host.com\nport         5060\n"
+        ++ codes "address      127.0.0.1:5060\noffset       0\ndomain       host.com\n"
+        ++ codes "user         Mufasa, group staff\nuser         alice\nuser         help\nhop          gw at 127.0.0.1:5090\n"
+        ++ codes "host_address pc.host.com:5060 at 127.0.0.1:5091\nrule 1:      proven, register, self: allow\n"
+        ++ codes "rule 2:      proven, list, self: allow\nrule 3:      anyone, send *, vault@host.com: deny\n"
+        ++ codes "rule 4:      anyone, send *, help@host.com: allow\nrule 5:      group staff, send INVITE, 9*@host.com: via gw\n"
+        ++ codes "rule 6:      proven, send *, @host.com: allow\n"
         ++ codes "warning: host is no IPv4 address and has no host_address: phones need DNS for it\n" }
+{}
+
+/// A key has thirteen bytes with its blanks; one that is longer has one blank behind it.
+pub fn keys_are_shown()
+    ensures key { key_column (codes "host") ≡ codes "host         " }
+    ensures longest { key_column (codes "host_address") ≡ codes "host_address " }
+    ensures rule { key_column (rule_key 12) ≡ codes "rule 12:     " }
+    ensures longer { key_column (rule_key 1000000) ≡ codes "rule 1000000: " }
 {}
 
 /// Minutes have two digits, and offsets behind UTC a sign.

@@ -1,4 +1,4 @@
-ghost use Rattle.std.specs.Prelude.{◌≡◌, ℕ, true, false, List, [], take, Option, Some};
+ghost use Rattle.std.specs.Prelude.{◌≡◌, ◌≤◌, ℕ, true, false, List, [], ◌++◌, length, take, codes, Option, Some};
 ghost use Rattle.sip_uri.specs.declared.uri.Uri.{Uri};
 ghost use Rattle.sip_uri.specs.Aor.{aor_of};
 ghost use Rattle.sip_uri.specs.Reading.{reading_of};
@@ -14,7 +14,7 @@ ghost use Rattle.sip_validate.specs.Refusal.{has_other_version, refusal};
 ghost use Rattle.sipd_questions.specs.Decide.{is_bad_before, is_refused_before};
 ghost use Rattle.sipd_questions.specs.Destination.{destination_of, targets_there};
 ghost use Rattle.sipd_questions.specs.Fronts.{front_before};
-ghost use Rattle.sipd_questions.specs.Show.{user_line};
+ghost use Rattle.sipd_questions.specs.Show.{key_column, user_line};
 ghost use Rattle.sipd_questions.specs.User.{without_cr, first_line, user_table};
 ghost use Rattle.sipd_questions.specs.declared.user.UserDigests.{UserDigests};
 
@@ -52,4 +52,11 @@ pub fn read_so_far()
 pub fn no_digest_is_shown()
     ensures { (user : User) (a1 : List ℕ) (a1_sha256 : Option (List ℕ))
         → user_line (record user { a1 = a1; a1_sha256 = a1_sha256 }) ≡ user_line user }
+{}
+
+/// The values of what is shown begin in one column: a key of up to twelve bytes, as `host_address` has, takes thirteen with its blanks.
+/// A longer one, that of a rule whose number has seven digits or more, has one blank behind it.
+pub fn values_begin_in_one_column()
+    ensures column { (key : List ℕ) → length key ≤ 12 → length (key_column key) ≡ 13 }
+    ensures longer { (key : List ℕ) → 12 ≤ length key → key_column key ≡ key ++ codes " " }
 {}

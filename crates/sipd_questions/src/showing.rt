@@ -1,7 +1,8 @@
 //! A configuration as it was understood, line by line, for `check --show`; and the text of a rule, for whoever names one.
-ghost use Rattle.std.specs.Prelude.{◌≡◌, ◌++◌, codes, IfOk, OnOk};
+ghost use Rattle.std.specs.Prelude.{◌≡◌, ◌++◌, codes, decimal, IfOk, OnOk};
 ghost use Rattle.std.specs.List.{flat_map};
 ghost use Rattle.std.specs.Option.{option_copied};
+ghost use Rattle.sip_uri.specs.Addresses;
 ghost use Rattle.sipd_questions.specs.Show as Definitions;
 
 use crate::telling::{hop_at, put_address, put_number};
@@ -12,6 +13,50 @@ use sip_policy::{OperationPattern, Rule, RuleVerdict, TargetPattern, User, Who, 
 use sip_text::Bytes;
 use sip_uri::Addr;
 use std::alloc::{AllocError, Global};
+
+/// The length of the longest key, `host_address`.
+const LONGEST_KEY: usize = 12;
+
+/// As many blanks.
+const BLANKS: &[u8] = b"            ";
+
+/// The blanks by which so many bytes are fewer than those of the longest key.
+#[tactic(auto, using(crate::proofs::Columns::none_left))]
+fn blanks_behind(length: usize) -> &'static [u8]
+    ensures { result.now ≡ Definitions.blanks_behind length }
+{
+    if length >= LONGEST_KEY {
+        return b"";
+    }
+    let (_, rest) = BLANKS.split_at(length);
+    rest
+}
+
+/// Adds a key, with the blanks up to its value.
+#[tactic(auto, unfolding(crate::specs::Show::key_column))]
+fn put_key(text: &mut Bytes, key: &[u8]) -> Result<(), AllocError>
+    ensures { OnOk result (text.new ≡ text.old ++ Definitions.key_column key.now) }
+{
+    text.extend(key)?;
+    text.extend(blanks_behind(key.len()))?;
+    text.extend(b" ")
+}
+
+/// Adds a key in its column, and a value.
+fn put_value(text: &mut Bytes, key: &[u8], value: &[u8]) -> Result<(), AllocError>
+    ensures { OnOk result (text.new ≡ text.old ++ Definitions.key_column key.now ++ value.now) }
+{
+    put_key(text, key)?;
+    text.extend(value)
+}
+
+/// Adds both as a line.
+fn put_line(text: &mut Bytes, key: &[u8], value: &[u8]) -> Result<(), AllocError>
+    ensures { OnOk result (text.new ≡ text.old ++ Definitions.line_of key.now value.now) }
+{
+    put_value(text, key, value)?;
+    text.push(b'\n')
+}
 
 /// Adds two texts.
 fn put_both(text: &mut Bytes, first: &[u8], second: &[u8]) -> Result<(), AllocError>
@@ -53,7 +98,7 @@ fn put_groups(text: &mut Bytes, groups: &[Bytes]) -> Result<(), AllocError>
 fn put_user(text: &mut Bytes, user: &User) -> Result<(), AllocError>
     ensures { OnOk result (text.new ≡ text.old ++ Definitions.user_line user.now) }
 {
-    put_both(text, b"user ", user.name.as_slice())?;
+    put_value(text, b"user", user.name.as_slice())?;
     put_groups(text, user.groups.as_slice())?;
     text.push(b'\n')
 }
@@ -70,8 +115,7 @@ fn put_users(text: &mut Bytes, users: &[User]) -> Result<(), AllocError>
 fn put_domain(text: &mut Bytes, domain: &[u8]) -> Result<(), AllocError>
     ensures { OnOk result (text.new ≡ text.old ++ Definitions.domain_line domain.now) }
 {
-    put_both(text, b"domain ", domain)?;
-    text.push(b'\n')
+    put_line(text, b"domain", domain)
 }
 
 fn put_domains(text: &mut Bytes, domains: &[Bytes]) -> Result<(), AllocError>
@@ -86,7 +130,7 @@ fn put_domains(text: &mut Bytes, domains: &[Bytes]) -> Result<(), AllocError>
 fn put_hop(alloc: Global, text: &mut Bytes, hop: &Hop) -> Result<(), AllocError>
     ensures { OnOk result (text.new ≡ text.old ++ Definitions.hop_line hop.now) }
 {
-    put_both(text, b"hop ", hop.name.as_slice())?;
+    put_value(text, b"hop", hop.name.as_slice())?;
     text.extend(b" at ")?;
     put_address(alloc, text, hop.address)?;
     text.push(b'\n')
@@ -105,7 +149,7 @@ fn put_hops(alloc: Global, text: &mut Bytes, hops: &[Hop]) -> Result<(), AllocEr
 fn put_row(alloc: Global, text: &mut Bytes, row: &HostAddress) -> Result<(), AllocError>
     ensures { OnOk result (text.new ≡ text.old ++ Definitions.row_line row.now) }
 {
-    put_both(text, b"host_address ", row.host.as_slice())?;
+    put_value(text, b"host_address", row.host.as_slice())?;
     put_number(text, b":", u64::from(row.port), b" at ")?;
     put_address(alloc, text, row.address)?;
     text.push(b'\n')
@@ -227,7 +271,7 @@ fn put_conditions(text: &mut Bytes, rule: &Rule) -> Result<(), AllocError>
 }
 
 /// Adds when a rule decides, and how.
-fn put_rule_text(text: &mut Bytes, hops: &[Hop], rule: &Rule) -> Result<(), AllocError>
+pub(crate) fn put_rule_text(text: &mut Bytes, hops: &[Hop], rule: &Rule) -> Result<(), AllocError>
     ensures { OnOk result (text.new ≡ text.old ++ Definitions.rule_text hops.now rule.now) }
 {
     put_conditions(text, rule)?;
@@ -253,47 +297,81 @@ pub fn patterns_text(alloc: Global, rule: &Rule) -> Result<Bytes, AllocError>
     Ok(text)
 }
 
-/// Adds a rule as it is shown, on a line of its own.
-pub(crate) fn put_rule(text: &mut Bytes, hops: &[Hop], rule: &Rule) -> Result<(), AllocError>
+/// Adds the key of a rule, with its number, in its column.
+fn put_rule_key(alloc: Global, text: &mut Bytes, id: u32) -> Result<(), AllocError>
+    ensures { OnOk result (text.new ≡ text.old ++ Definitions.key_column (Definitions.rule_key id)) }
+{
+    let mut key = Bytes::new(alloc);
+    put_number(&mut key, b"rule ", u64::from(id), b":")?;
+    put_key(text, key.as_slice())
+}
+
+fn put_rule(alloc: Global, text: &mut Bytes, hops: &[Hop], rule: &Rule) -> Result<(), AllocError>
     ensures { OnOk result (text.new ≡ text.old ++ Definitions.rule_line hops.now rule.now) }
 {
-    put_number(text, b"rule ", u64::from(rule.id), b": ")?;
+    put_rule_key(alloc, text, rule.id)?;
     put_rule_text(text, hops, rule)?;
     text.push(b'\n')
 }
 
-fn put_rules(text: &mut Bytes, hops: &[Hop], rules: &[Rule]) -> Result<(), AllocError>
+fn put_rules(
+    alloc: Global,
+    text: &mut Bytes,
+    hops: &[Hop],
+    rules: &[Rule],
+) -> Result<(), AllocError>
     ensures { OnOk result (text.new ≡ text.old ++ flat_map (Definitions.rule_line hops.now) rules.now) }
 {
     for rule in rules {
-        put_rule(text, hops, rule)?;
+        put_rule(alloc, text, hops, rule)?;
     }
     Ok(())
+}
+
+fn put_port(text: &mut Bytes, port: u16) -> Result<(), AllocError>
+    ensures { OnOk result (text.new ≡ text.old ++ Definitions.line_of (codes "port") (decimal port)) }
+{
+    put_key(text, b"port")?;
+    text.push_decimal(u64::from(port))?;
+    text.push(b'\n')
+}
+
+fn put_own_address(alloc: Global, text: &mut Bytes, address: Addr) -> Result<(), AllocError>
+    ensures { OnOk result (text.new ≡ text.old ++ Definitions.line_of (codes "address") (Addresses.addr_text address)) }
+{
+    put_key(text, b"address")?;
+    put_address(alloc, text, address)?;
+    text.push(b'\n')
+}
+
+fn put_offset(text: &mut Bytes, offset: i16) -> Result<(), AllocError>
+    ensures { OnOk result (text.new ≡ text.old ++ Definitions.line_of (codes "offset") (Definitions.signed offset)) }
+{
+    put_key(text, b"offset")?;
+    put_signed(text, offset)?;
+    text.push(b'\n')
 }
 
 /// Adds where the server is, and its address with the port that it binds.
 fn put_place(alloc: Global, text: &mut Bytes, config: &Config) -> Result<(), AllocError>
     ensures { OnOk result (text.new ≡ text.old ++ Definitions.own_lines config.now) }
 {
-    put_both(text, b"host ", config.own.host.as_slice())?;
-    put_number(text, b"\nport ", u64::from(config.own.port), b"\naddress ")?;
+    put_line(text, b"host", config.own.host.as_slice())?;
+    put_port(text, config.own.port)?;
     let address = Addr {
         ip: config.own.ip,
         port: config.bound_port,
     };
-    put_address(alloc, text, address)
+    put_own_address(alloc, text, address)
 }
 
 /// Adds what the keys before all tables say, but the domains.
 fn put_head(alloc: Global, text: &mut Bytes, config: &Config) -> Result<(), AllocError>
     ensures { OnOk result (text.new ≡ text.old ++ Definitions.head_lines config.now) }
 {
-    put_both(text, b"realm ", config.realm.as_slice())?;
-    text.push(b'\n')?;
+    put_line(text, b"realm", config.realm.as_slice())?;
     put_place(alloc, text, config)?;
-    text.extend(b"\noffset ")?;
-    put_signed(text, config.offset)?;
-    text.push(b'\n')
+    put_offset(text, config.offset)
 }
 
 /// Adds the domains, the users, and where hops and hosts are.
@@ -306,16 +384,21 @@ fn put_tables(alloc: Global, text: &mut Bytes, config: &Config) -> Result<(), Al
     put_rows(alloc, text, config.addresses.as_slice())
 }
 
-/// What a configuration was understood to say, a line for each: realm, host, port, address and offset, the domains, the
-/// users with their groups and without their digests, where hops and hosts are, the rules in their order; then a line for
-/// each thing that is allowed and seldom meant. `AllocError` is the only refusal.
+/// What a configuration was understood to say, a line for each, whose value begins in one column behind its key: realm, host, port,
+/// address and offset, the domains, the users with their groups and without their digests, where hops and hosts are, the rules in their
+/// order; then a line for each thing that is allowed and seldom meant. `AllocError` is the only refusal.
 pub fn show(alloc: Global, config: &Config) -> Result<Bytes, AllocError>
     ensures { IfOk result (λ text. text ≡ Definitions.shown_lines config.now) }
 {
     let mut text = Bytes::new(alloc);
     put_head(alloc, &mut text, config)?;
     put_tables(alloc, &mut text, config)?;
-    put_rules(&mut text, config.hops.as_slice(), config.rules.as_slice())?;
+    put_rules(
+        alloc,
+        &mut text,
+        config.hops.as_slice(),
+        config.rules.as_slice(),
+    )?;
     put_warnings(&mut text, config)?;
     Ok(text)
 }

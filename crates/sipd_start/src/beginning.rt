@@ -491,6 +491,17 @@ fn say_lost<C: Write>(old: &str, why: NotResumed, complaints: &mut C) {
     );
 }
 
+/// Says that no record stands in the folder in which it records: so it is at a first start, or where another disk is there.
+fn say_first<C: Write>(place: &RecordFiles, complaints: &mut C) {
+    if place.copy.is_some() {
+        let path = place.record.path.as_str();
+        let _ = writeln!(
+            complaints,
+            "sipd: starts anew, since no record stands beside {path} yet; phones are found when they register"
+        );
+    }
+}
+
 /// Reads the input, which can be read, up to its end, or until it fails, since until then another server may serve.
 fn read_out<I: TellingReader>(input: &mut I) {
     let mut part = [0u8; 512];
@@ -549,6 +560,7 @@ pub fn begin<
 {
     check_free(beginning.rt, &beginning.place)?;
     let Some(old) = &beginning.place.old else {
+        say_first(&beginning.place, complaints);
         return begin_anew(beginning, words);
     };
     let old = old.as_str();

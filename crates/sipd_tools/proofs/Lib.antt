@@ -1,1 +1,2 @@
 pub mod LastOnes
+pub mod Checked

@@ -1,5 +1,5 @@
 -- The configuration from which a change is told: that of a file, or the last one of a record.
-use Rattle.std.specs.Prelude.{◌≡◌, ◌⊎◌, ℕ, List, [], Option, Some, None, true}
+use Rattle.std.specs.Prelude.{◌≡◌, ◌≢◌, ◌⊎◌, ⊤, ℕ, Bool, List, [], Option, Some, None}
 use Rattle.std.specs.Io.KnownBytes.{Appends}
 use Rattle.sip_policy.specs.declared.operation.Operation.{Operation}
 use Rattle.sip_config_types.specs.declared.config.Config.{Config}
@@ -89,16 +89,26 @@ pub record IsNotLast (digest : List ℕ) (has_failed : Type 0) (before now : Opt
   pub left_of : later asks now ≡ later most_asks before
   pub why : (exit ≡ Memory) ⊎ IsFirstUnread digest (IsSpent has_failed asks) unread events exit ⊎ IsLastless digest (IsSpent has_failed asks) events exit
 
--- what a change from a stated configuration does was printed, and a server that runs can take it
-pub record TellsChange (old new : Option (List ℕ)) (config : Config) : Type 0 where
-  pub before : Config
-  pub stated : IsStated before
-  pub printed : Appends old new (told (changes_of before config))
-  pub taken : can_be_taken (changes_of before config) ≡ true
+-- ---- a change
 
--- what a stated configuration decides of an operation this one decides, too, of whoever asks for whomever: no cell was printed
-pub record KeepsPolicy (old new : Option (List ℕ)) (config : Config) (operation : Operation) : Type 0 where
-  pub before : Config
-  pub stated : IsStated before
+-- the configuration from which a change is told: a stated one where a file is named, and none else
+abbrev pub IsBefore : {A : Type 0} → Option A → Option Config → Type 0
+IsBefore None None = ⊤
+IsBefore None (Some before) = ⊥
+IsBefore (Some path) None = ⊥
+IsBefore (Some path) (Some before) = IsStated before
+
+-- what a change from one configuration to another does was printed, and this is whether a server that runs can take it
+pub record TellsChange (before config : Config) (taken : Bool) (old new : Option (List ℕ)) : Type 0 where
+  pub printed : Appends old new (told (changes_of before config))
+  pub is_taken : can_be_taken (changes_of before config) ≡ taken
+
+-- what one configuration decides of an operation another one decides, too, of whoever asks for whomever: no cell was printed
+pub record KeepsPolicy (before config : Config) (operation : Operation) (old new : Option (List ℕ)) : Type 0 where
   pub printed : Appends old new (changes_text before config operation)
   pub same : changes_text before config operation ≡ []
+
+-- it decides something otherwise, and exactly the cells in which it does were printed
+pub record ChangesPolicy (before config : Config) (operation : Operation) (old new : Option (List ℕ)) : Type 0 where
+  pub printed : Appends old new (changes_text before config operation)
+  pub other : changes_text before config operation ≢ []

@@ -1,3 +1,7 @@
+pub mod Ends
 pub mod Against
+pub mod Checks
+pub mod Reporting
 pub mod Deciding
 pub mod Tables
+pub mod UserTables

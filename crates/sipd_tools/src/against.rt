@@ -3,7 +3,7 @@ ghost use Rattle.std.specs.Prelude.{◌≡◌, IfErr, IfOk};
 ghost use Rattle.sip_replay_script.specs.Devices.{later};
 ghost use Rattle.sip_replay_script.specs.Lines.{pending, IsSpent};
 ghost use Rattle.sipd_tools.specs.Against;
-ghost use Rattle.sipd_tools.specs.Against.{Begins, IsFirstUnread, IsLastBehind, IsLastOf, IsNotLast, IsStated, IsWithoutLast};
+ghost use Rattle.sipd_tools.specs.Against.{Begins, IsBefore, IsFirstUnread, IsLastBehind, IsLastOf, IsNotLast, IsStated, IsWithoutLast};
 
 use sip_config_types::Config;
 use sip_record::RecordHead;
@@ -112,7 +112,7 @@ fn config_at<R: Files + AllocGlobal>(rt: &R, path: &str) -> Result<Config, Exit>
 }
 
 /// The configuration from which a change is told; where there is none, what is refused is complained of.
-pub(crate) fn config_before<R: Files + AllocGlobal, C: Write>(
+fn config_before<R: Files + AllocGlobal, C: Write>(
     rt: &R,
     path: &str,
     complaints: &mut C,
@@ -125,5 +125,19 @@ pub(crate) fn config_before<R: Files + AllocGlobal, C: Write>(
             let _ = writeln!(complaints, "sipd: of --against");
             Err(exit)
         }
+    }
+}
+
+/// That configuration, where a file is named.
+pub(crate) fn before_of<R: Files + AllocGlobal, C: Write>(
+    rt: &R,
+    path: &Option<String>,
+    complaints: &mut C,
+) -> Result<Option<Config>, Exit>
+    ensures { IfOk result (IsBefore path.now) }
+{
+    match path {
+        Some(path) => Ok(Some(config_before(rt, path.as_str(), complaints)?)),
+        None => Ok(None),
     }
 }

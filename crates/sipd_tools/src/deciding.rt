@@ -1,15 +1,19 @@
 //! The command `decide` carried out: which rule decides about a request, and whether that is as expected; which requests of a log would be
 //! decided otherwise.
-ghost use Rattle.std.specs.Prelude.{◌≡◌, IfErr, IfOk, OnOk, option_map, string_bytes};
-ghost use Rattle.std.specs.Option.{option_copied};
+ghost use Rattle.std.specs.Prelude.{◌≡◌, ◌⊎◌, IfErr, IfOk, OnOk};
+ghost use Rattle.sip_replay_script.specs.Devices.{later, GaveUp};
+ghost use Rattle.sipd_asked_again.specs.Steps.{AsksAgain};
 ghost use Rattle.sipd_exit.specs.declared.exit.Exit.TheVariants.{OtherDecision};
 ghost use Rattle.sipd_questions.specs.Question.{shown};
 ghost use Rattle.sipd_tools.specs.Deciding as Definitions;
-ghost use Rattle.sipd_tools.specs.Deciding.{Answered, Decides, DecidesLog, DecidesOne, IsExpected, IsMinute};
+ghost use Rattle.sipd_tools.specs.Deciding.{Answered, AnswersAsExpected, Decides, DecidesLog, DecidesOne, DecidesOtherwise, EndsAnswering};
+ghost use Rattle.sipd_tools.specs.Deciding.{EndsDeciding, EndsLog, IsExpected, IsMinute};
+ghost use Rattle.sipd_tools.specs.Ends.{IsUntold};
 
-use crate::tools::{exit_of_decision, exit_of_report};
+use crate::tools::{exit_of_decision, exit_of_report, name_of};
 use sip_config_types::Config;
 use sip_policy::{Decision, minute_of};
+use sip_replay_script::{TellingReader, TellingWriter};
 use sipd_arguments::{DecideCall, QuestionCall, Verdict};
 use sipd_asked_again::{Counts, ask_again};
 use sipd_exit::{DeviceFault, Exit, config_of, print};
@@ -66,16 +70,6 @@ fn hold_decision(expected: Option<Verdict>, decision: Option<Decision>) -> Resul
     }
 }
 
-/// The bytes of a name, if one is said.
-fn name_of(name: &Option<String>) -> Option<&[u8]>
-    ensures { option_copied result ≡ option_map string_bytes name.now }
-{
-    match name {
-        Some(name) => Some(name.as_bytes()),
-        None => None,
-    }
-}
-
 /// What a call asks at a minute.
 fn question_of(call: &QuestionCall, minute: u16) -> DecideQuestion<'_>
     ensures { shown result ≡ Definitions.question_at call.now minute }
@@ -96,7 +90,8 @@ fn answer_call<W: Write>(
     minute: u16,
     output: &mut W,
 ) -> Result<Option<Decision>, Exit>
-    ensures { IfOk result (Answered config.now call.now minute (W.contents output.old) (W.contents output.new)) }
+    ensures answered { IfOk result (Answered config.now call.now minute (W.contents output.old) (W.contents output.new)) }
+    ensures refused { IfErr result IsUntold }
 {
     match answer_to(alloc, config, &question_of(call, minute)) {
         Ok(answer) => {
@@ -107,6 +102,22 @@ fn answer_call<W: Write>(
     }
 }
 
+/// The same, and holds what the rules decide against what is expected: `OtherDecision`, where that is another.
+fn hold_answer<W: Write>(
+    alloc: Global,
+    config: &Config,
+    call: &QuestionCall,
+    minute: u16,
+    output: &mut W,
+) -> Result<(), Exit>
+    ensures answered { OnOk result (AnswersAsExpected config.now call.now minute (W.contents output.old) (W.contents output.new)) }
+    ensures other { IfErr result (EndsAnswering config.now call.now minute (W.contents output.old) (W.contents output.new)) }
+{
+    let decision = answer_call(alloc, config, call, minute, output)?;
+    hold_decision(call.expect, decision)?;
+    Ok(())
+}
+
 /// Prints which rule would decide, what it says, where a call would go, and the minute; `OtherDecision` behind that, where another decision
 /// is expected.
 fn decide_one<R: Files + Clock + AllocGlobal, W: Write>(
@@ -114,12 +125,13 @@ fn decide_one<R: Files + Clock + AllocGlobal, W: Write>(
     call: &QuestionCall,
     output: &mut W,
 ) -> Result<(), Exit>
-    ensures { OnOk result (DecidesOne call.now (W.contents output.old) (W.contents output.new)) }
+    ensures decided { OnOk result (DecidesOne call.now (W.contents output.old) (W.contents output.new)) }
+    ensures other { IfErr result (DecidesOtherwise call.now (W.contents output.old) (W.contents output.new)) }
 {
     let config = config_of(rt, Some(call.config.as_str()))?;
     let minute = minute_asked(rt, call.minute, config.offset)?;
-    let decision = answer_call(rt.alloc(), &config, call, minute, output)?;
-    hold_decision(call.expect, decision)
+    hold_answer(rt.alloc(), &config, call, minute, output)?;
+    Ok(())
 }
 
 /// Complains of how many lines were asked, and of how many couldn't be.
@@ -134,7 +146,24 @@ fn complain_of_counts<C: Write>(counts: Counts, complaints: &mut C) {
     }
 }
 
-/// Prints the lines of a log that would be decided otherwise.
+/// Prints the lines of a log that a configuration would decide otherwise about, and says how many there were.
+fn tell_log<I: TellingReader, W: TellingWriter>(
+    alloc: Global,
+    config: &Config,
+    input: &mut I,
+    output: &mut W,
+) -> Result<Counts, Exit>
+    ensures told { IfOk result (AsksAgain config.now (I.remaining input.old) (W.contents output.old) (W.contents output.new)) }
+    ensures refused { IfErr result (EndsLog config.now (I.remaining input.old) (W.contents output.old) (W.contents output.new)
+        (I.has_failed input.new ⊎ (I.asked input.new ≡ later 4294967295 (I.asked input.old))) (GaveUp (W.has_failed output.new) (W.called output.new))) }
+{
+    match ask_again(alloc, config, input, output) {
+        Ok(counts) => Ok(counts),
+        Err(e) => Err(exit_of_report(e)),
+    }
+}
+
+/// The same of the log on standard input, under the configuration of a file.
 fn decide_log<R: Files + AllocGlobal, I: Read, W: Write, C: Write>(
     rt: &R,
     path: &str,
@@ -145,10 +174,7 @@ fn decide_log<R: Files + AllocGlobal, I: Read, W: Write, C: Write>(
     ensures { OnOk result (DecidesLog (I.remaining input.old) (W.contents output.old) (W.contents output.new)) }
 {
     let config = config_of(rt, Some(path))?;
-    let counts = match ask_again(rt.alloc(), &config, input, output) {
-        Ok(counts) => counts,
-        Err(e) => return Err(exit_of_report(e)),
-    };
+    let counts = tell_log(rt.alloc(), &config, input, output)?;
     complain_of_counts(counts, complaints);
     Ok(())
 }
@@ -161,10 +187,14 @@ pub fn decide<R: Files + Clock + AllocGlobal, I: Read, W: Write, C: Write>(
     output: &mut W,
     complaints: &mut C,
 ) -> Result<(), Exit>
-    ensures { OnOk result (Decides call.now (I.remaining input.old) (W.contents output.old) (W.contents output.new)) }
+    ensures decided { OnOk result (Decides call.now (I.remaining input.old) (W.contents output.old) (W.contents output.new)) }
+    ensures other { IfErr result (EndsDeciding call.now (W.contents output.old) (W.contents output.new)) }
 {
     match call {
         DecideCall::Question(call) => decide_one(rt, call, output),
-        DecideCall::Log { config } => decide_log(rt, config.as_str(), input, output, complaints),
+        DecideCall::Log { config } => {
+            decide_log(rt, config.as_str(), input, output, complaints)?;
+            Ok(())
+        }
     }
 }

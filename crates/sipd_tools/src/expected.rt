@@ -1,4 +1,7 @@
 //! What is expected of a policy (`check --expect`): a file of lines, held against a configuration.
+ghost use Rattle.std.specs.Prelude.{◌≡◌, is_some, IfErr, IfOk, OnOk, true};
+ghost use Rattle.sipd_tools.specs.Checks.{EndsHolding, EndsHoldingLines, Holds, HoldsAs};
+ghost use Rattle.sipd_tools.specs.Ends.{IsUnanswered};
 
 use sip_config_types::Config;
 use sip_text::Bytes;
@@ -9,7 +12,9 @@ use std::io::Write;
 use std::rt::Files;
 
 /// How the program ends where a line isn't known to hold or to fail.
-fn exit_of_line(alloc: Global, e: FileError) -> Exit {
+fn exit_of_line(alloc: Global, e: FileError) -> Exit
+    ensures { IsUnanswered result }
+{
     if e.why == LineError::NoMemory {
         return Exit::Memory;
     }
@@ -25,7 +30,9 @@ pub(crate) fn lines_in<R: Files + AllocGlobal, C: Write>(
     rt: &R,
     path: &Option<String>,
     complaints: &mut C,
-) -> Result<Option<Bytes>, Exit> {
+) -> Result<Option<Bytes>, Exit>
+    ensures { IfOk result (λ lines. is_some lines ≡ is_some path.now) }
+{
     let Some(path) = path else {
         return Ok(None);
     };
@@ -38,13 +45,18 @@ pub(crate) fn lines_in<R: Files + AllocGlobal, C: Write>(
     }
 }
 
-/// Prints which of these lines the policy of a configuration isn't as, each with a question that is decided otherwise.
-pub(crate) fn hold_against<W: Write>(
+/// Prints which of these lines the policy of a configuration isn't as, each with a question that is decided otherwise. `Unexpected` behind
+/// that, where there is one.
+#[tactic(auto, using(crate::proofs::Checked::held))]
+fn hold_against<W: Write>(
     alloc: Global,
     lines: &[u8],
     config: &Config,
     output: &mut W,
-) -> Result<(), Exit> {
+) -> Result<(), Exit>
+    ensures holds { OnOk result (HoldsAs config.now lines.now true (W.contents output.old) (W.contents output.new)) }
+    ensures other { IfErr result (EndsHoldingLines config.now lines.now (W.contents output.old) (W.contents output.new)) }
+{
     let told = match told_of(alloc, config, lines) {
         Ok(told) => told,
         Err(e) => return Err(exit_of_line(alloc, e)),
@@ -54,5 +66,21 @@ pub(crate) fn hold_against<W: Write>(
         Ok(())
     } else {
         Err(Exit::Unexpected)
+    }
+}
+
+/// The same, where lines are expected.
+pub(crate) fn hold<W: Write>(
+    alloc: Global,
+    expected: &Option<Bytes>,
+    config: &Config,
+    output: &mut W,
+) -> Result<(), Exit>
+    ensures holds { OnOk result (Holds expected.now config.now (W.contents output.old) (W.contents output.new)) }
+    ensures other { IfErr result (EndsHolding expected.now config.now (W.contents output.old) (W.contents output.new)) }
+{
+    match expected {
+        Some(lines) => hold_against(alloc, lines.as_slice(), config, output),
+        None => Ok(()),
     }
 }

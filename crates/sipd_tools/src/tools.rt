@@ -1,15 +1,31 @@
 //! The commands `check`, `matrix`, `report` and `user` carried out: files read, answers printed, and the exit of each.
-ghost use Rattle.std.specs.Prelude.{◌≡◌, [], IfErr, IfOk, Ok, OnOk};
+ghost use Rattle.std.specs.Prelude.{◌≡◌, ◌≢◌, ◌⊎◌, [], true, false, option_map, string_bytes, IfErr, IfOk, Ok, OnOk};
+ghost use Rattle.std.specs.Option.{option_copied};
 ghost use Rattle.std.specs.Io.KnownBytes.{Appends};
-ghost use Rattle.sipd_exit.specs.declared.exit.Exit.TheVariants.{OtherPolicy};
+ghost use Rattle.sip_config.specs.Stated.{States};
+ghost use Rattle.sip_replay_script.specs.Devices.{later, GaveUp};
+ghost use Rattle.sipd_arguments.specs.Summary;
+ghost use Rattle.sipd_exit.specs.Exits.{IsPrintFault};
+ghost use Rattle.sipd_exit.specs.declared.exit.Exit.TheVariants.{OtherFrame, OtherPolicy};
 ghost use Rattle.sipd_questions.specs.Question;
-ghost use Rattle.sipd_tools.specs.Against.{KeepsPolicy, TellsChange};
+ghost use Rattle.sipd_questions.specs.Show;
+ghost use Rattle.sipd_report.specs.Report.{Reports};
+ghost use Rattle.sipd_tools.specs.Against.{ChangesPolicy, KeepsPolicy, TellsChange};
+ghost use Rattle.sipd_tools.specs.Checks.{Checks, EndsChecking, EndsTelling, EndsUnderstanding, EndsWithin, IsReadAs, IsUnderstood};
+ghost use Rattle.sipd_tools.specs.Checks.{Shows, ShowsWrong, Tells, TellsAndHolds};
+ghost use Rattle.sipd_tools.specs.Ends.{EndsAs, IsUnanswered};
+ghost use Rattle.sipd_tools.specs.Reporting;
+ghost use Rattle.sipd_tools.specs.Reporting.{AsksFor, EndsReporting, IsOffset, MakesReport};
 ghost use Rattle.sipd_tools.specs.Tables;
+ghost use Rattle.sipd_tools.specs.UserTables;
+ghost use Rattle.sipd_tools.specs.UserTables.{AddsUser, MakesUser, MakesUserAlone};
 
-use crate::against::config_before;
-use crate::expected::{hold_against, lines_in};
+use crate::against::before_of;
+use crate::expected::{hold, lines_in};
+use sip_config::ConfigError;
 use sip_config_types::Config;
 use sip_policy::Operation;
+use sip_replay_script::{TellingReader, TellingWriter};
 use sip_text::Bytes;
 use sipd_arguments::{CheckCall, MatrixCall, ReportCall, UserCall, summary_of};
 use sipd_changes::{can_be_taken, changes_of, told};
@@ -28,7 +44,9 @@ use std::io::{Read, Write};
 use std::rt::Files;
 
 /// How the program ends where a question has no answer.
-fn exit_of_question(alloc: Global, e: QuestionError) -> Exit {
+fn exit_of_question(alloc: Global, e: QuestionError) -> Exit
+    ensures { IsUnanswered result }
+{
     match e {
         QuestionError::NoMemory => Exit::Memory,
         e => match format!(in alloc; "{e}") {
@@ -39,11 +57,10 @@ fn exit_of_question(alloc: Global, e: QuestionError) -> Exit {
 }
 
 /// The same of a question about a method: where it has a small letter, with the one in capitals.
-pub(crate) fn exit_of_decision(
-    alloc: Global,
-    e: QuestionError,
-    method: &str,
-) -> Result<Exit, Exit> {
+pub(crate) fn exit_of_decision(alloc: Global, e: QuestionError, method: &str) -> Result<Exit, Exit>
+    ensures asked { IfOk result IsUnanswered }
+    ensures refused { IfErr result IsUnanswered }
+{
     if e != QuestionError::SmallLetter {
         return Ok(exit_of_question(alloc, e));
     }
@@ -51,16 +68,20 @@ pub(crate) fn exit_of_decision(
     Ok(Exit::Question(format!(in alloc; "{e}: {capitals}")?))
 }
 
-/// An answer, or why there is none.
-fn answer(alloc: Global, answer: Result<Bytes, QuestionError>) -> Result<Bytes, Exit> {
-    match answer {
-        Ok(text) => Ok(text),
-        Err(e) => Err(exit_of_question(alloc, e)),
+/// The bytes of a word, if it is said.
+pub(crate) fn name_of(name: &Option<String>) -> Option<&[u8]>
+    ensures { option_copied result ≡ option_map string_bytes name.now }
+{
+    match name {
+        Some(name) => Some(name.as_bytes()),
+        None => None,
     }
 }
 
 /// How the program ends where a report can't be made.
-pub(crate) fn exit_of_report(e: ReportError) -> Exit {
+pub(crate) fn exit_of_report(e: ReportError) -> Exit
+    ensures { result ≡ Reporting.exit_of_report e }
+{
     match e {
         ReportError::NoMemory => Exit::Memory,
         ReportError::Read | ReportError::Write => Exit::Device(DeviceFault::Other),
@@ -70,7 +91,7 @@ pub(crate) fn exit_of_report(e: ReportError) -> Exit {
 /// How the program ends behind the lines of the cells that change: well, where there is none.
 fn ends_behind(lines: &[u8]) -> Result<(), Exit>
     ensures same { OnOk result (lines.now ≡ []) }
-    ensures other { IfErr result (λ exit. exit ≡ OtherPolicy) }
+    ensures other { IfErr result (λ exit. (exit ≡ OtherPolicy) × (lines.now ≢ [])) }
 {
     match lines.split_first() {
         None => Ok(()),
@@ -78,20 +99,18 @@ fn ends_behind(lines: &[u8]) -> Result<(), Exit>
     }
 }
 
-/// Prints the cells of the table that change from the configuration of a file, or from the last one of a record. It ends well where none does.
-fn tell_policy<R: Files + AllocGlobal, W: Write, C: Write>(
-    rt: &R,
-    path: &str,
+/// Prints the cells of the table that change from one configuration to another. It ends well where none does, and else with `OtherPolicy`.
+fn tell_policy<W: Write>(
+    alloc: Global,
+    old: &Config,
     new: &Config,
     operation: &Operation,
     output: &mut W,
-    complaints: &mut C,
 ) -> Result<(), Exit>
-    ensures { OnOk result (KeepsPolicy (W.contents output.old) (W.contents output.new) new.now operation.now) }
+    ensures kept { OnOk result (KeepsPolicy old.now new.now operation.now (W.contents output.old) (W.contents output.new)) }
+    ensures other { IfErr result (EndsAs OtherPolicy (ChangesPolicy old.now new.now operation.now (W.contents output.old) (W.contents output.new))) }
 {
-    let alloc = rt.alloc();
-    let old = config_before(rt, path, complaints)?;
-    let text = changes_text(alloc, &old, new, operation)?;
+    let text = changes_text(alloc, old, new, operation)?;
     print(text.as_slice(), output)?;
     ends_behind(text.as_slice())?;
     Ok(())
@@ -124,28 +143,30 @@ fn print_table<W: Write>(
     operation: &Operation,
     output: &mut W,
 ) -> Result<(), Exit>
-    ensures { OnOk result (Appends (W.contents output.old) (W.contents output.new)
+    ensures printed { OnOk result (Appends (W.contents output.old) (W.contents output.new)
         (Tables.table_text call.now.csv call.now.html config.now operation.now)) }
+    ensures refused { IfErr result IsPrintFault }
 {
     let text = table_text(alloc, call.csv, call.html, config, operation)?;
     print(text.as_slice(), output)
 }
 
-/// Prints that, or the cells alone that change.
-fn print_policy<R: Files + AllocGlobal, W: Write, C: Write>(
-    rt: &R,
+/// Prints that, or the cells alone that change from another configuration.
+fn print_policy<W: Write>(
+    alloc: Global,
     call: &MatrixCall,
     config: &Config,
     operation: &Operation,
+    before: &Option<Config>,
     output: &mut W,
-    complaints: &mut C,
 ) -> Result<(), Exit>
-    ensures { OnOk result (Tables.PrintsAgainst call.now.against call.now.csv call.now.html config.now operation.now
+    ensures printed { OnOk result (Tables.PrintsAgainst before.now call.now.csv call.now.html config.now operation.now
         (W.contents output.old) (W.contents output.new)) }
+    ensures other { IfErr result (Tables.EndsAgainst before.now config.now operation.now (W.contents output.old) (W.contents output.new)) }
 {
-    match &call.against {
-        Some(path) => tell_policy(rt, path.as_str(), config, operation, output, complaints),
-        None => print_table(rt.alloc(), call, config, operation, output),
+    match before {
+        Some(old) => tell_policy(alloc, old, config, operation, output),
+        None => print_table(alloc, call, config, operation, output),
     }
 }
 
@@ -177,19 +198,71 @@ pub fn matrix<R: Files + AllocGlobal, W: Write, C: Write>(
     output: &mut W,
     complaints: &mut C,
 ) -> Result<(), Exit>
-    ensures { OnOk result (Tables.PrintsPolicy call.now (W.contents output.old) (W.contents output.new)) }
+    ensures printed { OnOk result (Tables.PrintsPolicy call.now (W.contents output.old) (W.contents output.new)) }
+    ensures other { IfErr result (Tables.EndsMatrix call.now (W.contents output.old) (W.contents output.new)) }
 {
+    let alloc = rt.alloc();
     let config = config_of(rt, Some(call.config.as_str()))?;
-    let operation = operation_of(rt.alloc(), call)?;
-    print_policy(rt, call, &config, &operation, output, complaints)?;
+    let operation = operation_of(alloc, call)?;
+    let before = before_of(rt, &call.against, complaints)?;
+    print_policy(alloc, call, &config, &operation, &before, output)?;
     Ok(())
 }
 
 /// The time of day of a report: that of a configuration, or UTC.
-fn offset_of<R: Files + AllocGlobal>(rt: &R, path: &Option<String>) -> Result<i16, Exit> {
+fn offset_of<R: Files + AllocGlobal>(rt: &R, path: &Option<String>) -> Result<i16, Exit>
+    ensures { IfOk result (IsOffset path.now) }
+{
     match path {
-        Some(path) => Ok(config_of(rt, Some(path.as_str()))?.offset),
+        Some(path) => {
+            let config = config_of(rt, Some(path.as_str()))?;
+            Ok(config.offset)
+        }
         None => Ok(0),
+    }
+}
+
+/// The form of a report.
+fn form_of(csv: bool) -> Form
+    ensures { result ≡ Reporting.form_of csv }
+{
+    if csv { Form::Csv } else { Form::Table }
+}
+
+/// What a call asks for, by a clock that is so many minutes ahead of UTC.
+fn query_of(call: &ReportCall, offset: i16) -> Query<'_>
+    ensures { AsksFor call.now offset result }
+{
+    Query {
+        user: name_of(&call.user),
+        rule: call.rule,
+        denied: call.denied,
+        offset,
+        form: form_of(call.csv),
+    }
+}
+
+/// Prints the report of the audit lines of the input, and says how many lines are none.
+fn print_report<I: TellingReader, W: TellingWriter>(
+    alloc: Global,
+    query: &Query<'_>,
+    input: &mut I,
+    output: &mut W,
+) -> Result<u64, Exit>
+    ensures reported { IfOk result (Reports query.now (I.remaining input.old) (W.contents output.old) (W.contents output.new)) }
+    ensures refused { IfErr result (EndsReporting query.now (I.remaining input.old) (W.contents output.old) (W.contents output.new)
+        (I.has_failed input.new ⊎ (I.asked input.new ≡ later 4294967295 (I.asked input.old))) (GaveUp (W.has_failed output.new) (W.called output.new))) }
+{
+    match report(alloc, query, input, output) {
+        Ok(none) => Ok(none),
+        Err(e) => Err(exit_of_report(e)),
+    }
+}
+
+/// Complains of how many lines are no audit lines, beside comma-separated values.
+fn complain_of_lines<C: Write>(csv: bool, none: u64, complaints: &mut C) {
+    if csv && none > 0 {
+        let _ = writeln!(complaints, "sipd: {none} lines are no audit lines");
     }
 }
 
@@ -201,26 +274,20 @@ pub fn make_report<R: Files + AllocGlobal, I: Read, W: Write, C: Write>(
     input: &mut I,
     output: &mut W,
     complaints: &mut C,
-) -> Result<(), Exit> {
-    let query = Query {
-        user: call.user.as_ref().map(String::as_bytes),
-        rule: call.rule,
-        denied: call.denied,
-        offset: offset_of(rt, &call.config)?,
-        form: if call.csv { Form::Csv } else { Form::Table },
-    };
-    let none = match report(rt.alloc(), &query, input, output) {
-        Ok(none) => none,
-        Err(e) => return Err(exit_of_report(e)),
-    };
-    if call.csv && none > 0 {
-        let _ = writeln!(complaints, "sipd: {none} lines are no audit lines");
-    }
-    Ok(output.flush()?)
+) -> Result<(), Exit>
+    ensures { OnOk result (MakesReport call.now (I.remaining input.old) (W.contents output.old) (W.contents output.new)) }
+{
+    let offset = offset_of(rt, &call.config)?;
+    let query = query_of(call, offset);
+    let none = print_report(rt.alloc(), &query, input, output)?;
+    complain_of_lines(call.csv, none, complaints);
+    Ok(())
 }
 
 /// Complains of what is seldom meant, if anything is.
-fn complain<C: Write>(alloc: Global, warning: &Bytes, complaints: &mut C) -> Result<(), Exit> {
+fn complain<C: Write>(alloc: Global, warning: &Bytes, complaints: &mut C) -> Result<(), Exit>
+    ensures { IfErr result IsPrintFault }
+{
     if warning.as_slice().is_empty() {
         return Ok(());
     }
@@ -229,15 +296,53 @@ fn complain<C: Write>(alloc: Global, warning: &Bytes, complaints: &mut C) -> Res
     Ok(())
 }
 
-/// The table of a user by what the words of the command line say.
-fn table_of(alloc: Global, call: &UserCall, password: &[u8]) -> Result<Bytes, QuestionError> {
-    let realm = call.realm.as_ref().map(String::as_bytes).unwrap_or(b"");
-    let digests = if call.sha256 {
+/// The realm that is said.
+fn realm_of(call: &UserCall) -> &[u8]
+    ensures { result.now ≡ UserTables.realm_of call.now }
+{
+    match &call.realm {
+        Some(realm) => realm.as_bytes(),
+        None => b"",
+    }
+}
+
+/// The digests that are wanted.
+fn digests_of(sha256: bool) -> UserDigests
+    ensures { result ≡ UserTables.digests_of sha256 }
+{
+    if sha256 {
         UserDigests::Both
     } else {
         UserDigests::Md5
-    };
-    user_table(alloc, call.name.as_bytes(), realm, password, digests)
+    }
+}
+
+/// The table of a user by what the words of the command line say.
+fn table_of(alloc: Global, call: &UserCall, password: &[u8]) -> Result<Bytes, Exit>
+    ensures { IfOk result (λ table. UserTables.table_of call.now password.now ≡ Ok table) }
+{
+    let digests = digests_of(call.sha256);
+    match user_table(
+        alloc,
+        call.name.as_bytes(),
+        realm_of(call),
+        password,
+        digests,
+    ) {
+        Ok(table) => Ok(table),
+        Err(e) => Err(exit_of_question(alloc, e)),
+    }
+}
+
+/// The table of a user to be added to a configuration.
+fn table_in(alloc: Global, config: &Config, call: &UserCall, password: &[u8]) -> Result<Bytes, Exit>
+    ensures { IfOk result (λ table. UserTables.table_in config.now call.now password.now ≡ Ok table) }
+{
+    let realm = name_of(&call.realm);
+    match added_user(alloc, config, call.name.as_bytes(), realm, password) {
+        Ok(table) => Ok(table),
+        Err(e) => Err(exit_of_question(alloc, e)),
+    }
 }
 
 /// Prints the table of a user to be added to the configuration of a file.
@@ -248,19 +353,31 @@ fn add_user<R: Files + AllocGlobal, I: Read, W: Write, C: Write>(
     input: &mut I,
     output: &mut W,
     complaints: &mut C,
-) -> Result<(), Exit> {
+) -> Result<(), Exit>
+    ensures { OnOk result (AddsUser call.now (I.remaining input.old) (W.contents output.old) (W.contents output.new)) }
+{
     let alloc = rt.alloc();
     let config = config_of(rt, Some(path))?;
     let password = password_in(alloc, input)?;
-    let table = added_user(
-        alloc,
-        &config,
-        call.name.as_bytes(),
-        call.realm.as_ref().map(String::as_bytes),
-        password.as_slice(),
-    );
-    print(answer(alloc, table)?.as_slice(), output)?;
-    complain(alloc, &digest_warning(alloc, &config)?, complaints)
+    let table = table_in(alloc, &config, call, password.as_slice())?;
+    print(table.as_slice(), output)?;
+    complain(alloc, &digest_warning(alloc, &config)?, complaints)?;
+    Ok(())
+}
+
+/// Prints the table of a user alone.
+fn print_user<I: Read, W: Write>(
+    alloc: Global,
+    call: &UserCall,
+    input: &mut I,
+    output: &mut W,
+) -> Result<(), Exit>
+    ensures { OnOk result (MakesUserAlone call.now (I.remaining input.old) (W.contents output.old) (W.contents output.new)) }
+{
+    let password = password_in(alloc, input)?;
+    let table = table_of(alloc, call, password.as_slice())?;
+    print(table.as_slice(), output)?;
+    Ok(())
 }
 
 /// Prints a user's table; the password is the first line of the input.
@@ -270,21 +387,25 @@ pub fn make_user<R: Files + AllocGlobal, I: Read, W: Write, C: Write>(
     input: &mut I,
     output: &mut W,
     complaints: &mut C,
-) -> Result<(), Exit> {
-    if let Some(path) = &call.config {
-        return add_user(rt, path.as_str(), call, input, output, complaints);
+) -> Result<(), Exit>
+    ensures { OnOk result (MakesUser call.now (I.remaining input.old) (W.contents output.old) (W.contents output.new)) }
+{
+    match &call.config {
+        Some(path) => add_user(rt, path.as_str(), call, input, output, complaints),
+        None => print_user(rt.alloc(), call, input, output),
     }
-    let alloc = rt.alloc();
-    let password = password_in(alloc, input)?;
-    let table = table_of(alloc, call, password.as_slice());
-    print(answer(alloc, table)?.as_slice(), output)
 }
 
 /// Prints all that was understood of a configuration, and gives it; or what is wrong with it.
-fn show_config<W: Write>(alloc: Global, bytes: &[u8], output: &mut W) -> Result<Config, Exit> {
+#[tactic(auto, using(crate::proofs::Checked::read_as, crate::proofs::Checked::refused_as))]
+fn show_config<W: Write>(alloc: Global, bytes: &[u8], output: &mut W) -> Result<Config, Exit>
+    ensures stated { IfOk result (IsReadAs bytes.now) }
+    ensures shown { IfOk result (λ config. Appends (W.contents output.old) (W.contents output.new) (Show.shown_lines config)) }
+    ensures refused { IfErr result (λ exit. IsPrintFault exit ⊎ ShowsWrong bytes.now (W.contents output.old) (W.contents output.new) exit) }
+{
     let Ok(text) = str::from_utf8(bytes) else {
         print(explain_encoding(alloc, bytes)?.as_slice(), output)?;
-        return config_of_bytes(alloc, bytes);
+        return Err(Exit::from(ConfigError::BadToml));
     };
     match read_or_tell(alloc, text)? {
         Reading::Stated(config) => {
@@ -298,20 +419,17 @@ fn show_config<W: Write>(alloc: Global, bytes: &[u8], output: &mut W) -> Result<
     }
 }
 
-/// Prints what a change from the configuration of a file, or from the last one of a record, would do. A server that runs has to be able to
-/// take it.
-fn tell_changes<R: Files + AllocGlobal, W: Write, C: Write>(
-    rt: &R,
-    path: &str,
+/// Prints what a change from one configuration to another would do. A server that runs has to be able to take it: `OtherFrame` else.
+fn tell_changes<W: Write>(
+    alloc: Global,
+    old: &Config,
     new: &Config,
     output: &mut W,
-    complaints: &mut C,
 ) -> Result<(), Exit>
-    ensures { OnOk result (TellsChange (W.contents output.old) (W.contents output.new) new.now) }
+    ensures taken { OnOk result (TellsChange old.now new.now true (W.contents output.old) (W.contents output.new)) }
+    ensures other { IfErr result (EndsAs OtherFrame (TellsChange old.now new.now false (W.contents output.old) (W.contents output.new))) }
 {
-    let alloc = rt.alloc();
-    let old = config_before(rt, path, complaints)?;
-    let changes = changes_of(alloc, &old, new)?;
+    let changes = changes_of(alloc, old, new)?;
     print(told(alloc, &changes)?.as_slice(), output)?;
     if can_be_taken(changes.as_slice()) {
         Ok(())
@@ -338,11 +456,9 @@ fn complain_of_mistake<C: Write>(
 }
 
 /// The configuration of a file; of a refused one it is complained what is wrong, and where.
-fn stated_config<C: Write>(
-    alloc: Global,
-    bytes: &[u8],
-    complaints: &mut C,
-) -> Result<Config, Exit> {
+fn stated_config<C: Write>(alloc: Global, bytes: &[u8], complaints: &mut C) -> Result<Config, Exit>
+    ensures { IfOk result (States bytes.now) }
+{
     match config_of_bytes(alloc, bytes) {
         Ok(config) => Ok(config),
         Err(exit) => {
@@ -352,24 +468,79 @@ fn stated_config<C: Write>(
     }
 }
 
-/// Prints how much a configuration has, or what a change to it would do. Beside the first it complains of users with different digests, but
-/// where it was shown, which says so, too.
-fn tell<R: Files + AllocGlobal, W: Write, C: Write>(
-    rt: &R,
-    call: &CheckCall,
+/// The configuration that bytes state. All that was understood of it is printed, if that is asked for; of a refused one it is told what is
+/// wrong, there or as a complaint.
+fn understood<W: Write, C: Write>(
+    alloc: Global,
+    is_shown: bool,
+    bytes: &[u8],
+    output: &mut W,
+    complaints: &mut C,
+) -> Result<Config, Exit>
+    ensures stated { IfOk result (IsUnderstood is_shown bytes.now) }
+    ensures shown { IfOk result (λ config. Shows is_shown config (W.contents output.old) (W.contents output.new)) }
+    ensures refused { IfErr result (EndsUnderstanding is_shown bytes.now (W.contents output.old) (W.contents output.new)) }
+{
+    if is_shown {
+        Ok(show_config(alloc, bytes, output)?)
+    } else {
+        Ok(stated_config(alloc, bytes, complaints)?)
+    }
+}
+
+/// Prints how much a configuration has. It complains of users with different digests, but where all was shown, which says so, too.
+fn tell_summary<W: Write, C: Write>(
+    alloc: Global,
+    is_shown: bool,
     config: &Config,
     output: &mut W,
     complaints: &mut C,
-) -> Result<(), Exit> {
-    if let Some(path) = &call.against {
-        return tell_changes(rt, path.as_str(), config, output, complaints);
-    }
-    let alloc = rt.alloc();
+) -> Result<(), Exit>
+    ensures told { OnOk result (Appends (W.contents output.old) (W.contents output.new) (Summary.summary_of config.now)) }
+    ensures refused { IfErr result IsPrintFault }
+{
     print(summary_of(alloc, config)?.as_slice(), output)?;
-    if call.show {
+    if is_shown {
         return Ok(());
     }
-    complain(alloc, &digest_warning(alloc, config)?, complaints)
+    complain(alloc, &digest_warning(alloc, config)?, complaints)?;
+    Ok(())
+}
+
+/// Prints how much a configuration has, or what a change to it from another one would do.
+fn tell<W: Write, C: Write>(
+    alloc: Global,
+    is_shown: bool,
+    config: &Config,
+    before: &Option<Config>,
+    output: &mut W,
+    complaints: &mut C,
+) -> Result<(), Exit>
+    ensures told { OnOk result (Tells before.now config.now (W.contents output.old) (W.contents output.new)) }
+    ensures other { IfErr result (EndsTelling before.now config.now (W.contents output.old) (W.contents output.new)) }
+{
+    match before {
+        Some(old) => tell_changes(alloc, old, config, output),
+        None => tell_summary(alloc, is_shown, config, output, complaints),
+    }
+}
+
+/// Prints that, and what of its policy isn't as it is expected to be.
+fn tell_and_hold<W: Write, C: Write>(
+    alloc: Global,
+    is_shown: bool,
+    config: &Config,
+    before: &Option<Config>,
+    expected: &Option<Bytes>,
+    output: &mut W,
+    complaints: &mut C,
+) -> Result<(), Exit>
+    ensures told { OnOk result (TellsAndHolds before.now expected.now config.now (W.contents output.old) (W.contents output.new)) }
+    ensures other { IfErr result (EndsWithin before.now expected.now config.now (W.contents output.old) (W.contents output.new)) }
+{
+    tell(alloc, is_shown, config, before, output, complaints)?;
+    hold(alloc, expected, config, output)?;
+    Ok(())
 }
 
 /// Checks the configuration of a file, and prints how much it has, behind all that was understood, if that is asked for, or what a change to
@@ -380,18 +551,17 @@ pub fn check<R: Files + AllocGlobal, W: Write, C: Write>(
     call: &CheckCall,
     output: &mut W,
     complaints: &mut C,
-) -> Result<(), Exit> {
+) -> Result<(), Exit>
+    ensures checked { OnOk result (Checks call.now (W.contents output.old) (W.contents output.new)) }
+    ensures other { IfErr result (EndsChecking call.now (W.contents output.old) (W.contents output.new)) }
+{
     let alloc = rt.alloc();
     let bytes = bytes_in(rt, call.config.as_str())?;
     let expected = lines_in(rt, &call.expect, complaints)?;
-    let config = if call.show {
-        show_config(alloc, bytes.as_slice(), output)?
-    } else {
-        stated_config(alloc, bytes.as_slice(), complaints)?
-    };
-    tell(rt, call, &config, output, complaints)?;
-    match &expected {
-        Some(lines) => hold_against(alloc, lines.as_slice(), &config, output),
-        None => Ok(()),
-    }
+    let config = understood(alloc, call.show, bytes.as_slice(), output, complaints)?;
+    let before = before_of(rt, &call.against, complaints)?;
+    tell_and_hold(
+        alloc, call.show, &config, &before, &expected, output, complaints,
+    )?;
+    Ok(())
 }

@@ -7,7 +7,7 @@ use Rattle.sipd_matrix_forms.proofs.html.put_end.Goals as goal
 
 pub returns : goal.returns
 returns c =
-    let all = foot c.args.config.now c.args.table.now c.args.numbers.now in
+    let all = foot c.args.config.now c.args.operation.now c.args.table.now c.args.numbers.now in
     on_ok_weaker c.extend.result
     (λ h. two_parts c.args.text.now (text_block all) (codes "</body>\n</html>\n") c.put_block.new.text c.extend.new.self
     (c.in_ok-put_block.ensures

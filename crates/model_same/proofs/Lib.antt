@@ -1,0 +1,10 @@
+pub mod Nonces
+pub mod Known
+pub mod Proving
+pub mod Verdicts
+pub mod Effects
+pub mod Asking
+pub mod Sameness
+pub mod LeftOut
+pub mod Steps
+pub mod Runs
