@@ -26,8 +26,8 @@ TOP = os.path.realpath(phone.TOP)
 HERE = "192.0.2.10"  # of docs/OPERATING.md
 MAINTAINER = "Telephones <phones@company.net>"
 MADE_UP = "logic=proved functions=0 sum=made-up"
-# What a removal leaves by dpkg's, systemd's and passwd's own ways, and no file of the package's.
-NO_TRACE = r"/(var/(log|cache|lib/(dpkg|systemd|dbus))|run|tmp|packages|etc/(passwd|group|shadow|gshadow|subuid|subgid)-|etc/machine-id|etc/\.pwd\.lock|root|dev)(/|$)"
+# What a removal leaves by apt's, dpkg's, systemd's and passwd's own ways, and no file of the package's.
+NO_TRACE = r"/(var/(log|cache|lib/(apt|dpkg|systemd|dbus))|run|tmp|packages|etc/(passwd|group|shadow|gshadow|subuid|subgid)-|etc/machine-id|etc/\.pwd\.lock|root|dev)(/|$)"
 failures = []
 
 
