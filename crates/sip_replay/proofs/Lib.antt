@@ -5,5 +5,5 @@ pub mod Refusing
 pub mod Replaying
 pub mod Running
 pub mod Stopping
-pub use Rattle.sip_run.proofs.RunOn as of_run
+pub use Rattle.sip_resume.proofs.of_run
 pub use Rattle.sip_resume.proofs.UnderRuns as of_resume

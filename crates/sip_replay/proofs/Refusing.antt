@@ -32,7 +32,7 @@ use Rattle.sip_replay_script.specs.declared.read_stop.ReadStop.TheVariants as re
 use Rattle.sip_replay_script.proofs.Fronts.{appends_kept, front_all, front_none, front_second, front_still}
 use Rattle.std.proofs.lemmas.List.Sums.{sum_by-append}
 use Rattle.sip_replay.proofs.Replaying.{AllAreLawful, Replays}
-use Rattle.sip_run.proofs.RunOn.{run_on}
+use Rattle.sip_resume.proofs.of_run.{run_on}
 use Rattle.sip_replay.proofs.Running.{RunsJoin}
 
 -- ---- nothing was taken

@@ -17,8 +17,8 @@ use Rattle.model_transactions.specs.Queue.{Entry}
 use Rattle.model_order.proofs.Along.{queue_behind, queue_next}
 use Rattle.model_ties.specs.Ties.{IsPrompt}
 use Rattle.model_ties.proofs.Orderly.{orderly_joined}
-use Rattle.sip_run.specs.Due.{Fires, NothingDueBy}
-use Rattle.sip_run.proofs.RunOn.{run_on}
+use Rattle.sip_resume.specs.run.Due.{Fires, NothingDueBy}
+use Rattle.sip_resume.proofs.of_run.{run_on}
 use Rattle.sip_replay.specs.Replays.{Plays}
 
 -- an event that comes once nothing is due by its moment waited for all that was

@@ -12,15 +12,15 @@ use Rattle.model_transactions.specs.Queue.{Entry}
 use Rattle.model_order.specs.Order.{IsFirstOf, Standing}
 use Rattle.model_bounds.specs.steps_model.Step.{Given, IsStep, Passing, moment_of}
 use Rattle.model_bounds.specs.model.Run.{event_moment, events_of, steps_of}
-use Rattle.sip_run.specs.engine.declared.error.StepError.{StepError}
-use Rattle.sip_run.specs.engine.declared.error.StepError.TheVariants as step_errors
-use Rattle.sip_run.specs.engine.StepError.{refusal_at, is_too_large}
+use Rattle.sip_resume.specs.run.engine.declared.error.StepError.{StepError}
+use Rattle.sip_resume.specs.run.engine.declared.error.StepError.TheVariants as step_errors
+use Rattle.sip_resume.specs.run.engine.StepError.{refusal_at, is_too_large}
 use Rattle.sip_replay_print.specs.Print.{step_text, printed}
 use Rattle.sip_replay.specs.Errors.{stop_of_print, stop_of_step}
 use Rattle.sip_replay_script.specs.Devices.{WritesFront}
 use Rattle.sip_replay_print.specs.Stops.{PrintStops}
-use Rattle.sip_run.specs.Due.{Fires, NothingDueBy}
-use Rattle.sip_run.specs.Refusals.{RefusesStep, refusal_of_event}
+use Rattle.sip_resume.specs.run.Due.{Fires, NothingDueBy}
+use Rattle.sip_resume.specs.run.Refusals.{RefusesStep, refusal_of_event}
 use Rattle.sip_replay.specs.Refusals.{PlaysPart, FiringStops, TakingStops}
 use Rattle.sip_replay.specs.Replays.{Plays}
 use Rattle.sip_replay.specs.declared.stop.Stop.{Stop}

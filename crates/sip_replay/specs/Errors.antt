@@ -1,7 +1,7 @@
 -- The numbers of refusals, and why an event wasn't replayed.
 use Rattle.std.specs.Prelude.{◌≡◌, ◌≤◌, ⊤, ℕ, Option}
-use Rattle.sip_run.specs.engine.declared.error.StepError.{StepError}
-use Rattle.sip_run.specs.engine.declared.error.StepError.TheVariants as step_errors
+use Rattle.sip_resume.specs.run.engine.declared.error.StepError.{StepError}
+use Rattle.sip_resume.specs.run.engine.declared.error.StepError.TheVariants as step_errors
 use Rattle.sip_replay_script.specs.declared.print_stop.PrintStop.{PrintStop}
 use Rattle.sip_replay_script.specs.declared.print_stop.PrintStop.TheVariants as print_stops
 use Rattle.sip_replay_script.specs.declared.read_stop.ReadStop.{ReadStop}

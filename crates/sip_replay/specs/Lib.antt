@@ -2,5 +2,5 @@ pub mod Errors
 pub mod Records
 pub mod Refusals
 pub mod Replays
-pub use Rattle.sip_run.specs as run
+pub use Rattle.sip_resume.specs.run
 pub use Rattle.sip_resume.specs as resume

@@ -11,9 +11,9 @@ use Rattle.model_bounds.specs.model.Access.{Access}
 use Rattle.model_bounds.specs.Bounds.{IsBounded}
 use Rattle.model_order.specs.Order.{Standing, first_standing}
 use Rattle.model_ties.specs.Ties.{AreOrderly}
-use Rattle.sip_run.specs.engine.declared.error.StepError.{StepError}
-use Rattle.sip_run.specs.engine.StepError.{refusal_at}
-use Rattle.sip_run.specs.Refusals.{refusal_of_event}
+use Rattle.sip_resume.specs.run.engine.declared.error.StepError.{StepError}
+use Rattle.sip_resume.specs.run.engine.StepError.{refusal_at}
+use Rattle.sip_resume.specs.run.Refusals.{refusal_of_event}
 use Rattle.sip_replay_print.specs.Print.{printed}
 use Rattle.sip_replay_script.specs.Devices.{WritesFront}
 use Rattle.sip_replay_script.specs.Lines.{is_end}

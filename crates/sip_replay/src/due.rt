@@ -1,6 +1,6 @@
 ghost use Rattle.std.specs.Prelude.{◌≡◌, [], Some, IfErr, OnOk};
 ghost use Rattle.model_bounds.specs.steps_model.Step.{moment_of};
-ghost use Rattle.sip_run.specs.Due.{NothingDueBy, standing_of};
+ghost use Rattle.sip_resume.specs.run.Due.{NothingDueBy, standing_of};
 ghost use Rattle.sip_replay_script.specs.Devices.{GaveUp};
 ghost use Rattle.sip_replay.specs.Refusals.{FiringStops};
 ghost use Rattle.sip_replay.specs.Replays.{Plays};
@@ -9,8 +9,8 @@ use crate::stop::Stop;
 use sip_policy::Rules;
 use sip_replay_print::{PrintRoom, print_step};
 use sip_replay_script::TellingWriter;
-use sip_run::engine::Engine;
-use sip_run::fire_next;
+use sip_resume::engine::Engine;
+use sip_resume::run::fire_next;
 use sip_timers::Timers;
 use std::alloc::Global;
 

@@ -23,12 +23,12 @@ pub use record::replay_record;
 
 /// Of `sip_engine`.
 pub mod engine {
-    pub use sip_run::engine::{ChangeError, Engine, StepError};
+    pub use sip_resume::engine::{ChangeError, Engine, StepError};
 }
 
 /// Of `sip_run`.
 pub mod run {
-    pub use sip_run::{event_moment, fire_next, run, take_event};
+    pub use sip_resume::run::{event_moment, fire_next, run, take_event};
 }
 
 /// Of `sip_resume`.

@@ -4,8 +4,8 @@ ghost use Rattle.std.specs.Prelude.{◌≡◌, ◌≤◌, ◌⊎◌, ℕ, List, 
 ghost use Rattle.model_bounds.specs.model.Run.{event_moment};
 ghost use Rattle.model_bounds.specs.steps_model.Step.{Given, IsStep, moment_of};
 ghost use Rattle.model_order.specs.Order.{IsQueueAfter, first_standing};
-ghost use Rattle.sip_run.specs.Due.{NothingDueBy, standing_of};
-ghost use Rattle.sip_run.specs.Refusals.{RefusesStep, refusal_of_event};
+ghost use Rattle.sip_resume.specs.run.Due.{NothingDueBy, standing_of};
+ghost use Rattle.sip_resume.specs.run.Refusals.{RefusesStep, refusal_of_event};
 ghost use Rattle.sip_replay_script.specs.Devices.{later, GaveUp};
 ghost use Rattle.sip_replay_script.specs.Lines.{pending, IsOver, IsSpent};
 ghost use Rattle.sip_replay_script.specs.Script.{event_of};
@@ -25,8 +25,8 @@ use sip_policy::Rules;
 use sip_replay_print::{PrintRoom, print_step};
 use sip_replay_script::laws::cut_event_is_none;
 use sip_replay_script::{Gathered, Line, Lines, TellingReader, TellingWriter, hand_on, next_line};
-use sip_run::engine::{Engine, StepError};
-use sip_run::{event_moment, take_datagram, take_event};
+use sip_resume::engine::{Engine, StepError};
+use sip_resume::run::{event_moment, take_datagram, take_event};
 use sip_timers::Timers;
 use std::alloc::Global;
 

@@ -10,9 +10,9 @@ use sip_policy::Rules;
 use sip_record::NoJournal;
 use sip_replay_print::Printer;
 use sip_replay_script::{Lines, TellingReader, TellingWriter};
+use sip_resume::engine::Engine;
 use sip_resume::laws::every_record_is_lawful;
 use sip_resume::{RecordError, resume_record};
-use sip_run::engine::Engine;
 use sip_timers::Timers;
 use std::alloc::Global;
 

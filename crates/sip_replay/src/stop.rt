@@ -2,7 +2,7 @@ ghost use Rattle.std.specs.Prelude.{◌≡◌};
 ghost use Rattle.sip_replay.specs.Errors.{stop_of_print, stop_of_step};
 
 use sip_replay_script::PrintStop;
-use sip_run::engine::StepError;
+use sip_resume::engine::StepError;
 
 /// Why an event that was read wasn't replayed.
 #[derive(Clone, Copy)]

@@ -8,3 +8,5 @@ pub mod Segmentwise
 pub mod Stopping
 pub mod UnderRuns
 pub mod Wholly
+pub use Rattle.sip_run.proofs.RunOn as of_run
+pub use Rattle.sip_run.proofs.Standings as of_standings

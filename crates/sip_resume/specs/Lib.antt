@@ -6,3 +6,4 @@ pub mod Stops
 pub mod Takes
 pub mod Whole
 pub mod Parts
+pub use Rattle.sip_run.specs as run

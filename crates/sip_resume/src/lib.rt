@@ -28,5 +28,10 @@ pub use whole::{Resumed, resume_record};
 
 /// Of `sip_engine`.
 pub mod engine {
-    pub use sip_run::engine::{ChangeError, Engine};
+    pub use sip_run::engine::{ChangeError, Engine, StepError};
+}
+
+/// Of `sip_run`.
+pub mod run {
+    pub use sip_run::{event_moment, fire_next, run, take_datagram, take_event};
 }

@@ -1,6 +1,6 @@
 use Rattle.std.proofs.Common.{refl, ◌∙◌, Some}
 use Rattle.std.proofs.lemmas.Result.{err_from_is_err_and}
-use Rattle.sip_run.specs.Due.{standing_of}
+use Rattle.sip_resume.specs.run.Due.{standing_of}
 use Rattle.sip_replay_script.specs.Devices.{GaveUp}
 use Rattle.sip_replay.proofs.Running.{plays_nothing, plays_firing}
 use Rattle.sip_replay.proofs.Stopping.{firing_refused, firing_unprinted}

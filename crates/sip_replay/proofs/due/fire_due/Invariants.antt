@@ -1,6 +1,6 @@
 use Rattle.std.proofs.Common.{◌≡◌, [], Some}
 use Rattle.model_bounds.specs.model.Ends.{steps_left}
-use Rattle.sip_run.specs.Due.{standing_of}
+use Rattle.sip_resume.specs.run.Due.{standing_of}
 use Rattle.sip_replay.specs.Replays.{Plays}
 use Rattle.sip_replay.proofs.due.fire_due.Given as goal
 

@@ -2,8 +2,8 @@ use Rattle.std.proofs.Common.{◌≡◌, ℕ, List, [], Option, ◌∙◌, ◌�
 use Rattle.std.proofs.lemmas.Result.{err_from_is_err_and}
 use Rattle.model_bounds.specs.state.State.{first_state}
 use Rattle.model_order.specs.Order.{first_standing}
-use Rattle.sip_run.proofs.Standings.{standing_is}
-use Rattle.sip_run.specs.Due.{standing_of}
+use Rattle.sip_resume.proofs.of_standings.{standing_is}
+use Rattle.sip_resume.specs.run.Due.{standing_of}
 use Rattle.sip_replay_script.specs.Devices.{later, GaveUp}
 use Rattle.sip_replay_script.specs.Lines.{Reading, IsSpent}
 use Rattle.sip_replay.specs.Replays.{server_with, IsReplay}

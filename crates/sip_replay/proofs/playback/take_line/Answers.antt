@@ -1,5 +1,5 @@
 use Rattle.std.proofs.lemmas.Result.{err_from_is_err_and}
-use Rattle.sip_run.specs.Due.{standing_of}
+use Rattle.sip_resume.specs.run.Due.{standing_of}
 use Rattle.sip_replay_script.specs.Devices.{GaveUp}
 use Rattle.sip_replay_script.specs.Script.{event_of}
 use Rattle.sip_replay.proofs.Running.{plays_event}

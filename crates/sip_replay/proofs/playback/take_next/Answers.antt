@@ -1,5 +1,5 @@
 use Rattle.std.proofs.Common.{◌+◌, sym, ap, subst}
-use Rattle.sip_run.specs.Due.{standing_of}
+use Rattle.sip_resume.specs.run.Due.{standing_of}
 use Rattle.sip_replay_script.specs.Devices.{GaveUp}
 use Rattle.sip_replay_script.specs.Script.{event_of}
 use Rattle.sip_replay.specs.Errors.{IsFaulted}
