@@ -10,10 +10,10 @@ use Rattle.sip_event.specs.declared.event.StepOut.{StepOut}
 use Rattle.model_bounds.specs.state.declared.server.Server.{Server}
 use Rattle.model_order.specs.Order.{Standing, first_standing}
 use Rattle.model_bounds.specs.state.State.{first_state}
-use Rattle.sip_run.specs.engine.Engine.{Engine}
-use Rattle.sip_run.specs.engine.engine_time.proxy.Proxy.{Secrets, secrets_of}
-use Rattle.sip_run.specs.Due.{standing_of}
-use Rattle.sip_run.proofs.Standings.{standing_is}
+use Rattle.sip_resume.specs.run.engine.Engine.{Engine}
+use Rattle.sip_resume.specs.run.engine.engine_time.proxy.Proxy.{Secrets, secrets_of}
+use Rattle.sip_resume.specs.run.Due.{standing_of}
+use Rattle.sip_resume.proofs.of_standings.{standing_is}
 use Rattle.sip_record.specs.Record.{NotesConfiguration}
 use Rattle.sip_record.specs.declared.record_head.RecordHead.{RecordHead}
 use Rattle.sip_record.specs.declared.record_mark.RecordMark.TheVariants.{Whole}

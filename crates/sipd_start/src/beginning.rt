@@ -2,9 +2,9 @@
 //! The files are made in `making`, the older record is taken in `taking`.
 ghost use Rattle.std.specs.Prelude.{◌≡◌, false, ℕ, List, Option, option_map, string_bytes, Err, IfErr, IfNone, IfOk, IfSome, None, Ok, OnErr, OnOk};
 ghost use Rattle.model_order.specs.Order.{first_standing};
-ghost use Rattle.sip_run.specs.Due.{standing_of};
+ghost use Rattle.sip_resume.specs.run.Due.{standing_of};
 ghost use Rattle.sip_replay_script.specs.Lines.{pending};
-ghost use Rattle.sip_run.specs.engine.engine_time.proxy.Proxy.{secrets_of};
+ghost use Rattle.sip_resume.specs.run.engine.engine_time.proxy.Proxy.{secrets_of};
 ghost use Rattle.sipd_boot.specs.Boots.{behind_boot, behind_secret, secret_from};
 ghost use Rattle.sipd_exit.specs.declared.exit.Exit.TheVariants.{PipedRecord};
 ghost use Rattle.sipd_exit.specs.declared.record_place.RecordFault.TheVariants.{GoOn};

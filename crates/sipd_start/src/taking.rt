@@ -1,7 +1,7 @@
 //! What is taken of an older record: the configuration with which it begins, its events, and at last the file's own configuration.
 //! Why it may not be gone on from is said in `not_resumed`.
 ghost use Rattle.std.specs.Prelude.{◌≡◌, IfErr, IfNone, IfOk, IfSome, None, Some, OnErr, OnOk};
-ghost use Rattle.sip_run.specs.Due.{standing_of};
+ghost use Rattle.sip_resume.specs.run.Due.{standing_of};
 ghost use Rattle.sip_config.specs.Stated.{States};
 ghost use Rattle.sip_config_change.specs.Frame.{frame_key_of};
 ghost use Rattle.sip_config_change.specs.declared.key.FrameKey.{FrameKey};
