@@ -4,3 +4,4 @@ pub mod Printing
 pub mod Replays
 pub mod ServeErrors
 pub mod Serving
+pub use Rattle.sip_run.specs as run

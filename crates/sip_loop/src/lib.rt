@@ -25,5 +25,5 @@ pub use serving::serve;
 
 /// Of `sip_engine`.
 pub mod engine {
-    pub use sip_run::engine::Engine;
+    pub use sip_run::engine::{ChangeError, Engine};
 }

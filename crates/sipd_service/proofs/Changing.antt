@@ -10,8 +10,8 @@ use Rattle.sip_record.specs.Record.{Notes}
 use Rattle.sip_loop.specs.Serving.{Told}
 use Rattle.sip_loop_link.specs.declared.datagram.Heard.{Heard}
 use Rattle.sip_loop_link.specs.declared.datagram.Given.{Given}
-use Rattle.sip_run.specs.engine.declared.change_error.ChangeError.{ChangeError}
-use Rattle.sip_run.specs.engine.declared.change_error.ChangeError.TheVariants.{OtherFrame}
+use Rattle.sip_loop.specs.run.engine.declared.change_error.ChangeError.{ChangeError}
+use Rattle.sip_loop.specs.run.engine.declared.change_error.ChangeError.TheVariants.{OtherFrame}
 use Rattle.sipd_reload.specs.Watch.{WatchState}
 use Rattle.sip_guard.specs.Guard.{AllowanceState, GuardState, hearing}
 use Rattle.sipd_service.specs.Hops.{hop_addresses}

@@ -5,10 +5,10 @@ use Rattle.std.specs.Io.KnownBytes.{Appends}
 use Rattle.rand_core.specs.Stream.{Stream}
 use Rattle.sip_audit.specs.declared.record.Record.{Record}
 use Rattle.sip_loop_link.specs.Told.{and_counted, GrewBy}
-use Rattle.sip_run.specs.engine.Engine.{Engine}
-use Rattle.sip_run.specs.engine.engine_time.Next.{IsNext}
-use Rattle.sip_run.specs.engine.engine_time.fork.Due.{IsNothingDue}
-use Rattle.sip_run.specs.Due.{standing_of}
+use Rattle.sip_loop.specs.run.engine.Engine.{Engine}
+use Rattle.sip_loop.specs.run.engine.engine_time.Next.{IsNext}
+use Rattle.sip_loop.specs.run.engine.engine_time.fork.Due.{IsNothingDue}
+use Rattle.sip_loop.specs.run.Due.{standing_of}
 use Rattle.sip_guard.specs.Guard.{GuardState}
 use Rattle.sip_record.specs.Record.{Notes}
 use Rattle.sip_record.specs.Recorder.{told}

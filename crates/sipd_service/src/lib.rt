@@ -19,5 +19,5 @@ pub use service::{Said, Service, Serving, serve_turns};
 
 /// Of `sip_engine`.
 pub mod engine {
-    pub use sip_run::engine::Engine;
+    pub use sip_loop::engine::Engine;
 }

@@ -1,7 +1,7 @@
 use Rattle.std.proofs.Common.{◌≡◌, ◌∙◌, inl, inr, ℕ, List, Option, refl, sym, ap, subst, MatchOption}
 use Rattle.sip_loop_link.specs.Told.{GrewBy, and_counted}
-use Rattle.sip_run.specs.engine.engine_time.Next.{IsNext}
-use Rattle.sip_run.specs.engine.engine_time.fork.Due.{IsNothingDue}
+use Rattle.sip_loop.specs.run.engine.engine_time.Next.{IsNext}
+use Rattle.sip_loop.specs.run.engine.engine_time.fork.Due.{IsNothingDue}
 use Rattle.model_bounds.specs.state.declared.proxy_state.ProxyState.{ProxyState}
 use Rattle.sipd_exit.specs.declared.device_fault.DeviceFault.{DeviceFault}
 use Rattle.sipd_service.specs.Exits.{exit_of_serve}
