@@ -33,5 +33,5 @@ pub mod run {
 
 /// Of `sip_resume`.
 pub mod resume {
-    pub use sip_resume::RecordError;
+    pub use sip_resume::{RecordError, resume_record};
 }

@@ -4,7 +4,7 @@ use crate::serving::LATER;
 use crate::trial::{LONGEST, over_memory};
 use sip_config::ConfigError;
 use sip_config_change::FrameKey;
-use sip_resume::RecordError;
+use sip_replay::resume::RecordError;
 use std::alloc::{AllocError, Global};
 
 /// The parts of a record, how many bytes a configuration of it has at most, how many lines of it are taken, or how it is

@@ -5,9 +5,9 @@ use crate::kinds::{TestServer, opened};
 use sip_loop::{AuditLog, NoAudit, ServeError, serve};
 use sip_loop_link::{Given, Link, MemoryClock, MemoryLink, Sending};
 use sip_record::{OnFault, Recorder};
+use sip_replay::resume::{RecordError, resume_record};
 use sip_replay_print::NoSink;
 use sip_replay_script::Lines;
-use sip_resume::{RecordError, resume_record};
 use std::alloc::{AllocError, Global};
 
 /// The most bytes of a configuration in a record, where a trial names no others.
