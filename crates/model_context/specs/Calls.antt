@@ -7,7 +7,7 @@ use Rattle.sip_message_form.specs.declared.message.Message.{Message}
 use Rattle.sip_hops.specs.Examples.{local}
 use Rattle.sip_edit.specs.OwnVia.{branch_text}
 use Rattle.sip_edit.specs.OnwardExamples as Onward
-use Rattle.sip_config_types.specs.Sample as Settings
+use Rattle.sip_state.specs.config_types.Sample as Settings
 use Rattle.sip_event.specs.declared.packet.Packet.{Packet}
 use Rattle.sip_state.specs.declared.server.Server.{Server}
 use Rattle.sip_state.specs.State.{first_resend}

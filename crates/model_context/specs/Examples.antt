@@ -6,7 +6,7 @@ use Rattle.sip_message_form.specs.declared.message.Start.TheVariants.{Status}
 use Rattle.sip_message_form.specs.declared.message.Message.{Message}
 use Rattle.sip_hops.specs.Examples as Places
 use Rattle.sip_edit.specs.OnwardExamples as Onward
-use Rattle.sip_config_types.specs.Sample as Settings
+use Rattle.sip_state.specs.config_types.Sample as Settings
 use Rattle.sip_event.specs.declared.packet.Packet.{Packet}
 use Rattle.sip_state.specs.declared.server.Server.{Server}
 use Rattle.sip_state.specs.declared.branch.Branch.{Branch}

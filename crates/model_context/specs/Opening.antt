@@ -6,8 +6,8 @@ use Rattle.sip_timers.specs.Intervals.{T1}
 use Rattle.sip_uri.specs.declared.addr.Addr.{Addr}
 use Rattle.sip_uri.specs.Uri as UriText
 use Rattle.sip_message_form.specs.declared.message.Message.{Message}
-use Rattle.sip_transaction_table.specs.declared.key.Key.{Key}
-use Rattle.sip_transaction_table.specs.Key.{key_of}
+use Rattle.sip_state.specs.transaction_table.declared.key.Key.{Key}
+use Rattle.sip_state.specs.transaction_table.Key.{key_of}
 use Rattle.sip_edit.specs.Onward.{onward_uri}
 use Rattle.sip_targets.specs.declared.target.Target.{Target}
 use Rattle.sip_best.specs.declared.final_answer.Final.{Final}
