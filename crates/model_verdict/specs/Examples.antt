@@ -6,7 +6,7 @@ use Rattle.sip_message_form.specs.declared.message.Start.TheVariants.{Request, S
 use Rattle.sip_message_form.specs.declared.message.Message.{Message}
 use Rattle.sip_header.specs.FieldExamples.{fields_of}
 use Rattle.sip_hops.specs.Examples.{local}
-use Rattle.sip_edit.specs.OwnVia.{branch_text}
+use Rattle.model_context.specs.edit.OwnVia.{branch_text}
 use Rattle.sip_policy.specs.declared.who.Who.{Who}
 use Rattle.sip_policy.specs.declared.operation.Operation.{Operation}
 use Rattle.sip_policy.specs.declared.operation.OperationPattern.TheVariants as Pattern
@@ -14,7 +14,7 @@ use Rattle.sip_policy.specs.declared.target_pattern.TargetPattern.TheVariants as
 use Rattle.sip_policy.specs.declared.rule_verdict.RuleVerdict.{RuleVerdict}
 use Rattle.sip_policy.specs.declared.rule.Rule.{Rule}
 use Rattle.sip_policy.specs.Examples as Policy
-use Rattle.sip_config_types.specs.Sample as Settings
+use Rattle.model_context.specs.config_types.Sample as Settings
 use Rattle.sip_auth.specs.Proof.{Wrong}
 use Rattle.sip_auth.specs.Examples.{credential, used_often}
 use Rattle.sip_dialog.specs.declared.dialog.Dialog.{Dialog}

@@ -26,7 +26,7 @@ use Rattle.sip_route.specs.Way.{way_of, request_uri_of, next_uri}
 use Rattle.sip_digest.specs.declared.nonces.Nonce.{Nonce}
 use Rattle.sip_uri.specs.declared.addr.Addr.{Addr}
 use Rattle.sip_hops.specs.HostAddress.{address_of}
-use Rattle.sip_edit_response.specs.Extras.{unsupported_field, min_expires}
+use Rattle.model_context.specs.edit_response.Extras.{unsupported_field, min_expires}
 use Rattle.sip_policy.specs.declared.decision.Decision.{Decision}
 use Rattle.sip_policy.specs.Operation.{operation_of}
 use Rattle.sip_policy.specs.User.{is_users_address, is_own_domain}

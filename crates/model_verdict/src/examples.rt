@@ -1,8 +1,8 @@
 //! Worked examples of verdicts, as contracts that compute: which open request or branch a datagram belongs to, and what a new one gets.
 ghost use Rattle.std.specs.Prelude.{◌≡◌, ◌∷◌, [], codes, Some, None, true, false};
 ghost use Rattle.sip_hops.specs.Examples.{local};
-ghost use Rattle.sip_edit_response.specs.Examples.{register};
-ghost use Rattle.sip_edit.specs.OnwardExamples as Onward;
+ghost use Rattle.model_context.specs.edit_response.Examples.{register};
+ghost use Rattle.model_context.specs.edit.OnwardExamples as Onward;
 ghost use Rattle.sip_dialog.specs.Examples as Dialogs;
 ghost use Rattle.sip_targets.specs.Examples.{help_contact};
 ghost use Rattle.sip_targets.specs.declared.targets.Targets.{Targets};
