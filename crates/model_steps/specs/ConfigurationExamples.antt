@@ -4,7 +4,7 @@ use Rattle.sip_message_fields.specs.declared.field_name.FieldName.TheVariants as
 use Rattle.sip_message_form.specs.declared.message.Start.TheVariants.{Request}
 use Rattle.sip_message_form.specs.declared.message.Message.{Message}
 use Rattle.sip_edit_response.specs.Examples as Replies
-use Rattle.sip_edit.specs.OnwardExamples as Onward
+use Rattle.model_verdict.specs.edit.OnwardExamples as Onward
 use Rattle.sip_policy.specs.declared.user.User.{User}
 use Rattle.sip_policy.specs.declared.window.Window.{Window}
 use Rattle.sip_policy.specs.Examples.{user_of, mufasas_a1, alices_a1, rules_with}

@@ -16,10 +16,10 @@ use Rattle.sip_message_form.specs.declared.message.Message.{Message}
 use Rattle.sip_message_form.specs.Text.{text_of}
 use Rattle.sip_uri.specs.declared.addr.Addr.{Addr}
 use Rattle.sip_edit_response.specs.Challenges.{challenge_fields}
-use Rattle.sip_auth.specs.Offer.{offers_sha256}
+use Rattle.model_verdict.specs.auth.Offer.{offers_sha256}
 use Rattle.sip_edit_response.specs.Contacts.{contact_value}
 use Rattle.sip_edit_response.specs.Extras.{denial_warning}
-use Rattle.sip_edit.specs.Onward.{onward_uri}
+use Rattle.model_verdict.specs.edit.Onward.{onward_uri}
 use Rattle.sip_policy.specs.declared.operation.Operation.{Operation}
 use Rattle.sip_location.specs.declared.binding.Binding.{Binding}
 use Rattle.sip_location.specs.Binding.{live, seconds_left}
@@ -34,7 +34,7 @@ use Rattle.sip_audit.specs.declared.record.Operation as AuditOperation
 use Rattle.sip_audit.specs.declared.record.Outcome.{Outcome}
 use Rattle.sip_event.specs.declared.packet.Packet.{Packet}
 use Rattle.model_verdict.specs.state.declared.server.Server.{Server}
-use Rattle.sip_auth.specs.Proof.{proven, is_stale, used}
+use Rattle.model_verdict.specs.auth.Proof.{proven, is_stale, used}
 use Rattle.model_verdict.specs.state.declared.open_request.OpenRequest.{OpenRequest}
 use Rattle.model_verdict.specs.state.declared.proxy_state.ProxyState.{ProxyState}
 use Rattle.model_verdict.specs.state.State.{has_left, with_one_more}

@@ -13,11 +13,11 @@ use Rattle.sip_message_form.specs.declared.message.Message.{Message}
 use Rattle.sip_uri.specs.declared.addr.Addr.{Addr}
 use Rattle.sip_hops.specs.Examples as Places
 use Rattle.sip_edit_response.specs.Examples as Replies
-use Rattle.sip_edit.specs.OnwardExamples as Onward
-use Rattle.sip_edit.specs.OwnVia.{branch_text}
+use Rattle.model_verdict.specs.edit.OnwardExamples as Onward
+use Rattle.model_verdict.specs.edit.OwnVia.{branch_text}
 use Rattle.sip_policy.specs.Examples.{mufasas_a1, alices_a1}
 use Rattle.sip_config_types.specs.Sample as Settings
-use Rattle.sip_auth.specs.Examples.{credential}
+use Rattle.model_verdict.specs.auth.Examples.{credential}
 use Rattle.sip_location.specs.declared.binding.Binding.{Binding}
 use Rattle.sip_event.specs.declared.packet.Packet.{Packet}
 use Rattle.model_verdict.specs.state.declared.server.Server.{Server}

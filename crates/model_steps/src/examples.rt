@@ -3,7 +3,7 @@ ghost use Rattle.std.specs.Prelude.{◌≡◌, ◌∷◌, [], codes, length, map
 ghost use Rattle.sip_audit.specs.Lines.{line_of};
 ghost use Rattle.sip_edit_response.specs.Examples as Replies;
 ghost use Rattle.sip_edit_response.specs.ExtrasExamples as Extras;
-ghost use Rattle.sip_edit.specs.OnwardExamples as Onward;
+ghost use Rattle.model_verdict.specs.edit.OnwardExamples as Onward;
 ghost use Rattle.sip_event.specs.declared.packet.Packet.{Packet};
 ghost use Rattle.sip_hops.specs.Examples as Places;
 ghost use Rattle.model_steps.specs.Examples;
