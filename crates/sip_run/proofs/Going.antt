@@ -9,8 +9,8 @@ use Rattle.sip_engine.specs.steps_model.Step.{Act, Given, Passing, IsStep}
 use Rattle.sip_engine.specs.model.Run.{Link, IsRun, IsPaced, IsUpTo, event_moment, events_of, steps_of, next_moment, first_moment}
 use Rattle.sip_run.specs.Due.{Fires}
 use Rattle.model_transactions.specs.Queue.{Entry}
-use Rattle.model_order.specs.Order.{IsFirstOf, IsQueueAfter, Standing}
-use Rattle.model_order.proofs.Along.{queue_behind, queue_next, queued_joined}
+use Rattle.sip_engine.specs.order.Order.{IsFirstOf, IsQueueAfter, Standing}
+use Rattle.sip_engine.proofs.of_order.{queue_behind, queue_next, queued_joined}
 use Rattle.sip_run.specs.Runs.{AreTurns, IsInTurn, IsTurn, Goes}
 
 -- no step yet

@@ -12,7 +12,7 @@ use Rattle.sip_engine.specs.model.Access.{Access}
 use Rattle.model_bounds.specs.Bounds.{IsBounded}
 use Rattle.sip_engine.specs.declared.error.StepError.{StepError}
 use Rattle.sip_engine.specs.declared.error.StepError.TheVariants.{NoMemory}
-use Rattle.model_order.specs.Order.{Standing, first_standing}
+use Rattle.sip_engine.specs.order.Order.{Standing, first_standing}
 use Rattle.sip_run.specs.Due.{NothingDueBy}
 use Rattle.sip_run.specs.Refusals.{RefusesStep, refusal_of_event}
 use Rattle.sip_run.specs.Runs.{IsRunOver, Goes, Halts, Stops}

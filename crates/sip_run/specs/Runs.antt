@@ -14,7 +14,7 @@ use Rattle.sip_engine.specs.declared.error.StepError.{StepError}
 use Rattle.sip_engine.specs.declared.error.StepError.TheVariants.{NoMemory}
 use Rattle.sip_engine.specs.StepError.{refusal_at}
 use Rattle.model_transactions.specs.Queue.{Entry}
-use Rattle.model_order.specs.Order.{AllQueued, IsFirstOf, Standing, queue_from}
+use Rattle.sip_engine.specs.order.Order.{AllQueued, IsFirstOf, Standing, queue_from}
 use Rattle.sip_run.specs.Due.{IsDueBy, NothingDueBy}
 use Rattle.sip_run.specs.Refusals.{RefusesStep, refusal_of_event}
 
