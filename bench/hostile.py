@@ -240,6 +240,11 @@ def of_fields(script, method, call):
     return script.request(method, call, more=fields(233))
 
 
+def of_call_id(script, method, call):
+    """One whose answers needn't have its Call-ID."""
+    return script.request(method, call * 46_000)
+
+
 def of_record_routes(script, method, call):
     return script.request(method, call, more=["Record-Route: <sip:away.net;lr>"] * 240)
 
@@ -260,6 +265,9 @@ COSTS = {
     ("200 with another To tag, the INVITE's From long", "a phone"): answers(in_from, [200], 200),
     ("200 with another To tag, the INVITE's Record-Route long", "a phone"): answers(in_record_route, [200], 200),
     ("180 with another To tag, the INVITE with 240 Record-Routes", "a phone"): answers(of_record_routes, [], 180),
+    ("180 with another To tag, the INVITE's Call-ID long", "a phone"): answers(of_call_id, [], 180),
+    ("180 with another To tag", "a phone"): answers(short, [], 180),
+    ("the same, 4,096 dialogs known", "a phone"): answers(short, [180] * 4_096, 180),
     ("INVITE to a silent phone, the Request-URI long", "anyone"): silent_invites(1, in_target),
     ("INVITE to a silent phone, a first Route of this server's long", "anyone"): silent_invites(1, in_route),
     ("INVITE to a phone, the Request-URI long, only sent", "anyone"): sent(1, "INVITE", in_target, 2),

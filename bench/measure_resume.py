@@ -25,7 +25,7 @@ def register(name, port, call, number, more=""):
         f"REGISTER sip:127.0.0.1 SIP/2.0\r\nVia: SIP/2.0/UDP 127.0.0.1:{port};branch=z9hG4bK{call}x{number};rport\r\nMax-Forwards: 70\r\n"
         f"From: <sip:{name}@127.0.0.1>;tag=f{call}\r\nTo: <sip:{name}@127.0.0.1>\r\nCall-ID: {call}\r\nCSeq: {number} REGISTER\r\n"
         f"Contact: <sip:{name}@127.0.0.1:{port}>;expires=60\r\n{more}Content-Length: 0\r\n\r\n"
-    ).encode()
+    )
 
 
 def answer(name, word):
@@ -39,8 +39,8 @@ def lines(events):
     for pair in range(events // 2):
         name, port, word, at = ("alice", "bob")[pair % 2], 20_000 + pair % PHONES, 2 * pair + 1, START + 2 * pair * GAP
         for number, more in ((1, ""), (2, answer(name, word))):
-            data = register(name, port, f"c{pair % PHONES}", 2 * pair + number, more)
-            yield f"hex {at + (number - 1) * GAP} 127.0.0.1:{port} {word + number - 1:032x} {data.hex()}\n"
+            text = register(name, port, f"c{pair % PHONES}", 2 * pair + number, more).replace("\r\n", r"\r\n")
+            yield f"text {at + (number - 1) * GAP} 127.0.0.1:{port} {word + number - 1:032x} {text}\n"
 
 
 def record(folder, config, events):

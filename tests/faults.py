@@ -140,7 +140,7 @@ def port_0(folder, expect, *words):
         expect(server.complaints() == "", server.complaints())
         held = read(record)
         expect(held.startswith(b"record "), f"the record is {held[:6]}")
-        expect(held.count(b"\nhex ") == 4, f"it has {held.count(b'hex ')} of 4 datagrams")
+        expect(held.count(b"\ntext ") == 4, f"it has {held.count(b'text ')} of 4 datagrams")
 
 
 def port_0_goes_on(folder, expect):
@@ -164,7 +164,7 @@ def full_while_taken(folder, expect):
     """A disk is full while an older record is taken: the new one gets no name, that is said, the server goes on, and no other goes on from the older one."""
     port = free_port()
     config = office(folder, port)
-    old = recorded(folder, config, port, times=20)
+    old = recorded(folder, config, port, times=40)
     alice, _ = phones(port)
     with small_disk(folder, 24) as disk:
         with serving(folder, config, "--record", disk + "/new", "--resume", old) as server:
@@ -178,7 +178,7 @@ def full_while_taken_ends(folder, expect):
     """The same with --record-fault end: it ends (4), and another start goes on from the older record."""
     port = free_port()
     config = office(folder, port)
-    old = recorded(folder, config, port, times=20)
+    old = recorded(folder, config, port, times=40)
     with small_disk(folder, 24) as disk:
         server = Server(folder, config, "--record", disk + "/new", "--resume", old, "--record-fault", "end")
         status = server.kill()
@@ -213,7 +213,7 @@ def full_in_service(folder, expect):
     alice, _ = phones(port)
     with small_disk(folder, 16) as disk:
         with serving(folder, config, "--record", disk + "/new") as server:
-            expect(all(is_registered(alice) for _ in range(10)), "it doesn't answer")
+            expect(all(is_registered(alice) for _ in range(20)), "it doesn't answer")
             expect(server.complaints().count("\n") == 1 and "record" in server.complaints(), f"told: {server.complaints()}")
             expect(read(disk + "/new").startswith(b"broken "), f"the record is {read(disk + '/new')[:6]}")
         with serving(folder, config, "--record", new(folder), "--resume", disk + "/new") as server:
@@ -234,7 +234,7 @@ def full_and_ends(folder, expect):
         expect(status == 4 and "record" in server.complaints(), f"status {status}: {server.complaints()}")
         held = read(disk + "/new")
         expect(held.startswith(b"record "), f"the record is {held[:6]}")
-        expect(held.count(b"\nhex ") >= answers > 0, f"{answers} answers, {held.count(b'hex ')} datagrams in the record")
+        expect(held.count(b"\ntext ") >= answers > 0, f"{answers} answers, {held.count(b'text ')} datagrams in the record")
         with serving(folder, config, "--record", new(folder), "--resume", disk + "/new") as server:
             expect("goes on behind" in server.complaints(), f"another start: {server.complaints()}")
 
@@ -246,13 +246,16 @@ def damaged_or_cut(folder, expect):
     good = read(recorded(folder, config, port))
     good = good[: good.rindex(b"\n") + 1]
     line = good.count(b"\n") + 1
-    last = b"hex 1893456000000 127.0.0.1:5062 0123456789abcdef0123456789abcdef 0d0a\n"
+    older = b"hex 1893456000000 127.0.0.1:5062 0123456789abcdef0123456789abcdef 0d0a\n"
+    last = b"text 1893456000000 127.0.0.1:5062 0123456789abcdef0123456789abcdef OK\\r\\n\\c3\\7f\n"
     empty = b"datagram 1893456000000 127.0.0.1:5062 0123456789abcdef0123456789abcdef\n.\n"
-    ends = [(True, last[:cut]) for cut in (0, 1, 3, 4, 10, 17, 18, 20, 27, 28, 32, 33, 36, 65, 66, 67, 68, len(last) - 1)]
+    ends = [(True, older[:cut]) for cut in (0, 1, 3, 4, 10, 17, 18, 20, 27, 28, 32, 33, 36, 65, 66, 67, 68, len(older) - 1)]
+    ends += [(True, last[:cut]) for cut in (1, 4, 5, 18, 19, 28, 33, 34, 66, *range(67, len(last)))]
     ends += [(True, empty[:cut]) for cut in (1, 5, 9, 30, len(empty) - 3, len(empty) - 2, len(empty) - 1)]
     ends += [(True, b"time 18"), (True, b"fault 1893456000000 7/")]
-    ends += [(False, end) for end in (b"hello", b"hello\n", b"tim\n", b"time  1", b"time 18x", b"time 018", b"\0" * 40, b"hex 18 localhost")]
-    ends += [(False, end) for end in (last[:-1] + b"g", empty[:-3] + b"g\n.\n", empty[:-1] + b"x", empty[:-2] + b"x", empty[:-2] + b"x\n", empty[:-2] + b"x\n" + last + empty)]
+    ends += [(False, end) for end in (b"hello", b"hello\n", b"tim\n", b"time  1", b"time 18x", b"time 018", b"\0" * 40, b"hex 18 localhost", b"text 18 localhost")]
+    ends += [(False, last[:-1] + end) for end in (b"\\2", b"\\5", b"\\C", b"\\g", b"\\20", b"\\0d", b"\r", b"\xc3", b"\t\n")]
+    ends += [(False, end) for end in (older[:-1] + b"g", empty[:-3] + b"g\n.\n", empty[:-1] + b"x", empty[:-2] + b"x", empty[:-2] + b"x\n", empty[:-2] + b"x\n" + last + empty)]
     for is_cut, end in ends:
         old = write(new(folder), good + end)
         with serving(folder, config, "--record", new(folder), "--resume", old) as server:
@@ -469,7 +472,7 @@ def tie(folder, expect):
     expect(len(sent) >= 30, f"{len(sent)} of 30 packets were sent")
     expect(sorted(sent) == sorted(replayed), f"{len(sent)} packets were sent, {len(replayed)} are replayed")
     expect(sorted(sent) != sorted(replayed) or sent == replayed, "they are replayed in another order")
-    moments = re.findall(rb"^hex (\d+) ", read(record), re.M)
+    moments = re.findall(rb"^text (\d+) ", read(record), re.M)
     return len(set(moments)) < len(moments)
 
 
@@ -488,7 +491,7 @@ def due_is_recorded(folder, expect):
             server = Server(folder, office(folder, port), "--record", record)
             it.request("INVITE", "sip:bob@127.0.0.1", "sip:bob@127.0.0.1", f"due{number}", 1, [it.contact()])
             it.hear()
-            waiting.append((it, server, record, int(re.findall(rb"^hex (\d+) ", read(record), re.M)[-1])))
+            waiting.append((it, server, record, int(re.findall(rb"^text (\d+) ", read(record), re.M)[-1])))
             if number % 5 == 4:
                 lacking += sum(not is_told(*those) for those in waiting)
                 waiting = []
@@ -499,7 +502,7 @@ def is_told(it, server, record, at):
     """Whether a record tells of a moment 500 ms behind another, when a server was killed with the packet of that."""
     it.socket.recv(65536)
     server.kill()
-    return any(int(moment) >= at + 500 for moment in re.findall(rb"^(?:hex|time) (\d+)\b.*\n", read(record), re.M))
+    return any(int(moment) >= at + 500 for moment in re.findall(rb"^(?:text|time) (\d+)\b.*\n", read(record), re.M))
 
 
 def each_line_is_printed(folder, expect):

@@ -47,11 +47,6 @@ REASONS = {
         "sip_dialog_lessons::lesson::Lesson::drop",
         "sip_uas::judged_request::JudgedRequest::drop",
     ],
-    "for another source than its own, which no step asks for": [
-        "sip_state::heard::unread_via",
-        "sip_state::top_via::received_text",
-        "sip_state::top_via::received_value",
-    ],
     "of a request that is answered here, of which no step asks it": [
         "sip_state::heard::put_unread",
         "sip_state::heard::unread_names",

@@ -29,7 +29,7 @@ LOOK_UPS = [
     ("an audit line is printed", ["audit line", "printed"], "print_records"),
     ("want of memory in a step", ["step", "refuses"], "StepError"),
     ("want of memory while it serves", ["memory", "serves"], "exit_of_serve"),
-    ("a record of events is written", ["written", "event", "record"], "hex_front"),
+    ("a record of events is written", ["written", "event", "record"], "text_front"),
     ("a Via gets received and rport", ["Via", "received", "rport"], "received_top"),
     ("forking", ["forking"], "branches_to"),
     ("the best response", ["which response", "the best"], "better"),

@@ -441,7 +441,7 @@ def not_resumed(folder):
 def full_device(folder):
     """A record that can't be written any more: said once, and the server goes on; or it ends, by a word of the option, and is gone on from."""
     config = office(folder, free_port())
-    room = 2000 + os.stat(config).st_size + 2 * open(config).read().count("\n")
+    room = 1100 + os.stat(config).st_size + 2 * open(config).read().count("\n")
     limited = ["env", "--ignore-signal=XFSZ", "prlimit", f"--fsize={room}", "--"]
     small, other = os.path.join(folder, "small"), os.path.join(folder, "small2")
     server, port = started(PROGRAM, config, "--record", small, before=limited)
@@ -727,7 +727,7 @@ def changed_record(folder):
         wanted += [b"= " + line for line in text.splitlines()] + [b"configuration " + hashlib.sha256(text).hexdigest().encode()]
     lines = whole.split(b"\n")
     held = [line for line in lines if line.startswith((b"= ", b"+ ", b"configuration "))]
-    assert held == wanted and lines[1] == held[0] and lines[1 + firsts[1]].startswith((b"hex ", b"time ")), held
+    assert held == wanted and lines[1] == held[0] and lines[1 + firsts[1]].startswith((b"text ", b"time ")), held
     for by, record, who in ((config, path, 2), (old, copy, 1)):
         server, _ = started(PROGRAM, by, "--record", by + ".record", "--resume", record)
         if who == 2:

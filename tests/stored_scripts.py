@@ -8,8 +8,9 @@ What is answered is told here from the grammar of messages (RFC 3261 25.1 within
 and the sample configuration, in a few lines each that share nothing with the server. They know only what damage to the
 three datagrams below can bring about: no folded line, no dialog, no credential, no binding.
 
-A record is the two REGISTERs of Mufasa, of which the second answers the challenge of the first: with no configuration, with the one
-of `check_sample.toml`, or with that and, between them, one in which Mufasa has another key. Others change a rule: that which stands first
+A record is the two REGISTERs of Mufasa, of which the second answers the challenge of the first: with no configuration, as an older record, in
+lines `hex`; or in lines `text`, with the one of `check_sample.toml`, behind them a datagram of bytes that have escapes there, or with that and,
+between them, one in which Mufasa has another key. Others change a rule: that which stands first
 for help, the one that allowed the challenge of a REGISTER, or the one by which a call went to a hop, which goes with it. Lines are those of
 docs/SCRIPTS.md, credentials RFC 2617's; which rule decides stands beside each datagram, as docs/SCRIPTS.md lists the rules, and what goes on
 to the hop is made by the words of docs/SPECIFICATION.md on a request that is sent on.
@@ -406,8 +407,19 @@ def held(text):
     return "".join(f"= {line}\n" for line in text.removesuffix("\n").split("\n")) + f"configuration {sha256(text)}\n"
 
 
+def escaped(datagram):
+    """Its bytes as a line `text` has them."""
+    letters = {13: "\\r", 10: "\\n", 92: "\\\\"}
+    return "".join(letters.get(byte) or (chr(byte) if 32 <= byte <= 126 else f"\\{byte:02x}") for byte in datagram)
+
+
 def recorded(number, datagram, port=5062, at=None):
-    return f"hex {at or 1000 * number} 127.0.0.1:{port} {word_of(number)} {datagram.hex()}\n"
+    return f"text {at or 1000 * number} 127.0.0.1:{port} {word_of(number)} {escaped(datagram)}\n"
+
+
+def recorded_before(number, datagram):
+    """The line of an older record."""
+    return f"hex {1000 * number} 127.0.0.1:5062 {word_of(number)} {datagram.hex()}\n"
 
 
 def answered(number, datagram, status, more, record, at=None):
@@ -510,12 +522,15 @@ def of_records():
     assert other != sample
     datagrams = [REGISTER, proving(key)]
     first, second = (recorded(number, datagram) for number, datagram in enumerate(datagrams, 1))
+    older = "".join(recorded_before(number, datagram) for number, datagram in enumerate(datagrams, 1))
+    # no message, so it is dropped
+    dropped = recorded(3, b"\0\tcaf\xc3\xa9 \\ \x7f\xff\r\n")
     head, refused, taken = first_line(sha256(sample)), challenged(1, REGISTER), registered(2, datagrams[1])
     named = "replay --config check_sample.toml --record"
     for name, call, record, output in (
-        ("replay_of_a_record", named, head + first + second, refused + taken),
-        ("replay_of_another_configuration", named, first_line("0" * 64) + first + second, None),
-        ("replay_of_a_whole_record", "replay --record", head + held(sample) + first + second, refused + taken),
+        ("replay_of_a_record", named, head + older, refused + taken),
+        ("replay_of_another_configuration", named, first_line("0" * 64) + older, None),
+        ("replay_of_a_whole_record", "replay --record", head + held(sample) + first + second + dropped, refused + taken),
         # by the other key the credential proves nobody
         ("replay_of_a_changed_record", "replay --record", head + held(sample) + first + held(other) + second, refused + challenged(2, datagrams[1])),
         *(

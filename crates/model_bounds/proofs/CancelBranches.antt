@@ -10,9 +10,11 @@ use Rattle.sip_model.specs.state.declared.branch.Branch.{Branch}
 use Rattle.sip_model.specs.state.State.{first_resend}
 use Rattle.sip_model.specs.context_model.Branches.{is_same_branch, turned, is_ready, is_cancellable, cancel_branch, held_branch, with_cancel}
 use Rattle.model_transactions.specs.Copies.{other_copies_left}
-use Rattle.model_bounds.proofs.SendingLists.{IsIn, all_joined, count_cons, only_one, number_is, same_number, both_pass}
+use Rattle.model_bounds.proofs.SendingLists.{all_joined, only_one, both_pass}
 use Rattle.model_bounds.proofs.SendingBranches.{AreApart, same_is}
 use Rattle.model_bounds.proofs.SendingTimes.{AreCopyLaws, IsNearEnd}
+use Rattle.sip_model.proofs.Places.{IsIn, count_cons, same_number}
+use Rattle.sip_model.proofs.Rising.{number_is}
 
 -- ---- how many copies may still be sent
 

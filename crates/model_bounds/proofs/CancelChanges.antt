@@ -23,13 +23,14 @@ use Rattle.sip_model.specs.steps_model.Step.{Act, IsOverdue, OfSide, OfBranch, i
 use Rattle.sip_model.specs.Parts.{IsChangeAt, ByResponse, ByDeadline, ByFault, ByCancel}
 use Rattle.model_bounds.proofs.FinalsKept.{IsKept, IsHonest}
 use Rattle.model_bounds.proofs.FinalsChanges.{IsSound, change_sound}
-use Rattle.model_bounds.proofs.SendingLists.{IsIn, in_list, all_before, all_behind, count_joined, found_in}
+use Rattle.model_bounds.proofs.SendingLists.{all_before, all_behind, count_joined}
 use Rattle.model_bounds.proofs.SendingBranches.{AreApart, Succeeds}
 use Rattle.model_bounds.proofs.SendingTimes.{AreCopyLaws, IsNearEnd}
 use Rattle.model_bounds.proofs.SendingChanges.{change_succeeds}
 use Rattle.model_bounds.proofs.CancelBranches.{Asks, copies_left, is_early, is_place, IsSteady, SendsNoMore, sends_the_same, mapped_left, mapped_places, mapped_each}
 use Rattle.model_bounds.proofs.CancelBranches.{left_alike, alone, LeavesNoMore, phased_no_more, wanted_no_more, cancels_left, cancels_places, cancels_each}
 use Rattle.model_bounds.proofs.CancelTexts.{IsNoCancel, upward_no, asks, first_cancels}
+use Rattle.sip_model.proofs.Places.{IsIn, found_in, in_from_contains}
 
 -- ---- an open request
 
@@ -292,7 +293,7 @@ module _ (laws : AreCopyLaws) (test : Packet → Bool) (server : Server) where
       (record { number_is = refl; asks_same = λ test server number uri address. refl; fewer = λ g. omega arith; places = λ n. omega arith; each = fine.each }) fine.answer
       honest
   deadline_counted now r _ fine (OfBranch b there is) honest =
-      let less = branch_less r b fine (in_list r.branches b there) in settled_counted now [] None r (branch_overdue r b) less.0 less.1 honest
+      let less = branch_less r b fine (in_from_contains r.branches b there) in settled_counted now [] None r (branch_overdue r b) less.0 less.1 honest
 
   -- the caller's CANCEL
   caller_counted : (now : ℕ) (r : OpenRequest) (t : Bool) → IsFine r → AllByRecursion IsHonest (settled server now [] None (cond t (marked r) r)).upward
@@ -305,7 +306,7 @@ module _ (laws : AreCopyLaws) (test : Packet → Bool) (server : Server) where
       → IsFine r → AllByRecursion IsHonest change.upward
       → IsCounted test server r change
   change_counted state act now r _ _ (ByResponse a bytes m status reason b said start for there) fine honest =
-      response_counted now r b status m fine (in_list r.branches b there) honest
+      response_counted now r b status m fine (in_from_contains r.branches b there) honest
   change_counted state act now r change _ (ByDeadline _ passes) fine honest = deadline_counted now r change fine passes honest
   change_counted state act now r _ _ (ByFault at ticket b is number found) fine honest =
       settled_counted now [] None r (given_up b 503 r) (given_up_less r b 503 fine (found_in (is_failed ticket.branch) r.branches b found).0) fine.answer honest

@@ -12,10 +12,11 @@ use Rattle.sip_model.specs.Run.{Link, under, IsChain}
 use Rattle.sip_model.specs.Parts.{HasParts, next_after}
 use Rattle.model_bounds.specs.Cancels.{begins_cancel, says_same, handed_out, first_sendings, IsOwnCancel, GoOutElevenTimes}
 use Rattle.model_bounds.proofs.FinalsHistory.{PartsLaw}
-use Rattle.model_bounds.proofs.SendingLists.{count_parts, number_is}
+use Rattle.model_bounds.proofs.SendingLists.{count_parts}
 use Rattle.model_bounds.proofs.SendingTimes.{AreCopyLaws}
 use Rattle.model_bounds.proofs.CancelTexts.{IsTest}
 use Rattle.model_bounds.proofs.CancelParts.{Stands, total, IsWell, parts_well}
+use Rattle.sip_model.proofs.Rising.{number_is}
 
 -- what says the same as a CANCEL of this server is one
 same_test : (p : Packet) → IsOwnCancel p → IsTest (says_same p)

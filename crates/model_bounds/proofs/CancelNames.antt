@@ -30,10 +30,13 @@ use Rattle.sip_model.specs.steps_model.Step.{Act, IsOverdue, OfSide, OfBranch, o
 use Rattle.sip_model.specs.Run.{Link, under}
 use Rattle.sip_model.specs.Parts.{IsChangeAt, ByResponse, ByDeadline, ByFault, ByCancel}
 use Rattle.model_bounds.specs.Cancels.{begins_cancel, BranchName, is_named, is_own_cancel, AreCancelsOf, NoMore, Another, OneMore}
-use Rattle.model_bounds.proofs.FinalsLists.{contained_behind, contains_first}
+use Rattle.model_bounds.proofs.FinalsLists.{contained_behind}
 use Rattle.model_bounds.proofs.FinalsKept.{IsHonest}
-use Rattle.model_bounds.proofs.SendingLists.{IsIn, contains_of, all_joined, count_cons, none_at, same_number}
+use Rattle.model_bounds.proofs.SendingLists.{all_joined}
 use Rattle.model_bounds.proofs.CancelTexts.{answer_begins}
+use Rattle.sip_model.proofs.Lists.{head_there}
+use Rattle.sip_model.proofs.Places.{IsIn, contains_from_in, count_cons, none_at, same_number}
+use Rattle.sip_model.proofs.Later.{bare}
 
 -- ---- packets
 
@@ -109,10 +112,6 @@ named_back server config history _ _ (OneMore name names p packets is rest) =
     (named_back server config history names packets rest)
 
 -- ---- branches that are kept
-
--- what a request is from its first moment, and what a branch is
-abbrev pub bare : OpenRequest → OpenRequest
-bare r = record r { arrived_at = 0; answer = None; side = Closed; again = first_resend 0; finals = []; branches = [] }
 
 abbrev pub bare_branch : Branch → Branch
 bare_branch b = record b { is_cancel = false; wants_cancel = false; phase = Ended; final_to = None; again = first_resend 0 }
@@ -385,7 +384,8 @@ module _ (server : Server) (history : List Link) (link : Link) (there : Contains
         target true w u e = absurd (cc)
         target false w u e = refl
 
-        by_packets : (to_branch r b 0 false (cancel_of (request_of server r b)) ≡ []) ⊎ ((p : Packet) × (to_branch r b 0 false (cancel_of (request_of server r b)) ≡ p ∷ []))
+        by_packets : (to_branch r b 0 false (cancel_of (request_of server r b)) ≡ [])
+            ⊎ ((p : Packet) × (to_branch r b 0 false (cancel_of (request_of server r b)) ≡ p ∷ []))
             → IsNamed server history r (x ∷ xs) (to_branch r b 0 false (cancel_of (request_of server r b)) ++ packets)
         by_packets (inl none) =
             record {
@@ -410,7 +410,7 @@ module _ (server : Server) (history : List Link) (link : Link) (there : Contains
                     is_target = sym kept.1 ∙ target x.is_cancel x.wants_cancel _ ready;
                     is_request = refl;
                     is_branch = refl;
-                    is_its = subst (λ (ps : List Packet). Contains ps p) (sym one) (contains_first p []);
+                    is_its = subst (λ (ps : List Packet). Contains ps p) (sym one) (head_there p []);
                   }) rest.are_all);
               few = λ n.
                   let own = rest.few n in
@@ -529,7 +529,7 @@ module _ (server : Server) (history : List Link) (link : Link) (there : Contains
     named : IsNamed server history r after.branches (flat_map (branch_packets server false after) (map (cancel_branch now) (filter is_cancellable after.branches)))
     named =
         cancels_named server history link there r is_open after (told_bare (best_upward server told) told ∙ told_bare relayed s ∙ keeps.same) now r.branches
-        after.branches kept (λ b at. contains_of r.branches b at) sent
+        after.branches kept (λ b at. contains_from_in r.branches b at) sent
 
   -- any change
   pub change_named : (change : Change) → IsSettled server now r change → AllByRecursion IsHonest change.upward

@@ -34,9 +34,9 @@ use Rattle.sip_model.specs.Parts.{AreParts, One, Two, HasParts, made_text, next_
 use Rattle.model_bounds.specs.Cancels.{begins_cancel, BranchName, is_named, is_own_cancel, AreCancelsOf, NoMore, HasOneCancelEach}
 use Rattle.model_bounds.proofs.FinalsHistory.{PartsLaw}
 use Rattle.model_bounds.proofs.FinalsKept.{made_status}
-use Rattle.model_bounds.proofs.FinalsLists.{contains_first, all_replaced}
+use Rattle.model_bounds.proofs.FinalsLists.{all_replaced}
 use Rattle.model_bounds.proofs.FinalsChanges.{IsSound, change_sound, settled_sound}
-use Rattle.model_bounds.proofs.SendingLists.{IsIn, in_list, contains_of, all_in, all_joined, all_weaker, counts_in, count_cons, count_joined, number_is, same_number}
+use Rattle.model_bounds.proofs.SendingLists.{all_joined, count_joined}
 use Rattle.model_bounds.proofs.SendingLists.{other_number}
 use Rattle.model_bounds.proofs.SendingTimes.{AreCopyLaws}
 use Rattle.model_bounds.proofs.SendingSteps.{said_next}
@@ -48,6 +48,9 @@ use Rattle.model_bounds.proofs.CancelOpenings.{tried_well, begun_each, unsent_ke
 use Rattle.model_bounds.proofs.CancelParts.{Stands, IsWell, part_well, parts_well}
 use Rattle.model_bounds.proofs.CancelNames.{IsOther, by_branch, others_named, joined_named, later_named, named_back, cancels, IsNamedChange, change_settles, change_named}
 use Rattle.model_bounds.proofs.CancelNames.{ups_other}
+use Rattle.sip_model.proofs.Lists.{head_there}
+use Rattle.sip_model.proofs.Places.{IsIn, all_in, all_weaker, contains_from_in, count_cons, counts_in, in_from_contains, same_number}
+use Rattle.sip_model.proofs.Rising.{number_is}
 
 -- ---- lists
 
@@ -133,17 +136,21 @@ opening_other server a m _ _ (Sent first others begun) =
 
       hundred : (t : Bool) → AllByRecursion IsOther (upward_packets fork (cond t (record {
         status = 100;
-        message = made_answer server fork.number fork.request fork.source 100 [];
+        message = made_answer server fork.number fork.request.message fork.request.source 100 [];
         target = None;
       } ∷ []) []))
-      hundred true = (answer_begins 100 (made_answer server fork.number fork.request fork.source 100 []) (made_status server fork 100), tt)
+      hundred true = (answer_begins 100 (made_answer server fork.number fork.request.message fork.request.source 100 []) (made_status server fork 100), tt)
       hundred false = tt
 
       told : (o : Option Upward) (q : OpenRequest) → (after_upward a.now o q).branches ≡ q.branches
       told None q = refl
       told (Some u) q = refl
 
-      tried_same : (t : Bool) → (tried a.now (cond t (record { status = 100; message = made_answer server fork.number fork.request fork.source 100 []; target = None }
+      tried_same : (t : Bool) → (tried a.now (cond t (record {
+        status = 100;
+        message = made_answer server fork.number fork.request.message fork.request.source 100 [];
+        target = None;
+      }
           ∷ []) []) fork).branches ≡ first ∷ others
       tried_same true = refl
       tried_same false = refl
@@ -256,7 +263,7 @@ module _ (laws : AreCopyLaws) (server : Server) (link : Link) (past : List Link)
     sound = change_sound server link.before link.act now r change again is fine.keeps
 
     named : IsNamedChange server history r change
-    named = change_named server history link (contains_first link past) r is_open now change (change_settles server now r link.before link.act change again is)
+    named = change_named server history link (head_there link past) r is_open now change (change_settles server now r link.before link.act change again is)
         sound.honest sent
 
     joined : (d n : ℕ) → count_by (is_named (d, n)) (named.names ++ old) ≡ count_by (is_named (d, n)) named.names + count_by (is_named (d, n)) old
@@ -381,19 +388,20 @@ module _ (laws : AreCopyLaws) (server : Server) (link : Link) (past : List Link)
         }))
     by_part (Changes r change there is e p) =
         told (replaced change.request link.before.requests) (change_packets change) e p
-        (change_goes old now (next_after link.before link.act) link.before.requests r change again there (in_list link.before.requests r there) is
+        (change_goes old now (next_after link.before link.act) link.before.requests r change again there (in_from_contains link.before.requests r there) is
         (λ x at. sent x (subst (IsIn x) (sym p) (in_back (change.acks ++ upward_packets change.request change.upward) change.cancels x at)))
         (record { numbered = numbered; fine = stands.fine }) moved)
     by_part (Resends r later there goes e p) =
         let same = resent_counts now r later again goes in
         told (replaced later link.before.requests) [] e p
         (silent old (next_after link.before link.act) (replaced later link.before.requests) [] tt
-        (names_replaced old (next_after link.before link.act) link.before.requests r later (in_list link.before.requests r there) same.0 same.1 numbered moved))
+        (names_replaced old (next_after link.before link.act) link.before.requests r later (in_from_contains link.before.requests r there) same.0 same.1 numbered moved))
     by_part (Acknowledges r there e p q) =
         let same = acknowledged_counts now r in
         told (replaced (acknowledged now r) link.before.requests) [] e p
         (silent old (next_after link.before link.act) (replaced (acknowledged now r) link.before.requests) [] tt
-        (names_replaced old (next_after link.before link.act) link.before.requests r (acknowledged now r) (in_list link.before.requests r there) same.0 same.1 numbered
+        (names_replaced old (next_after link.before link.act) link.before.requests r (acknowledged now r) (in_from_contains link.before.requests r there) same.0 same.1
+        numbered
         moved))
 
   -- a step
@@ -408,7 +416,7 @@ module _ (laws : AreCopyLaws) (server : Server) (link : Link) (past : List Link)
       let well : IsWell laws is_own_cancel own_test server (next_after link.before link.act) link.before.requests middle earlier [] =
       part_well laws is_own_cancel own_test server link.before link.act now link.before.requests middle earlier [] none part stands in
       let back : Goes (front.names ++ old) (next_after link.before link.act) (replaced change.request middle) (change_packets change) =
-      change_goes (front.names ++ old) now (next_after link.before link.act) middle r change [] was_there (in_list middle r there) is
+      change_goes (front.names ++ old) now (next_after link.before link.act) middle r change [] was_there (in_from_contains middle r there) is
       (λ x at. sent x (subst (IsIn x) (sym p) (in_back earlier (change_packets change) x
       (in_back (change.acks ++ upward_packets change.request change.upward) change.cancels x at)))) well.stands front.holds in
       subst (λ (os : List OpenRequest). Goes old (next_after link.before link.act) os firsts) (sym e)
@@ -454,7 +462,7 @@ module _ (laws : AreCopyLaws) (parts : PartsLaw) (server : Server) (first : ℕ)
       let goes : Goes laws (under server link.config) link history before.names (next_after link.before link.act) link.after.requests (originals link.out.packets) =
       parts_goes laws (under server link.config) link history before.names link.after.moment link.after.requests (originals link.out.packets)
       (retransmissions link.out.packets) made.none_passed made.parts
-      (λ p at. contains_of (originals link.out.packets) p at) before.stands before.has_names in
+      (λ p at. contains_from_in (originals link.out.packets) p at) before.stands before.has_names in
       subst (λ (s : ProxyState). Holds server (link ∷ history) s.next s.requests) (sym chain.0) (record {
         stands = subst (λ (n : ℕ). Stands n link.after.requests) (sym made.is_next) well.stands;
         names = goes.names ++ before.names;

@@ -18,13 +18,15 @@ use Rattle.sip_model.specs.Parts.{AreBegun, IsOpening, Answered, Sent, made_text
 use Rattle.model_transactions.specs.Copies.{other_copies_left}
 use Rattle.model_bounds.proofs.FinalsKept.{IsKept, IsHonest, made_kept, made_status}
 use Rattle.model_bounds.proofs.FinalsChanges.{IsLike, IsSound, settled_sound}
-use Rattle.model_bounds.proofs.SendingLists.{count_cons, count_joined, one_at, none_at, number_is, both_pass}
+use Rattle.model_bounds.proofs.SendingLists.{count_joined, both_pass}
 use Rattle.model_bounds.proofs.SendingBranches.{is_target, Succeeds, succeeds_alike}
 use Rattle.model_bounds.proofs.SendingTimes.{AreCopyLaws}
 use Rattle.model_bounds.proofs.SendingChanges.{settled_succeeds}
 use Rattle.model_bounds.proofs.CancelBranches.{Asks, copies_left, left_cons, is_early, is_place, IsSteady}
 use Rattle.model_bounds.proofs.CancelTexts.{IsNoCancel, answer_begins, upward_no, asks}
 use Rattle.model_bounds.proofs.CancelChanges.{IsFine, IsLess, same_less, IsCounted, settled_counted}
+use Rattle.sip_model.proofs.Places.{count_cons, none_at, one_at}
+use Rattle.sip_model.proofs.Rising.{number_is}
 
 -- ---- branches that are first sent
 
@@ -96,12 +98,16 @@ pub tried_well : (server : Server) (now : ℕ) (r : OpenRequest) → AllByRecurs
     → IsTried r (tried now (trying server r) r)
 tried_well server now r each no_cancel keeps = by_test (is_tried r) where
   hundred : Upward
-  hundred = record { status = 100; message = made_answer server r.number r.request r.source 100 []; target = None }
+  hundred = record { status = 100; message = made_answer server r.number r.request.message r.request.source 100 []; target = None }
 
   honest : IsHonest hundred
   honest = record { low = omega arith; is_of = made_status server r 100 }
 
-  by_test : (t : Bool) → IsTried r (tried now (cond t (record { status = 100; message = made_answer server r.number r.request r.source 100 []; target = None } ∷ []) [])
+  by_test : (t : Bool) → IsTried r (tried now (cond t (record {
+    status = 100;
+    message = made_answer server r.number r.request.message r.request.source 100 [];
+    target = None;
+  } ∷ []) [])
       r)
   by_test true = record {
     less = record { number_is = refl; asks_same = λ test server number uri address. refl; fewer = λ g. omega arith; places = λ n. omega arith; each = each };

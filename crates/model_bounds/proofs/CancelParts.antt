@@ -1,8 +1,7 @@
 -- The parts of a step: what each leaves of the copies of CANCELs that may still be sent, and what it sends of them.
 use Rattle.std.proofs.Common.{◌≡◌, inl, inr, ℕ, ◌+◌, ◌*◌, ◌≤◌, Bool, true, false, not, ◌&&◌, ◌==◌, cond, List, [], ◌∷◌, ◌++◌, map, Some, refl, sym, ap, subst, ◌∙◌, arith}
 use Rattle.std.proofs.Common.{sum_by, count_by}
-use Rattle.std.specs.List.{AllByRecursion, filter_map}
-use Rattle.std.specs.Option.{option_to_list}
+use Rattle.std.specs.List.{AllByRecursion}
 use Rattle.std.proofs.lemmas.List.Sums.{sum_by-cons, sum_by_push}
 use Rattle.sip_event.specs.declared.packet.Packet.{Packet}
 use Rattle.sip_event.specs.declared.event.Event.TheVariants.{Datagram, Time, Fault}
@@ -13,7 +12,7 @@ use Rattle.sip_model.specs.state.declared.branch.Phase.TheVariants.{Unheard, Hea
 use Rattle.sip_model.specs.state.declared.branch.Branch.{Branch}
 use Rattle.sip_model.specs.state.declared.open_request.OpenRequest.{OpenRequest}
 use Rattle.sip_model.specs.state.declared.proxy_state.ProxyState.{ProxyState}
-use Rattle.sip_model.specs.state.State.{is_invite, has_key, has_left, deadlines_of, phase_deadline, side_deadline}
+use Rattle.sip_model.specs.state.State.{is_invite, has_key, has_left, phase_deadline}
 use Rattle.sip_model.specs.context_model.Sending.{branch_packets}
 use Rattle.sip_model.specs.context_model.Branches.{Change, is_same_branch, is_unheard, acknowledged, acknowledged_side, was_refused}
 use Rattle.sip_model.specs.context_model.Opening.{opening}
@@ -28,19 +27,19 @@ use Rattle.model_transactions.specs.OtherClient.{steady}
 use Rattle.model_transactions.specs.Copies.{other_copies_left}
 use Rattle.model_bounds.proofs.FinalsKept.{IsKept}
 use Rattle.model_bounds.proofs.FinalsLists.{numbered_replaced, numbered_push, numbered_later}
-use Rattle.model_bounds.proofs.SendingLists.{IsIn, in_list, all_in, all_joined, all_behind, all_flat, all_made, found_in, count_cons, count_joined, counts_in, one_at}
-use Rattle.model_bounds.proofs.SendingLists.{same_number}
+use Rattle.model_bounds.proofs.SendingLists.{all_joined, count_joined}
 use Rattle.model_bounds.proofs.SendingBranches.{is_target, mapped_count}
 use Rattle.model_bounds.proofs.SendingTimes.{AreCopyLaws, IsNearEnd, next_time}
 use Rattle.model_bounds.proofs.SendingRequests.{all_replaced}
 use Rattle.model_bounds.proofs.SendingOpenings.{opening_number}
-use Rattle.model_bounds.proofs.SendingSteps.{said_next}
+use Rattle.model_bounds.proofs.SendingSteps.{said_next, branch_not_passed}
 use Rattle.model_bounds.proofs.SendingCopies.{due_is}
 use Rattle.model_bounds.proofs.CancelBranches.{Asks, copies_of, copies_left, is_place, IsSteady, SendsNoMore, sends_the_same, mapped_left, mapped_places, mapped_each}
 use Rattle.model_bounds.proofs.CancelBranches.{mapped_one_less, alone}
 use Rattle.model_bounds.proofs.CancelTexts.{IsTest, IsNoCancel, answers_none, acked_none, target_none, asks, cancel_copy}
 use Rattle.model_bounds.proofs.CancelChanges.{IsFine, change_leaves}
 use Rattle.model_bounds.proofs.CancelOpenings.{IsOpenedWell, opening_well}
+use Rattle.sip_model.proofs.Places.{IsIn, all_in, count_cons, counts_in, found_in, in_from_contains, one_at, same_number}
 
 -- ---- all open requests
 
@@ -84,14 +83,6 @@ replaced_sum f new r (x ∷ xs) few same there = by_test (x.number == new.number
       omega (arith, sum_by-cons f x xs, sum_by-cons f x (replaced new xs), rest (omega (arith, few, count_cons (is_numbered new.number) x xs)) later)
 
 -- ---- what goes again
-
--- no deadline of a branch of an open request passed
-not_passed : (now : ℕ) (requests : List OpenRequest) (r : OpenRequest) (b : Branch) (until : ℕ) → NoneBefore now requests → IsIn r requests → IsIn b r.branches
-    → phase_deadline b.phase ≡ Some until → now ≤ until
-not_passed now requests r b until none there inside is =
-    let own : AllByRecursion (λ due. now ≤ due) (deadlines_of r) = all_flat (λ due. now ≤ due) deadlines_of requests r none there in
-    all_made (λ due. now ≤ due) (λ (x : Branch). phase_deadline x.phase) r.branches b until
-    (all_behind (λ due. now ≤ due) (option_to_list (side_deadline r.side)) (filter_map (λ (x : Branch). phase_deadline x.phase) r.branches) own) inside is
 
 -- when a CANCEL goes next
 cancel_next : (r : OpenRequest) (b : Branch) → b.is_cancel ≡ true → branch_next r b ≡ next_time false b.phase b.again
@@ -209,7 +200,7 @@ module _ (laws : AreCopyLaws) (test : Packet → Bool) (is_test : IsTest test) (
       let is_due = due_is r b now due in
       let goes : is_cancelled_again b.phase ≡ true = sym (ap (λ (t : Bool). cond t (is_cancelled_again b.phase) (is_sent_again (is_invite r) b.phase)) cancel) ∙ is_due.0
       in
-      let one = leaves_one_less laws b.phase b.again goes (λ until is. let before = not_passed now requests r b until none there inside is in
+      let one = leaves_one_less laws b.phase b.again goes (λ until is. let before = branch_not_passed now requests r b until none there inside is in
       omega (arith, before, is_due.1)) ((all_in IsSteady r.branches b fine.each inside).1 cancel) in
       let next = cancel_next r b cancel in
       let one_less : IsOneLess r b (branch_next r b) =
@@ -254,8 +245,8 @@ module _ (laws : AreCopyLaws) (test : Packet → Bool) (is_test : IsTest test) (
       }
   resent_well now requests r _ _ none there fine (OfRequest b inside due) = by_kind b.is_cancel refl where
     by_kind : (t : Bool) → b.is_cancel ≡ t → IsResentWell test server r (with_resend b r) (branch_packets server true r b)
-    by_kind true is = cancel_well now requests r b none there fine (in_list r.branches b inside) is due
-    by_kind false is = target_well r b fine (in_list r.branches b inside) is
+    by_kind true is = cancel_well now requests r b none there fine (in_from_contains r.branches b inside) is due
+    by_kind false is = target_well r b fine (in_from_contains r.branches b inside) is
 
   -- an ACK
   acknowledged_well : (now : ℕ) (r : OpenRequest) → IsFine r → IsResentWell test server r (acknowledged now r) []
@@ -343,15 +334,15 @@ module _ (laws : AreCopyLaws) (test : Packet → Bool) (is_test : IsTest test) (
         })
     by_part (Changes r change there is e p) =
         told (replaced change.request requests) (change_packets change) again e p refl
-        (change_well state act now (next_after state act) requests r change again (in_list requests r there) is moved)
+        (change_well state act now (next_after state act) requests r change again (in_from_contains requests r there) is moved)
     by_part (Resends r later there goes e p) =
-        let place : IsIn r requests = in_list requests r there in
+        let place : IsIn r requests = in_from_contains requests r there in
         let well : IsResentWell test server r later again = resent_well now requests r later again none place (all_in IsFine requests r h.fine place) goes in
         let fewer = well.fewer in
         told (replaced later requests) [] again e p refl (replaced_well (next_after state act) requests [] again r later place well.number_is well.fine
         (omega (arith, fewer)) moved)
     by_part (Acknowledges r there e p q) =
-        let place : IsIn r requests = in_list requests r there in
+        let place : IsIn r requests = in_from_contains requests r there in
         let well : IsResentWell test server r (acknowledged now r) [] = acknowledged_well now r (all_in IsFine requests r h.fine place) in
         let fewer = well.fewer in
         told (replaced (acknowledged now r) requests) [] [] e p q (replaced_well (next_after state act) requests [] [] r (acknowledged now r) place well.number_is
@@ -365,7 +356,7 @@ module _ (laws : AreCopyLaws) (test : Packet → Bool) (is_test : IsTest test) (
   parts_well state act now requests after firsts again none (Two middle earlier r change part was_there there is e p q) h =
       let front : IsWell (next_after state act) requests middle earlier [] = part_well state act now requests middle earlier [] none part h in
       let back : IsWell (next_after state act) middle (replaced change.request middle) (change_packets change) [] =
-      change_well state act now (next_after state act) middle r change [] (in_list middle r there) is front.stands in
+      change_well state act now (next_after state act) middle r change [] (in_from_contains middle r there) is front.stands in
       let first = front.fewer in
       let second = back.fewer in
       subst (λ (os : List OpenRequest). IsWell (next_after state act) requests os firsts again) (sym e)

@@ -24,8 +24,9 @@ use Rattle.sip_model.specs.context_model.Retransmission.{answers_again, acks_aga
 use Rattle.model_bounds.specs.Cancels.{begins_cancel, IsOwnCancel}
 use Rattle.model_bounds.proofs.FinalsText.{HasStatus}
 use Rattle.model_bounds.proofs.FinalsKept.{IsHonest}
-use Rattle.model_bounds.proofs.SendingLists.{count_cons, count_joined, none_at}
+use Rattle.model_bounds.proofs.SendingLists.{count_joined}
 use Rattle.model_bounds.proofs.CancelBranches.{Asks}
+use Rattle.sip_model.proofs.Places.{count_cons, none_at}
 
 -- a test of packets: it is the same of a first sending and of a copy, and only CANCELs of this server pass it
 pub record IsTest (test : Packet → Bool) : Type 0 where
@@ -131,8 +132,8 @@ asks test server r number uri address =
     option_map_or (λ to. test (record {
       to = to;
       bytes = text_of
-          (cancel_of (cond (begins_dialog r) (with_record_route server.config.own (onward_as server r.number r.request r.source uri number))
-          (onward_as server r.number r.request r.source uri number)));
+          (cancel_of (cond (begins_dialog r) (with_record_route server.config.own (onward_as server r.number r.request.message r.request.source uri number))
+          (onward_as server r.number r.request.message r.request.source uri number)));
       ticket = record { datagram = r.number; branch = 0 };
       again = false;
     })) address false

@@ -24,10 +24,11 @@ use Rattle.sip_model.specs.Run.{Link, under, IsChain}
 use Rattle.sip_model.specs.Order.{HasFired, CanEnd}
 use Rattle.sip_model.specs.Parts.{HasParts}
 use Rattle.model_bounds.specs.Endings.{sets_timer_c, is_for_target, is_heard, hears, heard_last, IsBefore, EndsInTime, EndInTime}
-use Rattle.model_bounds.proofs.EndingLists.{parts_of_append, option_of_all, all_in, all_from_in, each_of_flat_map, each_of_filter_map}
+use Rattle.model_bounds.proofs.EndingLists.{parts_of_append, option_of_all, all_from_in, each_of_flat_map, each_of_filter_map}
 use Rattle.model_bounds.proofs.EndingTimes.{whole_time, IsFrom, IsInTime, request_later, deadlines_in_time}
 use Rattle.model_bounds.proofs.EndingChanges.{IsChanging}
 use Rattle.model_bounds.proofs.EndingParts.{origin_by, origin_of, origin_later, IsEnding, IsRecent, may_change, IsReady, parts_ending}
+use Rattle.sip_model.proofs.Lists.{all_contains}
 
 -- ---- what is known of a history from below
 
@@ -58,7 +59,7 @@ record IsOpenFrom (floor : ℕ) (r : OpenRequest) : Type 0 where
 -- where none of all deadlines is
 each_from : (floor : ℕ) (requests : List OpenRequest) (r : OpenRequest) → NoneBefore floor requests → Contains requests r → IsOpenFrom floor r
 each_from floor requests r none there =
-    let all = all_in (λ (x : OpenRequest). AllByRecursion (λ (due : ℕ). floor ≤ due) (deadlines_of x)) requests r
+    let all = all_contains (λ (x : OpenRequest). AllByRecursion (λ (due : ℕ). floor ≤ due) (deadlines_of x)) requests r
     (each_of_flat_map (λ (due : ℕ). floor ≤ due) deadlines_of requests none) there in
     let parts = parts_of_append (λ (due : ℕ). floor ≤ due) _ _ all in
     record {
@@ -77,7 +78,7 @@ overdue_from : (server : Server) (floor due : ℕ) (requests : List OpenRequest)
     → IsOverdue server due r change → floor ≤ due
 overdue_from server floor due requests r _ none there (OfSide is) = from_some floor due (side_deadline r.side) is (each_from floor requests r none there).side
 overdue_from server floor due requests r _ none there (OfBranch b in_it is) =
-    from_some floor due (phase_deadline b.phase) is (all_in (λ (x : Branch). IsFrom floor (phase_deadline x.phase)) r.branches b
+    from_some floor due (phase_deadline b.phase) is (all_contains (λ (x : Branch). IsFrom floor (phase_deadline x.phase)) r.branches b
     (each_from floor requests r none there).branches in_it)
 
 -- nor is what goes again
@@ -86,14 +87,15 @@ resent_from : (server : Server) (floor due : ℕ) (requests : List OpenRequest) 
     → IsResent server due r packets later → floor ≤ due
 resent_from server floor due requests r _ _ none there goes = by_kind goes where
   all : AllByRecursion (λ (d : ℕ). floor ≤ d) (resends_of r)
-  all = all_in (λ (x : OpenRequest). AllByRecursion (λ (d : ℕ). floor ≤ d) (resends_of x)) requests r (each_of_flat_map (λ (d : ℕ). floor ≤ d) resends_of requests none)
+  all = all_contains (λ (x : OpenRequest). AllByRecursion (λ (d : ℕ). floor ≤ d) (resends_of x)) requests r
+      (each_of_flat_map (λ (d : ℕ). floor ≤ d) resends_of requests none)
       there
 
   by_kind : {packets : List Packet} {later : OpenRequest} → IsResent server due r packets later → floor ≤ due
   by_kind (OfAnswer is) = from_some floor due (answer_due r) is (option_of_all (λ (d : ℕ). floor ≤ d) (answer_due r) (parts_of_append (λ (d : ℕ). floor ≤ d) _ _ all).0)
   by_kind (OfRequest b in_it is) =
       from_some floor due (branch_due r b) is
-      (all_in (λ (x : Branch). IfSome (branch_due r x) (λ d. floor ≤ d)) r.branches b
+      (all_contains (λ (x : Branch). IfSome (branch_due r x) (λ d. floor ≤ d)) r.branches b
       (each_of_filter_map (λ (d : ℕ). floor ≤ d) (branch_due r) r.branches (parts_of_append (λ (d : ℕ). floor ≤ d) _ _ all).1) in_it)
 
 -- so no step stands before the one before it
@@ -237,13 +239,13 @@ module _ (have_parts : HaveParts) (waits : Always (λ server last. AllByRecursio
         ready : (r : OpenRequest) → Contains link.before.requests r → IsReady server (link ∷ history) link.after.moment r
         ready r there =
             let from : IsOpenFrom link.after.moment r = each_from link.after.moment link.before.requests r parts.none_passed there in
-            let ending : IsEnding server history r = all_in (IsEnding server history) link.before.requests r before there in
+            let ending : IsEnding server history r = all_contains (IsEnding server history) link.before.requests r before there in
             let origin : origin_of server history r ≤ origin_of server (link ∷ history) r =
             origin_later (is_invite r) r.arrived_at (heard_last server r.number history) (heard_last server r.number (link ∷ history)) (heard r.number) in
             record {
               changing = may_change (origin_of server (link ∷ history) r) link.after.moment r
                   (request_later (is_invite r) (origin_of server history r) (origin_of server (link ∷ history) r) origin r ending) from.branches
-                  (all_in Waits link.before.requests r (waits server first history link.before chain) there);
+                  (all_contains Waits link.before.requests r (waits server first history link.before chain) there);
               side_from = from.side;
             }
 
@@ -270,10 +272,10 @@ module _ (have_parts : HaveParts) (waits : Always (λ server last. AllByRecursio
       → AllByRecursion (λ (due : ℕ). due ≤ limit) (deadlines_of r) → IsBefore act limit state.moment
   before_end act state r limit none fired there can by = by_act act fired where
     within : can.due ≤ limit
-    within = all_in (λ (due : ℕ). due ≤ limit) (deadlines_of r) can.due by can.has_deadline
+    within = all_contains (λ (due : ℕ). due ≤ limit) (deadlines_of r) can.due by can.has_deadline
 
     passes : (P : ℕ → Type 0) → AllByRecursion P (deadlines state.requests) → P can.due
-    passes P all = all_in P (deadlines_of r) can.due (all_in (λ (x : OpenRequest). AllByRecursion P (deadlines_of x)) state.requests r
+    passes P all = all_contains P (deadlines_of r) can.due (all_contains (λ (x : OpenRequest). AllByRecursion P (deadlines_of x)) state.requests r
         (each_of_flat_map P deadlines_of state.requests all) there) can.has_deadline
 
     not_passed : state.moment ≤ can.due
@@ -300,9 +302,9 @@ module _ (have_parts : HaveParts) (waits : Always (λ server last. AllByRecursio
         ends : (r : OpenRequest) → Contains link.after.requests r → IsBefore link.act (origin_of server (link ∷ history) r + whole_time (is_invite r)) link.after.moment
         ends r there =
             before_end link.act link.after r (origin_of server (link ∷ history) r + whole_time (is_invite r)) (none_before server first (link ∷ history) link.after whole)
-            (have_fired server first (link ∷ history) link.after whole).0 there (all_in CanEnd link.after.requests r
+            (have_fired server first (link ∷ history) link.after whole).0 there (all_contains CanEnd link.after.requests r
             (can_end server first (link ∷ history) link.after whole) there)
-            (deadlines_in_time (is_invite r) (origin_of server (link ∷ history) r) r (all_in (IsEnding server (link ∷ history)) link.after.requests r
+            (deadlines_in_time (is_invite r) (origin_of server (link ∷ history) r) r (all_contains (IsEnding server (link ∷ history)) link.after.requests r
             (chain_ending server first (link ∷ history) link.after whole) there))
 
         by_method : (i : Bool) (r : OpenRequest) → is_invite r ≡ i → Contains link.after.requests r

@@ -7,12 +7,7 @@ use Rattle.sip_model.specs.state.State.{has_left}
 use Rattle.sip_model.specs.steps_model.Effect.{replaced}
 
 module _ {X : Type 0} (P : X → Type 0) where
-  -- what holds of each element of two lists
-  pub all_append : (xs ys : List X) → AllByRecursion P xs → AllByRecursion P ys → AllByRecursion P (xs ++ ys)
-  all_append [] ys first second = second
-  all_append (x ∷ xs) ys first second = (first.0, all_append xs ys first.1 second)
-
-  -- and back
+  -- what holds of each element of two lists together holds of each of either
   pub parts_of_append : (xs ys : List X) → AllByRecursion P (xs ++ ys) → AllByRecursion P xs × AllByRecursion P ys
   parts_of_append [] ys all = (tt, all)
   parts_of_append (x ∷ xs) ys all = let rest = parts_of_append xs ys all.1 in ((all.0, rest.0), rest.1)
@@ -27,10 +22,6 @@ module _ {X : Type 0} (P : X → Type 0) where
   option_of_all None all = tt
   option_of_all (Some x) all = all.0
 
-  -- of what is in the list
-  pub all_in : (xs : List X) (x : X) → AllByRecursion P xs → Contains xs x → P x
-  all_in xs x all there = All-contains P xs x (All-from_recursion P xs all) there
-
   -- of each element of a list, if it holds of whatever is in it
   pub all_from_in : (xs : List X) → ((x : X) → Contains xs x → P x) → AllByRecursion P xs
   all_from_in xs each = each_of (λ x there. each x there) xs (recursion_from_All (Contains xs) xs (All-contains_itself xs)) where
@@ -39,11 +30,6 @@ module _ {X : Type 0} (P : X → Type 0) where
     each_of f (y ∷ ys) all = (f y all.0, each_of f ys all.1)
 
 module _ {X : Type 0} (P Q : X → Type 0) where
-  -- what follows for each follows for all
-  pub all_weaker : ((x : X) → P x → Q x) → (xs : List X) → AllByRecursion P xs → AllByRecursion Q xs
-  all_weaker f [] all = tt
-  all_weaker f (x ∷ xs) all = (f x all.0, all_weaker f xs all.1)
-
   -- both hold of each
   pub all_both : (xs : List X) → AllByRecursion P xs → AllByRecursion Q xs → AllByRecursion (λ x. P x × Q x) xs
   all_both [] first second = tt

@@ -29,10 +29,11 @@ use Rattle.sip_model.specs.Access.{IsSaidAt}
 use Rattle.sip_model.specs.Parts.{IsBegun, AreBegun, IsOpening, Answered, Sent, IsChangeAt, ByResponse, ByDeadline, ByFault, ByCancel, IsPart, Stays, Passes, Copies}
 use Rattle.sip_model.specs.Parts.{TurnsAway, Opens, Changes, Resends, Acknowledges, AreParts, One, Two}
 use Rattle.model_bounds.specs.Endings.{heard_last}
-use Rattle.model_bounds.proofs.EndingLists.{all_append, all_in, all_map, all_both, all_weaker, all_replaced}
+use Rattle.model_bounds.proofs.EndingLists.{all_map, all_both, all_replaced}
 use Rattle.model_bounds.proofs.EndingTimes.{waiting_time, phase_time, side_time, IsBy, IsFrom, IsOnTime, IsInTime, still_waits}
 use Rattle.model_bounds.proofs.EndingChanges.{IsOpenAt, IsChanging, HasChanged, upward_changing, settled_changed, response_changed, overdue_changed, side_changed}
 use Rattle.model_bounds.proofs.EndingChanges.{failed_changed, cancelled_changed}
+use Rattle.sip_model.proofs.Lists.{all_weaker, all_append, all_contains}
 
 -- ---- the moment from which the time of a request counts
 
@@ -184,7 +185,7 @@ change_changed : (server : Server) (history : List Link) (state : ProxyState) (a
     → IsChanging (origin_of server history r) now r r → IsChangeAt server state act now r change again → HasChanged (origin_of server history r) r change.request
 change_changed server history state act now r _ _ recent h (ByResponse a bytes m status reason b said start is_for there) =
     response_changed server (origin_of server history r) now r b status m h
-    (all_in (IsOpenAt (is_invite r) (origin_of server history r) now) r.branches b h.branches there)
+    (all_contains (IsOpenAt (is_invite r) (origin_of server history r) now) r.branches b h.branches there)
     (λ target provisional invite other. recent a bytes m status reason r b said start is_for target provisional invite other)
 change_changed server history state act now r _ _ recent h (ByDeadline change overdue) = overdue_ending server (origin_of server history r) now r change h overdue
 change_changed server history state act now r _ _ recent h (ByFault at ticket b is_act is_number found) = failed_changed server (origin_of server history r) now r b h
@@ -254,7 +255,7 @@ module _ (server : Server) (history : List Link) (state : ProxyState) (act : Act
     (ready : AllByRecursion (IsReady server history now) requests) where
   -- a request that is there may change
   ready_there : (r : OpenRequest) → Contains requests r → IsReady server history now r
-  ready_there r there = all_in (IsReady server history now) requests r ready there
+  ready_there r there = all_contains (IsReady server history now) requests r ready there
 
   -- all are in time
   all_ending : AllByRecursion (IsEnding server history) requests

@@ -9,7 +9,8 @@ use Rattle.sip_model.specs.state.declared.open_request.Side.TheVariants.{Answeri
 use Rattle.sip_model.specs.state.declared.open_request.OpenRequest.{OpenRequest}
 use Rattle.sip_model.specs.state.State.{is_final, phase_deadline, side_deadline, deadlines_of}
 use Rattle.sip_model.specs.context_model.Branches.{is_ready, invite_heard, other_heard}
-use Rattle.model_bounds.proofs.EndingLists.{all_append, all_option, all_filter_map, all_weaker}
+use Rattle.model_bounds.proofs.EndingLists.{all_option, all_filter_map}
+use Rattle.sip_model.proofs.Lists.{all_weaker, all_append}
 
 -- ---- the times
 

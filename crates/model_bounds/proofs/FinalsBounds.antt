@@ -22,23 +22,20 @@ use Rattle.sip_model.specs.steps_model.Effect.{replaced}
 use Rattle.sip_model.specs.steps_model.Step.{NoneBefore}
 use Rattle.sip_model.specs.Parts.{AreBegun, made_text, IsOpening, Answered, Sent}
 use Rattle.model_transactions.specs.Copies.{IsTimely, copies_by, answer_copies_left}
-use Rattle.model_bounds.proofs.FinalsLists.{IsIn, in_list, each_of, number_below, below_apart}
+use Rattle.model_bounds.proofs.FinalsLists.{number_below, below_apart}
 use Rattle.model_bounds.proofs.FinalsCounts.{finals_in}
 use Rattle.model_bounds.proofs.FinalsSpent.{TimerLaws, copies_left, AreTargets, IsTimed, IsNoMore, upward_no_more, map_targets, settled_no_more}
 use Rattle.model_bounds.proofs.FinalsCopies.{answer_few, answer_beside, branch_none, IsSpent, spent_no_more, AreSpent, spent_on, replaced_spent}
+use Rattle.sip_model.proofs.Places.{IsIn, all_in, in_from_contains}
+use Rattle.sip_model.proofs.Deadlines.{parts_of_append}
 
 -- ---- deadlines
-
--- what holds of two lists together holds of each
-split_all : (P : ℕ → Type 0) (xs ys : List ℕ) → AllByRecursion P (xs ++ ys) → AllByRecursion P xs × AllByRecursion P ys
-split_all P [] ys all = (tt, all)
-split_all P (x ∷ xs) ys all = let rest = split_all P xs ys all.1 in ((all.0, rest.0), rest.1)
 
 -- the deadlines of an open request
 own_deadlines : (P : ℕ → Type 0) (rs : List OpenRequest) (r : OpenRequest) → AllByRecursion P (deadlines rs) → IsIn r rs → AllByRecursion P (deadlines_of r)
 own_deadlines P [] r all there = absurd there
-own_deadlines P (x ∷ xs) r all (inl same) = subst (λ (y : OpenRequest). AllByRecursion P (deadlines_of y)) same (split_all P (deadlines_of x) (deadlines xs) all).0
-own_deadlines P (x ∷ xs) r all (inr later) = own_deadlines P xs r (split_all P (deadlines_of x) (deadlines xs) all).1 later
+own_deadlines P (x ∷ xs) r all (inl same) = subst (λ (y : OpenRequest). AllByRecursion P (deadlines_of y)) same (parts_of_append P (deadlines_of x) (deadlines xs) all).0
+own_deadlines P (x ∷ xs) r all (inr later) = own_deadlines P xs r (parts_of_append P (deadlines_of x) (deadlines xs) all).1 later
 
 -- no side that closes is past its deadline
 closes_later : (now until : ℕ) (requests : List OpenRequest) (r : OpenRequest) → NoneBefore now requests → IsIn r requests → r.side ≡ Closing until → now ≤ until
@@ -99,7 +96,7 @@ answer_spent : TimerLaws → (Invite : ℕ → Type 0) (now : ℕ) (r : OpenRequ
     → AreSpent Invite (replaced (record r { again = answer_next r }) requests) next (λ n. finals_in n (answers_again r r.answer) + went n) came_then
 answer_spent laws Invite now r requests next went came came_then due none there more h =
     let is : Insists now r = insisting now r due in
-    let spent : IsSpent Invite went came r = each_of (IsSpent Invite went came) requests r h.fit there in
+    let spent : IsSpent Invite went came r = all_in (IsSpent Invite went came) requests r h.fit there in
     let below : r.number < next = number_below next requests r h.numbered there in
     let less = one_less_left laws now r is spent.timed (closes_later now is.until requests r none there is.closes) in
     replaced_spent Invite requests next went came (λ n. finals_in n (answers_again r r.answer) + went n) came_then (record r { again = answer_next r })
@@ -140,12 +137,12 @@ pub resent_spent : TimerLaws
 resent_spent laws Invite server now r _ _ requests next went came came_then
     (OfAnswer due) none there more h = answer_spent laws Invite now r requests next went came came_then due none there more h
 resent_spent laws Invite server now r _ _ requests next went came came_then (OfRequest b at due) none there more h =
-    let spent : IsSpent Invite went came r = each_of (IsSpent Invite went came) requests r h.fit there in
-    let number : 1 ≤ b.number = each_of (λ (x : Branch). 1 ≤ x.number) r.branches b spent.timed.targets (in_list r.branches b at) in
+    let spent : IsSpent Invite went came r = all_in (IsSpent Invite went came) requests r h.fit there in
+    let number : 1 ≤ b.number = all_in (λ (x : Branch). 1 ≤ x.number) r.branches b spent.timed.targets (in_from_contains r.branches b at) in
     let on : AreSpent Invite requests next (λ n. finals_in n (branch_packets server true r b) + went n) came_then = spent_on Invite requests next next went came
     (λ n. finals_in n (branch_packets server true r b) + went n) came_then (omega arith)
     (λ n. omega (arith, branch_none server n r b number, more n)) (λ n high. omega (arith, branch_none server n r b number, h.none_later n high)) h in
-    let fits = each_of (IsSpent Invite (λ n. finals_in n (branch_packets server true r b) + went n) came_then) requests r on.fit there in
+    let fits = all_in (IsSpent Invite (λ n. finals_in n (branch_packets server true r b) + went n) came_then) requests r on.fit there in
     replaced_spent Invite requests next (λ n. finals_in n (branch_packets server true r b) + went n) came_then
     (λ n. finals_in n (branch_packets server true r b) + went n) came_then (with_resend b r) (λ n apart. omega arith) on.none_later
     (spent_no_more Invite (λ n. finals_in n (branch_packets server true r b) + went n) came_then r (with_resend b r) (branch_no_more r b spent.timed) fits) on
@@ -205,10 +202,15 @@ sent_spent laws Invite went came server a m bs begun invites none = (
   spent = record { to_invite = λ invite. (invites invite, omega (arith, none)); to_other = λ other. omega (arith, none); timed = timed }
 
   after_hundred : (t : Bool)
-      → IsNoMore fork (tried a.now (cond t (record { status = 100; message = made_answer server fork.number fork.request fork.source 100 []; target = None } ∷ []) [])
+      → IsNoMore fork (tried a.now (cond t (record {
+        status = 100;
+        message = made_answer server fork.number fork.request.message fork.request.source 100 [];
+        target = None;
+      } ∷ []) [])
       fork)
   after_hundred true = upward_no_more laws a.now
-      (Some (record { status = 100; message = made_answer server fork.number fork.request fork.source 100 []; target = None })) fork fork (inl refl) itself
+      (Some (record { status = 100; message = made_answer server fork.number fork.request.message fork.request.source 100 []; target = None })) fork fork (inl refl)
+      itself
   after_hundred false = itself
 
   all : IsNoMore fork (opening server a.now fork).request

@@ -30,9 +30,9 @@ use Rattle.sip_model.specs.steps_model.Step.{Act, IsOverdue, OfSide, OfBranch}
 use Rattle.sip_model.specs.Parts.{IsChangeAt, ByResponse, ByDeadline, ByFault, ByCancel}
 use Rattle.model_bounds.specs.FinalAnswers.{begins_final}
 use Rattle.model_bounds.proofs.FinalsText.{HasStatus, ack_text, cancel_text}
-use Rattle.model_bounds.proofs.FinalsLists.{all_append}
 use Rattle.model_bounds.proofs.FinalsReading.{said_low}
 use Rattle.model_bounds.proofs.FinalsKept.{IsKept, IsHonest, made_kept, best_honest}
+use Rattle.model_bounds.proofs.SendingLists.{all_joined}
 
 -- a packet doesn't begin as a final answer
 abbrev pub IsNoAnswer : Packet → Type 0
@@ -75,7 +75,7 @@ all_cancels : (server : Server) (now : ℕ) (r : OpenRequest) (bs : List Branch)
     (flat_map (branch_packets server false r) (map (cancel_branch now) bs))
 all_cancels server now r [] = tt
 all_cancels server now r (b ∷ bs) =
-    all_append IsNoAnswer (branch_packets server false r (cancel_branch now b)) (flat_map (branch_packets server false r) (map (cancel_branch now) bs))
+    all_joined IsNoAnswer (branch_packets server false r (cancel_branch now b)) (flat_map (branch_packets server false r) (map (cancel_branch now) bs))
     (cancel_packets server r (cancel_branch now b) b.address)
     (all_cancels server now r bs)
 
@@ -90,7 +90,7 @@ settled_sound server now acks relayed r x none honest h =
     let after : IsLike r (after_upward now best told) = told_like now best r told like in
     record {
       is_like = record { number_is = after.number_is; key_is = after.key_is; keeps = after.keeps };
-      honest = all_append IsHonest (upward_list relayed) (upward_list best) honest (best_honest server told like.keeps);
+      honest = all_joined IsHonest (upward_list relayed) (upward_list best) honest (best_honest server told like.keeps);
       acks = none;
       cancels = all_cancels server now (after_upward now best told) (filter is_cancellable (after_upward now best told).branches);
     }
@@ -99,7 +99,7 @@ settled_sound server now acks relayed r x none honest h =
 
 -- one more final answer is kept
 more_kept : (t : Bool) (fs : List Final) (f : Final) → AllByRecursion IsKept fs → IsKept f → AllByRecursion IsKept (cond t (fs ++ f ∷ []) fs)
-more_kept true fs f all h = all_append IsKept fs (f ∷ []) all (h, tt)
+more_kept true fs f all h = all_joined IsKept fs (f ∷ []) all (h, tt)
 more_kept false fs f all h = all
 
 -- so it is where a branch is given up

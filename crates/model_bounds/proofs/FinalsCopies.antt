@@ -30,11 +30,16 @@ use Rattle.sip_model.specs.Order.{is_numbered, AreNumbered}
 use Rattle.sip_model.specs.Parts.{IsChangeAt, ByResponse, ByDeadline, ByFault, ByCancel}
 use Rattle.model_bounds.specs.FinalAnswers.{begins_final, is_final_to, copied_by, is_copy_at}
 use Rattle.model_bounds.proofs.FinalsText.{ack_text, cancel_text}
-use Rattle.model_bounds.proofs.FinalsLists.{IsIn, each_of, all_append, all_weaker, count_cons, none_at, at_most_one, same_number, are_equal, apart_back, all_replaced}
+use Rattle.model_bounds.proofs.FinalsLists.{all_replaced}
 use Rattle.model_bounds.proofs.FinalsLists.{numbered_replaced, numbered_push, numbered_later}
 use Rattle.model_bounds.proofs.FinalsCounts.{finals_in, first_fails, middle_fails, no_answers}
 use Rattle.model_bounds.proofs.FinalsChanges.{IsNoAnswer}
 use Rattle.model_bounds.proofs.FinalsSpent.{TimerLaws, copies_left, IsTimed, IsNoMore, change_no_more, acknowledged_no_more}
+use Rattle.model_bounds.proofs.SendingLists.{all_joined}
+use Rattle.sip_model.proofs.Places.{IsIn, all_in, all_weaker, count_cons, none_at, same_number}
+use Rattle.sip_model.proofs.OneAnswer.{apart_back}
+use Rattle.sip_model.proofs.Apart.{at_most_one}
+use Rattle.sip_model.proofs.Rising.{number_is}
 
 -- ---- what goes again
 
@@ -101,7 +106,8 @@ acks_none server n r b (Done due status) = no_answers n (acks_again server r b (
       by_test : (t : Bool) (address : Option Addr)
           → AllByRecursion IsNoAnswer
           (cond t (option_map_or
-          (λ to. record { to = to; bytes = text_of (ack_with b.final_to (request_of server r b)); ticket = record { datagram = r.number; branch = 0 }; again = true } ∷ [])
+          (λ to. record { to = to; bytes = text_of (ack_with b.final_to (request_of server r b)); ticket = record { datagram = r.number; branch = 0 }; again = true }
+          ∷ [])
           address []) [])
       by_test true None = tt
       by_test true (Some to) = (ack_text b.final_to (request_of server r b), tt)
@@ -242,7 +248,7 @@ replaced_spent Invite requests next went came went_then came_then new goes none 
       (λ x apart before. spent_with Invite went came went_then came_then x (goes x.number (apart_back x.number new.number apart)) before) spent h.fit;
 } where
   by_number : (n : ℕ) (t : Bool) → (new.number == n) ≡ t → IsBounded Invite went_then came_then n
-  by_number n true e = subst (IsBounded Invite went_then came_then) (are_equal new.number n e) (spent_bounded Invite went_then came_then new spent)
+  by_number n true e = subst (IsBounded Invite went_then came_then) (number_is new.number n e) (spent_bounded Invite went_then came_then new spent)
   by_number n false e = bounded_with Invite went came went_then came_then n (goes n e) (h.each_one n)
 
 -- one more is opened
@@ -253,7 +259,7 @@ pushed_spent Invite requests next went came r number spent h = record {
   numbered = numbered_push next r requests number h.numbered;
   none_later = λ n high. h.none_later n (omega arith);
   each_one = h.each_one;
-  fit = all_append (IsSpent Invite went came) requests (r ∷ []) h.fit (spent, tt);
+  fit = all_joined (IsSpent Invite went came) requests (r ∷ []) h.fit (spent, tt);
 }
 
 -- ---- a change
@@ -266,7 +272,7 @@ pub change_spent : TimerLaws
     → IsIn r requests → IsChangeAt server state act now r change again → AreSpent Invite requests next went came
     → AreSpent Invite (replaced change.request requests) next went came
 change_spent laws Invite server state act now r change again requests next went came there is h =
-    let spent : IsSpent Invite went came r = each_of (IsSpent Invite went came) requests r h.fit there in
+    let spent : IsSpent Invite went came r = all_in (IsSpent Invite went came) requests r h.fit there in
     let no_more : IsNoMore r change.request = change_no_more laws server state act now r change again is spent.timed in
     replaced_spent Invite requests next went came went came change.request (λ n apart. omega arith) h.none_later
     (spent_no_more Invite went came r change.request no_more spent) h
@@ -276,6 +282,6 @@ pub acknowledged_spent : TimerLaws → (Invite : ℕ → Type 0) (now : ℕ) (r 
     → AreSpent Invite requests next went came
     → AreSpent Invite (replaced (acknowledged now r) requests) next went came
 acknowledged_spent laws Invite now r requests next went came there h =
-    let spent : IsSpent Invite went came r = each_of (IsSpent Invite went came) requests r h.fit there in
+    let spent : IsSpent Invite went came r = all_in (IsSpent Invite went came) requests r h.fit there in
     replaced_spent Invite requests next went came went came (acknowledged now r) (λ n apart. omega arith) h.none_later
     (spent_no_more Invite went came r (acknowledged now r) (acknowledged_no_more laws now r spent.timed) spent) h

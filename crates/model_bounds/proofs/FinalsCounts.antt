@@ -1,8 +1,7 @@
 -- How many final answers some packets are to the caller of a number, and how many of them are no 2xx.
 use Rattle.std.proofs.Common.{◌≡◌, ◌⊎◌, inl, inr, ℕ, zero, suc, ◌+◌, ◌≤◌, Bool, true, false, not, ◌&&◌, ◌==◌, List, [], ◌∷◌, ◌++◌, refl, sym, ap, subst, ◌∙◌, arith}
-use Rattle.std.proofs.Common.{count_by, bytes_eq, codes}
+use Rattle.std.proofs.Common.{count_by}
 use Rattle.std.specs.List.{AllByRecursion}
-use Rattle.sip_transaction_table.specs.declared.key.Key.{Key}
 use Rattle.sip_message_form.specs.Text.{text_of}
 use Rattle.sip_event.specs.declared.packet.Packet.{Packet}
 use Rattle.sip_model.specs.state.declared.open_request.OpenRequest.{OpenRequest}
@@ -14,9 +13,12 @@ use Rattle.sip_model.specs.steps_model.Effect.{upward_packets, change_packets}
 use Rattle.sip_model.specs.Order.{is_final_answer, AddsSuccessesAlone, AnswersOnce}
 use Rattle.model_bounds.specs.FinalAnswers.{begins_final, begins_success, is_final_to}
 use Rattle.model_bounds.proofs.FinalsText.{provisional_text, success_text}
-use Rattle.model_bounds.proofs.FinalsLists.{all_weaker, count_cons, count_append, one_at, none_at, at_most_one, count_at_most, count_none}
 use Rattle.model_bounds.proofs.FinalsKept.{IsKept, IsHonest}
 use Rattle.model_bounds.proofs.FinalsChanges.{IsNoAnswer, IsSound}
+use Rattle.model_bounds.proofs.SendingLists.{count_joined, count_none}
+use Rattle.sip_model.proofs.Places.{all_weaker, count_at_most, count_cons, none_at, one_at}
+use Rattle.sip_model.proofs.Apart.{at_most_one}
+use Rattle.sip_model.proofs.OneAnswer.{same_invite}
 
 -- ---- counts
 
@@ -131,8 +133,8 @@ change_finals n r change h =
     let up = upward_packets change.request change.upward in
     omega (
       arith,
-      count_append (is_final_to n) (change.acks ++ up) change.cancels,
-      count_append
+      count_joined (is_final_to n) (change.acks ++ up) change.cancels,
+      count_joined
           (is_final_to n) change.acks up,
       no_answers n change.acks h.acks,
       no_answers n change.cancels h.cancels,
@@ -145,8 +147,8 @@ change_others n r change h =
     let up = upward_packets change.request change.upward in
     omega (
       arith,
-      count_append (is_other_to n) (change.acks ++ up) change.cancels,
-      count_append (is_other_to n) change.acks up,
+      count_joined (is_other_to n) (change.acks ++ up) change.cancels,
+      count_joined (is_other_to n) change.acks up,
       no_answers n change.acks h.acks,
       no_answers n change.cancels h.cancels,
       others_few n change.acks,
@@ -185,10 +187,10 @@ one_same Invite n sent other finals others (inr all) = inr (all.0, others ∙ al
 
 -- what is sent to others changes neither count
 beside_finals : (n : ℕ) (packets sent : List Packet) → finals_in n packets ≡ 0 → finals_in n (packets ++ sent) ≡ finals_in n sent
-beside_finals n packets sent none = omega (arith, count_append (is_final_to n) packets sent)
+beside_finals n packets sent none = omega (arith, count_joined (is_final_to n) packets sent)
 
 beside_others : (n : ℕ) (packets sent : List Packet) → finals_in n packets ≡ 0 → others_in n (packets ++ sent) ≡ others_in n sent
-beside_others n packets sent none = omega (arith, count_append (is_other_to n) packets sent, others_few n packets)
+beside_others n packets sent none = omega (arith, count_joined (is_other_to n) packets sent, others_few n packets)
 
 -- so a request fits
 pub fit_beside : (Invite : ℕ → Type 0) (packets sent : List Packet) (r : OpenRequest) → finals_in r.number packets ≡ 0 → IsFit Invite sent r
@@ -201,10 +203,6 @@ one_beside Invite n packets sent none h = one_same Invite n sent (packets ++ sen
 
 -- ---- a change of a request
 
--- a request of the same key is an INVITE too
-same_invite : (a b : OpenRequest) → a.key ≡ b.key → is_invite a ≡ is_invite b
-same_invite a b e = ap (λ (k : Key). bytes_eq k.method (codes "INVITE")) e
-
 -- an INVITE that was one stays one
 stays_invite : (Invite : ℕ → Type 0) (sent : List Packet) (r : OpenRequest) (change : Change) → IsSound r change → IsFit Invite sent r → is_invite change.request ≡ true
     → Invite change.request.number
@@ -214,11 +212,11 @@ stays_invite Invite sent r change sound fit invite = subst Invite (sym sound.is_
 -- both lists together
 both_finals : (n : ℕ) (r : OpenRequest) (change : Change) (sent : List Packet) → IsSound r change
     → finals_in n (change_packets change ++ sent) ≡ finals_in n (upward_packets change.request change.upward) + finals_in n sent
-both_finals n r change sent h = omega (arith, count_append (is_final_to n) (change_packets change) sent, change_finals n r change h)
+both_finals n r change sent h = omega (arith, count_joined (is_final_to n) (change_packets change) sent, change_finals n r change h)
 
 both_others : (n : ℕ) (r : OpenRequest) (change : Change) (sent : List Packet) → IsSound r change
     → others_in n (change_packets change ++ sent) ≡ others_in n (upward_packets change.request change.upward) + others_in n sent
-both_others n r change sent h = omega (arith, count_append (is_other_to n) (change_packets change) sent, change_others n r change h)
+both_others n r change sent h = omega (arith, count_joined (is_other_to n) (change_packets change) sent, change_others n r change h)
 
 -- what a change leaves: the bound, and a request that fits
 pub record IsLeft (Invite : ℕ → Type 0) (sent : List Packet) (r : OpenRequest) (change : Change) : Type 0 where

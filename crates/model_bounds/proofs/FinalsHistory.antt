@@ -12,9 +12,10 @@ use Rattle.sip_model.specs.Lives.{sent_first}
 use Rattle.sip_model.specs.Parts.{HasParts}
 use Rattle.model_bounds.specs.Invites.{WasInvite}
 use Rattle.model_bounds.specs.FinalAnswers.{begins_success, is_final_to, IsAnsweredOnce}
-use Rattle.model_bounds.proofs.FinalsLists.{contained_behind, contains_first, kept_pass}
+use Rattle.model_bounds.proofs.FinalsLists.{contained_behind, kept_pass}
 use Rattle.model_bounds.proofs.FinalsCounts.{is_other_to, IsOne}
 use Rattle.model_bounds.proofs.FinalsParts.{LaterLaw, FirstLaw, AreTold, told_weaker, ComesAs, parts_told}
+use Rattle.sip_model.proofs.Lists.{head_there}
 
 -- each step has its parts
 abbrev pub PartsLaw : Type 0
@@ -39,7 +40,7 @@ invite_later link history n h = record {
 -- one that the newest step is taken for came
 pub invite_now : (link : Link) (history : List Link) → ComesAs (λ n. WasInvite n (link ∷ history)) link.before link.act
 invite_now link history = λ a bytes m short said invite.
-    record { link = link; a = a; bytes = bytes; m = m; short = short; is_there = contains_first link history; is_said = said; is_number = refl; is_invite = invite }
+    record { link = link; a = a; bytes = bytes; m = m; short = short; is_there = head_there link history; is_said = said; is_number = refl; is_invite = invite }
 
 -- ---- histories
 

@@ -82,13 +82,14 @@ best_kept finals f all e = by_choice (chosen_of finals) refl e where
 -- ---- what goes to the caller
 
 -- an answer that is made here
-pub made_status : (server : Server) (r : OpenRequest) (status : ℕ) → HasStatus status (made_answer server r.number r.request r.source status [])
+pub made_status : (server : Server) (r : OpenRequest) (status : ℕ) → HasStatus status (made_answer server r.number r.request.message r.request.source status [])
 made_status server r status = record { reason = reason_of status; start_is = refl }
 
 -- one that came, or is made here
 upward_honest : (server : Server) (r : OpenRequest) (f : Final) → IsKept f → IsHonest (upward_of server r f)
 upward_honest server r f h = record { low = h.low; is_of = by_message f.message refl } where
-  by_message : (o : Option Message) → f.message ≡ o → HasStatus f.status (option_map_or (λ m. m) o (made_answer server r.number r.request r.source f.status []))
+  by_message : (o : Option Message) → f.message ≡ o → HasStatus f.status (option_map_or (λ m. m) o
+      (made_answer server r.number r.request.message r.request.source f.status []))
   by_message None e = made_status server r f.status
   by_message (Some m) e = h.is_of m e
 

@@ -1,13 +1,15 @@
 -- Lists: what is there, what holds of all, how many pass a test, and what replacing an open request leaves.
-use Rattle.std.proofs.Common.{◌≡◌, ◌⊎◌, inl, inr, ℕ, zero, suc, ◌+◌, ◌<◌, ◌≤◌, Bool, true, false, cond, ◌==◌, List, [], ◌∷◌, ◌++◌, length, filter, find, Contains, Option}
-use Rattle.std.proofs.Common.{Some, None, option_and_then, refl, ap, subst, ◌∙◌, arith, count_by, slice_index_or, nat_le}
+use Rattle.std.proofs.Common.{◌≡◌, inr, ℕ, ◌+◌, ◌<◌, ◌≤◌, Bool, true, false, cond, ◌==◌, List, [], ◌∷◌, ◌++◌, filter, Contains, Option}
+use Rattle.std.proofs.Common.{Some, None, option_and_then, refl, ap, arith, count_by, nat_le}
 use Rattle.std.specs.List.{AllByRecursion}
 use Rattle.std.proofs.lemmas.Bool.Decides.{nat_tests}
-use Rattle.std.proofs.lemmas.List.Sums.{sum_by-cons, sum_by-append, sum_by_push}
+use Rattle.std.proofs.lemmas.List.Sums.{sum_by_push}
 use Rattle.sip_model.specs.state.declared.open_request.OpenRequest.{OpenRequest}
 use Rattle.sip_model.specs.state.State.{has_left}
 use Rattle.sip_model.specs.steps_model.Effect.{replaced}
 use Rattle.sip_model.specs.Order.{is_numbered, AreNumbered}
+use Rattle.sip_model.proofs.Places.{IsIn, contains_from_in, count_cons, counts_in, in_from_contains, none_at, one_at, same_number}
+use Rattle.sip_model.proofs.Rising.{number_is}
 
 -- ---- options
 
@@ -18,102 +20,11 @@ followed (Some x) f y e = (x, refl, e)
 
 -- ---- membership
 
--- an element of a list, by recursion
-abbrev pub IsIn : {X : Type 0} → X → List X → Type 0
-IsIn y [] = ⊥
-IsIn y (x ∷ xs) = (x ≡ y) ⊎ IsIn y xs
-
--- membership by place is membership by recursion
-pub in_list : {X : Type 0} (xs : List X) (y : X) → Contains xs y → IsIn y xs
-in_list [] y h = let lt = h.1 in absurd (omega arith)
-in_list (x ∷ xs) y h = by_place (λ there. in_list xs y there) h.0 h.1 h.2 where
-  by_place : (Contains xs y → IsIn y xs) → (k : ℕ) → k < length (x ∷ xs) → slice_index_or (x ∷ xs) k y ≡ y → IsIn y (x ∷ xs)
-  by_place rest zero lt e = inl e
-  by_place rest (suc k) lt e = inr (rest (k, omega arith, e))
-
--- and back
-pub contained : {X : Type 0} (xs : List X) (y : X) → IsIn y xs → Contains xs y
-contained [] y h = absurd h
-contained (x ∷ xs) y (inl e) = (0, omega arith, e)
-contained (x ∷ xs) y (inr h) = let there = contained xs y h in let lt = there.1 in (suc there.0, omega arith, there.2)
-
 -- what is there is there behind one more
 pub contained_behind : {X : Type 0} (x : X) (xs : List X) (y : X) → Contains xs y → Contains (x ∷ xs) y
-contained_behind x xs y h = contained (x ∷ xs) y (inr (in_list xs y h))
-
--- the first is there
-pub contains_first : {X : Type 0} (x : X) (xs : List X) → Contains (x ∷ xs) x
-contains_first x xs = contained (x ∷ xs) x (inl refl)
-
--- what is found is there, and passes
-pub found : {X : Type 0} (p : X → Bool) (xs : List X) (y : X) → find p xs ≡ Some y → IsIn y xs × (p y ≡ true)
-found p [] y e = absurd (cc)
-found p (x ∷ xs) y e = by_test (p x) refl (λ later. found p xs y later) e where
-  by_test : (t : Bool) → p x ≡ t → (find p xs ≡ Some y → IsIn y xs × (p y ≡ true)) → cond t (Some x) (find p xs) ≡ Some y → IsIn y (x ∷ xs) × (p y ≡ true)
-  by_test true is rest e = let same : x ≡ y = cc in (inl same, subst (λ z. p z ≡ true) same is)
-  by_test false is rest e = let later = rest e in (inr later.0, later.1)
-
--- ---- what holds of all
-
--- what holds of all holds of each
-pub each_of : {X : Type 0} (P : X → Type 0) (xs : List X) (y : X) → AllByRecursion P xs → IsIn y xs → P y
-each_of P [] y all h = absurd h
-each_of P (x ∷ xs) y all (inl e) = subst P e all.0
-each_of P (x ∷ xs) y all (inr h) = each_of P xs y all.1 h
-
--- what holds of two lists holds of both together
-pub all_append : {X : Type 0} (P : X → Type 0) (xs ys : List X) → AllByRecursion P xs → AllByRecursion P ys → AllByRecursion P (xs ++ ys)
-all_append P [] ys first second = second
-all_append P (x ∷ xs) ys first second = (first.0, all_append P xs ys first.1 second)
-
--- what follows for each follows for all
-pub all_weaker : {X : Type 0} (P Q : X → Type 0) (xs : List X) → ((x : X) → P x → Q x) → AllByRecursion P xs → AllByRecursion Q xs
-all_weaker P Q [] weaker all = tt
-all_weaker P Q (x ∷ xs) weaker all = (weaker x all.0, all_weaker P Q xs weaker all.1)
+contained_behind x xs y h = contains_from_in (x ∷ xs) y (inr (in_from_contains xs y h))
 
 -- ---- counts
-
--- a count, one by one
-pub count_cons : {X : Type 0} (p : X → Bool) (x : X) (xs : List X) → count_by p (x ∷ xs) ≡ cond (p x) 1 0 + count_by p xs
-count_cons p x xs = sum_by-cons (λ y. cond (p y) 1 0) x xs
-
--- a count of two lists
-pub count_append : {X : Type 0} (p : X → Bool) (xs ys : List X) → count_by p (xs ++ ys) ≡ count_by p xs + count_by p ys
-count_append p xs ys = sum_by-append (λ y. cond (p y) 1 0) xs ys
-
--- a test that passes counts
-pub one_at : (t : Bool) → t ≡ true → cond {A = ℕ} t 1 0 ≡ 1
-one_at true e = refl
-one_at false e = absurd (cc)
-
--- one that fails doesn't
-pub none_at : (t : Bool) → t ≡ false → cond {A = ℕ} t 1 0 ≡ 0
-none_at true e = absurd (cc)
-none_at false e = refl
-
--- one counts at most once
-pub at_most_one : (t : Bool) → cond {A = ℕ} t 1 0 ≤ 1
-at_most_one true = omega arith
-at_most_one false = omega arith
-
--- what is there counts
-pub counts_in : {X : Type 0} (p : X → Bool) (xs : List X) (y : X) → IsIn y xs → p y ≡ true → 1 ≤ count_by p xs
-counts_in p [] y h e = absurd h
-counts_in p (x ∷ xs) y (inl same) e = let head = count_cons p x xs in let one = one_at (p x) (ap p same ∙ e) in omega (arith, head, one)
-counts_in p (x ∷ xs) y (inr h) e = let head = count_cons p x xs in let rest = counts_in p xs y h e in omega (arith, head, rest)
-
--- a test that passes no more often counts no more
-pub count_at_most : {X : Type 0} (p q : X → Bool) (xs : List X) → ((x : X) → p x ≡ true → q x ≡ true) → count_by p xs ≤ count_by q xs
-count_at_most p q [] narrower = omega arith
-count_at_most p q (x ∷ xs) narrower = by_test (p x) refl (count_at_most p q xs narrower) where
-  by_test : (t : Bool) → p x ≡ t → count_by p xs ≤ count_by q xs → count_by p (x ∷ xs) ≤ count_by q (x ∷ xs)
-  by_test true is rest = omega (arith, count_cons p x xs, count_cons q x xs, rest, one_at (p x) is, one_at (q x) (narrower x is))
-  by_test false is rest = omega (arith, count_cons p x xs, count_cons q x xs, rest, none_at (p x) is)
-
--- where each fails, none counts
-pub count_none : {X : Type 0} (p : X → Bool) (xs : List X) → AllByRecursion (λ (x : X). p x ≡ false) xs → count_by p xs ≡ 0
-count_none p [] all = refl
-count_none p (x ∷ xs) all = omega (arith, count_cons p x xs, none_at (p x) all.0, count_none p xs all.1)
 
 -- where none counts, whatever passes one test passes another
 pub kept_pass : {X : Type 0} (p q r : X → Bool) (xs : List X) → ((x : X) → p x ≡ true → r x ≡ false → q x ≡ true) → count_by r xs ≡ 0
@@ -127,18 +38,6 @@ kept_pass {X = X} p q r (x ∷ xs) passes none = by_test (r x) (p x) refl refl (
   by_test false false fails is rest = rest
 
 -- ---- numbers
-
--- equal numbers pass the test
-pub same_number : (a b : ℕ) → a ≡ b → (a == b) ≡ true
-same_number a b e = grind (arith, nat_tests)
-
--- numbers that pass it are equal
-pub are_equal : (a b : ℕ) → (a == b) ≡ true → a ≡ b
-are_equal a b h = grind (arith, nat_tests)
-
--- those that don't fail it the other way round, too
-pub apart_back : (a b : ℕ) → (a == b) ≡ false → (b == a) ≡ false
-apart_back a b h = grind (arith, nat_tests)
 
 -- a number below another isn't it
 pub below_apart : (a b : ℕ) → a < b → (a == b) ≡ false
@@ -180,7 +79,7 @@ count_replaced n new (x ∷ xs) = by_test (x.number == new.number) (has_left new
       → count_by (is_numbered n) (cond t (cond left xs (new ∷ xs)) (x ∷ replaced new xs)) ≤ count_by (is_numbered n) (x ∷ xs)
   by_test true true is rest = omega (arith, count_cons (is_numbered n) x xs)
   by_test true false is rest =
-      let same : cond {A = ℕ} (x.number == n) 1 0 ≡ cond {A = ℕ} (new.number == n) 1 0 = ap (λ (v : ℕ). cond {A = ℕ} (v == n) 1 0) (are_equal x.number new.number is) in
+      let same : cond {A = ℕ} (x.number == n) 1 0 ≡ cond {A = ℕ} (new.number == n) 1 0 = ap (λ (v : ℕ). cond {A = ℕ} (v == n) 1 0) (number_is x.number new.number is) in
       omega (arith, count_cons (is_numbered n) x xs, count_cons (is_numbered n) new xs, same)
   by_test false left is rest = omega (arith, count_cons (is_numbered n) x xs, count_cons (is_numbered n) x (replaced new xs), rest)
 
@@ -201,7 +100,7 @@ numbered_push next r rs e h = record {
   count_push n = sum_by_push (λ (x : OpenRequest). cond (is_numbered n x) 1 0) rs r
 
   few : (n : ℕ) (t : Bool) → (r.number == n) ≡ t → count_by (is_numbered n) (rs ++ r ∷ []) ≤ 1
-  few n true is = let same : r.number ≡ n = are_equal r.number n is in omega (arith, count_push n, h.are_below n (omega arith), one_at (r.number == n) is)
+  few n true is = let same : r.number ≡ n = number_is r.number n is in omega (arith, count_push n, h.are_below n (omega arith), one_at (r.number == n) is)
   few n false is = omega (arith, count_push n, h.differ n, none_at (r.number == n) is)
 
 -- nor is a later number there

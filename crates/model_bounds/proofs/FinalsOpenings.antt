@@ -35,11 +35,14 @@ use Rattle.sip_model.specs.Order.{is_final_answer, AnswersOnce}
 use Rattle.sip_model.specs.Parts.{IsBegun, AreBegun, made_text, IsOpening, Answered, Sent}
 use Rattle.model_bounds.specs.FinalAnswers.{begins_final, begins_success, is_final_to}
 use Rattle.model_bounds.proofs.FinalsText.{HasStatus, success_text}
-use Rattle.model_bounds.proofs.FinalsLists.{followed, count_cons, count_append, one_at, none_at, at_most_one}
+use Rattle.model_bounds.proofs.FinalsLists.{followed}
 use Rattle.model_bounds.proofs.FinalsKept.{IsKept, IsHonest, made_kept, made_status}
 use Rattle.model_bounds.proofs.FinalsChanges.{IsLike, IsSound, settled_sound}
 use Rattle.model_bounds.proofs.FinalsCounts.{finals_in, others_in, is_other_to, first_fails, middle_fails, success_no_other, others_few, up_few, change_beside, IsFit}
 use Rattle.model_bounds.proofs.FinalsCounts.{IsOne, fit_same, one_same, IsLeft, once_left}
+use Rattle.model_bounds.proofs.SendingLists.{count_joined}
+use Rattle.sip_model.proofs.Places.{count_cons, none_at, one_at}
+use Rattle.sip_model.proofs.Apart.{at_most_one}
 
 -- ---- an INVITE
 
@@ -117,7 +120,7 @@ unsent_kept bs = each (filter (λ (b : Branch). not (is_some b.address)) bs) whe
 
 -- the 100 of a request
 hundred : Server → OpenRequest → Upward
-hundred server r = record { status = 100; message = made_answer server r.number r.request r.source 100 []; target = None }
+hundred server r = record { status = 100; message = made_answer server r.number r.request.message r.request.source 100 []; target = None }
 
 -- it is no final answer
 tried_none : (server : Server) (n : ℕ) (r : OpenRequest) → finals_in n (upward_packets r (trying server r)) ≡ 0
@@ -168,7 +171,7 @@ targets_none server n now k r [] begun some = refl
 targets_none server n now k r (b ∷ bs) begun some =
     omega (
       arith,
-      count_append (is_final_to n) (branch_packets server false r b) (flat_map (branch_packets server false r) bs),
+      count_joined (is_final_to n) (branch_packets server false r b) (flat_map (branch_packets server false r) bs),
       by_address b.address,
       targets_none server n now (k + 1) r bs begun.1 (omega arith),
     ) where
@@ -258,8 +261,8 @@ sent_opened Invite sent server a m bs begun invites none = record {
   finals n =
       omega (
         arith,
-        count_append (is_final_to n) (up ++ change_packets change) targets,
-        count_append (is_final_to n) up
+        count_joined (is_final_to n) (up ++ change_packets change) targets,
+        count_joined (is_final_to n) up
             (change_packets change),
         tried_none server n fork,
         targets_none server n a.now 1 fork bs begun (omega arith),
@@ -269,8 +272,8 @@ sent_opened Invite sent server a m bs begun invites none = record {
   others n =
       omega (
         arith,
-        count_append (is_other_to n) (up ++ change_packets change) targets,
-        count_append (is_other_to n) up (change_packets change),
+        count_joined (is_other_to n) (up ++ change_packets change) targets,
+        count_joined (is_other_to n) up (change_packets change),
         tried_none server n fork,
         targets_none server n a.now 1 fork bs begun (omega arith),
         others_few n up,
@@ -280,16 +283,16 @@ sent_opened Invite sent server a m bs begun invites none = record {
   finals_sent : (n : ℕ) → finals_in n (opening_packets server a.now fork ++ sent) ≡ finals_in n (change_packets change ++ sent)
   finals_sent n = omega (
     arith,
-    count_append (is_final_to n) (opening_packets server a.now fork) sent,
-    count_append (is_final_to n) (change_packets change) sent,
+    count_joined (is_final_to n) (opening_packets server a.now fork) sent,
+    count_joined (is_final_to n) (change_packets change) sent,
     finals n,
   )
 
   others_sent : (n : ℕ) → others_in n (opening_packets server a.now fork ++ sent) ≡ others_in n (change_packets change ++ sent)
   others_sent n = omega (
     arith,
-    count_append (is_other_to n) (opening_packets server a.now fork) sent,
-    count_append (is_other_to n) (change_packets change) sent,
+    count_joined (is_other_to n) (opening_packets server a.now fork) sent,
+    count_joined (is_other_to n) (change_packets change) sent,
     others n,
   )
 

@@ -24,12 +24,16 @@ use Rattle.sip_model.specs.Parts.{IsChangeAt, ByResponse, ByDeadline, ByFault, B
 use Rattle.sip_model.specs.Parts.{Acknowledges, AreParts, One, Two, next_after}
 use Rattle.model_bounds.specs.FinalAnswers.{is_final_to}
 use Rattle.model_bounds.proofs.FinalsText.{onward_text}
-use Rattle.model_bounds.proofs.FinalsLists.{IsIn, in_list, contained, found, each_of, all_append, all_weaker, count_append, are_equal, below_apart, apart_back}
+use Rattle.model_bounds.proofs.FinalsLists.{below_apart}
 use Rattle.model_bounds.proofs.FinalsLists.{all_replaced, all_others, numbered_replaced, numbered_push, numbered_later, number_below}
 use Rattle.model_bounds.proofs.FinalsChanges.{IsSound, change_sound}
 use Rattle.model_bounds.proofs.FinalsCounts.{finals_in, others_in, is_other_to, no_answers, others_few, change_beside, IsFit, IsOne, fit_same, one_same, fit_beside}
 use Rattle.model_bounds.proofs.FinalsCounts.{one_beside, IsLeft, once_left, further_left}
 use Rattle.model_bounds.proofs.FinalsOpenings.{opened_invite, IsOpened, opening_opened}
+use Rattle.model_bounds.proofs.SendingLists.{all_joined, count_joined}
+use Rattle.sip_model.proofs.Places.{IsIn, all_in, all_weaker, contains_from_in, found_in, in_from_contains}
+use Rattle.sip_model.proofs.OneAnswer.{apart_back}
+use Rattle.sip_model.proofs.Rising.{number_is}
 
 -- ---- the laws that changes keep
 
@@ -86,15 +90,15 @@ told_weaker Before After requests next sent stays h = record {
 silent_told : (Invite : ℕ → Type 0) (requests : List OpenRequest) (next : ℕ) (packets sent : List Packet) → ((n : ℕ) → finals_in n packets ≡ 0)
     → AreTold Invite requests next sent → AreTold Invite requests next (packets ++ sent)
 silent_told Invite requests next packets sent none h =
-    told_same Invite requests next sent (packets ++ sent) (λ n. omega (arith, count_append (is_final_to n) packets sent, none n))
-    (λ n. omega (arith, count_append (is_other_to n) packets sent, others_few n packets, none n)) h
+    told_same Invite requests next sent (packets ++ sent) (λ n. omega (arith, count_joined (is_final_to n) packets sent, none n))
+    (λ n. omega (arith, count_joined (is_other_to n) packets sent, others_few n packets, none n)) h
 
 -- the bound of each number, once one was sent something
 each_bound : (Invite : ℕ → Type 0) (packets sent : List Packet) (k : ℕ) → ((n : ℕ) → (k == n) ≡ false → finals_in n packets ≡ 0) → IsOne Invite k (packets ++ sent)
     → ((n : ℕ) → IsOne Invite n sent) → (n : ℕ) → IsOne Invite n (packets ++ sent)
 each_bound Invite packets sent k beside one before n = by_test (k == n) refl where
   by_test : (t : Bool) → (k == n) ≡ t → IsOne Invite n (packets ++ sent)
-  by_test true e = subst (λ (v : ℕ). IsOne Invite v (packets ++ sent)) (are_equal k n e) one
+  by_test true e = subst (λ (v : ℕ). IsOne Invite v (packets ++ sent)) (number_is k n e) one
   by_test false e = one_beside Invite n packets sent (beside n e) (before n)
 
 -- nothing final to later numbers
@@ -103,7 +107,7 @@ none_to_later : (packets sent : List Packet) (k next : ℕ) → k < next → ((n
     → (n : ℕ) → next ≤ n → finals_in n (packets ++ sent) ≡ 0
 none_to_later packets sent k next low beside before n high = omega (
   arith,
-  count_append (is_final_to n) packets sent,
+  count_joined (is_final_to n) packets sent,
   beside n (below_apart k n (omega arith)),
   before n high,
 )
@@ -144,7 +148,7 @@ opened_told Invite requests next packets sent r opened h =
       numbered = numbered_push next r requests opened.number_is h.numbered;
       none_later = turned.none_later;
       each_one = turned.each_one;
-      fit = all_append (IsFit Invite (packets ++ sent)) requests (r ∷ []) turned.fit (opened.fits, tt);
+      fit = all_joined (IsFit Invite (packets ++ sent)) requests (r ∷ []) turned.fit (opened.fits, tt);
     }
 
 -- ---- changes
@@ -154,8 +158,8 @@ change_of : (server : Server) (state : ProxyState) (act : Act) (now : ℕ) (r : 
     → IsChangeAt server state act now r change again → IsChangeOf server now r change
 change_of server state act now r _ _ (ByResponse a bytes m status reason b said start for there) = IsChangeOf.ByResponse b status m there
 change_of server state act now r _ _ (ByDeadline change passes) = IsChangeOf.ByDeadline change passes
-change_of server state act now r _ _ (ByFault at ticket b is number at_branch) = let place = found _ r.branches b at_branch in IsChangeOf.ByFault b ticket.branch
-    (contained r.branches b place.0) place.1
+change_of server state act now r _ _ (ByFault at ticket b is number at_branch) = let place = found_in _ r.branches b at_branch in IsChangeOf.ByFault b ticket.branch
+    (contains_from_in r.branches b place.0) place.1
 change_of server state act now r _ _ (ByCancel a bytes m short key said is key_is at_request) = IsChangeOf.ByCancel
 
 -- what it leaves
@@ -173,7 +177,7 @@ change_told : LaterLaw → FirstLaw
     → IsIn r requests → IsChangeAt server state act now r change again → AreTold Invite requests next sent
     → AreTold Invite (replaced change.request requests) next (change_packets change ++ sent)
 change_told later first Invite server state act now r change again requests next sent there is h =
-    let fit : IsFit Invite sent r = each_of (IsFit Invite sent) requests r h.fit there in
+    let fit : IsFit Invite sent r = all_in (IsFit Invite sent) requests r h.fit there in
     let sound : IsSound r change = change_sound server state act now r change again is fit.keeps in
     let left : IsLeft Invite sent r change = change_left later first Invite sent server now r change (is_answering r.side) refl
     (change_of server state act now r change again is) sound fit (h.each_one r.number) in
@@ -276,14 +280,14 @@ part_told later first Invite sent server state act now requests after firsts aga
       (subst (λ (n : ℕ). AreTold Invite (requests ++ r ∷ []) n (firsts ++ sent)) (sym number) (opened_told Invite requests state.next firsts sent r opened h))
   by_part (Changes r change there change_is e p) =
       is (replaced change.request requests) (change_packets change) e p
-      (change_told later first Invite server state act now r change again requests (next_after state act) sent (in_list requests r there) change_is moved)
+      (change_told later first Invite server state act now r change again requests (next_after state act) sent (in_from_contains requests r there) change_is moved)
   by_part (Resends r next there goes e p) =
-      let place : IsIn r requests = in_list requests r there in
-      let fits = resent_fit Invite sent server now r again next goes (each_of (IsFit Invite sent) requests r h.fit place) in
+      let place : IsIn r requests = in_from_contains requests r there in
+      let fits = resent_fit Invite sent server now r again next goes (all_in (IsFit Invite sent) requests r h.fit place) in
       is (replaced next requests) [] e p (kept_told Invite requests (next_after state act) sent r next place fits.1 fits.0 moved)
   by_part (Acknowledges r there e p q) =
-      let place : IsIn r requests = in_list requests r there in
-      let fits = acknowledged_fit Invite sent now r (each_of (IsFit Invite sent) requests r h.fit place) in
+      let place : IsIn r requests = in_from_contains requests r there in
+      let fits = acknowledged_fit Invite sent now r (all_in (IsFit Invite sent) requests r h.fit place) in
       is (replaced (acknowledged now r) requests) [] e p (kept_told Invite requests (next_after state act) sent r (acknowledged now r) place fits.1 fits.0 moved)
 
 -- what the parts of a step leave
@@ -296,7 +300,8 @@ parts_told later first Invite sent server state act now after firsts again comes
     (One part) h = part_told later first Invite sent server state act now state.requests after firsts again comes part h
 parts_told later first Invite sent server state act now after firsts again comes (Two middle earlier r change part there between is e p q) h =
     let one = part_told later first Invite sent server state act now state.requests middle earlier [] comes part h in
-    let two = change_told later first Invite server state act now r change [] middle (next_after state act) (earlier ++ sent) (in_list middle r between) is one in
+    let two = change_told later first Invite server state act now r change [] middle (next_after state act) (earlier ++ sent) (in_from_contains middle r between) is one
+    in
     subst (λ (xs : List OpenRequest). AreTold Invite xs (next_after state act) (firsts ++ sent)) (sym e)
     (told_same Invite (replaced change.request middle) (next_after state act) (change_packets change ++ (earlier ++ sent)) (firsts ++ sent) (λ n. swapped (is_final_to n))
     (λ n. swapped (is_other_to n)) two) where
@@ -305,9 +310,9 @@ parts_told later first Invite sent server state act now after firsts again comes
           ap (λ (ps : List Packet). count_by test (ps ++ sent)) p
           ∙ omega (
             arith,
-            count_append test (earlier ++ change_packets change) sent,
-            count_append test earlier (change_packets change),
-            count_append test (change_packets change)
+            count_joined test (earlier ++ change_packets change) sent,
+            count_joined test earlier (change_packets change),
+            count_joined test (change_packets change)
                 (earlier ++ sent),
-            count_append test earlier sent,
+            count_joined test earlier sent,
           )

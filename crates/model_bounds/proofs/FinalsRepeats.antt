@@ -16,7 +16,7 @@ use Rattle.model_bounds.specs.Copies.{is_copy_of, copies_of}
 use Rattle.sip_model.specs.Parts.{IsPart, Stays, Passes, Copies, TurnsAway, Opens, Changes, Resends, Acknowledges, AreParts, One, Two, HasParts, next_after}
 use Rattle.model_bounds.specs.Invites.{WasInvite}
 use Rattle.model_bounds.specs.FinalAnswers.{begins_final, is_final_to, finals_again, is_copy_at, copies_came, AnswersGoAgain}
-use Rattle.model_bounds.proofs.FinalsLists.{IsIn, in_list, found, count_cons, one_at, none_at, are_equal, below_apart, number_below}
+use Rattle.model_bounds.proofs.FinalsLists.{below_apart, number_below}
 use Rattle.model_bounds.proofs.FinalsCounts.{finals_in}
 use Rattle.model_bounds.proofs.FinalsOpenings.{opened_invite}
 use Rattle.model_bounds.proofs.FinalsParts.{said_next, next_low, ComesAs}
@@ -25,6 +25,8 @@ use Rattle.model_bounds.proofs.FinalsSpent.{TimerLaws}
 use Rattle.model_bounds.proofs.FinalsCopies.{answer_few, answer_beside, change_silent, copy_counts, AreSpent, spent_on, spent_weaker, pushed_spent, change_spent}
 use Rattle.model_bounds.proofs.FinalsCopies.{acknowledged_spent}
 use Rattle.model_bounds.proofs.FinalsBounds.{resent_spent, opening_spent}
+use Rattle.sip_model.proofs.Places.{IsIn, count_cons, found_in, in_from_contains, none_at, one_at}
+use Rattle.sip_model.proofs.Rising.{number_is}
 
 -- ---- a step
 
@@ -62,7 +64,7 @@ copy_spent Invite went came state act r again there copies is h =
       beside n apart = ap (finals_in n) is ∙ answer_beside n r r.answer apart
 
       goes : (n : ℕ) (t : Bool) → (r.number == n) ≡ t → finals_in n again + went n + came n ≤ went n + (cond (is_copy_at n state act) 1 0 + came n)
-      goes n true e = omega (arith, few n, one_at (is_copy_at n state act) (ap (λ (k : ℕ). is_copy_at k state act) (sym (are_equal r.number n e)) ∙ copies))
+      goes n true e = omega (arith, few n, one_at (is_copy_at n state act) (ap (λ (k : ℕ). is_copy_at k state act) (sym (number_is r.number n e)) ∙ copies))
       goes n false e = omega (arith, beside n e)
 
 -- what each part leaves
@@ -91,7 +93,7 @@ part_spent laws Invite went came server state act now after firsts again comes n
   by_part (Passes a m address within ack e p q) = is state.requests e (on (empty q))
   by_part (Copies a bytes m short key r said no_ack key_is at_key e p q) =
       is state.requests e
-      (copy_spent Invite went came state act r again (found (has_key key) state.requests r at_key).0
+      (copy_spent Invite went came state act r again (found_in (has_key key) state.requests r at_key).0
       (copy_counts state act a bytes m short key r said no_ack key_is at_key) q h)
   by_part (TurnsAway a bytes m short r said key_is no_ack opening full e q) = is state.requests e (on (empty q))
   by_part (Opens a bytes m short r said key_is no_ack at opening room new e q) =
@@ -107,16 +109,17 @@ part_spent laws Invite went came server state act now after firsts again comes n
   by_part (Changes r change there change_is e p) =
       is (replaced change.request state.requests) e
       (change_spent laws Invite server state act now r change again state.requests (next_after state act) (went_then again went) (came_then state act came)
-      (in_list state.requests r there) change_is
+      (in_from_contains state.requests r there) change_is
       (on (λ n. change_silent server state act now n r change again change_is)))
   by_part (Resends r later there goes e p) =
       is (replaced later state.requests) e
       (resent_spent laws Invite server now r later again state.requests (next_after state act) went came (came_then state act came) goes none
-      (in_list state.requests r there)
+      (in_from_contains state.requests r there)
       (λ n. omega arith) moved)
   by_part (Acknowledges r there e p q) =
       is (replaced (acknowledged now r) state.requests) e
-      (acknowledged_spent laws Invite now r state.requests (next_after state act) (went_then again went) (came_then state act came) (in_list state.requests r there)
+      (acknowledged_spent laws Invite now r state.requests (next_after state act) (went_then again went) (came_then state act came)
+      (in_from_contains state.requests r there)
       (on (empty q)))
 
 -- what the parts of a step leave
@@ -131,7 +134,8 @@ parts_spent laws Invite went came server state act now after firsts again comes 
     let one = part_spent laws Invite went came server state act now middle earlier [] comes none part h in
     subst (λ (xs : List OpenRequest). AreSpent Invite xs (next_after state act) (went_then again went) (came_then state act came)) (sym e)
     (subst (λ (ps : List Packet). AreSpent Invite (replaced change.request middle) (next_after state act) (went_then ps went) (came_then state act came)) (sym q)
-    (change_spent laws Invite server state act now r change [] middle (next_after state act) (went_then [] went) (came_then state act came) (in_list middle r between) is
+    (change_spent laws Invite server state act now r change [] middle (next_after state act) (went_then [] went) (came_then state act came)
+    (in_from_contains middle r between) is
     one))
 
 -- ---- histories
@@ -172,8 +176,8 @@ copy_final n p q final copy =
       same : bytes_eq q.bytes p.bytes ≡ true → (q.ticket.datagram == p.ticket.datagram) ≡ true → (q.ticket.branch == p.ticket.branch) ≡ true → is_final_to n q ≡ true
       same bytes datagram branch =
           let whole : q.bytes ≡ p.bytes = (bytes_eq-Decides q.bytes p.bytes).0 bytes in
-          let number : q.ticket.datagram ≡ p.ticket.datagram = are_equal q.ticket.datagram p.ticket.datagram datagram in
-          let target : q.ticket.branch ≡ p.ticket.branch = are_equal q.ticket.branch p.ticket.branch branch in
+          let number : q.ticket.datagram ≡ p.ticket.datagram = number_is q.ticket.datagram p.ticket.datagram datagram in
+          let target : q.ticket.branch ≡ p.ticket.branch = number_is q.ticket.branch p.ticket.branch branch in
           (λ i. number i == n && target i == 0 && begins_final (whole i)) ∙ final
 
       by_tests : (s t u v w x : Bool) → q.again ≡ s → bytes_eq q.bytes p.bytes ≡ t → (q.ticket.datagram == p.ticket.datagram) ≡ w

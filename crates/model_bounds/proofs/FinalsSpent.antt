@@ -28,7 +28,8 @@ use Rattle.sip_model.specs.context_model.Retransmission.{resend_after}
 use Rattle.sip_model.specs.steps_model.Step.{Act, IsOverdue, OfSide, OfBranch}
 use Rattle.sip_model.specs.Parts.{IsChangeAt, ByResponse, ByDeadline, ByFault, ByCancel}
 use Rattle.model_transactions.specs.Copies.{IsTimely, answer_copies_left}
-use Rattle.model_bounds.proofs.FinalsLists.{all_append}
+use Rattle.model_bounds.proofs.SendingLists.{all_joined}
+use Rattle.sip_model.proofs.DeadlinesLeft.{last_true}
 
 -- ---- the laws on what goes again
 
@@ -175,7 +176,7 @@ marked_targets bs all = map_targets marked_branch bs (λ x. by_test x (x.is_canc
 -- a branch with its CANCEL
 with_cancel_targets : (now : ℕ) (bs : List Branch) → AreTargets bs → AreTargets (flat_map (with_cancel now) bs)
 with_cancel_targets now [] all = tt
-with_cancel_targets now (b ∷ bs) all = all_append (λ (x : Branch). 1 ≤ x.number) (with_cancel now b) (flat_map (with_cancel now) bs) (by_test (is_cancellable b))
+with_cancel_targets now (b ∷ bs) all = all_joined (λ (x : Branch). 1 ≤ x.number) (with_cancel now b) (flat_map (with_cancel now) bs) (by_test (is_cancellable b))
     (with_cancel_targets now bs all.1) where
       by_test : (t : Bool) → AreTargets (cond t (held_branch now b ∷ cancel_branch now b ∷ []) (b ∷ []))
       by_test true = (all.0, (all.0, tt))
@@ -223,12 +224,6 @@ given_up_kin r b status h = record {
 
 -- ---- a response
 
--- of three tests the last passes
-last_passes : (x y z : Bool) → (x && y && z) ≡ true → z ≡ true
-last_passes true true z e = e
-last_passes true false z e = absurd (cc)
-last_passes false y z e = absurd (cc)
-
 -- what goes up if it is chosen
 chosen_may_go : (r : OpenRequest) (u : Upward) (t : Bool) → (t ≡ true → MayGo r (Some u)) → MayGo r (cond t (Some u) None)
 chosen_may_go r u true h = h refl
@@ -237,7 +232,7 @@ chosen_may_go r u false h = tt
 -- a provisional response
 provisional_may_go : (r : OpenRequest) (b : Branch) (status : ℕ) (m : Message) → MayGo r (relayed_provisional r b status m)
 provisional_may_go r b status m = chosen_may_go r (relayed_from b status m) (not (status == 100) && not (is_final b.phase) && is_answering r.side)
-    (λ is. inl (last_passes (not (status == 100)) (not (is_final b.phase)) (is_answering r.side) is))
+    (λ is. inl (last_true (not (status == 100)) (not (is_final b.phase)) (is_answering r.side) is))
 
 -- a 2xx
 success_may_go : (r : OpenRequest) (b : Branch) (status : ℕ) (m : Message) → MayGo r (relayed_success r b status m)

@@ -12,7 +12,7 @@ use Rattle.sip_model.specs.Run.{Link}
 use Rattle.sip_model.specs.Lives.{sent_first}
 use Rattle.model_bounds.specs.Cancels.{BranchName, is_named, is_own_cancel, IsCancelOf, AreCancelsOf, NoMore, Another, OneMore, HasOneCancelEach}
 use Rattle.model_bounds.specs.SecondCancel.{second_cancel}
-use Rattle.model_bounds.proofs.SendingLists.{in_list, all_in, count_cons, one_at, same_number}
+use Rattle.sip_model.proofs.Places.{all_in, count_cons, in_from_contains, one_at, same_number}
 
 -- the first of some packets has a name, if it is a CANCEL of this server
 record HasName (server : Server) (history : List Link) (names : List BranchName) (p : Packet) (rest : List Packet) : Type 0 where
@@ -61,13 +61,13 @@ sent_twice = refl
 named_so : (name : BranchName) (p : Packet) → IsCancelOf sample second_cancel name p → is_named (4, 1) name ≡ true
 named_so name p is =
     let open_then : is.link.before.requests ≡ one_rings ∷ [] = all_in (λ (l : Link). l.before.requests ≡ one_rings ∷ []) second_cancel is.link (refl, (refl, tt))
-    (in_list second_cancel is.link is.is_there) in
+    (in_from_contains second_cancel is.link is.is_there) in
     let request : is.request ≡ one_rings =
     all_in (λ (x : OpenRequest). x ≡ one_rings) (one_rings ∷ []) is.request (refl, tt)
-    (in_list (one_rings ∷ []) is.request (subst (λ (rs : List OpenRequest). Contains rs is.request) open_then is.is_open)) in
+    (in_from_contains (one_rings ∷ []) is.request (subst (λ (rs : List OpenRequest). Contains rs is.request) open_then is.is_open)) in
     let branch : is.branch ≡ first_ringing =
     all_in (λ (x : Branch). x ≡ first_ringing) (first_ringing ∷ []) is.branch (refl, tt)
-    (in_list (first_ringing ∷ []) is.branch (subst (λ (x : OpenRequest). Contains x.branches is.branch) request is.is_inside)) in
+    (in_from_contains (first_ringing ∷ []) is.branch (subst (λ (x : OpenRequest). Contains x.branches is.branch) request is.is_inside)) in
     let number : name.0 ≡ 4 = sym is.is_request ∙ ap (λ (x : OpenRequest). x.number) request in
     let target : name.1 ≡ 1 = sym is.is_branch ∙ ap (λ (x : Branch). x.number) branch in
     ap₂ (λ (s t : Bool). s && t) (same_number name.0 4 number) (same_number name.1 1 target)

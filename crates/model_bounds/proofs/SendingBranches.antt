@@ -11,7 +11,9 @@ use Rattle.sip_model.specs.state.declared.open_request.Upward.{Upward}
 use Rattle.sip_model.specs.state.State.{is_invite, is_final, is_ended}
 use Rattle.sip_model.specs.context_model.Branches.{is_same_branch, turned, with_phase, marked, after_upward, is_ready, is_cancellable, cancel_branch, held_branch}
 use Rattle.sip_model.specs.context_model.Branches.{with_cancel, with_cancels, invite_heard, other_heard, heard}
-use Rattle.model_bounds.proofs.SendingLists.{IsIn, all_of, all_mapped, all_in, all_weaker, all_joined, count_cons, only_one, number_is, same_number, both_pass}
+use Rattle.model_bounds.proofs.SendingLists.{all_of, all_mapped, all_joined, only_one, both_pass}
+use Rattle.sip_model.proofs.Places.{IsIn, all_in, all_weaker, count_cons, same_number}
+use Rattle.sip_model.proofs.Rising.{number_is}
 
 -- whether a branch is the one to the target of a number
 abbrev pub is_target : ℕ → Branch → Bool

@@ -29,9 +29,10 @@ use Rattle.sip_model.specs.steps_model.Effect.{change_packets, upward_packets}
 use Rattle.sip_model.specs.steps_model.Step.{Act, IsOverdue, OfSide, OfBranch, is_failed}
 use Rattle.sip_model.specs.Parts.{IsChangeAt, ByResponse, ByDeadline, ByFault, ByCancel}
 use Rattle.model_bounds.specs.Sendings.{is_sent_for}
-use Rattle.model_bounds.proofs.SendingLists.{IsIn, in_list, all_weaker, all_joined, found_in, count_none, other_number}
+use Rattle.model_bounds.proofs.SendingLists.{all_joined, count_none, other_number}
 use Rattle.model_bounds.proofs.SendingBranches.{AreApart, heard_after, done_after, Succeeds, succeeds_alike, succeeds_both, phased_succeeds, wanting_succeeds}
 use Rattle.model_bounds.proofs.SendingBranches.{marked_succeeds, cancels_succeed, upward_succeeds}
+use Rattle.sip_model.proofs.Places.{IsIn, all_weaker, found_in, in_from_contains}
 
 -- ---- packets that are no request to a target
 
@@ -267,8 +268,8 @@ overdue_succeeds server now r _ (OfSide is) apart = settled_succeeds server now 
     (succeeds_alike r (record r { side = Closed }) refl refl refl)
 overdue_succeeds server now r _ (OfBranch b there is) apart = settled_succeeds server now [] None r (branch_overdue r b) (by_kind b.is_cancel) where
   by_kind : (t : Bool) → Succeeds r (cond t (with_phase b Ended r) (target_overdue r b b.phase))
-  by_kind true = phased_succeeds r b b.final_to Ended apart (in_list r.branches b there) (λ target. tt)
-  by_kind false = target_overdue_succeeds r b b.phase apart (in_list r.branches b there)
+  by_kind true = phased_succeeds r b b.final_to Ended apart (in_from_contains r.branches b there) (λ target. tt)
+  by_kind false = target_overdue_succeeds r b b.phase apart (in_from_contains r.branches b there)
 
 -- the caller's CANCEL
 cancelled_succeeds : (server : Server) (now : ℕ) (r : OpenRequest) → Succeeds r (cancelled server now r).request
@@ -282,7 +283,7 @@ pub change_succeeds : (server : Server) (state : ProxyState) (act : Act) (now : 
     → IsChangeAt server state act now r change again → AreApart r.branches
     → Succeeds r change.request
 change_succeeds server state act now r _ _ (ByResponse a bytes m status reason b said start is there) apart =
-    responded_succeeds server now r b status m apart (in_list r.branches b there)
+    responded_succeeds server now r b status m apart (in_from_contains r.branches b there)
 change_succeeds server state act now r change _ (ByDeadline _ passes) apart = overdue_succeeds server now r change passes apart
 change_succeeds server state act now r _ _ (ByFault at ticket b is number found) apart =
     settled_succeeds server now [] None r (given_up b 503 r) (given_up_succeeds r b 503 apart (found_in (is_failed ticket.branch) r.branches b found).0)

@@ -17,11 +17,13 @@ use Rattle.sip_model.specs.steps_model.Effect.{replaced}
 use Rattle.sip_model.specs.Order.{AreRising}
 use Rattle.model_transactions.specs.OtherClient.{steady}
 use Rattle.model_bounds.specs.Sendings.{AreInviteMoments}
-use Rattle.model_bounds.proofs.SendingLists.{IsIn, all_in, all_weaker, all_both, all_mapped, number_is, same_number}
+use Rattle.model_bounds.proofs.SendingLists.{all_both, all_mapped}
 use Rattle.model_bounds.proofs.SendingBranches.{Follows, Succeeds, mapped_count, mapped_succeeds, stays, same_branch, same_is}
 use Rattle.model_bounds.proofs.SendingChanges.{IsOther}
 use Rattle.model_bounds.proofs.SendingTimes.{AreCopyLaws, WasSent, next_time, few_sent, invite_are, none_are, sent_again}
 use Rattle.model_bounds.proofs.SendingRequests.{IsRight, BranchFits, Fits, fits_as, Tells, Holds, all_replaced}
+use Rattle.sip_model.proofs.Places.{IsIn, all_in, all_weaker, same_number}
+use Rattle.sip_model.proofs.Rising.{number_is}
 
 -- ---- what goes again
 

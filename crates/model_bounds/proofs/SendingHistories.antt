@@ -28,10 +28,12 @@ use Rattle.sip_model.specs.Order.{AreRising, HasFired}
 use Rattle.sip_model.specs.Parts.{HasParts, next_after}
 use Rattle.model_bounds.specs.Invites.{WasInvite}
 use Rattle.model_bounds.specs.Sendings.{is_sent_for, moments_of, IsAhead, AreOnTime, StayOnTime, GoOutSoOften}
-use Rattle.model_bounds.proofs.SendingLists.{IsIn, in_list, contains_of, all_in, all_behind, all_flat, all_made, none_kept, one_kept, count_parts}
+use Rattle.model_bounds.proofs.SendingLists.{all_behind, all_flat, all_made, none_kept, one_kept, count_parts}
 use Rattle.model_bounds.proofs.SendingTimes.{AreCopyLaws, WasSent, IsGoing}
 use Rattle.model_bounds.proofs.SendingRequests.{IsRight, BranchFits, Fits, Tells, Holds}
 use Rattle.model_bounds.proofs.SendingSteps.{Adds, said_next, parts_hold}
+use Rattle.sip_model.proofs.Places.{IsIn, all_in, contains_from_in, in_from_contains}
+use Rattle.model_bounds.proofs.FinalsParts.{next_low}
 
 -- ---- what one more step hands out
 
@@ -64,7 +66,7 @@ record IsInviteNow (number : ℕ) (link : Link) : Type 0 where
 
 -- an INVITE is that of the newest step, or an earlier one
 was_cases : (number : ℕ) (link : Link) (history : List Link) → WasInvite number (link ∷ history) → IsInviteNow number link ⊎ WasInvite number history
-was_cases number link history w = by_place (in_list (link ∷ history) w.link w.is_there) where
+was_cases number link history w = by_place (in_from_contains (link ∷ history) w.link w.is_there) where
   by_place : IsIn w.link (link ∷ history) → IsInviteNow number link ⊎ WasInvite number history
   by_place (inl is) = inl (record {
     a = w.a;
@@ -81,7 +83,7 @@ was_cases number link history w = by_place (in_list (link ∷ history) w.link w.
     bytes = w.bytes;
     m = w.m;
     short = w.short;
-    is_there = contains_of history w.link there;
+    is_there = contains_from_in history w.link there;
     is_said = w.is_said;
     is_number = w.is_number;
     is_invite = w.is_invite;
@@ -89,14 +91,7 @@ was_cases number link history w = by_place (in_list (link ∷ history) w.link w.
 
 -- an empty history says none
 none_was : (number : ℕ) → WasInvite number [] → ⊥
-none_was number w = in_list [] w.link w.is_there
-
--- the number of the next datagram doesn't fall
-next_rises : (state : ProxyState) (act : Act) → state.next ≤ next_after state act
-next_rises state (Given (Datagram at word from bytes)) = omega arith
-next_rises state (Given (Time at)) = omega arith
-next_rises state (Given (Fault at ticket)) = omega arith
-next_rises state (Passing at) = omega arith
+none_was number w = in_from_contains [] w.link w.is_there
 
 -- one datagram says one message
 bytes_of : Act → List ℕ
@@ -175,12 +170,12 @@ module _ (laws : AreCopyLaws) (server : Server) (model : AreModelLaws server) (f
         let said = said_next link.before link.act now.a now.bytes now.m now.short now.is_said in
         let number_is = now.is_number in
         omega (arith, next, said.0, said.1, number_is)
-    by_case (inr before) earlier = let low = earlier before in omega (arith, next, low, next_rises link.before link.act)
+    by_case (inr before) earlier = let low = earlier before in omega (arith, next, low, next_low link.before link.act)
 
   -- what one more step says
   link_tells : (link : Link) (history : List Link) → Tells (λ n. WasInvite n history) (λ n. WasInvite n (link ∷ history)) link.before.next
       (next_after link.before link.act)
-  link_tells link history = record { rises = next_rises link.before link.act; told = λ n low w. by_case n low (was_cases n link history w) } where
+  link_tells link history = record { rises = next_low link.before link.act; told = λ n low w. by_case n low (was_cases n link history w) } where
     by_case : (n : ℕ) → n < link.before.next → IsInviteNow n link ⊎ WasInvite n history → WasInvite n history
     by_case n low (inl now) =
         let said = said_next link.before link.act now.a now.bytes now.m now.short now.is_said in
@@ -234,8 +229,8 @@ module _ (laws : AreCopyLaws) (server : Server) (model : AreModelLaws server) (f
   link_on_time link history chain r b open_then invite inside target unheard =
       let holds : Holds (λ n. WasInvite n (link ∷ history)) link.after.next (λ n k. moments_of n k (link ∷ history)) link.after.requests =
       chain_holds (link ∷ history) link.after chain in
-      let there : IsIn r link.after.requests = in_list link.after.requests r open_then in
-      let within : IsIn b r.branches = in_list r.branches b inside in
+      let there : IsIn r link.after.requests = in_from_contains link.after.requests r open_then in
+      let within : IsIn b r.branches = in_from_contains r.branches b inside in
       let fits : Fits (λ n. WasInvite n (link ∷ history)) (λ n k. moments_of n k (link ∷ history)) r =
       all_in (Fits (λ n. WasInvite n (link ∷ history)) (λ n k. moments_of n k (link ∷ history))) link.after.requests r holds.fit there in
       let right : IsRight (is_invite r) (moments_of r.number b.number (link ∷ history)) b =

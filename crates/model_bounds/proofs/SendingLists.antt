@@ -1,46 +1,17 @@
 -- Lists: what stands in them, what holds of all, and how many pass a test.
-use Rattle.std.proofs.Common.{◌≡◌, ◌⊎◌, inl, inr, ℕ, zero, suc, ◌+◌, ◌≤◌, ◌<◌, Bool, true, false, not, ◌&&◌, ◌==◌, cond, List, [], ◌∷◌, ◌++◌, map, filter, length, Option}
-use Rattle.std.proofs.Common.{Some, None, refl, sym, ap, subst, ◌∙◌, arith, slice_index_or, Contains, find, count_by}
+use Rattle.std.proofs.Common.{◌≡◌, inl, inr, ℕ, ◌+◌, ◌≤◌, Bool, true, false, not, ◌&&◌, ◌==◌, cond, List, [], ◌∷◌, ◌++◌, map, filter, Option}
+use Rattle.std.proofs.Common.{Some, None, refl, sym, ap, subst, ◌∙◌, arith, count_by}
 use Rattle.std.specs.List.{AllByRecursion, flat_map, filter_map}
-use Rattle.std.proofs.lemmas.Bool.Decides.{nat_tests}
-use Rattle.std.proofs.lemmas.List.Sums.{sum_by-cons, sum_by-append}
+use Rattle.std.proofs.lemmas.List.Sums.{sum_by-append}
+use Rattle.sip_model.proofs.Places.{IsIn, count_cons, counts_in, none_at, one_at}
+use Rattle.sip_model.proofs.Rising.{number_is}
 
 -- ---- what stands in a list
-
--- an element of a list, by recursion
-abbrev pub IsIn : {X : Type 0} → X → List X → Type 0
-IsIn y [] = ⊥
-IsIn y (x ∷ xs) = (x ≡ y) ⊎ IsIn y xs
-
--- what a list contains stands in it
-pub in_list : {X : Type 0} (xs : List X) (y : X) → Contains xs y → IsIn y xs
-in_list [] y h = let lt = h.1 in absurd (omega arith)
-in_list (x ∷ xs) y h = by_place (λ there. in_list xs y there) h.0 h.1 h.2 where
-  by_place : (Contains xs y → IsIn y xs) → (k : ℕ) → k < length (x ∷ xs) → slice_index_or (x ∷ xs) k y ≡ y → IsIn y (x ∷ xs)
-  by_place rest zero lt e = inl e
-  by_place rest (suc k) lt e = inr (rest (k, omega arith, e))
-
--- and back
-pub contains_of : {X : Type 0} (xs : List X) (y : X) → IsIn y xs → Contains xs y
-contains_of [] y h = absurd h
-contains_of (x ∷ xs) y (inl e) = (0, omega arith, e)
-contains_of (x ∷ xs) y (inr h) = let there = contains_of xs y h in let lt = there.1 in (suc there.0, omega arith, there.2)
-
--- what holds of all holds of each
-pub all_in : {X : Type 0} (P : X → Type 0) (xs : List X) (y : X) → AllByRecursion P xs → IsIn y xs → P y
-all_in P [] y all h = absurd h
-all_in P (x ∷ xs) y all (inl e) = subst P e all.0
-all_in P (x ∷ xs) y all (inr h) = all_in P xs y all.1 h
 
 -- what holds of each that stands there holds of all
 pub all_of : {X : Type 0} (P : X → Type 0) (xs : List X) → ((x : X) → IsIn x xs → P x) → AllByRecursion P xs
 all_of P [] each = tt
 all_of P (x ∷ xs) each = (each x (inl refl), all_of P xs (λ y there. each y (inr there)))
-
--- what follows for each follows for all
-pub all_weaker : {X : Type 0} (P Q : X → Type 0) (xs : List X) → ((x : X) → P x → Q x) → AllByRecursion P xs → AllByRecursion Q xs
-all_weaker P Q [] weaker all = tt
-all_weaker P Q (x ∷ xs) weaker all = (weaker x all.0, all_weaker P Q xs weaker all.1)
 
 -- what holds of what is made of each holds of all
 pub all_mapped : {X Y : Type 0} (P : Y → Type 0) (f : X → Y) (xs : List X) → ((x : X) → IsIn x xs → P (f x)) → AllByRecursion P (map f xs)
@@ -83,39 +54,11 @@ all_made {Y = Y} P f (z ∷ zs) x y all h e = by_case (f z) refl (λ rest there.
   by_case (Some w) is later all (inl same) = let made : w ≡ y = cc in subst P made (rw is at all).0
   by_case (Some w) is later all (inr there) = later (rw is at all).1 there
 
--- what is found stands there, and passes
-pub found_in : {X : Type 0} (p : X → Bool) (xs : List X) (y : X) → find p xs ≡ Some y → IsIn y xs × (p y ≡ true)
-found_in p [] y e = absurd (cc)
-found_in p (x ∷ xs) y e = by_test (p x) refl (λ later. found_in p xs y later) e where
-  by_test : (t : Bool) → p x ≡ t → (find p xs ≡ Some y → IsIn y xs × (p y ≡ true)) → cond t (Some x) (find p xs) ≡ Some y → IsIn y (x ∷ xs) × (p y ≡ true)
-  by_test true is rest e = let same : x ≡ y = cc in (inl same, subst (λ z. p z ≡ true) same is)
-  by_test false is rest e = let later = rest e in (inr later.0, later.1)
-
 -- ---- how many pass a test
-
--- a count, one by one
-pub count_cons : {X : Type 0} (p : X → Bool) (x : X) (xs : List X) → count_by p (x ∷ xs) ≡ cond (p x) 1 0 + count_by p xs
-count_cons p x xs = sum_by-cons (λ y. cond (p y) 1 0) x xs
 
 -- of two lists
 pub count_joined : {X : Type 0} (p : X → Bool) (xs ys : List X) → count_by p (xs ++ ys) ≡ count_by p xs + count_by p ys
 count_joined p xs ys = sum_by-append (λ x. cond (p x) 1 0) xs ys
-
--- a test that passes counts
-pub one_at : (t : Bool) → t ≡ true → cond {A = ℕ} t 1 0 ≡ 1
-one_at true e = refl
-one_at false e = absurd (cc)
-
--- one that fails doesn't
-pub none_at : (t : Bool) → t ≡ false → cond {A = ℕ} t 1 0 ≡ 0
-none_at true e = absurd (cc)
-none_at false e = refl
-
--- what stands there counts
-pub counts_in : {X : Type 0} (p : X → Bool) (xs : List X) (y : X) → IsIn y xs → p y ≡ true → 1 ≤ count_by p xs
-counts_in p [] y h e = absurd h
-counts_in p (x ∷ xs) y (inl same) e = omega (arith, count_cons p x xs, one_at (p x) (ap p same ∙ e))
-counts_in p (x ∷ xs) y (inr h) e = omega (arith, count_cons p x xs, counts_in p xs y h e)
 
 -- where none passes the count is zero
 pub count_none : {X : Type 0} (p : X → Bool) (xs : List X) → AllByRecursion (λ x. p x ≡ false) xs → count_by p xs ≡ 0
@@ -158,14 +101,6 @@ one_kept {X = X} p at (x ∷ xs) e = by_test (p x) refl (λ one. one_kept p at x
   by_test false is rest = rest (omega (arith, e, count_cons p x xs, none_at (p x) is))
 
 -- ---- tests of numbers
-
--- numbers that pass the test are one
-pub number_is : (a b : ℕ) → (a == b) ≡ true → a ≡ b
-number_is a b e = grind (arith, nat_tests)
-
--- and one number passes it
-pub same_number : (a b : ℕ) → a ≡ b → (a == b) ≡ true
-same_number a b e = grind (arith, nat_tests)
 
 -- others don't
 pub other_number : (a b : ℕ) → (a ≡ b → ⊥) → (a == b) ≡ false

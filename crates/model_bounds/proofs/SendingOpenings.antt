@@ -22,11 +22,13 @@ use Rattle.sip_model.specs.context_model.Opening.{forking, is_tried, trying, tri
 use Rattle.sip_model.specs.steps_model.Effect.{change_packets, upward_packets, opening_packets}
 use Rattle.sip_model.specs.Parts.{IsBegun, AreBegun, IsOpening, Answered, Sent, made_text}
 use Rattle.model_bounds.specs.Sendings.{is_sent_for}
-use Rattle.model_bounds.proofs.SendingLists.{IsIn, all_in, all_weaker, count_cons, count_joined, count_none, one_at, none_at, number_is, same_number, other_number}
+use Rattle.model_bounds.proofs.SendingLists.{count_joined, count_none, other_number}
 use Rattle.model_bounds.proofs.SendingBranches.{is_target, AreApart, Succeeds, succeeds_alike, same_invite}
 use Rattle.model_bounds.proofs.SendingChanges.{none_sent, upward_other, settled_others, settled_succeeds}
 use Rattle.model_bounds.proofs.SendingTimes.{AreCopyLaws, WasSent, sent_first, none_are}
 use Rattle.model_bounds.proofs.SendingRequests.{IsRight, BranchFits, Fits, fits_after}
+use Rattle.sip_model.proofs.Places.{IsIn, all_in, all_weaker, count_cons, none_at, one_at, same_number}
+use Rattle.sip_model.proofs.Rising.{number_is}
 
 -- ---- branches that are first sent
 
@@ -175,7 +177,8 @@ unfolding requests_sent
 own_request server r now number [] b there h = absurd there
 own_request server r now number (x ∷ xs) b (inl here) h = subst (λ (y : Branch). requests_sent server r (x ∷ xs) r.number y.number ≡ cond (is_some y.address) 1 0) here
     own where
-      by_address : (t : Bool) → is_some x.address ≡ t → cond {A = ℕ} (is_some x.address && (r.number == r.number && x.number == x.number)) 1 0 ≡ cond (is_some x.address) 1 0
+      by_address : (t : Bool) → is_some x.address ≡ t → cond {A = ℕ} (is_some x.address && (r.number == r.number && x.number == x.number)) 1 0
+          ≡ cond (is_some x.address) 1 0
       by_address true is =
           one_at (is_some x.address && (r.number == r.number && x.number == x.number)) (passes_all (is_some x.address) (r.number == r.number) (x.number == x.number) is
           (same_number r.number r.number refl) (same_number x.number x.number refl))
@@ -199,7 +202,11 @@ own_request server r now number (x ∷ xs) b (inr there) h =
 
 -- a 100 leaves the branches
 tried_succeeds : (server : Server) (now : ℕ) (r : OpenRequest) → Succeeds r (tried now (trying server r) r)
-tried_succeeds server now r = by_test (is_tried r) (record { status = 100; message = made_answer server r.number r.request r.source 100 []; target = None }) where
+tried_succeeds server now r = by_test (is_tried r) (record {
+  status = 100;
+  message = made_answer server r.number r.request.message r.request.source 100 [];
+  target = None;
+}) where
   by_test : (t : Bool) (u : Upward) → Succeeds r (tried now (cond t (u ∷ []) []) r)
   by_test true u = succeeds_alike r (answered now u r) refl refl refl
   by_test false u = succeeds_alike r r refl refl refl

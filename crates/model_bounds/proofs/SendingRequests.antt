@@ -7,9 +7,10 @@ use Rattle.sip_model.specs.state.declared.open_request.OpenRequest.{OpenRequest}
 use Rattle.sip_model.specs.state.State.{is_invite, is_ended, has_left}
 use Rattle.sip_model.specs.steps_model.Effect.{replaced}
 use Rattle.model_bounds.specs.Sendings.{AreInviteMoments}
-use Rattle.model_bounds.proofs.SendingLists.{IsIn, all_in, all_weaker, all_both, all_joined}
+use Rattle.model_bounds.proofs.SendingLists.{all_both, all_joined}
 use Rattle.model_bounds.proofs.SendingBranches.{AreApart, IsAfter, before_ended, Follows, FollowsIf, Succeeds, same_invite}
 use Rattle.model_bounds.proofs.SendingTimes.{AreCopyLaws, WasSent, sent_after, none_are, one_are}
+use Rattle.sip_model.proofs.Places.{IsIn, all_in, all_weaker}
 
 -- ---- an open request
 

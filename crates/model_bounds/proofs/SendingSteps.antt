@@ -33,13 +33,15 @@ use Rattle.sip_model.specs.Access.{IsSaidAt}
 use Rattle.sip_model.specs.Order.{AreRising}
 use Rattle.sip_model.specs.Parts.{IsOpening, IsChangeAt, IsPart, Stays, Passes, Copies, TurnsAway, Opens, Changes, Resends, Acknowledges, AreParts, One, Two, next_after}
 use Rattle.model_bounds.specs.Sendings.{is_sent_for}
-use Rattle.model_bounds.proofs.SendingLists.{IsIn, in_list, all_in, all_behind, all_flat, all_made, count_joined, one_at, none_at, number_is, same_number}
+use Rattle.model_bounds.proofs.SendingLists.{all_behind, all_flat, all_made, count_joined}
 use Rattle.model_bounds.proofs.SendingBranches.{Succeeds, succeeds_alike}
 use Rattle.model_bounds.proofs.SendingChanges.{IsOther, none_sent, answers_other, change_others, change_again, change_succeeds}
 use Rattle.model_bounds.proofs.SendingTimes.{AreCopyLaws}
 use Rattle.model_bounds.proofs.SendingRequests.{Fits, Tells, Holds, holds_as, holds_changed, holds_turned, holds_opened, IsNew, Never, Once}
 use Rattle.model_bounds.proofs.SendingOpenings.{one_packet, fails_first, fails_second, passes_all, opening_number, opening_others, opening_once, opening_fits}
 use Rattle.model_bounds.proofs.SendingCopies.{due_is, cancel_other, cancel_succeeds, holds_resent, has_address}
+use Rattle.sip_model.proofs.Places.{IsIn, all_in, in_from_contains, none_at, one_at, same_number}
+use Rattle.sip_model.proofs.Rising.{number_is}
 
 -- ---- an INVITE has the key of one
 
@@ -120,7 +122,7 @@ new_sent at firsts sent after n k adds high none few = by_count (count_by (is_se
 -- ---- deadlines
 
 -- no deadline of a branch of an open request passed
-branch_not_passed : (now : ℕ) (requests : List OpenRequest) (r : OpenRequest) (b : Branch) (until : ℕ) → NoneBefore now requests → IsIn r requests → IsIn b r.branches
+pub branch_not_passed : (now : ℕ) (requests : List OpenRequest) (r : OpenRequest) (b : Branch) (until : ℕ) → NoneBefore now requests → IsIn r requests → IsIn b r.branches
     → phase_deadline b.phase ≡ Some until → now ≤ until
 branch_not_passed now requests r b until none there inside is =
     let own : AllByRecursion (λ due. now ≤ due) (deadlines_of r) = all_flat (λ due. now ≤ due) deadlines_of requests r none there in
@@ -230,7 +232,7 @@ module _ (laws : AreCopyLaws) (server : Server) (state : ProxyState) (act : Act)
         holds_changed laws was_now (next_after state act) after requests r (with_resend b r) there (cancel_succeeds r b (branch_next r b) cancel)
         (holds_as was was_now state.next (next_after state act) sent after requests tells
         (adds_nothing now [] (branch_packets server true r b) sent after adds tt (cancel_other server r b cancel)) h)
-    by_kind false target = target_holds requests sent after r b none rising there (in_list r.branches b inside) target due adds h
+    by_kind false target = target_holds requests sent after r b none rising there (in_from_contains r.branches b inside) target due adds h
 
   -- a part of a step
   part_holds : (requests becomes : List OpenRequest) (firsts again : List Packet) (sent after : ℕ → ℕ → List ℕ) → NoneBefore now requests → AreRising requests
@@ -259,16 +261,16 @@ module _ (laws : AreCopyLaws) (server : Server) (state : ProxyState) (act : Act)
       (opened_holds requests firsts sent after a bytes m short r said key_is at opening (subst (λ ps. Adds now firsts ps sent after) no_again adds) h))
   part_holds requests becomes firsts again sent after none rising (Changes r change there is same first) adds h =
       subst (λ rs. Holds was_now (next_after state act) after rs) (sym same)
-      (changed_holds requests (next_after state act) after r change again (in_list requests r there) is
+      (changed_holds requests (next_after state act) after r change again (in_from_contains requests r there) is
       (holds_as was was_now state.next (next_after state act) sent after requests tells
       (adds_nothing now firsts again sent after adds (subst (AllByRecursion IsOther) (sym first) (change_others server state act now r change again is))
       (change_again server state act now r change again is)) h))
   part_holds requests becomes firsts again sent after none rising (Resends r later there is same no_first) adds h =
       subst (λ rs. Holds was_now (next_after state act) after rs) (sym same)
-      (resent_holds requests again sent after r later none rising (in_list requests r there) is (subst (λ ps. Adds now ps again sent after) no_first adds) h)
+      (resent_holds requests again sent after r later none rising (in_from_contains requests r there) is (subst (λ ps. Adds now ps again sent after) no_first adds) h)
   part_holds requests becomes firsts again sent after none rising (Acknowledges r there same no_first no_again) adds h =
       subst (λ rs. Holds was_now (next_after state act) after rs) (sym same)
-      (holds_changed laws was_now (next_after state act) after requests r (acknowledged now r) (in_list requests r there) (acknowledged_succeeds now r)
+      (holds_changed laws was_now (next_after state act) after requests r (acknowledged now r) (in_from_contains requests r there) (acknowledged_succeeds now r)
       (holds_as was was_now state.next (next_after state act) sent after requests tells
       (adds_nothing now firsts again sent after adds (subst (AllByRecursion IsOther) (sym no_first) tt) (subst (AllByRecursion IsOther) (sym no_again) tt)) h))
 
@@ -282,5 +284,5 @@ module _ (laws : AreCopyLaws) (server : Server) (state : ProxyState) (act : Act)
       adds_front now earlier (change_packets change) [] sent after (change_others server state act now r change [] is)
       (subst (λ ps. Adds now ps [] sent after) first (subst (λ ps. Adds now firsts ps sent after) no_again adds)) in
       subst (λ rs. Holds was_now (next_after state act) after rs) (sym same)
-      (changed_holds middle (next_after state act) after r change [] (in_list middle r there) is
+      (changed_holds middle (next_after state act) after r change [] (in_from_contains middle r there) is
       (part_holds requests middle earlier [] sent after none rising part front h))

@@ -90,7 +90,7 @@ abbrev pub upward_of : Server → OpenRequest → Final → Upward
 upward_of server r f =
     record {
       status = f.status;
-      message = option_map_or (λ m. m) f.message (made_answer server r.number r.request r.source f.status []);
+      message = option_map_or (λ m. m) f.message (made_answer server r.number r.request.message r.request.source f.status []);
       target = None;
     }
 

@@ -56,8 +56,7 @@ abbrev pub first_request : OpenRequest
 first_request =
     record {
       key = record { branch = codes "z9hG4bKinv1"; host = codes "pc.host.com"; port = 5070; method = codes "INVITE" };
-      request = Onward.invite;
-      source = local 5070;
+      request = record { message = Onward.invite; source = local 5070 };
       number = 4;
       arrived_at = 62000;
       answer = None;
@@ -76,7 +75,7 @@ abbrev pub message_to : List Branch → OpenRequest
 message_to branches =
     record first_request {
       key = record { branch = codes "z9hG4bKmsg1"; host = codes "pc.host.com"; port = 5070; method = codes "MESSAGE" };
-      request = Onward.text_message;
+      request = record { message = Onward.text_message; source = local 5070 };
       number = 3;
       arrived_at = 5000;
       branches = branches;

@@ -41,8 +41,7 @@ first_branch = record {
 abbrev pub sent : Message → List ℕ → OpenRequest
 sent m method = record {
   key = record { branch = codes "z9hG4bKinv1"; host = codes "pc.host.com"; port = 5070; method = method };
-  request = m;
-  source = Places.local 5070;
+  request = record { message = m; source = Places.local 5070 };
   number = 4;
   arrived_at = 0;
   answer = None;
@@ -98,7 +97,7 @@ timing_out now r = option_map_or (λ (b : Branch). (overdue sample now r b).requ
 
 -- the 100 goes to the caller
 abbrev pub trying : OpenRequest → OpenRequest
-trying r = answered 0 (record { status = 100; message = made_answer sample r.number r.request r.source 100 []; target = None }) r
+trying r = answered 0 (record { status = 100; message = made_answer sample r.number r.request.message r.request.source 100 []; target = None }) r
 
 -- what a branch sends went again
 abbrev pub repeating : (OpenRequest → Option Branch) → OpenRequest → OpenRequest

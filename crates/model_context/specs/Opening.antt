@@ -33,8 +33,7 @@ abbrev pub arriving : Arrival → Message → OpenRequest
 arriving a m =
     record {
       key = request_key m;
-      request = m;
-      source = a.from;
+      request = record { message = m; source = a.from };
       number = a.number;
       arrived_at = a.now;
       answer = None;
@@ -99,7 +98,7 @@ is_tried r = is_invite r && list_any (λ (b : Branch). is_some b.address) r.bran
 abbrev pub trying : Server → OpenRequest → List Upward
 trying server r = if is_tried r then record {
   status = 100;
-  message = made_answer server r.number r.request r.source 100 [];
+  message = made_answer server r.number r.request.message r.request.source 100 [];
   target = None;
 } ∷ [] else []
 

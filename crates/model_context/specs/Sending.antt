@@ -31,13 +31,13 @@ answer_packet again number m from text =
 
 -- the packet of an answer to an open request
 abbrev pub answer_to : Bool → OpenRequest → List ℕ → Packet
-answer_to again r text = answer_packet again r.number r.request r.source text
+answer_to again r text = answer_packet again r.number r.request.message r.request.source text
 
 -- ---- requests to targets
 
 -- an INVITE that begins a dialog
 abbrev pub begins_dialog : OpenRequest → Bool
-begins_dialog r = is_invite r && not (is_some (dialog_of r.request))
+begins_dialog r = is_invite r && not (is_some (dialog_of r.request.message))
 
 -- the request that goes onward with a Request-URI and the branch of a number
 abbrev pub onward_as : Server → ℕ → Message → Addr → List ℕ → ℕ → Message
@@ -47,7 +47,7 @@ onward_as server number m from uri target = onward_of server.config.own server.c
 -- the request of a branch; an INVITE that begins a dialog has this server's Record-Route (RFC 3261 16.6)
 abbrev pub request_of : Server → OpenRequest → Branch → Message
 request_of server r b =
-    let m = onward_as server r.number r.request r.source b.uri b.number in
+    let m = onward_as server r.number r.request.message r.request.source b.uri b.number in
     if begins_dialog r then with_record_route server.config.own m else m
 
 -- what a branch sends: its request, or the CANCEL of that (RFC 3261 9.1)

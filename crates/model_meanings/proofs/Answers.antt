@@ -35,10 +35,10 @@ use Rattle.sip_model.specs.Access.{CameFor}
 use Rattle.sip_model.specs.Run.{Link}
 use Rattle.model_meanings.specs.Requests.{IsBrought, WentToCaller, HasCome}
 use Rattle.model_meanings.specs.Dialogs.{Names, NamesFor, Begins, WasSentOn, Invite, AnswerToInvite, AnswerWithin, Within, IsAddressOf, OfCaller, OfBranch, Later}
-use Rattle.model_meanings.proofs.Lists.{all_append}
 use Rattle.model_meanings.proofs.Requests.{sent_in, went_in}
 use Rattle.model_meanings.proofs.Telling.{dialog_names, answer_names, names_alike, IsTakenIn, addresses_told, IsLesson}
 use Rattle.model_meanings.proofs.Edits.{IsClosed, taught_kept, renewed_kept, learnt_kept, without_kept, after_invite_kept}
+use Rattle.sip_model.proofs.Lists.{all_append}
 
 -- ---- the method of a request
 
@@ -87,11 +87,11 @@ module _ (server : Server) (history : List Link) where
   -- a request came, whatever was sent of it
   pub record Came (r : OpenRequest) : Type 0 where
     pub a : Arrival
-    pub is_brought : IsBrought history a r.request
-    pub is_no_ack : bytes_eq (method_of r.request.start) (codes "ACK") ≡ false
-    pub is_key : key_of r.request ≡ Some r.key
+    pub is_brought : IsBrought history a r.request.message
+    pub is_no_ack : bytes_eq (method_of r.request.message.start) (codes "ACK") ≡ false
+    pub is_key : key_of r.request.message ≡ Some r.key
     pub is_number : r.number ≡ a.number
-    pub is_source : r.source ≡ a.from
+    pub is_source : r.request.source ≡ a.from
     pub is_arrival : r.arrived_at ≡ a.now
 
   -- an open one did
@@ -121,26 +121,26 @@ module _ (server : Server) (history : List Link) (link : Link) where
 
   -- an answer went to the caller of a request
   pub record IsUp (r : OpenRequest) (u : Upward) : Type 0 where
-    pub went : WentToCaller (link ∷ []) r.number r.request r.source (text_of u.message)
+    pub went : WentToCaller (link ∷ []) r.number r.request.message r.request.source (text_of u.message)
     pub may_begin : MayBegin r.number u
 
   module _ (taken : IsTakenIn server history link) (now : ℕ) (r : OpenRequest) (came : Came server history r) where
     -- it went where the request came from
-    went_there : (u : Upward) → IsUp r u → WentToCaller (link ∷ []) came.a.number r.request came.a.from (text_of u.message)
+    went_there : (u : Upward) → IsUp r u → WentToCaller (link ∷ []) came.a.number r.request.message came.a.from (text_of u.message)
     went_there u up =
-        subst (λ (n : ℕ). WentToCaller (link ∷ []) n r.request came.a.from (text_of u.message)) came.is_number
-        (subst (λ (f : Addr). WentToCaller (link ∷ []) r.number r.request f (text_of u.message)) came.is_source up.went)
+        subst (λ (n : ℕ). WentToCaller (link ∷ []) n r.request.message came.a.from (text_of u.message)) came.is_number
+        (subst (λ (f : Addr). WentToCaller (link ∷ []) r.number r.request.message f (text_of u.message)) came.is_source up.went)
 
     -- the request is an INVITE
-    invite_came : is_invite r ≡ true → bytes_eq (method_of r.request.start) (codes "INVITE") ≡ true
+    invite_came : is_invite r ≡ true → bytes_eq (method_of r.request.message.start) (codes "INVITE") ≡ true
     invite_came is =
-        let same : r.key.method ≡ method_of r.request.start = key_has_method r.request.fields r.request.start r.key came.is_key came.is_no_ack in
+        let same : r.key.method ≡ method_of r.request.message.start = key_has_method r.request.message.fields r.request.message.start r.key came.is_key came.is_no_ack in
         subst (λ (v : List ℕ). bytes_eq v (codes "INVITE") ≡ true) same is
 
     -- of an INVITE: it began the dialog that the answer names
     begins_now : (u : Upward) (id : DialogId) → IsUp r u → is_invite r ≡ true → nat_le u.status 100 ≡ false → nat_le u.status 299 ≡ true → (x : IsRelayed r.number u)
         → answered_dialog r u.message ≡ Some id
-        → Begins server history came.a r.request u.status x.response id
+        → Begins server history came.a r.request.message u.status x.response id
     begins_now u id up is above below x e = record {
       is_brought = came.is_brought;
       is_invite = invite_came is;
@@ -161,9 +161,9 @@ module _ (server : Server) (history : List Link) (link : Link) where
       is_above_100 = above_100 u.status above;
       is_below_300 = below_300 u.status below;
       has_gone =
-          subst (λ (answer : Message). WentToCaller history came.a.number r.request came.a.from (text_of answer)) x.is_message
-          (went_in history link came.a.number r.request came.a.from (text_of u.message) taken.is_there (went_there u up));
-      names = subst (λ (answer : Message). NamesFor r.request answer id) x.is_message (answer_names r u.message id e);
+          subst (λ (answer : Message). WentToCaller history came.a.number r.request.message came.a.from (text_of answer)) x.is_message
+          (went_in history link came.a.number r.request.message came.a.from (text_of u.message) taken.is_there (went_there u up));
+      names = subst (λ (answer : Message). NamesFor r.request.message answer id) x.is_message (answer_names r u.message id e);
     }
 
     -- what the answer tells of that dialog
@@ -173,7 +173,7 @@ module _ (server : Server) (history : List Link) (link : Link) where
     unfolding begins_now
     lesson_now u id up is above below e = record {
       a = came.a;
-      invite = r.request;
+      invite = r.request.message;
       status = u.status;
       response = x.response;
       begins = begins;
@@ -182,22 +182,23 @@ module _ (server : Server) (history : List Link) (link : Link) where
       is_arrival = came.is_arrival;
       success = λ success. from_200 u.status success;
       are_addresses =
-          all_append (IsAddressOf server history id) ((r.source ∷ option_to_list u.target) ++ addresses_of server r.request) (addresses_of server u.message)
-          (all_append (IsAddressOf server history id) (r.source ∷ option_to_list u.target) (addresses_of server r.request)
-          (OfCaller came.a r.request u.status x.response begins came.is_source, by_target u.target refl)
-          (addresses_told server history link taken id r.request (Invite came.a r.request u.status x.response begins x.is_now)))
+          all_append (IsAddressOf server history id) ((r.request.source ∷ option_to_list u.target) ++ addresses_of server r.request.message)
+          (addresses_of server u.message)
+          (all_append (IsAddressOf server history id) (r.request.source ∷ option_to_list u.target) (addresses_of server r.request.message)
+          (OfCaller came.a r.request.message u.status x.response begins came.is_source, by_target u.target refl)
+          (addresses_told server history link taken id r.request.message (Invite came.a r.request.message u.status x.response begins x.is_now)))
           (addresses_told server history link taken id u.message
-          (AnswerToInvite came.a r.request u.message taken.is_there came.is_brought (invite_came is) (went_there u up) (answer_names r u.message id e)));
+          (AnswerToInvite came.a r.request.message u.message taken.is_there came.is_brought (invite_came is) (went_there u up) (answer_names r u.message id e)));
     } where
       x : IsRelayed r.number u
       x = up.may_begin below above
 
-      begins : Begins server history came.a r.request u.status x.response id
+      begins : Begins server history came.a r.request.message u.status x.response id
       begins = begins_now u id up is above below x e
 
       by_target : (o : Option Addr) → u.target ≡ o → AllByRecursion (IsAddressOf server history id) (option_to_list o)
       by_target None at = tt
-      by_target (Some address) at = (OfBranch came.a r.request u.status x.response begins (sym x.is_target ∙ at), tt)
+      by_target (Some address) at = (OfBranch came.a r.request.message u.status x.response begins (sym x.is_target ∙ at), tt)
 
   module _ (T : Dialog → Type 0) (closed : IsClosed server history link T) (taken : IsTakenIn server history link) where
     module _ (now : ℕ) (r : OpenRequest) (came : Came server history r) where
@@ -213,7 +214,7 @@ module _ (server : Server) (history : List Link) (link : Link) where
         by_test false below =
             taught_kept server history link T closed now id (addresses_of server u.message) dialogs
             (addresses_told server history link taken id u.message
-            (AnswerToInvite came.a r.request u.message taken.is_there came.is_brought (invite_came taken now r came is) (went_there taken now r came u up)
+            (AnswerToInvite came.a r.request.message u.message taken.is_there came.is_brought (invite_came taken now r came is) (went_there taken now r came u up)
             (answer_names r u.message id e))) h
 
       -- an answer to a request without a To tag
@@ -231,7 +232,7 @@ module _ (server : Server) (history : List Link) (link : Link) where
         by_test false is = h
 
       -- an answer to a request of a dialog
-      within_told : (u : Upward) (id : DialogId) (dialogs : List Dialog) → IsUp r u → dialog_of r.request ≡ Some id → AllByRecursion T dialogs
+      within_told : (u : Upward) (id : DialogId) (dialogs : List Dialog) → IsUp r u → dialog_of r.request.message ≡ Some id → AllByRecursion T dialogs
           → AllByRecursion T (after_answer_within server now r u id dialogs)
       within_told u id dialogs up e h = by_test (bytes_eq r.key.method (codes "BYE") && is_success u.status) where
         by_test : (t : Bool) → AllByRecursion T (cond t (without_dialog now id dialogs) (taught now id (addresses_of server u.message) dialogs))
@@ -239,18 +240,18 @@ module _ (server : Server) (history : List Link) (link : Link) where
         by_test false =
             taught_kept server history link T closed now id (addresses_of server u.message) dialogs
             (addresses_told server history link taken id u.message
-            (AnswerWithin came.a r.request u.message taken.is_there came.is_brought (dialog_names r.request id e) (went_there taken now r came u up))) h
+            (AnswerWithin came.a r.request.message u.message taken.is_there came.is_brought (dialog_names r.request.message id e) (went_there taken now r came u up))) h
 
       -- any answer
       answer_told : (u : Upward) (dialogs : List Dialog) → IsUp r u → AllByRecursion T dialogs → AllByRecursion T (after_answer server now r u dialogs)
       answer_told u dialogs up h = by_test (nat_le u.status 100) refl where
-        by_dialog : nat_le u.status 100 ≡ false → (o : Option DialogId) → dialog_of r.request ≡ o → AllByRecursion T (after_answer_of server now r u o dialogs)
+        by_dialog : nat_le u.status 100 ≡ false → (o : Option DialogId) → dialog_of r.request.message ≡ o → AllByRecursion T (after_answer_of server now r u o dialogs)
         by_dialog above None e = first_told u dialogs up above h
         by_dialog above (Some id) e = within_told u id dialogs up e h
 
-        by_test : (t : Bool) → nat_le u.status 100 ≡ t → AllByRecursion T (cond t dialogs (after_answer_of server now r u (dialog_of r.request) dialogs))
+        by_test : (t : Bool) → nat_le u.status 100 ≡ t → AllByRecursion T (cond t dialogs (after_answer_of server now r u (dialog_of r.request.message) dialogs))
         by_test true above = h
-        by_test false above = by_dialog above (dialog_of r.request) refl
+        by_test false above = by_dialog above (dialog_of r.request.message) refl
 
       -- several
       answers_told : (us : List Upward) (dialogs : List Dialog) → AllByRecursion (IsUp r) us → AllByRecursion T dialogs

@@ -55,8 +55,8 @@ same_start true own m = refl
 same_start false own m = refl
 
 -- the start line of a branch's request is the request's, with the branch's URI
-start_of : (server : Server) (r : OpenRequest) (b : Branch) → (request_of server r b).start ≡ with_uri b.uri r.request.start
-start_of server r b = same_start (begins_dialog r) server.config.own (onward_as server r.number r.request r.source b.uri b.number)
+start_of : (server : Server) (r : OpenRequest) (b : Branch) → (request_of server r b).start ≡ with_uri b.uri r.request.message.start
+start_of server r b = same_start (begins_dialog r) server.config.own (onward_as server r.number r.request.message r.request.source b.uri b.number)
 
 -- ---- all packets
 

@@ -24,7 +24,8 @@ use Rattle.sip_model.specs.context_model.Retransmission.{branch_next, resent_bra
 use Rattle.sip_model.specs.steps_model.Step.{Act, IsOverdue, OfSide, OfBranch}
 use Rattle.sip_model.specs.Parts.{IsChangeAt, ByResponse, ByDeadline, ByFault, ByCancel}
 use Rattle.sip_model.proofs.Places.{all_weaker}
-use Rattle.model_meanings.proofs.Lists.{all_left, all_right, all_map, all_flat_map}
+use Rattle.model_meanings.proofs.Lists.{all_left, all_right}
+use Rattle.sip_model.proofs.Lists.{all_flat_map, all_map}
 
 -- ---- branches
 

@@ -18,7 +18,7 @@ use Rattle.sip_model.specs.Access.{ComesNow, IsAckNow, IsPassedOn, Early, Accept
 use Rattle.sip_model.specs.Access.{IsCancelledNow, AreCancelsNow, IsForOpen, ForNone, ForOne, IsAllSent, sent_for}
 use Rattle.model_meanings.proofs.Refused.{holds_of, is_fault, HasNoAnswer, no_answers}
 use Rattle.model_meanings.proofs.Said.{found_same}
-use Rattle.model_meanings.proofs.Lists.{all_append}
+use Rattle.sip_model.proofs.Lists.{all_append}
 
 -- two moments differ, where a test says so
 pub differ : (x y : ℕ) → (x == y) ≡ false → (y == y) ≡ true → Some x ≡ Some y → ⊥

@@ -1,5 +1,5 @@
 -- A 200 to a REGISTER lists each live binding of its address, in their order.
-use Rattle.std.proofs.Common.{◌≡◌, ℕ, ◌+◌, ◌-◌, ◌*◌, ◌/◌, ◌≤◌, ◌<◌, Bool, true, false, cond, ◌&&◌, List, [], ◌∷◌, ◌++◌, codes, decimal, length, map, refl, sym, ap, ◌∙◌}
+use Rattle.std.proofs.Common.{◌≡◌, ℕ, ◌+◌, ◌-◌, ◌*◌, ◌/◌, ◌≤◌, ◌<◌, Bool, true, false, cond, ◌&&◌, List, [], ◌∷◌, ◌++◌, codes, decimal, map, refl, sym, ap, ◌∙◌}
 use Rattle.std.proofs.Common.{arith, bytes_eq, true≢false}
 use Rattle.std.proofs.lemmas.Bool.Decides.{nat_tests}
 use Rattle.std.proofs.lemmas.Slice.Eq.{bytes_eq-Decides}
@@ -12,6 +12,7 @@ use Rattle.sip_location.specs.declared.binding.Binding.{Binding}
 use Rattle.sip_location.specs.Binding.{is_live, is_of, live, seconds_left}
 use Rattle.sip_model.specs.steps_model.Effect.{contact_field, contact_fields}
 use Rattle.model_meanings.specs.Lists.{IsLiveOf, SaysBinding, ListsInOrder, NoMore, Lists, LeavesOut}
+use Rattle.sip_model.proofs.Listing.{no_more, enough}
 
 -- ---- one binding
 
@@ -44,13 +45,6 @@ test_by now aor b h =
     let mine : is_same_aor b.aor aor ≡ true = aor_same b.aor aor h.is_its in
     let later : now < b.expires_at = h.lives in
     grind (arith, nat_tests)
-
--- its field says it
-enough : (expires now : ℕ) → now < expires → expires ≤ now + 1000 * ((expires - now + 999) / 1000)
-enough expires now later = omega (arith, later)
-
-no_more : (expires now : ℕ) → now < expires → now + 1000 * ((expires - now + 999) / 1000) < expires + 1000
-no_more expires now later = omega (arith, later)
 
 says_it : (now : ℕ) (b : Binding) → now < b.expires_at → SaysBinding now b (contact_field now b)
 says_it now b later = record {
@@ -91,7 +85,3 @@ listed_alone now aor rows fields (LeavesOut b others more none rest) = by_test (
       → more ≡ map (contact_field now) (cond t (b ∷ live aor now others) (live aor now others))
   by_test true e later = absurd (none (live_by now aor b e))
   by_test false e later = later
-
-pub as_many_mapped : {X Y : Type 0} (f : X → Y) (xs : List X) → length (map f xs) ≡ length xs
-as_many_mapped f [] = refl
-as_many_mapped f (x ∷ xs) = omega (arith, as_many_mapped f xs)

@@ -43,7 +43,7 @@ use Rattle.sip_model.specs.Histories.{forking_dialogs, verdict_dialogs, branch_d
 use Rattle.model_meanings.specs.Requests.{IsBrought, WentToCaller, HasCome}
 use Rattle.model_meanings.specs.Dialogs.{WasSentOn}
 use Rattle.sip_model.proofs.Places.{IsIn, in_from_contains, found_in, all_in}
-use Rattle.model_meanings.proofs.Lists.{all_left, all_right, all_every}
+use Rattle.model_meanings.proofs.Lists.{all_left, all_right}
 use Rattle.model_meanings.proofs.Changes.{KeepNumbers, Tells, settled_kept, responded_kept, overdue_kept, failed_kept, cancelled_kept}
 use Rattle.model_meanings.proofs.Requests.{WasSent, upward_went}
 use Rattle.model_meanings.proofs.Facts.{IsForBranch, IsKeyed, Facts, message_facts}
@@ -52,6 +52,7 @@ use Rattle.model_meanings.proofs.Failures.{unsent_fail}
 use Rattle.model_meanings.proofs.Telling.{IsTakenIn}
 use Rattle.model_meanings.proofs.Edits.{IsClosed}
 use Rattle.model_meanings.proofs.Answers.{Came, came_of, MayBegin, IsUp, change_told, request_told}
+use Rattle.sip_model.proofs.Lists.{all_every}
 
 -- a refusal begins no dialog
 refuses : (server : Server) (history : List Link) (link : Link) (number : ℕ) (u : Upward) → Refusing u → MayBegin server history link number u
@@ -126,11 +127,11 @@ module _ (server : Server) (history : List Link) where
   }
 
   -- one of a dialog has no Record-Route of this server
-  plain_within : (r : OpenRequest) (b : Branch) (id : DialogId) → dialog_of r.request ≡ Some id
-      → request_of server r b ≡ onward_as server r.number r.request r.source b.uri b.number
-  plain_within r b id e = by_test (is_invite r) (dialog_of r.request) e where
+  plain_within : (r : OpenRequest) (b : Branch) (id : DialogId) → dialog_of r.request.message ≡ Some id
+      → request_of server r b ≡ onward_as server r.number r.request.message r.request.source b.uri b.number
+  plain_within r b id e = by_test (is_invite r) (dialog_of r.request.message) e where
     plain : Message
-    plain = onward_as server r.number r.request r.source b.uri b.number
+    plain = onward_as server r.number r.request.message r.request.source b.uri b.number
 
     by_test : (t : Bool) (o : Option DialogId) → o ≡ Some id → cond (t && not (is_some o)) (with_record_route server.config.own plain) plain ≡ plain
     by_test t None f = absurd (cc)
@@ -171,10 +172,10 @@ module _ (server : Server) (history : List Link) (link : Link) (T : Dialog → T
       → AllByRecursion (WasSent (link ∷ [])) (change_packets change) → AllByRecursion T dialogs → AllByRecursion T (dialogs_after server now change dialogs)
   honest_told now number change dialogs came same honest packets h =
       change_told server history link T closed taken now change dialogs came
-      (all_both (λ (u : Upward). WentToCaller (link ∷ []) change.request.number change.request.request change.request.source (text_of u.message))
+      (all_both (λ (u : Upward). WentToCaller (link ∷ []) change.request.number change.request.request.message change.request.request.source (text_of u.message))
       (MayBegin server history link number) (IsUp server history link change.request)
       (λ u went may. record { went = went; may_begin = subst (λ (n : ℕ). MayBegin server history link n u) (sym same) may }) change.upward
-      (upward_went (link ∷ []) change change.request.number change.request.request change.request.source
+      (upward_went (link ∷ []) change change.request.number change.request.request.message change.request.request.source
       (record { is_number = refl; is_request = refl; is_source = refl }) packets) honest.upward) h
 
   -- ---- a request that is sent to its branches

@@ -45,12 +45,12 @@ use Rattle.sip_model.specs.Run.{Link, under, IsChain}
 use Rattle.sip_model.specs.Histories.{forking_dialogs, verdict_dialogs, branch_dialogs, fault_dialogs, step_dialogs, history_dialogs}
 use Rattle.sip_model.specs.Order.{is_numbered, AreNumbered, CanEnd}
 use Rattle.model_meanings.specs.Dialogs.{IsInviteOpen}
-use Rattle.sip_model.proofs.Places.{IsIn, in_from_contains, contains_from_in, found_in, all_in, all_weaker}
-use Rattle.model_meanings.proofs.Lists.{all_append, all_filter, all_map, all_every}
+use Rattle.sip_model.proofs.Places.{IsIn, in_from_contains, contains_from_in, found_in, all_in, all_weaker, count_cons, counts_in, one_at}
 use Rattle.model_meanings.proofs.Changes.{KeepNumbers, Tells, responded_kept, overdue_kept, failed_kept, cancelled_kept, resent_kept, acknowledged_kept}
 use Rattle.model_meanings.proofs.Facts.{Facts, message_facts}
 use Rattle.model_meanings.proofs.Failures.{Refusing, opening_honest, unsent_fail}
-use Rattle.model_meanings.proofs.Same.{number_decides, count_first, one_at, counts_in, known_in_both}
+use Rattle.model_meanings.proofs.Same.{number_decides, known_in_both}
+use Rattle.sip_model.proofs.Lists.{all_append, all_every, all_filter, all_map}
 
 -- ---- what a step tells of a dialog leaves its number
 
@@ -147,9 +147,9 @@ module _ (P : ℕ → Type 0) where
       by_dialog None = first_stands u dialogs may h
       by_dialog (Some id) = within_stands u id dialogs h
 
-      by_test : (t : Bool) → AllByRecursion (Stands P) (cond t dialogs (after_answer_of server now r u (dialog_of r.request) dialogs))
+      by_test : (t : Bool) → AllByRecursion (Stands P) (cond t dialogs (after_answer_of server now r u (dialog_of r.request.message) dialogs))
       by_test true = h
-      by_test false = by_dialog (dialog_of r.request)
+      by_test false = by_dialog (dialog_of r.request.message)
 
     -- several
     answers_stand : (us : List Upward) (dialogs : List Dialog) → AllByRecursion (MayBegin r) us → AllByRecursion (Stands P) dialogs
@@ -197,16 +197,16 @@ apart_at : (number : ℕ) (requests : List OpenRequest) (x y : OpenRequest) → 
 apart_at number [] x y one h k e f = absurd h
 apart_at number (z ∷ zs) x y one (inl same) (inl other) e f = sym same ∙ other
 apart_at number (z ∷ zs) x y one (inl same) (inr k) e f =
-    let head = count_first (is_numbered number) z zs in
+    let head = count_cons (is_numbered number) z zs in
     let here = one_at (is_numbered number z) (ap (is_numbered number) same ∙ e) in
     let rest = counts_in (is_numbered number) zs y k f in
     absurd (omega (arith, one, head, here, rest))
 apart_at number (z ∷ zs) x y one (inr h) (inl same) e f =
-    let head = count_first (is_numbered number) z zs in
+    let head = count_cons (is_numbered number) z zs in
     let here = one_at (is_numbered number z) (ap (is_numbered number) same ∙ f) in
     let rest = counts_in (is_numbered number) zs x h e in
     absurd (omega (arith, one, head, here, rest))
-apart_at number (z ∷ zs) x y one (inr h) (inr k) e f = let head = count_first (is_numbered number) z zs in apart_at number zs x y (omega (arith, one, head)) h k e f
+apart_at number (z ∷ zs) x y one (inr h) (inr k) e f = let head = count_cons (is_numbered number) z zs in apart_at number zs x y (omega (arith, one, head)) h k e f
 
 -- so none are two
 numbered_apart : (next : ℕ) (requests : List OpenRequest) → AreNumbered next requests → AreApart requests

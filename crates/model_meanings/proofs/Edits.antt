@@ -12,8 +12,8 @@ use Rattle.sip_model.specs.state.declared.server.Server.{Server}
 use Rattle.sip_model.specs.Run.{Link}
 use Rattle.model_meanings.specs.Dialogs.{IsAddressOf, HadRequest, WasTold}
 use Rattle.sip_model.proofs.Places.{all_weaker}
-use Rattle.model_meanings.proofs.Lists.{all_append, all_filter, all_map}
 use Rattle.model_meanings.proofs.Telling.{IsLesson, taught_told, renewed_told, begun_told, again_told}
+use Rattle.sip_model.proofs.Lists.{all_append, all_filter, all_map}
 
 -- What is said of a dialog is kept by what a step may tell of it.
 pub record IsClosed (server : Server) (history : List Link) (link : Link) (T : Dialog → Type 0) : Type 0 where

@@ -30,7 +30,7 @@ use Rattle.sip_model.specs.state.declared.open_request.Side.{Side}
 use Rattle.sip_model.specs.state.declared.open_request.OpenRequest.{OpenRequest}
 use Rattle.sip_model.specs.state.declared.open_request.Upward.{Upward}
 use Rattle.sip_model.specs.state.declared.proxy_state.ProxyState.{ProxyState}
-use Rattle.sip_model.specs.state.State.{first_state, is_invite, is_answering, is_final, is_success, is_provisional, has_left}
+use Rattle.sip_model.specs.state.State.{first_state, is_invite, is_answering, is_final, is_success, has_left}
 use Rattle.sip_model.specs.state.Dialogs.{dialog_of, addresses_of, after_answer_within, after_answer_of, after_answer, after_answers, after_leaving}
 use Rattle.sip_model.specs.state.Arrival.{Arrival}
 use Rattle.sip_model.specs.context_model.Branches.{Change, with_phase, best_upward, after_upward, upward_list, settled, heard, relayed_from, relayed_provisional}
@@ -43,7 +43,6 @@ use Rattle.sip_model.specs.Histories.{verdict_dialogs, step_dialogs, history_dia
 use Rattle.sip_model.specs.Parts.{HasParts}
 use Rattle.model_meanings.specs.Dialogs.{IsNamed, Names, EndsDialog, WasToldAnew}
 use Rattle.sip_model.proofs.Places.{in_from_contains, all_weaker}
-use Rattle.model_meanings.proofs.Lists.{all_filter, all_map, all_every}
 use Rattle.model_meanings.proofs.Changes.{KeepNumbers, Tells, responded_kept}
 use Rattle.model_meanings.proofs.Requests.{later_there, sent_now}
 use Rattle.model_meanings.proofs.Edits.{IsClosed}
@@ -51,6 +50,8 @@ use Rattle.model_meanings.proofs.Dialogs.{step_told}
 use Rattle.model_meanings.proofs.Same.{and_holds, known_in_both}
 use Rattle.model_meanings.proofs.Under.{begins_under, link_under}
 use Rattle.model_meanings.proofs.Told.{later_begins, later_link, chain_here, taken_now}
+use Rattle.sip_model.proofs.Lists.{all_every, all_filter, all_map}
+use Rattle.sip_model.proofs.Sendings.{success_final}
 
 -- ---- names
 
@@ -109,7 +110,7 @@ without_other now id dialogs = each (known now dialogs) where
   each [] = tt
   each (x ∷ xs) = by_test x (filter (λ d. not (is_named id d)) xs) (each xs) (is_named id x) refl
 
-module _ (server : Server) (now : ℕ) (r : OpenRequest) (id : DialogId) (is : dialog_of r.request ≡ Some id) where
+module _ (server : Server) (now : ℕ) (r : OpenRequest) (id : DialogId) (is : dialog_of r.request.message ≡ Some id) where
   -- where none has the name none has it after further answers to its request
   within_other : (u : Upward) (dialogs : List Dialog) → AllByRecursion (HasOther id) dialogs
       → AllByRecursion (HasOther id) (after_answer_within server now r u id dialogs)
@@ -129,7 +130,7 @@ module _ (server : Server) (now : ℕ) (r : OpenRequest) (id : DialogId) (is : d
   -- after one
   answer_other : (u : Upward) (dialogs : List Dialog) → AllByRecursion (HasOther id) dialogs → AllByRecursion (HasOther id) (after_answer server now r u dialogs)
   answer_other u dialogs h = by_test (nat_le u.status 100) where
-    by_test : (t : Bool) → AllByRecursion (HasOther id) (cond t dialogs (after_answer_of server now r u (dialog_of r.request) dialogs))
+    by_test : (t : Bool) → AllByRecursion (HasOther id) (cond t dialogs (after_answer_of server now r u (dialog_of r.request.message) dialogs))
     by_test true = h
     by_test false = subst (λ (o : Option DialogId). AllByRecursion (HasOther id) (after_answer_of server now r u o dialogs)) (sym is) (within_other u dialogs h)
 
@@ -150,7 +151,7 @@ module _ (server : Server) (now : ℕ) (r : OpenRequest) (id : DialogId) (is : d
       → AllByRecursion (HasOther id) (after_answer server now r u dialogs)
   bye_other u dialogs above success bye =
       let ends : (bytes_eq r.key.method (codes "BYE") && is_success u.status) ≡ true = and_holds _ _ bye success in
-      subst (λ (t : Bool). AllByRecursion (HasOther id) (cond t dialogs (after_answer_of server now r u (dialog_of r.request) dialogs))) (sym above)
+      subst (λ (t : Bool). AllByRecursion (HasOther id) (cond t dialogs (after_answer_of server now r u (dialog_of r.request.message) dialogs))) (sym above)
       (subst (λ (o : Option DialogId). AllByRecursion (HasOther id) (after_answer_of server now r u o dialogs)) (sym is)
       (subst (λ (t : Bool). AllByRecursion (HasOther id) (cond t (without_dialog now id dialogs) (taught now id (addresses_of server u.message) dialogs))) (sym ends)
       (without_other now id dialogs)))
@@ -159,7 +160,7 @@ module _ (server : Server) (now : ℕ) (r : OpenRequest) (id : DialogId) (is : d
 
 -- a request stays that message, with that key
 record IsStill (r s : OpenRequest) : Type 0 where
-  request : s.request ≡ r.request
+  request : s.request.message ≡ r.request.message
   method : s.key.method ≡ r.key.method
 
 -- it does
@@ -170,10 +171,6 @@ still_kept r s side again finals branches numbers h = record { request = h.reque
 -- a 2xx is above 100
 success_above : (status : ℕ) → is_success status ≡ true → nat_le status 100 ≡ false
 success_above status e = grind (arith, nat_tests)
-
--- and final
-success_final : (status : ℕ) → is_success status ≡ true → is_provisional status ≡ false
-success_final status e = grind (arith, nat_tests)
 
 -- the change that a first 2xx to a request makes
 first_success : (server : Server) (now : ℕ) (r : OpenRequest) (b : Branch) (status : ℕ) (m : Message)
@@ -193,7 +190,7 @@ first_success server now r b status m success target first waits =
 -- it leaves no dialog of the BYE's name
 success_other : (server : Server) (now : ℕ) (r : OpenRequest) (b : Branch) (status : ℕ) (m : Message) (id : DialogId) (dialogs : List Dialog) → is_success status ≡ true
     → b.is_cancel ≡ false → is_final b.phase ≡ false
-    → is_answering r.side ≡ true → bytes_eq r.key.method (codes "BYE") ≡ true → dialog_of r.request ≡ Some id
+    → is_answering r.side ≡ true → bytes_eq r.key.method (codes "BYE") ≡ true → dialog_of r.request.message ≡ Some id
     → AllByRecursion (HasOther id) (dialogs_after server now (responded server now r b status m) dialogs)
 success_other server now r b status m id dialogs success target first waits bye names =
     subst (λ (c : Change). IsStill r c.request → AllByRecursion (HasOther id) (dialogs_after server now c dialogs))
@@ -205,7 +202,7 @@ success_other server now r b status m id dialogs success target first waits bye 
 
       settled_other : IsStill r change.request → AllByRecursion (HasOther id) (dialogs_after server now change dialogs)
       settled_other still =
-          let is : dialog_of change.request.request ≡ Some id = ap dialog_of still.request ∙ names in
+          let is : dialog_of change.request.request.message ≡ Some id = ap dialog_of still.request ∙ names in
           let method : bytes_eq change.request.key.method (codes "BYE") ≡ true = ap (λ (v : List ℕ). bytes_eq v (codes "BYE")) still.method ∙ bye in
           let u : Upward = relayed_from b status m in
           let others : List Upward = upward_list (best_upward server (after_upward now (Some u) (with_answer r b now status m))) in
@@ -248,7 +245,7 @@ step_other server link id h step dialogs =
           subst (λ (o : Option (Message × Verdict)). AllByRecursion (HasOther (id_in h.names.core h.names.tag))
           (option_map_or (λ x. verdict_dialogs by a x.0 x.1 dialogs) o dialogs)) (sym verdict)
           (success_other by a.now h.request h.branch h.status h.response (id_in h.names.core h.names.tag) dialogs h.is_accepting h.is_target h.is_first h.is_waiting
-          h.is_bye (names_read h.request.request id h.names))
+          h.is_bye (names_read h.request.request.message id h.names))
 
 -- ---- every history
 

@@ -1,7 +1,6 @@
 -- What a verdict on a message says of that message, where it changes what is known of dialogs.
-use Rattle.std.proofs.Common.{◌≡◌, inl, inr, ℕ, Bool, true, false, cond, ◌&&◌, ◌||◌, List, [], ◌∷◌, codes, find, Option, Some, None, option_and_then, is_some, refl, ap}
+use Rattle.std.proofs.Common.{◌≡◌, ℕ, Bool, true, false, cond, ◌&&◌, ◌||◌, List, [], ◌∷◌, codes, find, Option, Some, None, option_and_then, is_some, refl, ap}
 use Rattle.std.proofs.Common.{subst, ◌∙◌, bytes_eq}
-use Rattle.std.specs.Option.{option_map_or}
 use Rattle.std.specs.Result.{result_ok}
 use Rattle.sip_message_fields.specs.Values.{values_of}
 use Rattle.sip_message_fields.specs.declared.field_name.FieldName.TheVariants as Name
@@ -11,7 +10,6 @@ use Rattle.sip_message_form.specs.declared.message.Message.{Message}
 use Rattle.sip_transaction_table.specs.declared.key.Key.{Key}
 use Rattle.sip_transaction_table.specs.Key.{key_of}
 use Rattle.sip_header.specs.declared.core_fields.CoreFields.{CoreFields}
-use Rattle.sip_header.specs.declared.cseq.CSeq.{CSeq}
 use Rattle.sip_header.specs.CoreFields.{core_of, cseq_in}
 use Rattle.sip_uri.specs.declared.addr.Addr.{Addr}
 use Rattle.sip_policy.specs.declared.decision.Decision.{Decision}
@@ -26,7 +24,6 @@ use Rattle.sip_model.specs.state.State.{has_key}
 use Rattle.sip_model.specs.state.Dialogs.{dialog_of}
 use Rattle.sip_model.specs.state.Arrival.{Arrival}
 use Rattle.sip_model.specs.context_model.Branches.{is_accepted}
-use Rattle.sip_model.specs.context_model.FoundBranch.{branch_in, found_branch}
 use Rattle.sip_model.specs.verdict_model.declared.question.Question.{Question}
 use Rattle.sip_model.specs.verdict_model.Verdict.{Verdict, Drop, Respond, Copy, AckOn, Cancel, Answer, InDialog, Challenge, Deny, Send, Register, is_many}
 use Rattle.sip_model.specs.verdict_model.Verdict.{response_verdict, top_branch, responding, within_at, within, next_address, ack_verdict, is_full, is_cancelled_by}
@@ -35,6 +32,7 @@ use Rattle.sip_model.specs.verdict_model.Verdict.{question_of, answer_of, is_out
 use Rattle.sip_model.specs.verdict_model.Verdict.{message_verdict}
 use Rattle.sip_model.specs.steps_model.Effect.{method_of}
 use Rattle.sip_model.proofs.Places.{IsIn, found_in}
+use Rattle.sip_model.proofs.Verdicts.{IsFound, found_for}
 
 -- ---- what is said of a verdict
 
@@ -79,40 +77,6 @@ Facts server state a m short (Deny q id) = Unit {0}
 Facts server state a m short (Send q id targets) = IsKeyed m
 Facts server state a m short (Register q id outcome) = Unit {0}
 
--- ---- a branch that is found
-
--- a branch that is found is one of an open request
-abbrev IsFound : List OpenRequest → Option (OpenRequest × Branch) → Type 0
-IsFound requests None = Unit {0}
-IsFound requests (Some x) = IsIn x.0 requests
-
--- it is so among more requests
-later_found : (r : OpenRequest) (rs : List OpenRequest) (o : Option (OpenRequest × Branch)) → IsFound rs o → IsFound (r ∷ rs) o
-later_found r rs None h = tt
-later_found r rs (Some x) h = inr h
-
--- the first request that has one
-found_by : (r : OpenRequest) (rs : List OpenRequest) (here : Option Branch) (rest : Option (OpenRequest × Branch)) → IsFound rs rest
-    → IsFound (r ∷ rs) (option_map_or (λ b. Some (r, b)) here rest)
-found_by r rs None rest h = later_found r rs rest h
-found_by r rs (Some b) rest h = inl refl
-
--- the branch that a text names
-found_branch_is : (server : Server) (text method : List ℕ) (rs : List OpenRequest) → IsFound rs (found_branch server text method rs)
-found_branch_is server text method [] = tt
-found_branch_is server text method (r ∷ rs) = found_by r rs (branch_in server text method r) (found_branch server text method rs) (found_branch_is server text method rs)
-
--- by the method in CSeq
-found_at : (server : Server) (rs : List OpenRequest) (text : List ℕ) (cseq : Option CSeq) → IsFound rs (option_and_then (λ c. found_branch server text c.method rs) cseq)
-found_at server rs text None = tt
-found_at server rs text (Some c) = found_branch_is server text c.method rs
-
--- by the branch of the top Via
-found_for : (server : Server) (rs : List OpenRequest) (text : Option (List ℕ)) (cseq : Option CSeq)
-    → IsFound rs (option_and_then (λ t. option_and_then (λ c. found_branch server t c.method rs) cseq) text)
-found_for server rs None cseq = tt
-found_for server rs (Some text) cseq = found_at server rs text cseq
-
 -- ---- a CANCEL
 
 -- the request that it names, only if a test passes
@@ -124,10 +88,10 @@ there_if requests r x false h e = absurd (cc)
 cancelled_there : (state : ProxyState) (key : Key) (from : Addr) (x : OpenRequest) → found_for_cancel state key from ≡ Some x → IsIn x state.requests
 cancelled_there state key from x e = by_found (find (is_cancelled_by key) state.requests) refl e where
   by_found : (o : Option OpenRequest) → find (is_cancelled_by key) state.requests ≡ o
-      → option_and_then (λ r. cond (bytes_eq r.source.ip from.ip) (Some r) None) o ≡ Some x
+      → option_and_then (λ r. cond (bytes_eq r.request.source.ip from.ip) (Some r) None) o ≡ Some x
       → IsIn x state.requests
   by_found None is f = absurd (cc)
-  by_found (Some r) is f = there_if state.requests r x (bytes_eq r.source.ip from.ip) (found_in (is_cancelled_by key) state.requests r is).0 f
+  by_found (Some r) is f = there_if state.requests r x (bytes_eq r.request.source.ip from.ip) (found_in (is_cancelled_by key) state.requests r is).0 f
 
 module _ (server : Server) (state : ProxyState) (a : Arrival) (m : Message) (short : Bool) where
   -- one of two verdicts, by a test
@@ -146,7 +110,7 @@ module _ (server : Server) (state : ProxyState) (a : Arrival) (m : Message) (sho
         by_found None found there = tt
         by_found (Some x) found there =
             facts_either (x.1.is_cancel || is_many (values_of Name.Via m.fields)) (Respond x.0 x.1 status) Drop
-            (record { reason = reason; is_whole = is; is_response = start; is_for = found; is_open = there }) tt
+            (record { reason = reason; is_whole = is; is_response = start; is_for = found; is_open = there.0 }) tt
 
   -- within a dialog
   within_facts : (now : ℕ) (on : Addr → DialogId → Verdict) (none : Verdict)

@@ -23,7 +23,7 @@ use Rattle.sip_model.specs.context_model.Branches.{branch_overdue, send_failed, 
 use Rattle.sip_model.specs.context_model.Sending.{made_answer}
 use Rattle.sip_model.specs.context_model.Opening.{unsent, is_tried, trying, tried, opening}
 use Rattle.sip_model.specs.steps_model.Step.{IsOverdue, OfSide, OfBranch}
-use Rattle.model_meanings.proofs.Lists.{all_append}
+use Rattle.sip_model.proofs.Lists.{all_append}
 
 -- a final answer of 300 to 699
 abbrev pub Fails : Final → Type 0
@@ -273,7 +273,11 @@ module _ (P : Upward → Type 0) (refuses : (u : Upward) → Refusing u → P u)
   -- a 100 leaves the final answers
   trying_fails : (now : ℕ) (server : Server) (r : OpenRequest) → KeepsFailures r → KeepsFailures (tried now (trying server r) r)
   trying_fails now server r h = by_test (is_tried r) where
-    by_test : (t : Bool) → KeepsFailures (tried now (cond t (record { status = 100; message = made_answer server r.number r.request r.source 100 []; target = None } ∷ [])
+    by_test : (t : Bool) → KeepsFailures (tried now (cond t (record {
+      status = 100;
+      message = made_answer server r.number r.request.message r.request.source 100 [];
+      target = None;
+    } ∷ [])
         []) r)
     by_test true = h
     by_test false = h

@@ -23,8 +23,8 @@ use Rattle.sip_model.specs.context_model.Sending.{to_branch, branch_packets, tic
 use Rattle.sip_model.specs.steps_model.Step.{Act, Given, Passing, originals, arrival_of}
 use Rattle.sip_model.specs.Run.{Link, under}
 use Rattle.sip_model.specs.Access.{has_address, answer_alone, answer_at_once, sent_to_branches, sent_at_once, sent_for, Access}
-use Rattle.model_meanings.proofs.Lists.{all_append, all_flat_map, all_every}
 use Rattle.model_meanings.proofs.Refused.{some_is_not_none, sends_alone, IsIdle}
+use Rattle.sip_model.proofs.Lists.{all_append, all_every, all_flat_map}
 
 -- a packet is sent for the first time
 abbrev pub IsFirst : Packet → Type 0

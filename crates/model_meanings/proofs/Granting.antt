@@ -168,8 +168,8 @@ module _ (server : Server) (a : Arrival) (m : Message) (extras : List Field) whe
     by_best None e = tt
     by_best (Some f) e =
         let it = best_is_500 r.finals f (subst (AllByRecursion IsUnsent) (sym is.has_finals) (unsent_all bs)) e in
-        let message : (upward_of server r f).message ≡ made_answer server r.number r.request r.source 500 [] =
-        ap (λ (g : Final). option_map_or (λ (x : Message). x) g.message (made_answer server r.number r.request r.source g.status [])) it in
+        let message : (upward_of server r f).message ≡ made_answer server r.number r.request.message r.request.source 500 [] =
+        ap (λ (g : Final). option_map_or (λ (x : Message). x) g.message (made_answer server r.number r.request.message r.request.source g.status [])) it in
         let ok : Message = made_answer server a.number m a.from 200 extras in (
           (λ same. of_500 (one_status (upward_of server r f).message ok 500 200 (reason_of 500) (reason_of 200) (omega arith) (omega arith)
               (ap (λ (x : Message). x.start) message) refl

@@ -40,11 +40,12 @@ use Rattle.sip_model.specs.Access.{Cancels, InKnownDialog, targets_on, requests_
 use Rattle.model_meanings.specs.Headline.{Belongs, WentBefore}
 use Rattle.model_meanings.specs.Headline as Whose
 use Rattle.sip_model.proofs.Places.{contains_from_in, all_weaker}
-use Rattle.model_meanings.proofs.Lists.{all_append, all_flat_map, all_from_in}
+use Rattle.model_meanings.proofs.Lists.{all_from_in}
 use Rattle.model_meanings.proofs.Refused.{holds_of}
 use Rattle.model_meanings.proofs.Belonging.{taken}
 use Rattle.model_meanings.proofs.Heads.{HasHead, head_in}
 use Rattle.model_meanings.proofs.Checks.{came_in, valid_of, new_of, NamesDialog, names_dialog}
+use Rattle.sip_model.proofs.Lists.{all_append, all_flat_map}
 
 -- where responses go is the IP address of the source
 same_ip : (m : Message) (from : Addr) → (response_address m from).ip ≡ from.ip

@@ -32,8 +32,10 @@ use Rattle.sip_model.specs.Parts.{AreBegun, made_text, IsOpening, Answered, Sent
 use Rattle.sip_model.specs.Parts.{Acknowledges, AreParts, One, Two, HasParts}
 use Rattle.model_meanings.specs.Requests.{IsBrought, WentToCaller, HasCome}
 use Rattle.sip_model.proofs.Places.{IsIn, in_from_contains, all_in, all_weaker, contains_from_in}
-use Rattle.model_meanings.proofs.Lists.{all_append, all_left, all_right, all_every, all_mapped, all_from_in}
+use Rattle.model_meanings.proofs.Lists.{all_left, all_right, all_from_in}
 use Rattle.model_meanings.proofs.Changes.{KeepNumbers, Tells, settled_kept, change_kept, resent_kept, acknowledged_kept}
+use Rattle.sip_model.proofs.Lists.{all_append, all_every}
+use Rattle.sip_model.proofs.Went.{all_mapped}
 
 -- ---- lists of open requests
 
@@ -57,8 +59,8 @@ begun_numbered now number (b ∷ bs) from begun = let is = begun.0.is_numbered i
 -- a request is of a number, says a message, and came from a source
 pub record IsAs (number : ℕ) (m : Message) (from : Addr) (s : OpenRequest) : Type 0 where
   pub is_number : s.number ≡ number
-  pub is_request : s.request ≡ m
-  pub is_source : s.source ≡ from
+  pub is_request : s.request.message ≡ m
+  pub is_source : s.request.source ≡ from
 
 -- it stays so
 pub as_kept : (number : ℕ) (m : Message) (from : Addr) (r : OpenRequest) (side : Side) (again : Resend) (finals : List Final) (branches : List Branch)
@@ -73,11 +75,12 @@ as_told number m from now u r h = record { is_number = h.is_number; is_request =
 -- a change leaves that
 pub change_as : (server : Server) (state : ProxyState) (act : Act) (now : ℕ) (r : OpenRequest) (change : Change) (again : List Packet)
     → IsChangeAt server state act now r change again
-    → IsAs r.number r.request r.source change.request
+    → IsAs r.number r.request.message r.request.source change.request
 change_as server state act now r change again is =
-    change_kept (IsAs r.number r.request r.source) (as_kept r.number r.request r.source) server state act now r change again is
+    change_kept (IsAs r.number r.request.message r.request.source) (as_kept r.number r.request.message r.request.source) server state act now r change again is
     (record { is_number = refl; is_request = refl; is_source = refl })
-    (all_every (Tells (IsAs r.number r.request r.source) (as_kept r.number r.request r.source) now) (as_told r.number r.request r.source now) change.upward)
+    (all_every (Tells (IsAs r.number r.request.message r.request.source) (as_kept r.number r.request.message r.request.source) now)
+    (as_told r.number r.request.message r.request.source now) change.upward)
 
 -- a message is no ACK
 abbrev IsNoAck : Message → Type 0
@@ -101,10 +104,10 @@ module _ (history : List Link) where
 
   -- to the caller of a request
   pub at_caller : (number : ℕ) (m : Message) (from : Addr) (s : OpenRequest) (text : List ℕ) → IsAs number m from s → WentToCaller history number m from text
-      → WentToCaller history s.number s.request s.source text
+      → WentToCaller history s.number s.request.message s.request.source text
   at_caller number m from s text is went =
-      subst (λ (n : ℕ). WentToCaller history n s.request s.source text) (sym is.is_number)
-      (subst (λ (r : Message). WentToCaller history number r s.source text) (sym is.is_request)
+      subst (λ (n : ℕ). WentToCaller history n s.request.message s.request.source text) (sym is.is_number)
+      (subst (λ (r : Message). WentToCaller history number r s.request.source text) (sym is.is_request)
       (subst (λ (f : Addr). WentToCaller history number m f text) (sym is.is_source) went))
 
   -- the answers of a change went
@@ -112,16 +115,16 @@ module _ (history : List Link) where
       → AllByRecursion (λ (u : Upward). WentToCaller history number m from (text_of u.message)) change.upward
   upward_went change number m from is packets =
       all_weaker (λ (u : Upward). WasSent (answer_to false change.request (text_of u.message))) (λ (u : Upward). WentToCaller history number m from (text_of u.message))
-      change.upward (λ u there. from_packet u (answer_went change.request.number change.request.request change.request.source (text_of u.message) there))
+      change.upward (λ u there. from_packet u (answer_went change.request.number change.request.request.message change.request.request.source (text_of u.message) there))
       (all_mapped WasSent (λ (u : Upward). answer_to false change.request (text_of u.message)) change.upward
       (all_right WasSent change.acks (upward_packets change.request change.upward) (all_left WasSent (change.acks ++ upward_packets change.request change.upward)
       change.cancels packets))) where
-        from_packet : (u : Upward) → WentToCaller history change.request.number change.request.request change.request.source (text_of u.message)
+        from_packet : (u : Upward) → WentToCaller history change.request.number change.request.request.message change.request.request.source (text_of u.message)
             → WentToCaller history number m from (text_of u.message)
         from_packet u went =
             subst (λ (n : ℕ). WentToCaller history n m from (text_of u.message)) is.is_number
             (subst (λ (x : Message). WentToCaller history change.request.number x from (text_of u.message)) is.is_request
-            (subst (λ (f : Addr). WentToCaller history change.request.number change.request.request f (text_of u.message)) is.is_source went))
+            (subst (λ (f : Addr). WentToCaller history change.request.number change.request.request.message f (text_of u.message)) is.is_source went))
 
   -- ---- a request that came
 
@@ -167,15 +170,15 @@ module _ (history : List Link) where
     };
     is = as_told number m from now u r h.is;
   } where
-    kept : (t : Bool) → t ≡ false → WentToCaller history r.number r.request r.source (cond t [] (text_of u.message))
+    kept : (t : Bool) → t ≡ false → WentToCaller history r.number r.request.message r.request.source (cond t [] (text_of u.message))
     kept true e = absurd (cc)
     kept false e = at_caller number m from r (text_of u.message) h.is went
 
     has_gone : (last : LastAnswer) → Some (last_answer r u.status (text_of u.message)) ≡ Some last → (is_invite r && is_success last.status) ≡ false
-        → WentToCaller history r.number r.request r.source last.text
+        → WentToCaller history r.number r.request.message r.request.source last.text
     has_gone last e other =
         let same : last_answer r u.status (text_of u.message) ≡ last = cc in
-        subst (λ (x : LastAnswer). (is_invite r && is_success x.status) ≡ false → WentToCaller history r.number r.request r.source x.text) same
+        subst (λ (x : LastAnswer). (is_invite r && is_success x.status) ≡ false → WentToCaller history r.number r.request.message r.request.source x.text) same
         (kept (is_invite r && is_success u.status)) other
 
   -- any answer of a change went
@@ -187,7 +190,7 @@ module _ (history : List Link) where
       (come_told number m from now) went
 
   -- a request as it is, which came
-  come_as : (r : OpenRequest) → HasCome history r → IsCome r.number r.request r.source r
+  come_as : (r : OpenRequest) → HasCome history r → IsCome r.number r.request.message r.request.source r
   come_as r h = record { come = h; is = record { is_number = refl; is_request = refl; is_source = refl } }
 
   -- a change of it
@@ -195,10 +198,11 @@ module _ (history : List Link) where
       → IsChangeAt server state act now r change again
       → AllByRecursion WasSent (change_packets change) → HasCome history r → HasCome history change.request
   change_come server state act now r change again is packets h =
-      let went = upward_went change r.number r.request r.source (change_as server state act now r change again is) packets in
-      let after : IsCome r.number r.request r.source change.request =
-      change_kept (IsCome r.number r.request r.source) (come_kept r.number r.request r.source) server state act now r change again is (come_as r h)
-      (answers_told r.number r.request r.source now change.upward went)
+      let went = upward_went change r.number r.request.message r.request.source (change_as server state act now r change again is) packets in
+      let after : IsCome r.number r.request.message r.request.source change.request =
+      change_kept (IsCome r.number r.request.message r.request.source) (come_kept r.number r.request.message r.request.source) server state act now r change again is
+      (come_as r h)
+      (answers_told r.number r.request.message r.request.source now change.upward went)
       in
       after.come
 
@@ -255,28 +259,31 @@ module _ (history : List Link) where
   forking_come server now r packets h =
       let change : Change = opening server now r in
       let first : OpenRequest = tried now (trying server r) r in
-      let own : IsAs r.number r.request r.source r = record { is_number = refl; is_request = refl; is_source = refl } in
-      let is : IsAs r.number r.request r.source change.request =
-      settled_kept (IsAs r.number r.request r.source) (as_kept r.number r.request r.source) server now [] None first
-      (tried_as r.number r.request r.source now (trying server r) r own)
-      (all_every (Tells (IsAs r.number r.request r.source) (as_kept r.number r.request r.source) now) (as_told r.number r.request r.source now) change.upward)
+      let own : IsAs r.number r.request.message r.request.source r = record { is_number = refl; is_request = refl; is_source = refl } in
+      let is : IsAs r.number r.request.message r.request.source change.request =
+      settled_kept (IsAs r.number r.request.message r.request.source) (as_kept r.number r.request.message r.request.source) server now [] None first
+      (tried_as r.number r.request.message r.request.source now (trying server r) r own)
+      (all_every (Tells (IsAs r.number r.request.message r.request.source) (as_kept r.number r.request.message r.request.source) now)
+      (as_told r.number r.request.message r.request.source now) change.upward)
       in
       let answers : AllByRecursion WasSent (upward_packets r (trying server r) ++ change_packets change) =
       all_left WasSent (upward_packets r (trying server r) ++ change_packets change) (flat_map (branch_packets server false r) r.branches) packets
       in
-      let trying_went : AllByRecursion (λ (u : Upward). WentToCaller history r.number r.request r.source (text_of u.message)) (trying server r) =
-      all_weaker (λ (u : Upward). WasSent (answer_to false r (text_of u.message))) (λ (u : Upward). WentToCaller history r.number r.request r.source (text_of u.message))
-      (trying server r) (λ u there. answer_went r.number r.request r.source (text_of u.message) there)
+      let trying_went : AllByRecursion (λ (u : Upward). WentToCaller history r.number r.request.message r.request.source (text_of u.message)) (trying server r) =
+      all_weaker (λ (u : Upward). WasSent (answer_to false r (text_of u.message))) (λ (u : Upward).
+      WentToCaller history r.number r.request.message r.request.source (text_of u.message))
+      (trying server r) (λ u there. answer_went r.number r.request.message r.request.source (text_of u.message) there)
       (all_mapped WasSent (λ (u : Upward). answer_to false r (text_of u.message)) (trying server r)
       (all_left WasSent (upward_packets r (trying server r)) (change_packets change) answers))
       in
       let went =
-      upward_went change r.number r.request r.source is
+      upward_went change r.number r.request.message r.request.source is
       (all_right WasSent (upward_packets r (trying server r)) (change_packets change) answers)
       in
-      let after : IsCome r.number r.request r.source change.request =
-      settled_kept (IsCome r.number r.request r.source) (come_kept r.number r.request r.source) server now [] None first
-      (tried_come r.number r.request r.source now (trying server r) r trying_went (come_as r h)) (answers_told r.number r.request r.source now change.upward went)
+      let after : IsCome r.number r.request.message r.request.source change.request =
+      settled_kept (IsCome r.number r.request.message r.request.source) (come_kept r.number r.request.message r.request.source) server now [] None first
+      (tried_come r.number r.request.message r.request.source now (trying server r) r trying_went (come_as r h))
+      (answers_told r.number r.request.message r.request.source now change.upward went)
       in
       after.come
 
@@ -329,14 +336,14 @@ module _ (history : List Link) where
         (change_come server state act now r change again is (subst (AllByRecursion WasSent) f sent)
         (all_in (HasCome history) requests r h (in_from_contains requests r there))))
     part_come requests after firsts again (Resends r later there goes e f) sent h =
-        let own : IsCome r.number r.request r.source later =
-        resent_kept (IsCome r.number r.request r.source) (come_kept r.number r.request r.source) server now r again later goes
+        let own : IsCome r.number r.request.message r.request.source later =
+        resent_kept (IsCome r.number r.request.message r.request.source) (come_kept r.number r.request.message r.request.source) server now r again later goes
         (come_as r (all_in (HasCome history) requests r h (in_from_contains requests r there)))
         in
         subst HaveCome (sym e) (all_replaced (HasCome history) later requests h own.come)
     part_come requests after firsts again (Acknowledges r there e f g) sent h =
-        let own : IsCome r.number r.request r.source (acknowledged now r) =
-        acknowledged_kept (IsCome r.number r.request r.source) (come_kept r.number r.request r.source) now r
+        let own : IsCome r.number r.request.message r.request.source (acknowledged now r) =
+        acknowledged_kept (IsCome r.number r.request.message r.request.source) (come_kept r.number r.request.message r.request.source) now r
         (come_as r (all_in (HasCome history) requests r h (in_from_contains requests r there)))
         in
         subst HaveCome (sym e) (all_replaced (HasCome history) (acknowledged now r) requests h own.come)
@@ -405,14 +412,14 @@ went_in history link number m from text is h = record {
 pub later_come : (link : Link) (history : List Link) (r : OpenRequest) → HasCome history r → HasCome (link ∷ history) r
 later_come link history r h = record {
   a = h.a;
-  is_brought = later_brought link history h.a r.request h.is_brought;
+  is_brought = later_brought link history h.a r.request.message h.is_brought;
   is_no_ack = h.is_no_ack;
   is_key = h.is_key;
   is_number = h.is_number;
   is_source = h.is_source;
   is_arrival = h.is_arrival;
   are_numbered = h.are_numbered;
-  has_gone = λ last e other. later_went link history r.number r.request r.source last.text (h.has_gone last e other);
+  has_gone = λ last e other. later_went link history r.number r.request.message r.request.source last.text (h.has_gone last e other);
 }
 
 -- the message of a step's datagram came in the history that ends with the step

@@ -1,19 +1,18 @@
 -- Lists that say the same of the known dialogs know the same dialogs.
-use Rattle.std.proofs.Common.{◌≡◌, ◌∙◌, inl, inr, ℕ, ◌+◌, ◌-◌, ◌≤◌, ◌<◌, ◌==◌, Bool, true, false, not, ◌&&◌, cond, List, [], ◌∷◌, filter, bytes_eq, refl, sym, ap, subst}
+use Rattle.std.proofs.Common.{◌≡◌, ◌∙◌, inl, inr, ℕ, ◌-◌, ◌≤◌, ◌<◌, ◌==◌, Bool, true, false, not, ◌&&◌, cond, List, [], ◌∷◌, filter, bytes_eq, refl, sym, ap, subst}
 use Rattle.std.proofs.Common.{arith, count_by}
 use Rattle.std.specs.Bool.{Decides}
 use Rattle.std.specs.Cmp.Lexicographic.{pointwise}
 use Rattle.std.specs.List.{AllByRecursion}
 use Rattle.std.proofs.lemmas.Bool.Decides.{nat_tests}
-use Rattle.std.proofs.lemmas.List.Sums.{sum_by-cons}
 use Rattle.std.proofs.lemmas.Slice.Eq.{bytes_eq-Decides, slice_eq-Decides}
 use Rattle.sip_uri.specs.declared.addr.Addr.{Addr}
 use Rattle.sip_dialog.specs.declared.dialog.Dialog.{Dialog}
 use Rattle.sip_dialog.specs.Addresses.{is_same_addr}
 use Rattle.sip_dialog.specs.Dialogs.{is_known, known}
 use Rattle.sip_dialog.specs.Sameness.{SameDialogs}
-use Rattle.sip_model.proofs.Places.{IsIn, all_in}
-use Rattle.model_meanings.proofs.Lists.{all_filter}
+use Rattle.sip_model.proofs.Places.{IsIn, all_in, count_cons, counts_in}
+use Rattle.sip_model.proofs.Lists.{all_filter}
 
 -- ---- tests on one dialog
 
@@ -119,21 +118,6 @@ in_filter p (x ∷ xs) y there passes = by_test (p x) refl (λ later. in_filter 
   by_test false is rest (inl e) = let same : p x ≡ true = ap p e ∙ passes in absurd (cc)
   by_test false is rest (inr later) = rest later
 
--- a count, one by one
-pub count_first : {X : Type 0} (p : X → Bool) (x : X) (xs : List X) → count_by p (x ∷ xs) ≡ cond (p x) 1 0 + count_by p xs
-count_first p x xs = sum_by-cons (λ y. cond (p y) 1 0) x xs
-
--- a test that passes counts
-pub one_at : (t : Bool) → t ≡ true → cond {A = ℕ} t 1 0 ≡ 1
-one_at true e = refl
-one_at false e = absurd (cc)
-
--- what is there and passes counts
-pub counts_in : {X : Type 0} (p : X → Bool) (xs : List X) (y : X) → IsIn y xs → p y ≡ true → 1 ≤ count_by p xs
-counts_in p [] y h e = absurd h
-counts_in p (x ∷ xs) y (inl same) e = let head = count_first p x xs in let one = one_at (p x) (ap p same ∙ e) in omega (arith, head, one)
-counts_in p (x ∷ xs) y (inr h) e = let head = count_first p x xs in let rest = counts_in p xs y h e in omega (arith, head, rest)
-
 -- an element that passes a test
 record Passes {X : Type 0} (p : X → Bool) (xs : List X) : Type 0 where
   element : X
@@ -148,7 +132,7 @@ counted_in p (x ∷ xs) h = by_test (p x) refl (λ more. counted_in p xs more) w
   by_test true is rest = record { element = x; there = inl refl; passes = is }
   by_test false is rest =
       let none : cond {A = ℕ} (p x) 1 0 ≡ 0 = ap (λ (t : Bool). cond {A = ℕ} t 1 0) is in
-      let later = rest (omega (arith, h, count_first p x xs, none)) in
+      let later = rest (omega (arith, h, count_cons p x xs, none)) in
       record { element = later.element; there = inr later.there; passes = later.passes }
 
 -- what holds of each dialog of a list holds of each that is known in one that says the same

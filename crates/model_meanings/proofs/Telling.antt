@@ -36,7 +36,7 @@ use Rattle.sip_model.specs.Run.{Link, under}
 use Rattle.model_meanings.specs.Dialogs.{IsNamed, Names, NamesFor, Begins, WentThrough, Invite, AnswerToInvite, AnswerWithin, Within, Gives, ByContact, ByRecordRoute}
 use Rattle.model_meanings.specs.Dialogs.{IsAddressOf, OfCaller, OfBranch, OfMessage, HadRequest, AtFirst, Later, WasAccepted, WasTold}
 use Rattle.sip_model.proofs.Places.{IsIn, contains_from_in, all_weaker}
-use Rattle.model_meanings.proofs.Lists.{all_append}
+use Rattle.sip_model.proofs.Lists.{all_append}
 
 -- ---- names
 
@@ -102,10 +102,10 @@ dialog_names m id e = by_core (core_of m) refl e where
       record { core = core; tag = named.0; core_is = is; to_tag_is = named.1; name_is = named.2 }
 
 -- an answer that does for an INVITE
-pub answer_names : (r : OpenRequest) (answer : Message) (id : DialogId) → answered_dialog r answer ≡ Some id → NamesFor r.request answer id
-answer_names r answer id e = by_core (core_of r.request) refl e where
-  by_to : (core : CoreFields) → core_of r.request ≡ Ok core → (read : Result NameAddr HeaderError) → name_addr_in Name.To answer.fields ≡ read
-      → option_and_then (id_with core.call_id core.from) (result_ok read) ≡ Some id → NamesFor r.request answer id
+pub answer_names : (r : OpenRequest) (answer : Message) (id : DialogId) → answered_dialog r answer ≡ Some id → NamesFor r.request.message answer id
+answer_names r answer id e = by_core (core_of r.request.message) refl e where
+  by_to : (core : CoreFields) → core_of r.request.message ≡ Ok core → (read : Result NameAddr HeaderError) → name_addr_in Name.To answer.fields ≡ read
+      → option_and_then (id_with core.call_id core.from) (result_ok read) ≡ Some id → NamesFor r.request.message answer id
   by_to core read_is (Err x) is f = absurd (cc)
   by_to core read_is (Ok to) is f =
       let named = with_names core.call_id core.from to id f in record {
@@ -118,8 +118,8 @@ answer_names r answer id e = by_core (core_of r.request) refl e where
         name_is = named.2;
       }
 
-  by_core : (read : Result CoreFields HeaderError) → core_of r.request ≡ read → option_and_then (λ core. answer_id core answer.fields) (result_ok read) ≡ Some id
-      → NamesFor r.request answer id
+  by_core : (read : Result CoreFields HeaderError) → core_of r.request.message ≡ read → option_and_then (λ core. answer_id core answer.fields) (result_ok read) ≡ Some id
+      → NamesFor r.request.message answer id
   by_core (Err x) is f = absurd (cc)
   by_core (Ok core) is f = by_to core is (name_addr_in Name.To answer.fields) refl f
 

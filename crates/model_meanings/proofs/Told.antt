@@ -31,7 +31,6 @@ use Rattle.model_meanings.specs.Requests.{HasCome}
 use Rattle.model_meanings.specs.Dialogs.{Begins, WasSentOn, WentThrough, Invite, AnswerToInvite, AnswerWithin, Within, IsAddressOf, OfCaller, OfBranch, OfMessage}
 use Rattle.model_meanings.specs.Dialogs.{HadRequest, AtFirst, Later, WasAccepted, WasTold}
 use Rattle.sip_model.proofs.Places.{in_from_contains, all_in, all_weaker}
-use Rattle.model_meanings.proofs.Lists.{all_append}
 use Rattle.model_meanings.proofs.Requests.{all_replaced, later_there, later_sent, later_brought, later_went, later_come, brought_now, sent_now, chain_come}
 use Rattle.model_meanings.proofs.Failures.{KeepsFailures, Refusing, responded_honest, overdue_honest, failed_honest, cancelled_honest, opening_honest, unsent_fail}
 use Rattle.model_meanings.proofs.Telling.{IsTakenIn}
@@ -39,6 +38,7 @@ use Rattle.model_meanings.proofs.Edits.{told_closed}
 use Rattle.model_meanings.proofs.Dialogs.{IsHere, step_told}
 use Rattle.model_meanings.proofs.Same.{known_in_both}
 use Rattle.model_meanings.proofs.Under.{told_under}
+use Rattle.sip_model.proofs.Lists.{all_append}
 
 -- ---- failures alone are kept
 

@@ -184,7 +184,7 @@ pub record EndsDialog (server : Server) (link : Link) (id : DialogId) : Type 0 w
   pub is_first : is_final branch.phase ≡ false
   pub is_waiting : is_answering request.side ≡ true
   pub is_bye : bytes_eq request.key.method (codes "BYE") ≡ true
-  pub names : Names request.request id
+  pub names : Names request.request.message id
 
 -- A dialog was told anew in the newer steps of a history: the response with which an INVITE began it came in one of them.
 pub record WasToldAnew (server : Server) (newer history : List Link) (id : DialogId) : Type 0 where

@@ -245,7 +245,7 @@ pub data Belongs (server : Server) (link : Link) (p : Packet) : Type 0 where
   ToSender : (at word : ℕ) (from : Addr) (bytes first method uri version : List ℕ) (lines : List (List ℕ)) (rest : List ℕ)
       → link.act ≡ Given (Datagram at word from bytes) → IsCut bytes first lines rest → IsRequestLine first method uri version
       → bytes_eq method (codes "ACK") ≡ false → p.to.ip ≡ from.ip → p.ticket.datagram ≡ link.before.next → Belongs server link p
-  ToCaller : (r : OpenRequest) → Contains link.before.requests r → p.to ≡ response_address r.request r.source
+  ToCaller : (r : OpenRequest) → Contains link.before.requests r → p.to ≡ response_address r.request.message r.request.source
       → p.ticket.datagram ≡ r.number → Belongs server link p
   ToBranch : (r : OpenRequest) (b : Branch) → Contains link.before.requests r → Contains r.branches b → b.address ≡ Some p.to
       → p.ticket.datagram ≡ r.number → Belongs server link p

@@ -40,12 +40,12 @@ pub record WentToCaller (history : List Link) (number : ℕ) (m : Message) (from
 -- have numbers from 1 on; and the answer that is its last was sent to its caller, but for a 2xx to an INVITE, whose text isn't kept (RFC 3261 17.2).
 pub record HasCome (history : List Link) (r : OpenRequest) : Type 0 where
   pub a : Arrival
-  pub is_brought : IsBrought history a r.request
-  pub is_no_ack : bytes_eq (method_of r.request.start) (codes "ACK") ≡ false
-  pub is_key : key_of r.request ≡ Some r.key
+  pub is_brought : IsBrought history a r.request.message
+  pub is_no_ack : bytes_eq (method_of r.request.message.start) (codes "ACK") ≡ false
+  pub is_key : key_of r.request.message ≡ Some r.key
   pub is_number : r.number ≡ a.number
-  pub is_source : r.source ≡ a.from
+  pub is_source : r.request.source ≡ a.from
   pub is_arrival : r.arrived_at ≡ a.now
   pub are_numbered : AllByRecursion (λ (b : Branch). 1 ≤ b.number) r.branches
   pub has_gone : (last : LastAnswer) → r.answer ≡ Some last → (is_invite r && is_success last.status) ≡ false
-      → WentToCaller history r.number r.request r.source last.text
+      → WentToCaller history r.number r.request.message r.request.source last.text

@@ -57,8 +57,7 @@ abbrev pub bye_open : OpenRequest
 bye_open =
     record {
       key = record { branch = codes "z9hG4bKbye1"; host = codes "pc.host.com"; port = 5070; method = codes "BYE" };
-      request = ending;
-      source = local 5070;
+      request = record { message = ending; source = local 5070 };
       number = 6;
       arrived_at = 70000;
       answer = None;

@@ -14,7 +14,7 @@ use Rattle.sip_dialog.specs.declared.dialog.DialogId.{DialogId}
 use Rattle.sip_dialog.specs.declared.dialog.InviteAnswer.{InviteAnswer}
 use Rattle.sip_dialog.specs.Dialogs.{is_known, known, is_named, holds, is_in_dialog, told, edited, knows, answered_again, begun, learnt, without_dialog}
 use Rattle.sip_dialog.specs.Dialogs.{is_unconfirmed, after_invite}
-use Rattle.sip_dialog.specs.Sameness.{SameDialogs}
+use Rattle.sip_dialog.specs.Sameness.{as_seen, SameDialogs}
 use Rattle.sip_model.specs.state.declared.server.Server.{Server}
 use Rattle.sip_model.specs.state.declared.open_request.OpenRequest.{OpenRequest}
 use Rattle.sip_model.specs.state.declared.open_request.Upward.{Upward}
@@ -23,7 +23,7 @@ use Rattle.sip_model.specs.state.Dialogs.{dialog_of, addresses_of, after_request
 use Rattle.sip_model.specs.state.Dialogs.{after_answers, after_leaving}
 use Rattle.sip_model.specs.context_model.Branches.{Change}
 use Rattle.sip_model.specs.steps_model.Effect.{dialogs_after}
-use Rattle.model_same.specs.Known.{as_seen, SameKnown}
+use Rattle.model_same.specs.Known.{SameKnown}
 
 -- ---- the laws that this stands on
 
@@ -227,7 +227,7 @@ module _ (laws : DialogsStay) where
   -- an answer that goes to the caller
   after_answer_kept : (server : Server) (now : ℕ) (r : OpenRequest) (u : Upward) (left right : List Dialog) → SameKnown now left right
       → SameKnown now (after_answer server now r u left) (after_answer server now r u right)
-  after_answer_kept server now r u left right h = either_kept now (nat_le u.status 100) _ _ _ _ h (by_dialog (dialog_of r.request)) where
+  after_answer_kept server now r u left right h = either_kept now (nat_le u.status 100) _ _ _ _ h (by_dialog (dialog_of r.request.message)) where
     addresses : List Addr
     addresses = addresses_of server u.message
 

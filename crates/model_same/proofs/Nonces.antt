@@ -10,9 +10,9 @@ use Rattle.sip_digest.specs.declared.nonces.Nonce.{Nonce}
 use Rattle.sip_digest.specs.declared.nonces.Worth.TheVariants as Worth
 use Rattle.sip_digest.specs.Credential.{Credential, count_of, is_answer}
 use Rattle.sip_digest.specs.NonceText.{word_of}
-use Rattle.sip_digest.specs.Nonces.{keep_last, is_live, is_this, issued, row_of, standing, worth_of, counted, spent_by}
+use Rattle.sip_digest.specs.Nonces.{keep_last, is_live, is_this, issued, lasting, row_of, standing, worth_of, counted, spent_by}
 use Rattle.sip_auth.specs.Proof.{Proof, Right, Stale, Wrong, used}
-use Rattle.model_same.specs.Nonces.{lasting, SameNonces}
+use Rattle.model_same.specs.Nonces.{SameNonces}
 
 -- ---- what no longer lives
 

@@ -5,7 +5,8 @@ use Rattle.sip_location.specs.Binding.{live}
 use Rattle.sip_location.specs.Sameness.{SameBindings}
 use Rattle.sip_model.specs.state.declared.proxy_state.ProxyState.{ProxyState}
 use Rattle.sip_model.specs.state.SameState.{SameState}
-use Rattle.model_same.specs.Nonces.{lasting, SameNonces}
+use Rattle.sip_digest.specs.Nonces.{lasting}
+use Rattle.model_same.specs.Nonces.{SameNonces}
 use Rattle.model_same.specs.Known.{SameKnown}
 use Rattle.model_same.specs.SameAhead.{SameAhead}
 use Rattle.model_same.proofs.Known.{seen_same, known_self, known_turned, known_joined}

@@ -12,7 +12,9 @@ use Rattle.sip_model.specs.state.State.{deadlines, deadlines_of, side_deadline, 
 use Rattle.sip_model.specs.context_model.Branches.{Change}
 use Rattle.sip_model.specs.context_model.Retransmission.{IsResent, OfAnswer, OfRequest, answer_due, branch_due, resends, resends_of}
 use Rattle.sip_model.specs.steps_model.Step.{IsDeadline, IsResend, IsOverdue, OfSide, OfBranch, NoneBy, NoneBefore, NoneAgainBy, NoneAgainBefore, moment_of}
-use Rattle.model_ties.proofs.Lists.{in_from_contains, all_left, all_right, made_of, chosen_of}
+use Rattle.model_ties.proofs.Lists.{made_of, chosen_of}
+use Rattle.sip_model.proofs.Places.{in_from_contains}
+use Rattle.sip_model.proofs.Went.{all_left, all_right}
 
 -- what holds of a request's deadlines holds of the one that passes
 of_overdue : (P : ℕ → Type 0) (server : Server) (due : ℕ) (r : OpenRequest) (change : Change) → IsOverdue server due r change → AllByRecursion P (deadlines_of r) → P due

@@ -3,6 +3,8 @@ use Rattle.std.proofs.Common.{◌≡◌, ◌⊎◌, inl, inr, ◌∙◌, ℕ, ze
 use Rattle.std.proofs.Common.{subst, arith, append_assoc, slice_index_or, Contains}
 use Rattle.std.specs.List.{AllByRecursion, cons_option}
 use Rattle.std.proofs.lemmas.List.{reverse-append}
+use Rattle.sip_model.proofs.Places.{IsIn}
+use Rattle.sip_model.proofs.Went.{all_left, all_right}
 
 -- ---- places
 
@@ -18,39 +20,6 @@ at_one_place {X} xs ys x y same one other e =
     same_at xs x y one.0 one.1 one.2 (subst (λ (zs : List X). slice_index_or zs one.0 y ≡ y) (sym same) (subst (λ (k : ℕ). slice_index_or ys k y ≡ y) (sym e) other.2))
 
 -- ---- elements
-
--- an element of a list, by recursion
-abbrev pub IsIn : {X : Type 0} → X → List X → Type 0
-IsIn y [] = ⊥
-IsIn y (x ∷ xs) = (x ≡ y) ⊎ IsIn y xs
-
--- membership by place is membership by recursion
-pub in_from_contains : {X : Type 0} (xs : List X) (y : X) → Contains xs y → IsIn y xs
-in_from_contains [] y h = let lt = h.1 in absurd (omega arith)
-in_from_contains (x ∷ xs) y h = by_place (λ there. in_from_contains xs y there) h.0 h.1 h.2 where
-  by_place : (Contains xs y → IsIn y xs) → (k : ℕ) → k < length (x ∷ xs) → slice_index_or (x ∷ xs) k y ≡ y → IsIn y (x ∷ xs)
-  by_place rest zero lt e = inl e
-  by_place rest (suc k) lt e = inr (rest (k, omega arith, e))
-
--- what holds of all holds of each
-pub all_in : {X : Type 0} (P : X → Type 0) (xs : List X) (y : X) → AllByRecursion P xs → IsIn y xs → P y
-all_in P [] y all h = absurd h
-all_in P (x ∷ xs) y all (inl e) = subst P e all.0
-all_in P (x ∷ xs) y all (inr h) = all_in P xs y all.1 h
-
--- what holds of two lists together holds of each
-pub all_left : {X : Type 0} (P : X → Type 0) (xs ys : List X) → AllByRecursion P (xs ++ ys) → AllByRecursion P xs
-all_left P [] ys h = tt
-all_left P (x ∷ xs) ys h = (h.0, all_left P xs ys h.1)
-
-pub all_right : {X : Type 0} (P : X → Type 0) (xs ys : List X) → AllByRecursion P (xs ++ ys) → AllByRecursion P ys
-all_right P [] ys h = h
-all_right P (x ∷ xs) ys h = all_right P xs ys h.1
-
--- what holds of all, and of one more, holds of them together
-pub all_push : {X : Type 0} (P : X → Type 0) (xs : List X) (y : X) → AllByRecursion P xs → P y → AllByRecursion P (xs ++ y ∷ [])
-all_push P [] y all h = (h, tt)
-all_push P (x ∷ xs) y all h = (all.0, all_push P xs y all.1 h)
 
 -- what holds of all that is made holds of what one makes
 pub made_of : {X Y : Type 0} (P : Y → Type 0) (f : X → List Y) (xs : List X) (x : X) → IsIn x xs → AllByRecursion P (flat_map f xs) → AllByRecursion P (f x)

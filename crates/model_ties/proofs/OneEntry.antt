@@ -20,7 +20,8 @@ use Rattle.model_transactions.specs.Ties.{owner_of}
 use Rattle.model_branches.proofs.Branched.{alone, its_number, kinds_differ, owner_is}
 use Rattle.model_order.specs.Order.{IsOfEntry, IsOverdueOf, IsResentOf}
 use Rattle.model_ties.specs.Ties.{Due, due_of, overdue_branch, resent_branch}
-use Rattle.model_ties.proofs.Lists.{all_in, at_one_place, in_from_contains}
+use Rattle.model_ties.proofs.Lists.{at_one_place}
+use Rattle.sip_model.proofs.Places.{all_in, in_from_contains}
 
 -- ---- places
 

@@ -33,8 +33,8 @@ use Rattle.sip_model.specs.Run.{Link, under, IsChain}
 use Rattle.sip_model.specs.Parts.{IsOpening, Answered, Sent, IsChangeAt, ByResponse, ByDeadline, ByFault, ByCancel, IsPart, Stays, Passes, Copies, TurnsAway, Opens}
 use Rattle.sip_model.specs.Parts.{Changes, Resends, Acknowledges, AreParts, One, Two, HasParts}
 use Rattle.model_transactions.specs.Matching.{AreBranched}
-use Rattle.model_ties.proofs.Lists.{in_from_contains, all_in, all_push}
 use Rattle.model_ties.proofs.Sent.{GoesOneWay}
+use Rattle.sip_model.proofs.Places.{all_in, all_push, in_from_contains}
 
 -- no branch of a list could be sent a CANCEL at once
 abbrev IsDone : Branch → Type 0

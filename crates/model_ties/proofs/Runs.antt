@@ -21,6 +21,7 @@ use Rattle.model_ties.proofs.Alike.{Sameness, happens_alike, one_due}
 use Rattle.model_ties.proofs.Reached.{Histories, step_one_way}
 use Rattle.model_ties.proofs.OneEntry.{one_happens}
 use Rattle.model_ties.proofs.Steps.{one_given}
+use Rattle.sip_model.proofs.Chains.{chain_under}
 
 -- ---- a history from its first step on
 
@@ -97,12 +98,6 @@ joined_chain server first middle last history (link ∷ later) before behind = (
   behind.1,
   joined_chain server first middle link.before history later before behind.2,
 )
-
--- a chain is one under another configuration
-pub chain_under : (server : Server) (config : Config) (first : ProxyState) (history : List Link) (last : ProxyState) → IsChain server first history last
-    → IsChain (under server config) first history last
-chain_under server config first [] last h = h
-chain_under server config first (link ∷ history) last h = (h.0, h.1, chain_under server config first history link.before h.2)
 
 -- the step of a link, under its own configuration
 own_step : (server : Server) (link : Link) → IsUnder server.config link → IsStep server link.before link.act link.out link.after

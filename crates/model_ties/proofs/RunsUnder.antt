@@ -1,6 +1,5 @@
 -- Two runs over the same periods, side by side.
 use Rattle.std.proofs.Common.{◌≡◌, ◌∙◌, ℕ, ◌≤◌, List, [], ◌∷◌, ◌++◌, Option, None, refl, sym, ap₂, subst}
-use Rattle.sip_config_types.specs.declared.config.Config.{Config}
 use Rattle.sip_event.specs.declared.event.Event.{Event}
 use Rattle.sip_event.specs.declared.event.StepOut.{StepOut}
 use Rattle.sip_model.specs.state.declared.server.Server.{Server}
@@ -16,15 +15,10 @@ use Rattle.model_order.proofs.Along.{queued_earlier, queued_later}
 use Rattle.model_ties.specs.Ties.{AreOne, AreOrderly, IsOrderly}
 use Rattle.model_ties.proofs.Alike.{Sameness}
 use Rattle.model_ties.proofs.Reached.{Histories}
-use Rattle.model_ties.proofs.Runs.{chain_under, joined_chain, runs_one}
+use Rattle.model_ties.proofs.Runs.{joined_chain, runs_one}
+use Rattle.sip_model.proofs.Chains.{chain_under, chain_back}
 
 -- ---- histories
-
--- a chain under a configuration is one of the server
-chain_back : (server : Server) (config : Config) (first : ProxyState) (history : List Link) (last : ProxyState) → IsChain (under server config) first history last
-    → IsChain server first history last
-chain_back server config first [] last h = h
-chain_back server config first (link ∷ history) last h = (h.0, h.1, chain_back server config first history link.before h.2)
 
 -- no time passes behind a period's last event
 no_until : (periods : List Period) → until_of periods None ≡ None

@@ -18,6 +18,7 @@ use Rattle.sip_context_branches.specs.context_model.Retransmission.{resend_after
 use Rattle.model_transactions.specs.OtherClient.{steady}
 use Rattle.model_transactions.specs.Copies.{IsTimely, moments, copies_by, invite_copies_left, other_copies_left, answer_copies_left}
 use Rattle.model_transactions.proofs.Counted.{count-cons}
+use Rattle.model_transactions.proofs.Statuses.{success_short}
 
 -- ---- one more moment
 
@@ -180,13 +181,6 @@ pub answer_begins : (now : ℕ) (r : OpenRequest) (u : Upward) → is_answering 
     → answer_copies_left (answered now u r).side (answered now u r).answer (answered now u r).again ≤ answer_copies_left r.side r.answer r.again
 answer_begins now r u still = first_side now u.status (record { status = u.status; text = cond (is_invite r && is_success u.status) [] (text_of u.message) }) r.side
     r.answer r.again still
-
--- after a further 2xx
-success_short : (s : ℕ) → is_success s ≡ true → is_failure s ≡ false
-success_short s ok = by_test (leb s 299) refl ok where
-  by_test : (t : Bool) → leb s 299 ≡ t → is_success s ≡ true → leb 300 s ≡ false
-  by_test true e ok = grind (arith, nat_tests)
-  by_test false e ok = grind (arith, nat_tests)
 
 further_side : (now : ℕ) (side : Side) (a : LastAnswer) (again : Resend) (p : Bool) (n : ℕ) → is_closing side ≡ true → is_failure a.status ≡ false
     → answer_copies_left (cond (is_answering side && p) (Closing (now + 32000)) side) (Some a) again ≤ n

@@ -241,7 +241,7 @@ pub begun_fits : (server : Server) (now : ℕ) (r : OpenRequest) → is_answerin
 begun_fits server now r is all = settled_fits server now [] None (tried now (trying server r) r) Nothing
     (tried_fits now (trying server r) r (by_test (is_tried r)) is all) where
       first : Upward
-      first = record { status = 100; message = made_answer server r.number r.request r.source 100 []; target = None }
+      first = record { status = 100; message = made_answer server r.number r.request.message r.request.source 100 []; target = None }
 
       by_test : (t : Bool) → IsShort (cond t (first ∷ []) [])
       by_test true = tt

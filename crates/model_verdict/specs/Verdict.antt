@@ -136,7 +136,7 @@ is_cancelled_by key r =
 
 -- the earliest such request, if the CANCEL comes from its IP address (this project's profile)
 abbrev pub found_for_cancel : ProxyState → Key → Addr → Option OpenRequest
-found_for_cancel state key from = option_and_then (λ r. if bytes_eq r.source.ip from.ip then Some r else None) (find (is_cancelled_by key)
+found_for_cancel state key from = option_and_then (λ r. if bytes_eq r.request.source.ip from.ip then Some r else None) (find (is_cancelled_by key)
     state.requests)
 
 -- a CANCEL: 400 if it is a bad request, 503 without room, else by what it names (RFC 3261 9.2, 16.10)

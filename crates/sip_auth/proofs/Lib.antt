@@ -1,3 +1,4 @@
 pub mod Algorithms
 pub mod RightAnswers
 pub mod PlainUris
+pub mod Spending

@@ -3,7 +3,7 @@ use Rattle.std.proofs.Common.{◌≡◌, ℕ, true, List, Ok, ap, ◌∙◌}
 use Rattle.std.specs.Result.{result_ok}
 use Rattle.sip_uri.specs.declared.uri.Uri.{Uri}
 use Rattle.sip_uri.specs.Reading.{reading_of}
-use Rattle.sip_uri.specs.PlainUri.{IsBare}
+use Rattle.sip_uri_ref.specs.PlainUri.{IsBare}
 use Rattle.sip_uri_equality.specs.Equality.{names_say_different}
 use Rattle.sip_uri_equality.proofs.Equal.{reflexive}
 use Rattle.sip_auth.specs.Proof.{are_equal_uris, is_equal_uri}

@@ -1,5 +1,5 @@
 ghost use Rattle.std.specs.Prelude.{◌≡◌};
-ghost use Rattle.sip_digest.specs.Credential.{shown};
+ghost use Rattle.sip_digest.specs.Credential.{shown, count_of};
 ghost use Rattle.sip_digest.specs.Protection.{seen};
 
 use crate::quality::Quality;
@@ -17,6 +17,8 @@ pub struct Claim<'v> {
     pub(crate) nonce: Value<'v>,
     pub(crate) protection: Option<Quality<'v>>,
     pub(crate) response: Value<'v>,
+    /// Which use of the nonce it is, read once.
+    pub(crate) count: Option<u64>,
 }
 
 /// Written out, so that it is proved once and not wherever a claim is dropped.
@@ -30,11 +32,14 @@ impl<'v> Drop for Claim<'v> {
             nonce: _,
             protection: _,
             response: _,
+            count: _,
         } = self;
     }
 }
 
 impl<'v> Model for Claim<'v> {
+    ghost use Rattle.std.specs.Prelude.{◌≡◌};
+    ghost use Rattle.sip_digest.specs.Protection.{count_with};
     ghost use Rattle.sip_auth.specs.Proof.{Claim};
 
     ghost Value = { Claim };
@@ -44,10 +49,12 @@ impl<'v> Model for Claim<'v> {
       credential =
           record { algorithm = c.algorithm; method = c.method.now; uri = c.uri; nonce = c.nonce; protection = c.protection; response = c.response };
     } };
+
+    ghost invariant = { λ c. c.count ≡ count_with c.protection };
 }
 
 /// A quality of protection as an answer takes it, if there is one.
-fn protection_in<'a>(quality: &'a Option<Quality<'_>>) -> Option<Protection<'a>>
+pub(crate) fn protection_in<'a>(quality: &'a Option<Quality<'_>>) -> Option<Protection<'a>>
     ensures { seen result ≡ quality.now }
 {
     match quality {
@@ -75,6 +82,14 @@ impl<'v> Claim<'v> {
             nonce: self.nonce.as_slice(),
             protection: protection_in(&self.protection),
             response: self.response.as_slice(),
+            count: self.count,
         }
+    }
+
+    /// Which use of the nonce it is (RFC 2617 3.2.2: nonce-count).
+    pub(crate) fn count(&self) -> Option<u64>
+        ensures { result ≡ count_of self.now.credential }
+    {
+        self.count
     }
 }

@@ -1,9 +1,9 @@
 ghost use Rattle.std.specs.Prelude.{◌≡◌};
 ghost use Rattle.sip_auth.specs.Proof.{algorithm_of, protection_of, is_protected, claim_with, claim_of};
 
-use crate::claim::Claim;
+use crate::claim::{Claim, protection_in};
 use crate::quality::Quality;
-use sip_digest::Algorithm;
+use sip_digest::{Algorithm, nonce_count};
 use sip_header_credentials::Credentials;
 use sip_message_fields::Value;
 use sip_text::{same_bytes, same_no_case};
@@ -63,6 +63,7 @@ fn claim_with<'v>(
 ) -> Option<Claim<'v>>
     ensures { result ≡ claim_with method.now algorithm protection.entry name.entry nonce.entry uri.entry response.entry }
 {
+    let count = nonce_count(protection_in(&protection));
     Some(Claim {
         name: name?,
         algorithm,
@@ -71,6 +72,7 @@ fn claim_with<'v>(
         nonce: nonce?,
         protection,
         response: response?,
+        count,
     })
 }
 

@@ -1,10 +1,10 @@
-use crate::claim::Claim;
+use crate::right_claim::RightClaim;
 use sip_base::Shared;
 
 /// Whom a request proves to come from: a user by a claim that is right, a user but for the nonce, or nobody.
 pub(crate) enum Finding<'v> {
     /// It stands apart: what policy is asked is handed on, and is small so.
-    Right(Shared<Claim<'v>>),
+    Right(Shared<RightClaim<'v>>),
     Stale,
     Wrong,
 }

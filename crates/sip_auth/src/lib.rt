@@ -20,6 +20,7 @@ mod proof;
 mod proving;
 mod quality;
 mod realm;
+mod right_claim;
 mod uris;
 
 pub use offer::offers_sha256;

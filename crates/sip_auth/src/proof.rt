@@ -1,10 +1,13 @@
 ghost use Rattle.std.specs.Prelude.{◌≡◌, option_map, IfOk};
+ghost use Rattle.sip_digest.specs.declared.nonces.Worth.TheVariants.{Right};
+ghost use Rattle.sip_digest.specs.NonceText.{word_of};
 ghost use Rattle.sip_auth.specs.Proof.{judged, proven, is_stale, used};
 
 use crate::claim::Claim;
 use crate::finding::Finding;
+use crate::right_claim::RightClaim;
 use sip_base::Shared;
-use sip_digest::{Nonces, Worth};
+use sip_digest::{Checked, Nonces, Worth};
 use std::alloc::{AllocError, Global};
 use std::marker::Model;
 
@@ -37,11 +40,17 @@ impl<'v> Proof<'v> {
     }
 
     /// What a claim proves by what its credential is worth.
-    pub(crate) fn judged(alloc: Global, claim: Claim<'v>, worth: Worth) -> Result<Self, AllocError>
-        ensures { IfOk result (λ proof. proof ≡ judged claim.entry worth) }
+    pub(crate) fn judged(
+        alloc: Global,
+        claim: Claim<'v>,
+        checked: Checked,
+    ) -> Result<Self, AllocError>
+        requires { checked.worth ≡ Right → checked.word ≡ word_of claim.credential.nonce }
+        ensures { IfOk result (λ proof. proof ≡ judged claim.entry checked.worth) }
     {
+        let Checked { worth, word } = checked;
         let finding = match worth {
-            Worth::Right => Finding::Right(Shared::new(alloc, claim)?),
+            Worth::Right => Finding::Right(Shared::new(alloc, RightClaim { claim, word })?),
             Worth::Stale => Finding::Stale,
             Worth::Wrong => Finding::Wrong,
         };
@@ -74,7 +83,7 @@ impl<'v> Proof<'v> {
         ensures { nonces.new ≡ used nonces.old now self.now }
     {
         if let Finding::Right(claim) = &self.finding {
-            nonces.spend(&claim.get().credential(), now);
+            claim.get().spend(nonces, now);
         }
     }
 }

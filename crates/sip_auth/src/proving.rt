@@ -38,8 +38,8 @@ fn proof_by<'v>(
     let Some(key) = key_of(user, credential.algorithm) else {
         return Ok(Proof::wrong());
     };
-    let worth = nonces.check(key, &credential, now);
-    Proof::judged(alloc, claim, worth)
+    let checked = nonces.check(key, &credential, now);
+    Proof::judged(alloc, claim, checked)
 }
 
 /// What a claim for a request of a Request-URI proves.
@@ -54,7 +54,7 @@ fn proof_from<'v>(
     ensures { IfOk result (λ proof. proof ≡ proof_from users.now nonces.now now uri.now (Some claim.entry)) }
 {
     let credential = claim.credential();
-    if credential.count().is_none() {
+    if claim.count().is_none() {
         return Ok(Proof::wrong());
     }
     if !is_equal_uri(alloc, credential.uri, uri)? {

@@ -2,9 +2,10 @@ ghost use Rattle.std.specs.Prelude.{◌≡◌, true, IfOk};
 ghost use Rattle.sip_uri_equality.specs.Equality.{same};
 ghost use Rattle.sip_auth.specs.Proof.{is_equal_uri};
 
-use sip_uri::{Uri, UriRef, uri_in};
+use sip_uri::{Uri, uri_in};
 use sip_uri_equality::laws::equality_is_reflexive;
 use sip_uri_equality::same;
+use sip_uri_ref::UriRef;
 use std::alloc::{AllocError, Global};
 
 /// Whether a URI is equal to itself, as one without parameters is.

@@ -1,3 +1,2 @@
 pub mod EitherMoment
 pub mod Lists
-pub mod ResentLists

@@ -7,7 +7,7 @@ use Rattle.std.proofs.lemmas.List.Sums.{sum_by-cons}
 use Rattle.model_context.specs.state.declared.branch.Branch.{Branch}
 use Rattle.model_context.specs.Branches.{is_cancellable, cancel_branch, held_branch, with_cancel}
 
-set_map : {X : Type 0} (f : X → X) (xs : List X) (i : ℕ) (d : X) → i < length xs
+pub set_map : {X : Type 0} (f : X → X) (xs : List X) (i : ℕ) (d : X) → i < length xs
     → slice_set (map f (take i xs) ++ drop i xs) i (f (slice_index_or (map f (take i xs) ++ drop i xs) i d)) ≡ map f (take (suc i) xs) ++ drop (suc i) xs
 set_map f [] i d lt = absurd (omega arith)
 set_map f (x ∷ xs) zero d lt = refl

@@ -10,16 +10,15 @@ use sip_event::{Packet, Ticket};
 use sip_message_fields::Fields;
 use sip_message_form::View;
 use sip_text::Bytes;
-use sip_uri::Addr;
 use std::alloc::{AllocError, Global};
 
-/// The packet of an answer, of which this is the text, to a request that came from an address in the datagram of a number
-/// (RFC 3261 18.2.2). Takes no memory.
-pub fn answer_packet(again: bool, number: u64, request: &Heard, from: Addr, text: Bytes) -> Packet
-    ensures { result ≡ Spec.answer_packet again number request.now from text }
+/// The packet of an answer, of which this is the text, to a request that came in the datagram of a number (RFC 3261 18.2.2).
+/// Takes no memory.
+pub fn answer_packet(again: bool, number: u64, request: &Heard, text: Bytes) -> Packet
+    ensures { result ≡ Spec.answer_packet again number request.now.message request.now.source text }
 {
     Packet {
-        to: request.reply_to(from),
+        to: request.reply_to(),
         bytes: text,
         ticket: Ticket {
             datagram: number,
@@ -34,29 +33,21 @@ pub fn answer_to(again: bool, open_request: &OpenRequest, text: Bytes) -> Packet
     ensures { result ≡ Spec.answer_to again open_request.now text }
 {
     let request = open_request.request.get();
-    answer_packet(
-        again,
-        open_request.number,
-        request,
-        open_request.source,
-        text,
-    )
+    answer_packet(again, open_request.number, request, text)
 }
 
-/// The text of an answer that is made here to a request that came from an address in the datagram of a number (RFC 3261
-/// 8.2.6): with this status and these further fields. `AllocError` is the only refusal.
+/// The text of an answer that is made here to a request that came in the datagram of a number (RFC 3261 8.2.6): with this
+/// status and these further fields. `AllocError` is the only refusal.
 pub fn made_answer(
     alloc: Global,
     server: &Server,
     number: u64,
     request: &Heard,
-    from: Addr,
     status: u16,
     extras: &Fields,
 ) -> Result<Bytes, AllocError>
-    ensures { IfOk result (λ text. text ≡ text_of (Spec.made_answer server.now number request.now from status extras.now)) }
+    ensures { IfOk result (λ text. text ≡ text_of (Spec.made_answer server.now number request.now.message request.now.source status extras.now)) }
 {
-    let via = request.received_via(alloc, from)?;
     let tag = ToTag {
         boot: server.word,
         number,
@@ -64,7 +55,7 @@ pub fn made_answer(
     respond(
         alloc,
         request.message(),
-        via.as_slice(),
+        request.received_via(),
         status,
         tag,
         extras,
@@ -93,12 +84,11 @@ pub fn written_answer(
     open_request: &OpenRequest,
     status: u16,
 ) -> Result<Written, AllocError>
-    ensures { IfOk result (λ written. written ≡ Spec.made_answer server.now open_request.now.number open_request.now.request
-        open_request.now.source status []) }
+    ensures { IfOk result (λ written. written ≡ Spec.made_answer server.now open_request.now.number
+        open_request.now.request.message open_request.now.request.source status []) }
 {
     let request = open_request.request.get();
-    let via = request.received_via(alloc, open_request.source)?;
-    let received = request.with_top_via(alloc, via.as_slice())?;
+    let received = request.with_top_via(alloc, request.received_via())?;
     let tag = to_tag(alloc, server.word, open_request.number)?;
     written_reply(alloc, &received, status, tag.as_slice())
 }

@@ -114,14 +114,7 @@ fn request_text(
     let heard = request.request.get();
     let id = branch_id(request, branch);
     let uri = branch.uri.get();
-    heard.text_to(
-        alloc,
-        server,
-        id,
-        begins_dialog,
-        request.source,
-        uri.as_slice(),
-    )
+    heard.text_to(alloc, server, id, begins_dialog, uri.as_slice())
 }
 
 /// Adds the request of a branch of an open request, which is no CANCEL.

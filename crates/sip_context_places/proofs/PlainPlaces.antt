@@ -17,12 +17,7 @@ use Rattle.sip_hops.specs.HostAddress.{is_by_udp, port_or_default}
 use Rattle.sip_dialog.specs.Addresses.{item_in}
 use Rattle.sip_context_places.specs.Given as Given
 use Rattle.sip_context_places.specs.RouteFacts as Facts
-
-port_is : (digits : Option (List ℕ)) (port : Option ℕ) → option_map port_value digits ≡ option_map (λ n. Some n) port → port_number digits ≡ port
-port_is None None e = refl
-port_is None (Some n) e = absurd cc
-port_is (Some ds) None e = absurd cc
-port_is (Some ds) (Some n) e = cc
+use Rattle.sip_uri.proofs.PlainUris.{number_is}
 
 default_is : (digits : Option (List ℕ)) (port : Option ℕ) → option_map port_value digits ≡ option_map (λ n. Some n) port
     → port_or_default digits ≡ Some (unwrap_or port 5060)
@@ -37,7 +32,7 @@ first_is value host port is =
     let first : Facts.first_place (value ∷ []) ≡ Facts.place_in is.address.uri = ap (option_and_then (λ (route : NameAddr). Facts.place_in route.uri)) is.is_route in
     let there : Facts.place_in is.address.uri ≡ Some (record { host = is.uri.host; port = unwrap_or (port_number is.uri.port) 5060 }) = ap Facts.place_in is.has_uri in
     sym (first ∙ there ∙ ap (λ (h : List ℕ). Some (record { host = h; port = unwrap_or (port_number is.uri.port) 5060 })) is.has_host
-    ∙ ap (λ (p : Option ℕ). Some (record { host = host; port = unwrap_or p 5060 })) (port_is is.uri.port port is.has_port))
+    ∙ ap (λ (p : Option ℕ). Some (record { host = host; port = unwrap_or p 5060 })) (number_is is.uri.port port is.has_port))
 
 by_udp : (uri : Uri) → uri.scheme ≡ Scheme.Sip → (uri.parameters ≡ []) ⊎ (uri.parameters ≡ loose_routing) → is_by_udp uri ≡ true
 by_udp uri sip (inl none) = rw (sip, none) refl

@@ -100,7 +100,7 @@ fn first_of_others(alloc: Global, routes: &[&[u8]]) -> Result<Option<Place>, All
 }
 
 /// Whether the last of some Routes can be read.
-#[tactic(auto, using(crate::proofs::LastRoute::last_is, crate::proofs::LastRoute::no_last))]
+#[tactic(auto, using(sip_route::proofs::Last::last_is, sip_route::proofs::Last::no_last))]
 fn can_replace(alloc: Global, routes: &[&[u8]]) -> Result<bool, AllocError>
     ensures { IfOk result (λ t. t ≡ is_some (Ways.last_route (map (λ x. x.now) routes.now))) }
 {

@@ -1,7 +1,8 @@
 -- Where a request goes in a dialog that is known, by what was read of it.
-use Rattle.std.proofs.Common.{◌≡◌, ◌∙◌, ℕ, Bool, true, false, cond, List, [], ◌∷◌, length, Option, Some, None, refl, ap, sym, arith}
+use Rattle.std.proofs.Common.{◌≡◌, ◌∙◌, ℕ, Bool, true, false, cond, List, [], ◌∷◌, length, Option, Some, None, option_map, refl, ap, sym, arith}
 use Rattle.std.specs.Option.{option_and_then, option_map_or}
 use Rattle.std.specs.Result.{result_ok}
+use Rattle.std.proofs.lemmas.Option.{same_Some}
 use Rattle.sip_dialog.specs.declared.dialog.Dialog.{Dialog}
 use Rattle.sip_dialog.specs.declared.dialog.DialogId.{DialogId}
 use Rattle.sip_dialog.specs.DialogId.{id_of}
@@ -10,10 +11,13 @@ use Rattle.sip_message_form.specs.declared.message.Message.{Message}
 use Rattle.sip_header.specs.declared.core_fields.CoreFields.{CoreFields}
 use Rattle.sip_header.specs.CoreFields.{core_of}
 use Rattle.sip_header.specs.NameAddr.{sip_uri}
+use Rattle.sip_header.specs.Parameters.{tag_of}
 use Rattle.sip_hops.specs.HostAddress.{address_of}
 use Rattle.sip_uri.specs.declared.addr.Addr.{Addr}
 use Rattle.model_verdict.specs.state.declared.server.Server.{Server}
 use Rattle.model_verdict.specs.state.Dialogs.{dialog_of}
+use Rattle.model_verdict.specs.state.Names.{names_of, names_in, names_within, id_to}
+use Rattle.model_verdict.specs.state.declared.names.Names.{Names}
 use Rattle.sip_uri.specs.declared.uri.Uri.{Uri}
 use Rattle.sip_route.specs.declared.way.Way.{Way}
 use Rattle.sip_route.specs.Way.{way_of, first_route, request_uri_in, request_uri_of, next_uri}
@@ -85,3 +89,16 @@ pub not_held : (server : Server) (dialogs : List Dialog) (now : ℕ) (m : Messag
     → is_in_dialog now dialogs id address ≡ false → GoesOn server dialogs now m None
 not_held server dialogs now m core way id address is_core is_way is_id is_address is =
     at_address server dialogs now m core way id address false is_core is_way is_id is_address is
+
+-- what names the dialogs of a request that names this one
+by_tag : (core : CoreFields) (id : DialogId) (tag : Option (List ℕ)) → tag_of core.to.parameters ≡ tag
+    → Some id ≡ option_map (λ (t : List ℕ). id_to t (names_of core)) tag → names_within id ≡ names_of core
+by_tag core id None e is = absurd cc
+by_tag core id (Some tag) e is =
+    ap names_within (same_Some id (id_to tag (names_of core)) is)
+    ∙ ap (λ (t : Option (List ℕ)). record (names_of core) { to_tag = t }) (sym e)
+
+pub names_are : (m : Message) (core : CoreFields) (id : DialogId) (names : Names) → result_ok (core_of m) ≡ Some core → Some id ≡ id_of core → names ≡ names_within id
+    → Some names ≡ names_in m
+names_are m core id names is_core is_id is =
+    ap Some (is ∙ by_tag core id (tag_of core.to.parameters) refl is_id) ∙ sym (ap (λ (c : Option CoreFields). option_map names_of c) is_core)

@@ -116,7 +116,9 @@ fn goes_out(outcome: &Outcome) -> bool
     }
 }
 
-/// A request that passed the checks goes on in its dialog; where that isn't known, it is answered 481.
+/// A request that passed the checks goes on in its dialog; where that isn't known, it is answered 481. What names its dialogs
+/// shares the texts by which that one was looked up.
+#[tactic(auto, using(crate::proofs::Going::names_are))]
 fn request_within<'v, R: Rules>(
     alloc: Global,
     judge: &Judge<R>,
@@ -139,7 +141,7 @@ fn request_within<'v, R: Rules>(
 {
     match within(alloc, judge, dialogs, request)? {
         Some((address, id)) => {
-            *names = Some(Names::of(alloc, request.core)?);
+            *names = Some(Names::of_dialog(alloc, &id)?);
             Ok(Verdict::InDialog(address, id))
         }
         None => Ok(Verdict::Answer(481, Fields::new(alloc))),

@@ -1,5 +1,5 @@
 //! Requests that name a dialog (RFC 3261 12.2.2, 16.12.1): one goes on only to an address that this dialog is known to hold.
-ghost use Rattle.std.specs.Prelude.{◌≡◌, IfOk, Some, []};
+ghost use Rattle.std.specs.Prelude.{◌≡◌, IfOk, IfSome, Some, []};
 ghost use Rattle.std.specs.Option.{option_and_then, unwrap_or};
 ghost use Rattle.std.specs.Result.{result_ok};
 ghost use Rattle.sip_dialog.specs.DialogId as Names;
@@ -16,7 +16,6 @@ use sip_header::{CoreFields, tag_of};
 use sip_policy::Rules;
 use sip_route::Way;
 use sip_targets::RequestUri;
-use sip_text::Bytes;
 use sip_uri::Addr;
 use std::alloc::{AllocError, Global};
 
@@ -30,22 +29,6 @@ fn from_tag<'v>(core: &CoreFields<'v>) -> &'v [u8]
     }
 }
 
-/// The dialog of a Call-ID and two tags.
-fn named(
-    alloc: Global,
-    call_id: &[u8],
-    from_tag: &[u8],
-    to_tag: &[u8],
-) -> Result<DialogId, AllocError>
-    ensures { IfOk result (λ id. id ≡ record { call_id = call_id.now; from_tag = from_tag.now; to_tag = to_tag.now }) }
-{
-    Ok(DialogId {
-        call_id: Bytes::copy(alloc, call_id)?,
-        from_tag: Bytes::copy(alloc, from_tag)?,
-        to_tag: Bytes::copy(alloc, to_tag)?,
-    })
-}
-
 /// The dialog that a request with these core fields names, if its To has a tag (RFC 3261 12.2.2).
 fn dialog_of(alloc: Global, core: &CoreFields<'_>) -> Result<Option<DialogId>, AllocError>
     ensures { IfOk result (λ id. id ≡ Names.id_of core.now) }
@@ -53,7 +36,7 @@ fn dialog_of(alloc: Global, core: &CoreFields<'_>) -> Result<Option<DialogId>, A
     let Some(to_tag) = tag_of(core.to.parameters()) else {
         return Ok(None);
     };
-    let id = named(alloc, core.call_id.as_slice(), from_tag(core), to_tag)?;
+    let id = DialogId::of(alloc, core.call_id.as_slice(), from_tag(core), to_tag)?;
     Ok(Some(id))
 }
 
@@ -109,7 +92,8 @@ pub(crate) fn within<R: Rules>(
     requires core { result_ok (core_of request.now.message.now) ≡ Some request.now.core.now }
     requires way { request.now.way.now ≡ Ways.way_of judge.now.config.own request.now.message.now }
     requires uri { request.now.uri.now ≡ Ways.request_uri_of judge.now.config.own request.now.message.now }
-    ensures { IfOk result (GoesOn judge.now dialogs.now.dialogs request.now.moment request.now.message.now) }
+    ensures goes { IfOk result (GoesOn judge.now dialogs.now.dialogs request.now.moment request.now.message.now) }
+    ensures named { IfOk result (λ way. IfSome way (λ on. Some on.1 ≡ Names.id_of request.now.core.now)) }
 {
     let Some(id) = dialog_of(alloc, request.core)? else {
         return Ok(None);

@@ -40,6 +40,9 @@ module _ {X Y : Type 0} (f : X → Y) where
       ∙ ap (λ (n : ℕ). take (n - 1) (set (map f xs) at (get_or (map f xs) (n - 1) e))) (sym (length-map xs f))
 
 module _ (secret : WordHasher) (digests : List ℕ) (rows : List Row) (named : AreNamed secret digests rows) where
+  pub named_length : length digests ≡ length rows
+  named_length = ap (λ (l : List ℕ). length l) named.digested ∙ length-map rows (λ (r : Row). digest_of secret r.0)
+
   pub named_swapped : (a b : ℕ) → a < length rows → b < length rows → AreNamed secret (swap digests a b) (swap rows a b)
   named_swapped a b lt_a lt_b = record {
     digested = ap (λ (l : List ℕ). swap l a b) named.digested ∙ sym (map_swap (λ (r : Row). digest_of secret r.0) rows a b lt_a lt_b);

@@ -128,7 +128,7 @@ moved true y z = refl
 moved false true z = refl
 moved false false z = refl
 
-again : (x y : Bool) → (x && (x && y)) ≡ (x && y)
+pub again : (x y : Bool) → (x && (x && y)) ≡ (x && y)
 again true y = refl
 again false y = refl
 
@@ -159,7 +159,7 @@ ended_none now rows id h = λ p.
 
 -- ---- an edit
 
-put_in : (test : Row → Bool) (rows : List Row) (at : ℕ) (x y : Row) → slice_get rows at ≡ Some x
+pub put_in : (test : Row → Bool) (rows : List Row) (at : ℕ) (x y : Row) → slice_get rows at ≡ Some x
     → count_by test (set rows at y) + cond (test x) 1 0 ≡ count_by test rows + cond (test y) 1 0
 put_in test rows at x y there =
     let is : cond {A = ℕ} (test (get_or rows at x)) 1 0 ≡ cond {A = ℕ} (test x) 1 0 =

@@ -9,3 +9,4 @@ pub mod SameNames
 pub mod Table
 pub mod Digests
 pub mod Rows
+pub mod Met

@@ -1,5 +1,5 @@
 -- The rows of a table of dialogs.
-use Rattle.std.specs.Prelude.{◌≡◌, ℕ, ◌+◌, ◌-◌, ◌<◌, ◌≤◌, Bool, true, ◌&&◌, nat_lt, List, length, map, count_by, get_or, slice_get}
+use Rattle.std.specs.Prelude.{◌≡◌, ℕ, ◌+◌, ◌-◌, ◌<◌, ◌≤◌, Bool, true, ◌&&◌, not, nat_lt, List, length, map, count_by, get_or, slice_get}
 use Rattle.std.specs.Prelude.{Some, if◌then◌else◌}
 use Rattle.sip_dialog.specs.declared.dialog.DialogId.{DialogId}
 use Rattle.sip_dialog.specs.declared.dialog.Dialog.{Dialog}
@@ -23,6 +23,10 @@ names id stored = is_same_dialog stored id
 -- a dialog is known for less than twelve hours after its last request
 abbrev pub is_recent : ℕ → Standing → Bool
 is_recent now s = nat_lt (now - s.since) 43200000
+
+-- whether a row's dialog isn't known any more
+abbrev pub has_ended : ℕ → DialogId × Standing → Bool
+has_ended now row = not (is_recent now row.1)
 
 -- a row of this name stands at an index, and no other row has it: tests count no more of the name's rows than this one
 pub record StandsAt (id : DialogId) (rows : List (DialogId × Standing)) (at : ℕ) : Type 0 where
@@ -59,6 +63,10 @@ pub record IsFront (early : ℕ) (rows : List (DialogId × Standing)) : Type 0 w
 pub record AreNamed (secret : WordHasher) (digests : List ℕ) (rows : List (DialogId × Standing)) : Type 0 where
   pub digested : digests ≡ map (λ row. digest_of secret row.0) rows
   pub alone : (id : DialogId) → count_by (λ row. names id row.0) rows ≤ 1
+
+-- the dialogs of the rows are all known at each moment that is earlier than this one
+pub record AreKnownBefore (until : ℕ) (rows : List (DialogId × Standing)) : Type 0 where
+  pub none_ended : (now : ℕ) → now < until → count_by (has_ended now) rows ≡ 0
 
 -- the row at an index was taken out, and no other: tests count all of the others as before
 abbrev pub IsTakenOut : List (DialogId × Standing) → ℕ → List (DialogId × Standing) → Type 0

@@ -1,4 +1,4 @@
-ghost use Rattle.std.specs.Prelude.{◌≡◌, ◌≤◌, []};
+ghost use Rattle.std.specs.Prelude.{◌≡◌, ◌≤◌, true, []};
 ghost use Rattle.std.specs.List.{list_any};
 ghost use Rattle.sip_dialog.specs.Addresses.{is_same_addr, with_address, with_addresses};
 
@@ -13,6 +13,21 @@ pub fn is_same_addr(a: Addr, b: Addr) -> bool
     ensures { result ≡ is_same_addr a b }
 {
     a.ip.as_slice() == b.ip.as_slice() && a.port == b.port
+}
+
+/// Only where two lists have the same addresses, in their order.
+fn same_addresses(left: &[Addr], right: &[Addr]) -> bool
+    ensures { result ≡ true → left.now ≡ right.now }
+{
+    if left.len() != right.len() {
+        return false;
+    }
+    for at in 0..left.len() {
+        if !left[at].is_same(right[at]) {
+            return false;
+        }
+    }
+    true
 }
 
 /// The addresses that a dialog holds, in the order in which they were learnt, seen as the list of them.
@@ -56,6 +71,14 @@ impl Addresses {
         self.held[..self.count]
             .iter()
             .any(|held| is_same_addr(address, *held))
+    }
+
+    /// Only where others are the same, in their order.
+    pub(crate) fn is_same(&self, other: &Addresses) -> bool
+        ensures { result ≡ true → self.now ≡ other.now }
+    {
+        let held = &self.held[..self.count];
+        same_addresses(held, &other.held[..other.count])
     }
 
     /// Learns one more address, unless it is held or 16 are.

@@ -1,11 +1,15 @@
+ghost use Rattle.std.specs.Prelude.{◌≡◌, IfOk};
+
+use sip_base::Shared;
 use sip_text::{Bytes, Items};
 use sip_uri::Addr;
+use std::alloc::{AllocError, Global};
 
 /// What names a dialog (RFC 3261 12): its Call-ID and both tags, as a message of it has them. A From
-/// without a tag has an empty one.
+/// without a tag has an empty one. The dialogs of one INVITE share its Call-ID and its From tag.
 pub struct DialogId {
-    pub call_id: Bytes,
-    pub from_tag: Bytes,
+    pub call_id: Shared<Bytes>,
+    pub from_tag: Shared<Bytes>,
     pub to_tag: Bytes,
 }
 
@@ -17,6 +21,24 @@ impl Drop for DialogId {
             from_tag: _,
             to_tag: _,
         } = self;
+    }
+}
+
+impl DialogId {
+    /// The name of these texts, each copied. `AllocError` is the only refusal.
+    pub fn of(
+        alloc: Global,
+        call_id: &[u8],
+        from_tag: &[u8],
+        to_tag: &[u8],
+    ) -> Result<Self, AllocError>
+        ensures { IfOk result (λ id. id ≡ record { call_id = call_id.now; from_tag = from_tag.now; to_tag = to_tag.now }) }
+    {
+        Ok(DialogId {
+            call_id: Shared::new(alloc, Bytes::copy(alloc, call_id)?)?,
+            from_tag: Shared::new(alloc, Bytes::copy(alloc, from_tag)?)?,
+            to_tag: Bytes::copy(alloc, to_tag)?,
+        })
     }
 }
 

@@ -1,9 +1,9 @@
 //! The calls on the dialogs that are known (RFC 3261 12): what is asked of them, and what begins, renews and ends one.
-ghost use Rattle.std.specs.Prelude.{◌≡◌, ◌≢◌, ◌↔◌, ◌≤◌, ◌+◌, ℕ, true, [], Err, IfErr, OnOk, OnErr};
+ghost use Rattle.std.specs.Prelude.{◌≡◌, ◌≢◌, ◌↔◌, ◌≤◌, ◌+◌, ℕ, true, [], map, Err, IfErr, OnOk, OnErr};
 ghost use Rattle.sip_base.specs.Keyed.{fed_first};
 ghost use Rattle.sip_dialog.specs.declared.error.DialogError.TheVariants.{NoMemory, Full};
 ghost use Rattle.sip_dialog.specs.Dialogs.{is_in_dialog, is_full_for, learnt, taught, renewed, without_dialog, after_invite};
-ghost use Rattle.sip_dialog.specs.Sameness.{SameDialogs};
+ghost use Rattle.sip_dialog.specs.Sameness.{as_seen, SameDialogs};
 
 use crate::dialog::{DialogId, InviteAnswer};
 use crate::error::DialogError;
@@ -51,6 +51,14 @@ impl Dialogs {
         ensures { result ≡ is_in_dialog now self.now.dialogs id.now address }
     {
         self.rows.allows(id, address, now)
+    }
+
+    /// Only where another table knows the same dialogs at a moment, in any order, whichever INVITE began those with a 2xx. Takes
+    /// no memory; a look-up for each.
+    pub fn is_same(&self, other: &Dialogs, now: u64) -> bool
+        ensures { result ≡ true → SameDialogs now (map as_seen self.now.dialogs) (map as_seen other.now.dialogs) }
+    {
+        self.rows.is_same(&other.rows, now)
     }
 
     /// Makes room for one more dialog, so that the next `learn` isn't refused for want of memory. `NoMemory`

@@ -1,4 +1,4 @@
-ghost use Rattle.std.specs.Prelude.{◌≡◌, ◌↔◌, ◌≤◌, ℕ, List, length, true};
+ghost use Rattle.std.specs.Prelude.{◌≡◌, ◌↔◌, ◌≤◌, ℕ, List, length, true, false};
 ghost use Rattle.sip_uri.specs.declared.addr.Addr.{Addr};
 ghost use Rattle.sip_dialog.specs.declared.dialog.DialogId.{DialogId};
 ghost use Rattle.sip_dialog.specs.declared.dialog.Dialog.{Dialog};
@@ -6,7 +6,7 @@ ghost use Rattle.sip_dialog.specs.declared.dialog.InviteAnswer.{InviteAnswer};
 ghost use Rattle.sip_dialog.specs.DialogId.{is_same_dialog};
 ghost use Rattle.sip_dialog.specs.Addresses.{with_addresses};
 ghost use Rattle.sip_dialog.specs.Dialogs.{IsInDialog, is_in_dialog, edited, learnt, known, without_dialog, after_invite};
-ghost use Rattle.sip_dialog.specs.Sameness.{SameDialogs};
+ghost use Rattle.sip_dialog.specs.Sameness.{as_seen, SameDialogs};
 
 /// The test says exactly which requests are in a dialog (RFC 3261 12.2.2).
 pub fn in_dialog_is_a_test()
@@ -57,4 +57,11 @@ pub fn learning_keeps_sameness()
         → SameDialogs now (without_dialog now id left) (without_dialog now id right) }
     ensures after_invite { (now number : ℕ) (left right : List Dialog) → SameDialogs now left right
         → SameDialogs now (after_invite now number left) (after_invite now number right) }
+{}
+
+/// Later steps see all of a dialog until a 2xx to its INVITE is forwarded, and then all but which INVITE began it (RFC 3261 12.1,
+/// 12.3).
+pub fn seen_until_confirmed()
+    ensures early { (d : Dialog) → d.has_success ≡ false → as_seen d ≡ d }
+    ensures confirmed { (d : Dialog) (number : ℕ) → d.has_success ≡ true → as_seen (record d { number = number }) ≡ as_seen d }
 {}

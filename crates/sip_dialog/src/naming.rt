@@ -1,8 +1,9 @@
-ghost use Rattle.std.specs.Prelude.{◌≡◌, fold};
+ghost use Rattle.std.specs.Prelude.{◌≡◌, true, fold};
 ghost use Rattle.sip_dialog.specs.DialogId.{is_same_dialog};
 ghost use Rattle.sip_dialog.specs.Naming.{in_order, text_fed, name_fed};
 
 use crate::dialog::DialogId;
+use sip_text::same_bytes;
 use std::cmp::Ordering;
 use std::hash::{Hash, Hasher};
 
@@ -11,10 +12,23 @@ use std::hash::{Hash, Hasher};
 pub fn is_same_dialog(a: &DialogId, b: &DialogId) -> bool
     ensures { result ≡ is_same_dialog a.now b.now }
 {
-    let (a_from, a_to) = (a.from_tag.as_slice(), a.to_tag.as_slice());
-    let (b_from, b_to) = (b.from_tag.as_slice(), b.to_tag.as_slice());
-    a.call_id.as_slice() == b.call_id.as_slice()
+    let (a_from, a_to) = (a.from_tag.get().as_slice(), a.to_tag.as_slice());
+    let (b_from, b_to) = (b.from_tag.get().as_slice(), b.to_tag.as_slice());
+    a.call_id.get().as_slice() == b.call_id.get().as_slice()
         && ((a_from == b_from && a_to == b_to) || (a_from == b_to && a_to == b_from))
+}
+
+/// Only where two names are equal, byte by byte, the tags in their order. Takes no memory.
+pub(crate) fn is_same_name(a: &DialogId, b: &DialogId) -> bool
+    ensures { result ≡ true → a.now ≡ b.now }
+{
+    if !same_bytes(a.call_id.get().as_slice(), b.call_id.get().as_slice()) {
+        return false;
+    }
+    if !same_bytes(a.from_tag.get().as_slice(), b.from_tag.get().as_slice()) {
+        return false;
+    }
+    same_bytes(a.to_tag.as_slice(), b.to_tag.as_slice())
 }
 
 /// Two tags in one order, whichever came first.
@@ -63,8 +77,8 @@ impl Hash for DialogId {
     ghost respects_eq = { fed_alike };
 
     fn hash<H: Hasher>(&self, state: &mut H) {
-        let (first, second) = in_order(self.from_tag.as_slice(), self.to_tag.as_slice());
-        feed(state, self.call_id.as_slice());
+        let (first, second) = in_order(self.from_tag.get().as_slice(), self.to_tag.as_slice());
+        feed(state, self.call_id.get().as_slice());
         feed(state, first);
         feed(state, second);
     }

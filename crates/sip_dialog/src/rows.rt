@@ -1,6 +1,7 @@
 //! The table of known dialogs: found by a digest of their names, at most 4,096, and forgotten once they aren't known any more.
-ghost use Rattle.std.specs.Prelude.{◌≡◌, ◌≤◌, ◌<◌, ◌+◌, ◌++◌, ◌∷◌, [], Bool, true, not, length, count_by, position, MatchOption, ℕ};
+ghost use Rattle.std.specs.Prelude.{◌≡◌, ◌≤◌, ◌<◌, ◌+◌, ◌++◌, ◌∷◌, [], Bool, true, not, length, map, filter, count_by, position, MatchOption, ℕ};
 ghost use Rattle.std.specs.Prelude.{is_some, IfSome, IfNone, IfErr, Err, nat_le, ◌↔◌, ◌≢◌, OnOk, OnErr, IsOk};
+ghost use Rattle.std.specs.List.{AllByRecursion};
 ghost use Rattle.sip_base.specs.Keyed.{fed_first};
 ghost use Rattle.sip_dialog.specs.declared.error.DialogError.TheVariants.{NoMemory, Full};
 ghost use Rattle.sip_dialog.specs.Dialogs.{known, knows, is_in_dialog, learnt, taught, renewed, is_full_for, begun, after_invite, without_dialog};
@@ -8,14 +9,16 @@ ghost use Rattle.sip_dialog.specs.declared.dialog.DialogId.{DialogId};
 ghost use Rattle.sip_dialog.specs.declared.dialog.Dialog.{Dialog};
 ghost use Rattle.sip_dialog.specs.declared.dialog.InviteAnswer.{InviteAnswer};
 ghost use Rattle.sip_dialog.specs.Naming.{digest_of};
-ghost use Rattle.sip_dialog.specs.Rows.{dialogs_in, names, StandsAt, StandsNowhere, IsKnownAt, IsTakenOut, StoodBehind};
-ghost use Rattle.sip_dialog.specs.Sameness.{SameDialogs};
+ghost use Rattle.sip_dialog.specs.Rows.{dialog_of, dialogs_in, is_recent, names, StandsAt, StandsNowhere, IsKnownAt, IsTakenOut, StoodBehind};
+ghost use Rattle.sip_dialog.specs.Rows.{AreKnownBefore};
+ghost use Rattle.sip_dialog.specs.Sameness.{as_seen, SameDialogs};
+ghost use Rattle.sip_dialog.specs.Met.{IsMet, Stands};
 
 use crate::dialog::{DialogId, InviteAnswer};
 use crate::digests::Digests;
 use crate::error::DialogError;
-use crate::naming::is_same_dialog;
-use crate::standing::Standing;
+use crate::naming::{is_same_dialog, is_same_name};
+use crate::standing::{Standing, earlier_end};
 use sip_base::Keyed;
 use sip_uri::Addr;
 use std::alloc::{AllocError, Global};
@@ -36,6 +39,8 @@ pub(crate) struct Rows {
     keyed: Keyed,
     /// How many stand in front: behind them all have a 2xx.
     early: usize,
+    /// The moment before which none of their dialogs ends, in milliseconds.
+    until: u64,
 }
 
 impl Model for Rows {
@@ -44,7 +49,7 @@ impl Model for Rows {
     ghost Value = { Entries };
 
     ghost use Rattle.std.specs.Prelude.{◌-◌, min, vec_len, vec_capacity};
-    ghost use Rattle.sip_dialog.specs.Rows.{AreNamed, IsFront};
+    ghost use Rattle.sip_dialog.specs.Rows.{AreNamed, IsFront, AreKnownBefore};
 
     ghost view = { λ r. record {
       entries = r.rows.items;
@@ -52,7 +57,8 @@ impl Model for Rows {
       secret = r.keyed;
     } };
 
-    ghost invariant = { λ r. AreNamed r.keyed r.digests.list r.rows.items × IsFront r.early r.rows.items };
+    ghost invariant = { λ r. AreNamed r.keyed r.digests.list r.rows.items × IsFront r.early r.rows.items
+        × AreKnownBefore r.until r.rows.items };
 }
 
 /// The digest of a name, alike for both sides of a call.
@@ -72,6 +78,48 @@ fn search(rows: &[(DialogId, Standing)], id: &DialogId) -> Option<usize>
     rows.iter().position(|row| is_same_dialog(&row.0, id))
 }
 
+/// The moment at which the first of the rows' dialogs ends, in milliseconds. Called only where as many rows stand as may be
+/// known.
+fn first_end(rows: &[(DialogId, Standing)]) -> u64
+    ensures { AreKnownBefore result rows.now }
+{
+    let mut until = u64::MAX;
+    for row in rows {
+        until = earlier_end(until, row.1.since);
+    }
+    until
+}
+
+/// How many rows are of dialogs that are known.
+fn count_recent(rows: &[(DialogId, Standing)], now: u64) -> usize
+    ensures { result ≡ length (filter (λ row. is_recent now row.1) rows.now) }
+{
+    rows.iter().filter(|row| row.1.is_recent(now)).count()
+}
+
+/// Only where a row has this name, byte by byte, and is seen so by later steps.
+fn is_row_of(row: &(DialogId, Standing), id: &DialogId, standing: &Standing) -> bool
+    ensures name { result ≡ true → row.now.0 ≡ id.now }
+    ensures seen { result ≡ true → (k : DialogId) → as_seen (dialog_of k row.now.1) ≡ as_seen (dialog_of k standing.now) }
+{
+    if !is_same_name(&row.0, id) {
+        return false;
+    }
+    row.1.is_seen_as(standing)
+}
+
+/// Only where each of some rows that is of a dialog which is known stands in a table, as later steps see it.
+fn are_met(rows: &[(DialogId, Standing)], other: &Rows, now: u64) -> bool
+    ensures { result ≡ true → AllByRecursion (IsMet now other.now.entries) rows.now }
+{
+    for row in rows {
+        if !other.meets(row, now) {
+            return false;
+        }
+    }
+    true
+}
+
 impl Rows {
     /// No rows. Names are hashed under the secret `keys`.
     pub(crate) fn new(alloc: Global, keys: u128) -> Self
@@ -83,6 +131,7 @@ impl Rows {
             digests: Digests::new(alloc),
             keyed: Keyed::new(keys),
             early: 0,
+            until: u64::MAX,
         }
     }
 
@@ -169,6 +218,49 @@ impl Rows {
         }
     }
 
+    /// How many rows are of dialogs that are known.
+    fn recent_count(&self, now: u64) -> usize
+        ensures { result ≡ length (filter (λ row. is_recent now row.1) self.now.entries) }
+    {
+        count_recent(self.rows.as_slice(), now)
+    }
+
+    /// Only where a row of another table stands here under the same name, byte by byte, and is seen alike by later steps.
+    fn has(&self, id: &DialogId, standing: &Standing) -> bool
+        ensures { result ≡ true → Stands (as_seen (dialog_of id.now standing.now)) (map as_seen (dialogs_in self.now.entries)) }
+    {
+        let digest = self.digest(id);
+        match self.find(id, digest) {
+            Some(at) => is_row_of(&self.rows[at], id, standing),
+            None => false,
+        }
+    }
+
+    /// Only where a row of another table isn't of a dialog that is known, or stands here as later steps see it.
+    fn meets(&self, row: &(DialogId, Standing), now: u64) -> bool
+        ensures { result ≡ true → IsMet now self.now.entries row.now }
+    {
+        if !row.1.is_recent(now) {
+            return true;
+        }
+        self.has(&row.0, &row.1)
+    }
+
+    /// Only where another table knows the same dialogs, as later steps see them: as many, and each that is known here. A look-up for
+    /// each.
+    pub(crate) fn is_same(&self, other: &Rows, now: u64) -> bool
+        ensures { result ≡ true → SameDialogs now (map as_seen (dialogs_in self.now.entries))
+            (map as_seen (dialogs_in other.now.entries)) }
+    {
+        let _named = &self.digests;
+        let count = self.recent_count(now);
+        let other_count = other.recent_count(now);
+        if count != other_count {
+            return false;
+        }
+        are_met(self.rows.as_slice(), other, now)
+    }
+
     /// Where the row of a dialog stands, whose name has this digest, if the dialog is known. A row that isn't known any
     /// more is forgotten.
     fn meet(&mut self, id: &DialogId, digest: u64, now: u64) -> Option<usize>
@@ -215,7 +307,9 @@ impl Rows {
     {
         let digest = self.digest(id);
         if let Some(at) = self.meet(id, digest, now) {
+            let until = earlier_end(self.until, now);
             self.rows[at].1.renew(addresses, now);
+            self.until = until;
         }
     }
 
@@ -265,8 +359,18 @@ impl Rows {
         }
     }
 
-    /// Whether one more dialog may become known. Only where as many rows stand as may be known, a pass over all
-    /// forgets those that aren't known any more.
+    /// Looks anew when the first of the dialogs ends. Called only where as many rows stand as may be known.
+    fn look_ahead(&mut self)
+        ensures entries { self.new.entries ≡ self.old.entries }
+        ensures room { self.old.room ≤ self.new.room }
+        ensures secret { self.new.secret ≡ self.old.secret }
+    {
+        let until = first_end(self.rows.as_slice());
+        self.until = until;
+    }
+
+    /// Whether one more dialog may become known. Only where as many rows stand as may be known, and one of them may have
+    /// ended, a pass over all forgets those that aren't known any more.
     fn has_place(&mut self, now: u64) -> bool
         requires { length self.old.entries ≤ 4096 }
         ensures place { result ≡ not (nat_le 4096 (length (known now (dialogs_in self.old.entries)))) }
@@ -280,7 +384,11 @@ impl Rows {
         if self.rows.len() < KNOWN {
             return true;
         }
+        if now < self.until {
+            return false;
+        }
         self.forget(now);
+        self.look_ahead();
         self.rows.len() < KNOWN
     }
 
@@ -302,7 +410,9 @@ impl Rows {
         self.digests.push(digest)?;
         let last = self.rows.len();
         let is_success = answer.is_success;
+        let until = earlier_end(self.until, answer.arrived_at);
         self.rows.push_reserved(Standing::begin(answer));
+        self.until = until;
         if !is_success {
             self.rows.swap(self.early, last);
             self.digests.swap(self.early, last);

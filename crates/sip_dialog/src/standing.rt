@@ -1,9 +1,10 @@
-ghost use Rattle.std.specs.Prelude.{◌≡◌, ◌&&◌};
+ghost use Rattle.std.specs.Prelude.{◌≡◌, ◌≤◌, ◌+◌, ◌&&◌, true, false};
 ghost use Rattle.std.specs.List.{list_any};
 ghost use Rattle.sip_dialog.specs.declared.dialog.DialogId.{DialogId};
 ghost use Rattle.sip_dialog.specs.Addresses.{is_same_addr};
 ghost use Rattle.sip_dialog.specs.Dialogs.{told, answered_again, begun, is_unconfirmed};
 ghost use Rattle.sip_dialog.specs.Rows.{dialog_of, is_recent};
+ghost use Rattle.sip_dialog.specs.Sameness.{as_seen};
 
 use crate::addresses::Addresses;
 use crate::dialog::{DialogId, InviteAnswer};
@@ -11,6 +12,14 @@ use sip_uri::Addr;
 
 /// How long a dialog is known after its last request, in milliseconds: twelve hours.
 const LIFE: u64 = 43_200_000;
+
+/// The earlier of a moment and of the one at which a dialog ends whose last request came at `since`, in milliseconds.
+pub(crate) fn earlier_end(until: u64, since: u64) -> u64
+    ensures until { result ≤ until }
+    ensures since { result ≤ since + 43200000 }
+{
+    until.min(since.saturating_add(LIFE))
+}
 
 /// What is known of a dialog beside its name, as `Dialog` says it.
 #[derive(Drop)]
@@ -57,6 +66,30 @@ impl Standing {
         ensures { (id : DialogId) → result ≡ is_unconfirmed number (dialog_of id self.now) }
     {
         self.number == number && !self.has_success
+    }
+
+    /// Only where a 2xx was forwarded to both or to neither, and where to neither, one INVITE began both.
+    fn is_begun_as(&self, other: &Standing) -> bool
+        ensures success { result ≡ true → self.now.has_success ≡ other.now.has_success }
+        ensures number { result ≡ true → self.now.has_success ≡ false → self.now.number ≡ other.now.number }
+    {
+        if self.has_success {
+            return other.has_success;
+        }
+        !other.has_success && self.number == other.number
+    }
+
+    /// Only where another is seen alike by later steps: whichever INVITE began it, where a 2xx to that was forwarded.
+    pub(crate) fn is_seen_as(&self, other: &Standing) -> bool
+        ensures { result ≡ true → (id : DialogId) → as_seen (dialog_of id self.now) ≡ as_seen (dialog_of id other.now) }
+    {
+        if !self.is_begun_as(other) {
+            return false;
+        }
+        if !self.addresses.is_same(&other.addresses) {
+            return false;
+        }
+        self.since == other.since
     }
 
     /// Whether a request to this address is in the dialog.

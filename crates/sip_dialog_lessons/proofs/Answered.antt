@@ -32,8 +32,8 @@ with_to (Some to) tag core is = with_by to tag core (sym is)
 
 pub with_tag : (r : OpenRequest) (answer : Message) (tag : List ℕ) → Some tag ≡ option_and_then (λ (to : NameAddr). tag_of to.parameters)
     (result_ok (name_addr_in Name.To answer.fields))
-    → dialog_to tag (names_in r.request) ≡ answered_dialog r answer
-with_tag r answer tag is = with_to (result_ok (name_addr_in Name.To answer.fields)) tag (result_ok (core_of r.request)) is
+    → dialog_to tag (names_in r.request.message) ≡ answered_dialog r answer
+with_tag r answer tag is = with_to (result_ok (name_addr_in Name.To answer.fields)) tag (result_ok (core_of r.request.message)) is
 
 none_by : (to : Option NameAddr) (core : Option CoreFields) → ((c : CoreFields) → option_and_then (id_with c.call_id c.from) to ≡ None) → None ≡ named to core
 none_by to None none = refl
@@ -47,4 +47,4 @@ without (Some to) core is =
 
 pub without_tag : (r : OpenRequest) (answer : Message) → None ≡ option_and_then (λ (to : NameAddr). tag_of to.parameters) (result_ok (name_addr_in Name.To answer.fields))
     → None ≡ answered_dialog r answer
-without_tag r answer is = without (result_ok (name_addr_in Name.To answer.fields)) (result_ok (core_of r.request)) is
+without_tag r answer is = without (result_ok (name_addr_in Name.To answer.fields)) (result_ok (core_of r.request.message)) is

@@ -12,6 +12,7 @@ use Rattle.sip_dialog.proofs.Sameness.{count_first, count_filter, count_alike, c
 use Rattle.sip_dialog_lessons.specs.declared.lesson.Lesson.{Lesson}
 use Rattle.sip_dialog_lessons.specs.declared.lesson.Lesson.TheVariants.{Learn, Teach, Renew, End, Expire}
 use Rattle.sip_dialog_lessons.specs.Lessons.{after_lesson, after_lessons, beginnings, may_begin, room_for}
+use Rattle.sip_dialog.proofs.Tables.{again}
 
 -- further lessons
 pub after_more : (now : ℕ) (front back : List Lesson) (dialogs : List Dialog) → after_lessons now (front ++ back) dialogs
@@ -36,13 +37,9 @@ lessons_same now (lesson ∷ lessons) left right h = lessons_same now lessons _ 
 
 -- ---- an answer for whose dialog there is no place
 
-twice : (x y : Bool) → (x && (x && y)) ≡ (x && y)
-twice true y = refl
-twice false y = refl
-
 known_twice : (now : ℕ) (dialogs : List Dialog) → SameDialogs now dialogs (known now dialogs)
 known_twice now dialogs = λ p. sym (count_filter p (is_known now) (known now dialogs) ∙ count_filter (λ d. is_known now d && p d) (is_known now) dialogs
-    ∙ count_alike _ _ dialogs (λ d. twice (is_known now d) (p d)) ∙ sym (count_filter p (is_known now) dialogs))
+    ∙ count_alike _ _ dialogs (λ d. again (is_known now d) (p d)) ∙ sym (count_filter p (is_known now) dialogs))
 
 pub full_same : (now : ℕ) (a : InviteAnswer) (new old : List Dialog) → SameDialogs now new old → is_full_for now a.id old ≡ true → SameDialogs now new (learnt now a old)
 full_same now a new old h e = by_tests (knows now a.id old) (nat_le 4096 (length (known now old))) e where

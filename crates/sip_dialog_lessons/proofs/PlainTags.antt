@@ -12,7 +12,7 @@ use Rattle.sip_header.specs.Parameters.{tag_of, Begins}
 use Rattle.sip_header.specs.NameAddr.{with_parameters, name_addr_of}
 use Rattle.sip_header.specs.declared.name_addr.AnyUri.TheVariants.{Sip}
 use Rattle.sip_header.proofs.Plain.{value_begins}
-use Rattle.sip_header.proofs.WrittenAddresses.{plain_is, any_sip}
+use Rattle.sip_header.proofs.WrittenAddresses.{opened_alone, plain_is, any_sip}
 use Rattle.sip_dialog_lessons.specs.Tag.{SaysTag}
 
 nothing : (bytes : List ℕ) → (length bytes == 0) ≡ true → bytes ≡ []
@@ -39,7 +39,7 @@ pub tag_at : (value text host last rest tag : List ℕ) (port : Option ℕ) → 
 tag_at value text host last rest tag port whole at mark said =
     let u : Uri = record { scheme = Scheme.Sip; userinfo = at.info; host = host; port = at.digits; parameters = []; headers = [] } in
     let is : name_addr_of value ≡ Some (record { uri = Sip u; parameters = said.parameters }) =
-    plain_is value text host last rest port at said.behind said.parameters whole mark said.closed said.says
+    plain_is value text host last rest port at said.behind said.parameters (opened_alone value text whole) mark said.closed said.says
     ∙ ap (with_parameters (Some said.parameters)) (any_sip at.front u at.alone)
     in
     ap (option_and_then (λ (a : NameAddr). tag_of a.parameters)) is ∙ said.tagged

@@ -76,7 +76,7 @@ first_told server now r u id after dialogs invite answered is =
     is ∙ ap (λ (o : Option DialogId). option_map_or (λ id. Dialogs.after_invite_answer server now r u id dialogs) o dialogs) answered ∙ if_true (is_invite r) _ _ invite
 
 pub within_told : (server : Server) (now : ℕ) (r : OpenRequest) (u : Upward) (id : DialogId) (after dialogs : List Dialog) → 100 < u.status
-    → Some id ≡ Dialogs.dialog_of r.request
+    → Some id ≡ Dialogs.dialog_of r.request.message
     → after ≡ Dialogs.after_answer_within server now r u id dialogs → after ≡ Dialogs.after_answer server now r u dialogs
 within_told server now r u id after dialogs lt named is =
     is ∙ ap (λ (o : Option DialogId). Dialogs.after_answer_of server now r u o dialogs) named ∙ if_false (nat_le u.status 100) _ _ (is_above u.status 100 lt)
@@ -86,10 +86,10 @@ no_dialog None e = refl
 no_dialog (Some id) e = absurd (cc)
 
 pub unnamed_told : (server : Server) (now : ℕ) (r : OpenRequest) (u : Upward) (after dialogs : List Dialog) → 100 < u.status
-    → is_some (Dialogs.dialog_of r.request) ≡ false
+    → is_some (Dialogs.dialog_of r.request.message) ≡ false
     → after ≡ Dialogs.after_first_answer server now r u dialogs → after ≡ Dialogs.after_answer server now r u dialogs
 unnamed_told server now r u after dialogs lt unnamed is =
-    is ∙ ap (λ (o : Option DialogId). Dialogs.after_answer_of server now r u o dialogs) (no_dialog (Dialogs.dialog_of r.request) unnamed)
+    is ∙ ap (λ (o : Option DialogId). Dialogs.after_answer_of server now r u o dialogs) (no_dialog (Dialogs.dialog_of r.request.message) unnamed)
     ∙ if_false (nat_le u.status 100) _ _ (is_above u.status 100 lt)
 
 -- ---- lists

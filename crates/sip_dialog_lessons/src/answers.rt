@@ -55,10 +55,10 @@ fn put_within(
 
 /// The address that an INVITE came from, and that of the branch which answered it, if it is known.
 fn both_ends(alloc: Global, request: &OpenRequest, up: &Upward) -> Result<Items<Addr>, AllocError>
-    ensures { IfOk result (λ addresses. addresses ≡ request.now.source ∷ option_to_list up.now.target) }
+    ensures { IfOk result (λ addresses. addresses ≡ request.now.request.source ∷ option_to_list up.now.target) }
 {
     let mut addresses = Items::with_room(alloc, USUAL)?;
-    addresses.push(request.source)?;
+    addresses.push(request.request.get().source())?;
     if let Some(target) = up.target {
         addresses.push(target)?;
     }
@@ -72,8 +72,8 @@ fn invite_addresses(
     request: &OpenRequest,
     up: &Upward,
 ) -> Result<Items<Addr>, AllocError>
-    ensures { IfOk result (λ addresses. addresses ≡ request.now.source ∷ option_to_list up.now.target
-        ++ addresses_in (address_of hops.now.addresses) request.now.request.fields
+    ensures { IfOk result (λ addresses. addresses ≡ request.now.request.source ∷ option_to_list up.now.target
+        ++ addresses_in (address_of hops.now.addresses) request.now.request.message.fields
         ++ addresses_in (address_of hops.now.addresses) up.now.message.fields) }
 {
     let mut addresses = both_ends(alloc, request, up)?;

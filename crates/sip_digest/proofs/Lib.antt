@@ -6,5 +6,6 @@ pub mod Replays
 pub mod LiveRows
 pub mod Rows
 pub mod Lookups
+pub mod Lasting
 pub mod LowerTexts
 pub mod LowerLanes

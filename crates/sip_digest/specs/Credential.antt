@@ -1,9 +1,8 @@
 -- What a request says to prove its user (RFC 2617 3.2.2; RFC 8760 2.4).
-use Rattle.std.specs.Prelude.{ℕ, Bool, ◌==◌, if◌then◌else◌, List, length, Option, Some, None}
+use Rattle.std.specs.Prelude.{ℕ, Bool, List, Option}
 use Rattle.std.specs.Str.{bytes_eq}
-use Rattle.sip_digest.specs.Protection.{Protection, seen}
+use Rattle.sip_digest.specs.Protection.{Protection, seen, count_with}
 use Rattle.sip_digest.specs.Answers.{answer_of}
-use Rattle.sip_digest.specs.HexNumber.{hex_number_of}
 use Rattle.sip_digest.specs.declared.algorithm.Algorithm.{Algorithm}
 use Rattle.sip_digest.specs.declared.credential.Credential.{Credential as Given}
 
@@ -31,15 +30,6 @@ shown c = record {
 abbrev pub is_answer : List ℕ → Credential → Bool
 is_answer a1 c = bytes_eq c.response (answer_of c.algorithm a1 c.method c.uri c.nonce c.protection)
 
--- the number in eight hexadecimal digits, in either case; other text counts nothing (RFC 2617 3.2.2)
-abbrev pub count_in : List ℕ → Option ℕ
-count_in nc = if length nc == 8 then hex_number_of nc else None
-
--- which use of the nonce a credential says it is: without a quality of protection the first
-abbrev pub count_with : Option Protection → Option ℕ
-count_with None = Some 1
-count_with (Some protection) = count_in protection.nc
-
--- the same of a credential
+-- which use of the nonce a credential says it is (RFC 2617 3.2.2: nonce-count)
 abbrev pub count_of : Credential → Option ℕ
 count_of c = count_with c.protection

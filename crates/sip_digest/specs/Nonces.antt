@@ -18,6 +18,12 @@ keep_last n xs = drop (length xs - n) xs
 abbrev pub is_live : ℕ → Nonce → Bool
 is_live now row = nat_lt (now - row.since) 300000
 
+-- The nonces from the first one on that lives at a moment. The oldest stand in front: those before it don't live later either, and each of
+-- them gives way before any other does.
+abbrev pub lasting : ℕ → List Nonce → List Nonce
+lasting now [] = []
+lasting now (row ∷ rows) = if is_live now row then row ∷ rows else lasting now rows
+
 -- the same as a fact
 abbrev pub IsLive : ℕ → Nonce → Type 0
 IsLive now row = now - row.since < 300000

@@ -1,14 +1,13 @@
 ghost use Rattle.std.specs.Prelude.{◌≡◌};
-ghost use Rattle.std.specs.Str.{bytes_eq};
-ghost use Rattle.sip_digest.specs.Credential.{shown, is_answer, count_of, count_in};
+ghost use Rattle.sip_digest.specs.Protection.{count_with, seen};
 
 use crate::algorithm::Algorithm;
 use crate::answers::{answer, answer_sha256};
-use crate::hex_numbers::hex_number;
 use crate::protection::Protection;
 
 /// What a request says to prove its user: its method, the algorithm, `uri`, `nonce` and `response` of its
-/// credentials, and their quality of protection, if they name one (RFC 2617 3.2.2; RFC 8760 2.4).
+/// credentials, and their quality of protection, if they name one, with its count, which is read once (RFC 2617 3.2.2;
+/// RFC 8760 2.4).
 #[derive(Clone, Copy)]
 pub struct Credential<'a> {
     pub algorithm: Algorithm,
@@ -17,9 +16,15 @@ pub struct Credential<'a> {
     pub nonce: &'a [u8],
     pub protection: Option<Protection<'a>>,
     pub response: &'a [u8],
+    /// Which use of the nonce this is, as `nonce_count` says.
+    pub count: Option<u64>,
+    pub ghost count_is: { count ≡ count_with (seen protection) },
 }
 
 impl Credential<'_> {
+    ghost use Rattle.std.specs.Str.{bytes_eq};
+    ghost use Rattle.sip_digest.specs.Credential.{shown, is_answer};
+
     /// Whether the response is, byte by byte, the answer of the user of this `a1`, which is of the
     /// credential's algorithm.
     pub fn is_answer(&self, a1: &[u8]) -> bool
@@ -46,26 +51,4 @@ impl Credential<'_> {
     {
         self.response == text
     }
-
-    /// Which use of the nonce this is: the number in `nc`, if that is eight hexadecimal digits, and 1
-    /// without a quality of protection.
-    pub fn count(&self) -> Option<u64>
-        ensures { result ≡ count_of (shown self.now) }
-    {
-        match self.protection {
-            None => Some(1),
-            Some(protection) => count_in(protection.nc),
-        }
-    }
-}
-
-/// The number in eight hexadecimal digits.
-fn count_in(nc: &[u8]) -> Option<u64>
-    ensures { result ≡ count_in nc.now }
-{
-    if nc.len() != 8 {
-        return None;
-    }
-    let number = hex_number(nc)?;
-    Some(number as u64)
 }

@@ -1,6 +1,6 @@
 ghost use Rattle.std.specs.Prelude.{◌≡◌, Some, None, codes};
 ghost use Rattle.sip_digest.specs.Answers.{a1_of, a2_of, answer_of};
-ghost use Rattle.sip_digest.specs.Credential.{count_in};
+ghost use Rattle.sip_digest.specs.Protection.{count_in};
 ghost use Rattle.sip_digest.specs.declared.algorithm.Algorithm.TheVariants as By;
 
 /// The worked example of RFC 2617 3.5, from its user to its response.

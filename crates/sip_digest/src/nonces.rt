@@ -1,9 +1,12 @@
 //! The nonces of the challenges that went out, and what a credential is worth against them (RFC 2617 3.2.2, 3.3).
 //! Which user a credential names, and of which realm it is, is asked before (`sip_auth`).
-ghost use Rattle.std.specs.Prelude.{◌≡◌, ◌≤◌, [], ◌∷◌, ◌++◌, length, IfOk, find, position};
+ghost use Rattle.std.specs.Prelude.{◌≡◌, ◌≤◌, ◌↔◌, true, false, [], ◌∷◌, ◌++◌, length, drop, IfOk, find, position, slice_get};
 ghost use Rattle.std.specs.VecDeque.{deque_capacity};
+ghost use Rattle.std.specs.Option.{option_map_or};
 ghost use Rattle.sip_digest.specs.Credential.{shown};
-ghost use Rattle.sip_digest.specs.Nonces.{keep_last, issued, spent_by, counted, worth_of, standing, is_this};
+ghost use Rattle.sip_digest.specs.declared.nonces.Worth.TheVariants.{Right};
+ghost use Rattle.sip_digest.specs.NonceText as Texts;
+ghost use Rattle.sip_digest.specs.Nonces.{keep_last, issued, counted, worth_of, standing, is_this, lasting};
 ghost use Rattle.sip_digest.specs.Rows.{bucket_of, nonces_in, buckets_of, gaps_in, IsNewest, AreLinked};
 
 use crate::Credential;
@@ -37,6 +40,14 @@ pub enum Worth {
     Right,
     Stale,
     Wrong,
+}
+
+/// What a credential is worth, and the word that its nonce's text names, where the credential is right: by it the nonce is
+/// found again.
+#[derive(Clone, Copy)]
+pub struct Checked {
+    pub worth: Worth,
+    pub word: Option<u128>,
 }
 
 /// A nonce that is kept, and how many rows stand between it and the next older one of its bucket. Where none is left,
@@ -102,33 +113,39 @@ impl Nonces {
     }
 
     /// What a credential is worth at a moment, where the user whose `a1` is given is the one it
-    /// names, and its form, realm and URI are right (RFC 2617 3.2.2, 3.3).
-    pub fn check(&self, a1: &[u8], credential: &Credential<'_>, now: u64) -> Worth
-        ensures { result ≡ worth_of self.now a1.now (shown credential.now) now }
+    /// names, and its form, realm and URI are right (RFC 2617 3.2.2, 3.3); and the word of its nonce, if the credential
+    /// is right.
+    pub fn check(&self, a1: &[u8], credential: &Credential<'_>, now: u64) -> Checked
+        ensures worth { result.worth ≡ worth_of self.now a1.now (shown credential.now) now }
+        ensures word { result.worth ≡ Right → result.word ≡ Texts.word_of credential.now.nonce.now }
     {
         if !credential.is_answer(a1) {
-            return Worth::Wrong;
+            return Checked {
+                worth: Worth::Wrong,
+                word: None,
+            };
         }
-        match word_of(credential.nonce) {
+        let word = word_of(credential.nonce);
+        let worth = match word {
             None => Worth::Stale,
-            Some(word) => standing(self.found(word, now), credential.count()),
-        }
+            Some(word) => standing(self.found(word, now), credential.count),
+        };
+        Checked { worth, word }
     }
 
-    /// Takes the count of a credential as the greatest that was accepted for the live nonce that it
-    /// names.
-    pub fn spend(&mut self, credential: &Credential<'_>, now: u64)
-        ensures { self.new ≡ spent_by self.old (shown credential.now) now }
+    /// Whether another's say the same from a moment on: from the first that lives they are the same, in their order, with their
+    /// counts (RFC 2617 3.2.1, 3.2.2). Takes no memory, and costs by the rows that stand.
+    pub fn is_same(&self, other: &Nonces, now: u64) -> bool
+        ensures { (result ≡ true) ↔ (lasting now self.now ≡ lasting now other.now) }
     {
-        if let Some(count) = credential.count() {
-            if let Some(word) = word_of(credential.nonce) {
-                self.accept(word, count, now);
-            }
-        }
+        let mine = first_live(&self.rows, now);
+        let others = first_live(&other.rows, now);
+        are_alike(&self.rows, mine, &other.rows, others)
     }
 
-    /// Takes a count as the greatest that was accepted for the live nonce of a word.
-    fn accept(&mut self, word: u128, count: u64, now: u64)
+    /// Takes a count as the greatest that was accepted for the live nonce of a word: so a credential is spent, by its
+    /// count and the word of its nonce.
+    pub fn accept(&mut self, word: u128, count: u64, now: u64)
         ensures { self.new ≡ counted word count self.old now }
     {
         if let Some(place) = self.place_of(word, now) {
@@ -235,6 +252,88 @@ fn is_this(nonce: &Nonce, word: u128, now: u64) -> bool
     ensures { result ≡ is_this word now nonce.now }
 {
     nonce.word == word && is_live(nonce, now)
+}
+
+/// The nonce at a place, if there is one.
+fn nonce_at(rows: &VecDeque<Row>, place: usize) -> Option<Nonce>
+    ensures { result ≡ slice_get (nonces_in rows.now.items) place }
+{
+    match rows.get(place) {
+        Some(row) => Some(row.nonce),
+        None => None,
+    }
+}
+
+/// Whether there is a nonce at a place, and it lives at a moment.
+fn lives_at(rows: &VecDeque<Row>, place: usize, now: u64) -> bool
+    ensures { result
+        ≡ option_map_or (Rattle.sip_digest.specs.Nonces.is_live now) (slice_get (nonces_in rows.now.items) place) false }
+{
+    match nonce_at(rows, place) {
+        Some(nonce) => is_live(&nonce, now),
+        None => false,
+    }
+}
+
+/// Where the first nonce stands that lives at a moment; past the last one where none does.
+fn first_live(rows: &VecDeque<Row>, now: u64) -> usize
+    ensures { drop result (nonces_in rows.now.items) ≡ lasting now (nonces_in rows.now.items) }
+{
+    for place in 0..rows.len() {
+        if lives_at(rows, place, now) {
+            return place;
+        }
+    }
+    rows.len()
+}
+
+/// Whether two nonces are equal.
+fn is_equal(left: &Nonce, right: &Nonce) -> bool
+    ensures { (result ≡ true) ↔ (left.now ≡ right.now) }
+{
+    if left.word != right.word {
+        return false;
+    }
+    if left.since != right.since {
+        return false;
+    }
+    left.count == right.count
+}
+
+/// Whether two nonces are equal, or there is neither.
+fn same_nonce(left: Option<Nonce>, right: Option<Nonce>) -> bool
+    ensures { (result ≡ true) ↔ (left ≡ right) }
+{
+    match (left, right) {
+        (Some(one), Some(other)) => is_equal(&one, &other),
+        (Some(_), None) => false,
+        (None, Some(_)) => false,
+        (None, None) => true,
+    }
+}
+
+/// Whether one list of rows has at a place the nonce that another has at a place of its own.
+fn same_at(left: &VecDeque<Row>, place: usize, right: &VecDeque<Row>, other: usize) -> bool
+    ensures { (result ≡ true) ↔ (slice_get (nonces_in left.now.items) place ≡ slice_get (nonces_in right.now.items) other) }
+{
+    same_nonce(nonce_at(left, place), nonce_at(right, other))
+}
+
+/// Whether two lists of rows have the same nonces, each from a place on.
+fn are_alike(left: &VecDeque<Row>, mine: usize, right: &VecDeque<Row>, others: usize) -> bool
+    ensures { (result ≡ true) ↔ (drop mine (nonces_in left.now.items) ≡ drop others (nonces_in right.now.items)) }
+{
+    let count = left.len().saturating_sub(mine);
+    let other_count = right.len().saturating_sub(others);
+    if count != other_count {
+        return false;
+    }
+    for at in 0..count {
+        if !same_at(left, mine + at, right, others + at) {
+            return false;
+        }
+    }
+    true
 }
 
 /// Whether a nonce lives at a moment.

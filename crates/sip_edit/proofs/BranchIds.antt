@@ -17,18 +17,11 @@ use Rattle.sip_text.proofs.PlainDecimals.{plain_read, plain_written, digits_alon
 use Rattle.sip_edit.specs.declared.branch_id.BranchId.{BranchId}
 use Rattle.sip_edit.specs.OwnVia.{branch_text}
 use Rattle.sip_edit.specs.BranchId.{behind, branch_front, id_from, branch_id_of}
+use Rattle.sip_uri.proofs.Dotted.{map_some, if_some}
 
 and_then_some : {A B : Type 0} (f : A → Option B) (o : Option A) (y : B) → option_and_then f o ≡ Some y → (x : A) × (o ≡ Some x) × (f x ≡ Some y)
 and_then_some f None y e = absurd cc
 and_then_some f (Some x) y e = (x, refl, e)
-
-map_some : {A B : Type 0} (f : A → B) (o : Option A) (y : B) → option_map f o ≡ Some y → (x : A) × (o ≡ Some x) × (f x ≡ y)
-map_some f None y e = absurd cc
-map_some f (Some x) y e = (x, refl, cc)
-
-if_some : {A : Type 0} (t : Bool) (x y : A) → (if t then Some x else None) ≡ Some y → (t ≡ true) × (x ≡ y)
-if_some true x y e = (refl, cc)
-if_some false x y e = absurd cc
 
 -- ---- a front
 

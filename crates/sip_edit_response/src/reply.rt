@@ -1,6 +1,6 @@
 //! The response that is made here to a request (RFC 3261 8.2.6): as a view, and as a text straight from the kept request.
 //! Which status and which further fields it has is decided by who calls.
-ghost use Rattle.std.specs.Prelude.{◌≡◌, ◌++◌, true, map, IfOk, OnOk};
+ghost use Rattle.std.specs.Prelude.{◌≡◌, ◌++◌, map, IfOk, OnOk};
 ghost use Rattle.sip_message_fields.specs.Named.{first_of};
 ghost use Rattle.sip_message_fields.specs.Values.{with_first};
 ghost use Rattle.sip_message_form.specs.Text.{text_of};
@@ -11,7 +11,7 @@ ghost use Rattle.sip_header.specs.NameAddr.{name_addr_of};
 use crate::reasons::reason_of;
 use crate::reply_text::{put_first_line, put_reply_fields, room_of};
 use crate::tags::ToTag;
-use sip_header::{bracketed_place, name_addr_of, tag_of};
+use sip_header::{tag_of, written_address_of};
 use sip_message_fields::{FieldName, Fields, Value, ViewField, ViewFields};
 use sip_message_form::{KeptParts, View, ViewStart, put_body};
 use sip_text::{Buffer, Bytes};
@@ -24,34 +24,14 @@ const SINGLE_FIELDS: usize = 5;
 /// counted first, since that would pass over all fields once more.
 const USUAL_REPLY: usize = 768;
 
-/// Whether the value of a To is an address in brackets and nothing else, which has no tag, as most are. `false` says
-/// nothing.
-fn is_plain_to(to: &[u8]) -> bool
-    ensures { result ≡ true → Reply.lacks_tag (name_addr_of to.now) ≡ true }
-{
-    bracketed_place(to).is_some()
-}
-
-/// Whether the value of a To of any form takes a tag. It stands apart, so that no room is made for an address where none is
-/// read.
-#[inline(never)]
-fn any_lacks_tag(alloc: Global, to: &[u8]) -> Result<bool, AllocError>
-    ensures { IfOk result (λ lacks. lacks ≡ Reply.lacks_tag (name_addr_of to.now)) }
-{
-    match name_addr_of(alloc, to)? {
-        Some(to) => Ok(tag_of(&to.parameters).is_none()),
-        None => Ok(false),
-    }
-}
-
 /// Whether the value of a To takes a tag.
 pub(crate) fn lacks_tag(alloc: Global, to: &[u8]) -> Result<bool, AllocError>
     ensures { IfOk result (λ lacks. lacks ≡ Reply.lacks_tag (name_addr_of to.now)) }
 {
-    if is_plain_to(to) {
-        return Ok(true);
+    match written_address_of(alloc, to)? {
+        Some(to) => Ok(tag_of(to.parameters()).is_none()),
+        None => Ok(false),
     }
-    any_lacks_tag(alloc, to)
 }
 
 /// The value of To in a response, of its own where a tag is added.

@@ -1,3 +1,5 @@
+//! A request as it goes on to its targets, as a view of its fields: what is the same for all of them, and the first line and the Via
+//! of one (RFC 3261 16.4, 16.6). Not in the program, which writes the text of `sip_edit`'s `tail`.
 ghost use Rattle.std.specs.Prelude.{◌≡◌, ◌∷◌, ◌++◌, IfOk, OnOk, [], decimal};
 ghost use Rattle.sip_message_form.specs.ViewStart.{start_seen};
 ghost use Rattle.sip_edit.specs.Onward as Spec;

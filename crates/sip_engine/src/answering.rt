@@ -1,18 +1,17 @@
-ghost use Rattle.std.specs.Prelude.{◌≡◌, false, Some, IfOk};
+ghost use Rattle.std.specs.Prelude.{◌≡◌, false, IfOk};
 ghost use Rattle.sip_engine_open.specs.transactions_model.Fits.{IsFinalAnswer};
-ghost use Rattle.sip_transaction_table.specs.Key.{key_of};
 ghost use Rattle.sip_core.specs.verdict_model.Verdict as Definition;
 ghost use Rattle.sip_engine_request.specs.Steps.{IsNew, IsWhole, Takes};
 
 use crate::keeping::keep;
+use crate::new_request::NewRequest;
 use sip_base::Shared;
 use sip_core::state::Server;
-use sip_engine_open::proxy::Proxy;
-use sip_engine_request::{Configured, KeyedRequest, NewRequest, take_answered, take_cancel};
+use sip_engine_open::proxy::{Configured, Proxy};
+use sip_engine_request::{KeyedRequest, take_answered, take_cancel};
 use sip_event::StepOut;
 use sip_message_fields::Fields;
 use sip_timers::Timers;
-use sip_transaction_table::Key;
 use std::alloc::{AllocError, Global};
 
 /// A new request is answered at once, with a status and further fields. `AllocError` is the only refusal; nothing is changed
@@ -21,22 +20,21 @@ pub(crate) fn answer<T: Timers>(
     alloc: Global,
     server: &Server,
     proxy: &mut Proxy<T>,
-    request: &NewRequest<'_>,
-    key: Shared<Key>,
+    request: NewRequest<'_>,
     status: u16,
     extras: &Fields,
 ) -> Result<StepOut, AllocError>
-    requires new { IsNew proxy.old.state request.now.arrival key }
-    requires key { key_of request.now.message.now ≡ Some key }
+    requires new { IsNew proxy.old.state request.received.now.arrival request.key }
     requires final_status { IsFinalAnswer status }
-    ensures does { IfOk result (λ out. Takes server.now proxy.old.state request.now.arrival request.now.message.now
+    ensures does { IfOk result (λ out. Takes server.now proxy.old.state request.entry.received.now.arrival request.entry.received.now.message.now
         (Definition.Answer status extras.now) out proxy.new.state) }
     ensures whole { IsWhole proxy.old proxy.new result }
 {
-    let arrival = request.arrival;
-    let message = keep(alloc, request)?;
+    let NewRequest { received, key } = request;
+    let key = Shared::new(alloc, key)?;
+    let message = keep(alloc, received)?;
     let keyed = KeyedRequest {
-        arrival,
+        arrival: received.arrival,
         key,
         request: message,
     };
@@ -49,21 +47,20 @@ pub(crate) fn cancel<T: Timers>(
     alloc: Global,
     configured: &Configured<'_>,
     proxy: &mut Proxy<T>,
-    request: &NewRequest<'_>,
-    key: Shared<Key>,
+    request: NewRequest<'_>,
 ) -> Result<StepOut, AllocError>
-    requires new { IsNew proxy.old.state request.now.arrival key }
-    requires key { key_of request.now.message.now ≡ Some key }
+    requires new { IsNew proxy.old.state request.received.now.arrival request.key }
     requires space { Definition.is_full proxy.old.state ≡ false }
-    ensures does { IfOk result (λ out. Takes configured.now.server.now proxy.old.state request.now.arrival request.now.message.now
-        (Definition.Cancel (Definition.found_for_cancel proxy.old.state key request.now.arrival.from)) out
+    ensures does { IfOk result (λ out. Takes configured.now.server.now proxy.old.state request.entry.received.now.arrival request.entry.received.now.message.now
+        (Definition.Cancel (Definition.found_for_cancel proxy.old.state request.entry.key request.entry.received.now.arrival.from)) out
         proxy.new.state) }
     ensures whole { IsWhole proxy.old proxy.new result }
 {
-    let arrival = request.arrival;
-    let message = keep(alloc, request)?;
+    let NewRequest { received, key } = request;
+    let key = Shared::new(alloc, key)?;
+    let message = keep(alloc, received)?;
     let keyed = KeyedRequest {
-        arrival,
+        arrival: received.arrival,
         key,
         request: message,
     };

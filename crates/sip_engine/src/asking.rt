@@ -1,11 +1,10 @@
 //! New requests about which policy was asked, carried out: answered here, or sent to their targets (RFC 3261 10.3, 16.5, 22).
 //! What policy wasn't asked about is carried out in `served`.
-ghost use Rattle.std.specs.Prelude.{◌≡◌, true, false, Some, IfOk};
+ghost use Rattle.std.specs.Prelude.{◌≡◌, true, false, IfOk};
 ghost use Rattle.sip_engine_request.specs.Admitting.{IsAnswered};
 ghost use Rattle.sip_core.specs.Verdict.{HasRoomFor, Is};
 ghost use Rattle.sip_core.specs.declared.verdict.Verdict.TheVariants as Arrived;
 ghost use Rattle.sip_core.specs.state.Names.{AreNames};
-ghost use Rattle.sip_transaction_table.specs.Key.{key_of};
 ghost use Rattle.sip_core.specs.verdict_model.Verdict as Definition;
 ghost use Rattle.sip_engine_request.specs.uas.Asking as Asking;
 ghost use Rattle.sip_engine_request.specs.Steps.{IsNew, IsWhole, Takes};
@@ -13,15 +12,16 @@ ghost use Rattle.sip_engine.specs.Delivery.{IsServed};
 
 use crate::going::go_to;
 use crate::keeping::keep;
+use crate::new_request::NewRequest;
 use sip_base::Shared;
 use sip_core::state::{Names, Server};
 use sip_core::{Judged, Outcome};
-use sip_engine_open::proxy::Proxy;
+use sip_engine_open::proxy::{Configured, Proxy};
 use sip_engine_request::uas::is_answered_here;
-use sip_engine_request::{Configured, KeyedRequest, NewRequest, Sending, take_judged};
+use sip_engine_request::{KeyedRequest, Sending, take_judged};
 use sip_event::StepOut;
 use sip_timers::Timers;
-use sip_transaction_table::{Held, Key};
+use sip_transaction_table::Held;
 use std::alloc::{AllocError, Global};
 
 /// A new request about which policy decided is answered here: challenged, denied, registered, or sent to nobody. `AllocError`
@@ -30,25 +30,24 @@ fn answer_judged<T: Timers>(
     alloc: Global,
     server: &Server,
     proxy: &mut Proxy<T>,
-    request: &NewRequest<'_>,
-    key: Shared<Key>,
+    request: NewRequest<'_>,
     judged: Held<Judged<'_>>,
 ) -> Result<StepOut, AllocError>
-    requires new { IsNew proxy.old.state request.now.arrival key }
-    requires key { key_of request.now.message.now ≡ Some key }
+    requires new { IsNew proxy.old.state request.received.now.arrival request.key }
     requires here { Asking.is_answered_here judged.outcome ≡ true }
     requires room { HasRoomFor proxy.old.room judged.outcome }
-    requires answers { IsAnswered server.now proxy.old.state.bindings request.now.arrival.now judged }
+    requires answers { IsAnswered server.now proxy.old.state.bindings request.received.now.arrival.now judged }
     ensures does { IfOk result (λ out. (verdict : Definition.Verdict)
-        → Is server.now proxy.old.state.bindings request.now.arrival.now
-        (Definition.found_for_cancel proxy.old.state key request.now.arrival.from) verdict (Arrived.Judged judged.entry)
-        → Takes server.now proxy.old.state request.now.arrival request.now.message.now verdict out proxy.new.state) }
+        → Is server.now proxy.old.state.bindings request.entry.received.now.arrival.now
+        (Definition.found_for_cancel proxy.old.state request.entry.key request.entry.received.now.arrival.from) verdict (Arrived.Judged judged.entry)
+        → Takes server.now proxy.old.state request.entry.received.now.arrival request.entry.received.now.message.now verdict out proxy.new.state) }
     ensures whole { IsWhole proxy.old proxy.new result }
 {
-    let arrival = request.arrival;
-    let message = keep(alloc, request)?;
+    let NewRequest { received, key } = request;
+    let key = Shared::new(alloc, key)?;
+    let message = keep(alloc, received)?;
     let keyed = KeyedRequest {
-        arrival,
+        arrival: received.arrival,
         key,
         request: message,
     };
@@ -61,20 +60,18 @@ fn send_judged<T: Timers>(
     alloc: Global,
     configured: &Configured<'_>,
     proxy: &mut Proxy<T>,
-    request: &NewRequest<'_>,
-    key: Shared<Key>,
+    request: NewRequest<'_>,
     names: &mut Option<Names>,
     judged: &Judged<'_>,
 ) -> Result<StepOut, AllocError>
-    requires new { IsNew proxy.old.state request.now.arrival key }
-    requires key { key_of request.now.message.now ≡ Some key }
-    requires names { AreNames request.now.message.now names.old }
+    requires new { IsNew proxy.old.state request.received.now.arrival request.key }
+    requires names { AreNames request.received.now.message.now names.old }
     requires there { Asking.is_answered_here judged.now.outcome ≡ false }
-    requires served { IsServed configured.now.server.now proxy.old.state request.now.arrival key (Arrived.Judged judged.now) }
+    requires served { IsServed configured.now.server.now proxy.old.state request.received.now.arrival request.key (Arrived.Judged judged.now) }
     ensures does { IfOk result (λ out. (verdict : Definition.Verdict)
-        → Is configured.now.server.now proxy.old.state.bindings request.now.arrival.now
-        (Definition.found_for_cancel proxy.old.state key request.now.arrival.from) verdict (Arrived.Judged judged.now)
-        → Takes configured.now.server.now proxy.old.state request.now.arrival request.now.message.now verdict out proxy.new.state) }
+        → Is configured.now.server.now proxy.old.state.bindings request.entry.received.now.arrival.now
+        (Definition.found_for_cancel proxy.old.state request.entry.key request.entry.received.now.arrival.from) verdict (Arrived.Judged judged.now)
+        → Takes configured.now.server.now proxy.old.state request.entry.received.now.arrival request.entry.received.now.message.now verdict out proxy.new.state) }
     ensures whole { IsWhole proxy.old proxy.new result }
 {
     let Outcome::Send(rule, targets) = &judged.outcome else {
@@ -86,7 +83,7 @@ fn send_judged<T: Timers>(
         rule,
         targets,
     };
-    go_to(alloc, configured, proxy, request, key, names, &sending)
+    go_to(alloc, configured, proxy, request, names, &sending)
 }
 
 /// The step of a new request about which policy decided: it is answered here, or goes to its targets (RFC 3261 10.3, 16.5,
@@ -95,24 +92,22 @@ pub(crate) fn take_asked<T: Timers>(
     alloc: Global,
     configured: &Configured<'_>,
     proxy: &mut Proxy<T>,
-    request: &NewRequest<'_>,
-    key: Shared<Key>,
+    request: NewRequest<'_>,
     names: &mut Option<Names>,
     judged: Held<Judged<'_>>,
 ) -> Result<StepOut, AllocError>
-    requires new { IsNew proxy.old.state request.now.arrival key }
-    requires key { key_of request.now.message.now ≡ Some key }
-    requires names { AreNames request.now.message.now names.old }
+    requires new { IsNew proxy.old.state request.received.now.arrival request.key }
+    requires names { AreNames request.received.now.message.now names.old }
     requires room { HasRoomFor proxy.old.room judged.outcome }
-    requires served { IsServed configured.now.server.now proxy.old.state request.now.arrival key (Arrived.Judged judged) }
+    requires served { IsServed configured.now.server.now proxy.old.state request.received.now.arrival request.key (Arrived.Judged judged) }
     ensures does { IfOk result (λ out. (verdict : Definition.Verdict)
-        → Is configured.now.server.now proxy.old.state.bindings request.now.arrival.now
-        (Definition.found_for_cancel proxy.old.state key request.now.arrival.from) verdict (Arrived.Judged judged.entry)
-        → Takes configured.now.server.now proxy.old.state request.now.arrival request.now.message.now verdict out proxy.new.state) }
+        → Is configured.now.server.now proxy.old.state.bindings request.entry.received.now.arrival.now
+        (Definition.found_for_cancel proxy.old.state request.entry.key request.entry.received.now.arrival.from) verdict (Arrived.Judged judged.entry)
+        → Takes configured.now.server.now proxy.old.state request.entry.received.now.arrival request.entry.received.now.message.now verdict out proxy.new.state) }
     ensures whole { IsWhole proxy.old proxy.new result }
 {
     if is_answered_here(&judged.get().outcome) {
-        return answer_judged(alloc, configured.server, proxy, request, key, judged);
+        return answer_judged(alloc, configured.server, proxy, request, judged);
     }
-    send_judged(alloc, configured, proxy, request, key, names, judged.get())
+    send_judged(alloc, configured, proxy, request, names, judged.get())
 }

@@ -12,15 +12,13 @@ ghost use Rattle.sip_engine_request.specs.Steps.{IsWhole, Takes};
 
 use crate::known::take_known;
 use crate::new::take_new;
-use crate::received_request::ReceivedRequest;
-use crate::received_response::ReceivedResponse;
 use crate::responses::take_reply;
 use sip_core::{Incoming, Judge, laws, read_datagram};
 use sip_engine_open::forwarding::Arrival;
-use sip_engine_open::proxy::Proxy;
+use sip_engine_open::proxy::{Configured, Proxy, ReceivedRequest, ReceivedResponse};
 use sip_engine_open::take_dropped;
-use sip_engine_request::Configured;
 use sip_event::StepOut;
+use sip_header::Via;
 use sip_message_form::View;
 use sip_policy::Rules;
 use sip_timers::Timers;
@@ -48,6 +46,35 @@ fn take_request<T: Timers, R: Rules>(
         Some(place) => take_known(alloc, judge, proxy, place, request),
         None => take_new(alloc, judge, proxy, key, request),
     }
+}
+
+/// The step of a request, of what was read of it: its method, the Via on top and its key. `AllocError` is the only refusal;
+/// nothing is changed then.
+fn take_read<T: Timers, R: Rules>(
+    alloc: Global,
+    judge: &Judge<R>,
+    proxy: &mut Proxy<T>,
+    arrival: Arrival,
+    message: &View<'_>,
+    short: bool,
+    method: &[u8],
+    via: Via<'_>,
+    key: Key,
+) -> Result<StepOut, AllocError>
+    requires coming { IsComing proxy.old.state arrival }
+    requires request { IsRequest message.now short method.now via key }
+    ensures does { IfOk result (λ out. Takes judge.now proxy.old.state arrival message.now
+        (Definition.message_verdict judge.now proxy.old.state (arrival_of arrival) message.now short) out proxy.new.state) }
+    ensures whole { IsWhole proxy.old proxy.new result }
+{
+    let request = ReceivedRequest {
+        arrival,
+        method,
+        message,
+        via,
+        short,
+    };
+    take_request(alloc, judge, proxy, key, &request)
 }
 
 /// The step of a message, of whose body fewer bytes may have come than its length says. `AllocError` is the only refusal;
@@ -88,16 +115,9 @@ fn take_message<T: Timers, R: Rules>(
             };
             take_reply(alloc, &configured, proxy, &response)
         }
-        Incoming::Request { method, via, key } => {
-            let request = ReceivedRequest {
-                arrival,
-                method,
-                message,
-                via,
-                short,
-            };
-            take_request(alloc, judge, proxy, key, &request)
-        }
+        Incoming::Request { method, via, key } => take_read(
+            alloc, judge, proxy, arrival, message, short, method, via, key,
+        ),
     }
 }
 

@@ -1,5 +1,5 @@
 //! The public calls of the server, and what each of them promises. The steps behind them are taken in `stepping`.
-ghost use Rattle.std.specs.Prelude.{◌≡◌, ◌≤◌, ◌<◌, ◌^◌, ◌⊎◌, ℕ, [], None, Some, Err, MatchOption, IsOk, IfOk, IfErr, IfSome, OnErr, OnOk};
+ghost use Rattle.std.specs.Prelude.{◌≡◌, ◌≤◌, ◌<◌, ◌^◌, ◌⊎◌, ℕ, true, [], None, Some, Err, MatchOption, IsOk, IfOk, IfErr, IfSome, OnErr, OnOk};
 ghost use Rattle.sip_event.specs.declared.event.Event.TheVariants.{Datagram, Fault};
 ghost use Rattle.sip_engine_open.specs.Faults.{failed_of};
 ghost use Rattle.sip_engine_open.specs.Next.{IsNext};
@@ -9,6 +9,7 @@ ghost use Rattle.sip_engine_open.specs.fork.request.Queued.{entries};
 ghost use Rattle.sip_engine_open.specs.fork.request.transactions_model.Queue.{entries_of, queue_after};
 ghost use Rattle.model_order.specs.Order.{IsFirstOf};
 ghost use Rattle.sip_location.specs.Binding.{live};
+ghost use Rattle.model_same.specs.SameAhead.{SameAhead};
 ghost use Rattle.sip_model.specs.steps_model.Step.{Given, Passing, IsDeadline, IsResend, IsStep, IsTime, NoneAgainBefore, NoneAgainBy};
 ghost use Rattle.sip_model.specs.steps_model.Step.{NoneBefore, NoneBy, moment_of};
 ghost use Rattle.sip_core.specs.state.State.{first_state};
@@ -22,7 +23,7 @@ ghost use Rattle.sip_engine.specs.declared.error.StepError.TheVariants.{NoMemory
 use crate::change_error::ChangeError;
 use crate::error::StepError;
 use crate::histories::reached_states_are_sound;
-use crate::stepping;
+use crate::stepping::{self, Coming};
 use sip_config_change::frame_key;
 use sip_config_change::laws::policy_in_the_old_frame_is_new;
 use sip_config_types::Config;
@@ -158,6 +159,18 @@ impl<T: Timers, R: Rules> Engine<T, R> {
         sip_engine_open::next_due(&self.proxy)
     }
 
+    /// Only where another server of the same configuration and word goes on as this one does: whatever comes, the same is sent
+    /// and recorded (`runs_same` of `model_same`). What one of them may hold and the other not is never asked for again: dead
+    /// nonces, expired bindings, dialogs that aren't known, the order of the known ones, and which INVITE began those with a
+    /// 2xx. Takes no memory, and costs by what stands in both.
+    pub fn is_same(&self, other: &Engine<T, R>) -> bool
+        ensures { result ≡ true → SameAhead self.now.state other.now.state }
+    {
+        let _judge = &self.judge;
+        let _other = &other.judge;
+        self.proxy.is_same(&other.proxy)
+    }
+
     /// The live bindings of an address of record at the last moment, in their order, lent. Takes no memory.
     pub fn bindings<'a>(&'a self, aor: &'a Aor) -> LiveBindings<'a>
         ensures { result ≡ live aor.now self.now.state.moment self.now.state.bindings }
@@ -215,15 +228,13 @@ impl<T: Timers, R: Rules> Engine<T, R> {
         ensures step { IfOk result (λ out. IsStep self.old.server self.old.state (Given (Datagram at word from bytes.now)) out self.new.state) }
         ensures secrets { self.new.secrets ≡ self.old.secrets }
     {
-        stepping::deliver(
-            self.alloc,
-            &self.judge,
-            &mut self.proxy,
+        let coming = Coming {
             at,
             word,
             from,
             bytes,
-        )
+        };
+        stepping::deliver(self.alloc, &self.judge, &mut self.proxy, &coming)
     }
 
     /// Hears that the packet of a ticket could not be sent (RFC 3261 16.9): an unheard branch has failed; any other packet is

@@ -3,29 +3,40 @@ ghost use Rattle.sip_core.specs.state.Names.{AreNames};
 
 use sip_base::Shared;
 use sip_core::state::{Heard, Names, Server};
-use sip_engine_request::NewRequest;
+use sip_engine_open::proxy::ReceivedRequest;
 use std::alloc::{AllocError, Global};
 
-/// Keeps a new request that is answered here. `AllocError` is the only refusal.
-pub(crate) fn keep(alloc: Global, request: &NewRequest<'_>) -> Result<Shared<Heard>, AllocError>
-    ensures { IfOk result (λ kept. kept ≡ request.now.message.now) }
+/// Keeps a request that is answered here. `AllocError` is the only refusal.
+pub(crate) fn keep(
+    alloc: Global,
+    request: &ReceivedRequest<'_>,
+) -> Result<Shared<Heard>, AllocError>
+    ensures { IfOk result (λ kept. kept ≡ record { message = request.now.message.now; source = request.now.arrival.from }) }
 {
-    Heard::of(alloc, request.message, request.via, request.arrival.from)
+    Heard::of(alloc, request.message, &request.via, request.arrival.from)
 }
 
-/// Keeps a new request that goes on from this server, with its names, where they were made. `AllocError` is the only refusal.
+/// Keeps a request that goes on from this server, with its names, where they were made. `AllocError` is the only refusal.
 pub(crate) fn keep_onward(
     alloc: Global,
     server: &Server,
-    request: &NewRequest<'_>,
+    request: &ReceivedRequest<'_>,
     names: &mut Option<Names>,
 ) -> Result<Shared<Heard>, AllocError>
     requires { AreNames request.now.message.now names.old }
-    ensures { IfOk result (λ kept. kept ≡ request.now.message.now) }
+    ensures { IfOk result (λ kept. kept ≡ record { message = request.now.message.now; source = request.now.arrival.from }) }
 {
     let own = &server.config.own;
     let realm = server.config.realm.as_slice();
     let from = request.arrival.from;
     let names = names.take();
-    Heard::onward(alloc, own, realm, request.message, request.via, from, names)
+    Heard::onward(
+        alloc,
+        own,
+        realm,
+        request.message,
+        &request.via,
+        from,
+        names,
+    )
 }

@@ -4,7 +4,6 @@ ghost use Rattle.std.specs.Prelude.{◌≡◌, ◌<◌, ◌&&◌, codes, length,
 ghost use Rattle.std.specs.Str.{bytes_eq};
 ghost use Rattle.sip_engine_open.specs.proxy.Proxy.{IsComing};
 ghost use Rattle.sip_core.specs.Verdict.{IsRequestOf};
-ghost use Rattle.sip_edit.specs.ReceivedRequest.{top_via};
 ghost use Rattle.sip_transaction_table.specs.declared.key.Key.{Key};
 ghost use Rattle.sip_engine_open.specs.forwarding.Arrivals.{arrival_of};
 ghost use Rattle.sip_core.specs.state.declared.open_request.OpenRequest.{OpenRequest};
@@ -14,14 +13,13 @@ ghost use Rattle.sip_engine_request.specs.Steps.{IsWhole, Takes};
 ghost use Rattle.sip_engine.specs.Delivery as Delivery;
 
 use crate::delivery_laws::acks_are_dropped_or_go_on;
-use crate::received_request::ReceivedRequest;
 use sip_core::state::OpenRequest;
 use sip_core::{Judge, Verdict};
 use sip_dialog::DialogId;
 use sip_engine_open::context::is_accepted;
-use sip_engine_open::proxy::Proxy;
+use sip_engine_open::proxy::{Configured, Proxy, ReceivedRequest};
 use sip_engine_open::{take_copy, take_dropped};
-use sip_engine_request::{Configured, NewRequest, send_ack};
+use sip_engine_request::send_ack;
 use sip_event::StepOut;
 use sip_policy::Rules;
 use sip_timers::Timers;
@@ -60,32 +58,18 @@ fn take_ack<T: Timers, R: Rules>(
 ) -> Result<StepOut, AllocError>
     requires coming { IsComing proxy.old.state ack.now.arrival }
     requires request { IsRequestOf ack.now.method.now ack.now.message.now.start }
-    requires via { top_via ack.now.message.now ≡ Some ack.now.via }
     ensures does { IfOk result (λ out. Takes judge.now proxy.old.state ack.now.arrival ack.now.message.now
         (Definition.ack_verdict judge.now proxy.old.state ack.now.arrival.now ack.now.message.now ack.now.short) out proxy.new.state) }
     ensures whole { IsWhole proxy.old proxy.new result }
 {
     acks_are_dropped_or_go_on();
-    let decided = proxy.ack_verdict(
-        alloc,
-        judge,
-        ack.arrival.now,
-        ack.message,
-        &ack.via,
-        ack.method,
-        ack.short,
-    )?;
+    let decided = proxy.ack_verdict(alloc, judge, ack)?;
     match way_on(decided) {
         Some((address, id)) => {
             let server = judge.server();
             let hops = judge.hops();
             let configured = Configured { server, hops };
-            let request = NewRequest {
-                arrival: ack.arrival,
-                message: ack.message,
-                via: &ack.via,
-            };
-            send_ack(alloc, &configured, proxy, &request, address, id)
+            send_ack(alloc, &configured, proxy, ack, address, id)
         }
         None => Ok(take_dropped(alloc, proxy, ack.arrival)),
     }
@@ -103,7 +87,6 @@ pub(crate) fn take_known<T: Timers, R: Rules>(
     requires coming { IsComing proxy.old.state request.now.arrival }
     requires place { place < length proxy.old.state.requests }
     requires request { IsRequestOf request.now.method.now request.now.message.now.start }
-    requires via { top_via request.now.message.now ≡ Some request.now.via }
     ensures does { IfOk result (λ out. (key : Key) (r : OpenRequest) → slice_get proxy.old.state.requests place ≡ Some r
         → Takes judge.now proxy.old.state request.now.arrival request.now.message.now
         (Definition.by_open judge.now proxy.old.state (arrival_of request.now.arrival) request.now.message.now request.now.short
@@ -115,14 +98,6 @@ pub(crate) fn take_known<T: Timers, R: Rules>(
     }
     let server = judge.server();
     let hops = judge.hops();
-    take_copy(
-        alloc,
-        server,
-        hops,
-        proxy,
-        request.arrival,
-        place,
-        request.method,
-        request.message,
-    )
+    let configured = Configured { server, hops };
+    take_copy(alloc, &configured, proxy, place, request)
 }

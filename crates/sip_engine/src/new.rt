@@ -2,7 +2,6 @@ ghost use Rattle.std.specs.Prelude.{◌≡◌, position, None, Some, IfOk, OnOk,
 ghost use Rattle.sip_engine_open.specs.fork.Firing.{KeepsOrder};
 ghost use Rattle.sip_engine_open.specs.proxy.Proxy.{IsComing};
 ghost use Rattle.sip_core.specs.Verdict.{IsRequestOf};
-ghost use Rattle.sip_edit.specs.ReceivedRequest.{top_via};
 ghost use Rattle.sip_transaction_table.specs.Key.{key_of};
 ghost use Rattle.sip_engine_open.specs.forwarding.Arrivals.{arrival_of};
 ghost use Rattle.sip_core.specs.state.State.{has_key};
@@ -10,12 +9,11 @@ ghost use Rattle.sip_core.specs.verdict_model.Verdict as Definition;
 ghost use Rattle.sip_engine_request.specs.Steps.{Takes};
 
 use crate::delivery_laws::new_requests_need_room;
-use crate::received_request::ReceivedRequest;
+use crate::new_request::NewRequest;
 use crate::served::serve;
 use sip_core::Judge;
-use sip_engine_open::proxy::Proxy;
+use sip_engine_open::proxy::{Configured, Proxy, ReceivedRequest};
 use sip_engine_request::uas::laws::new_verdict_answers_finally;
-use sip_engine_request::{Configured, NewRequest};
 use sip_event::StepOut;
 use sip_policy::Rules;
 use sip_timers::Timers;
@@ -33,7 +31,6 @@ pub(crate) fn take_new<T: Timers, R: Rules>(
 ) -> Result<StepOut, AllocError>
     requires coming { IsComing proxy.old.state received.now.arrival }
     requires request { IsRequestOf received.now.method.now received.now.message.now.start }
-    requires via { top_via received.now.message.now ≡ Some received.now.via }
     requires key { key_of received.now.message.now ≡ Some key }
     requires alone { position (has_key key) proxy.old.state.requests ≡ None }
     ensures does { IfOk result (λ out. Takes judge.now proxy.old.state received.now.arrival received.now.message.now
@@ -48,34 +45,13 @@ pub(crate) fn take_new<T: Timers, R: Rules>(
     new_verdict_answers_finally();
     let mut names = None;
     // Matched, not `?`: what was decided is large, and isn't moved so.
-    match proxy.verdict(
-        alloc,
-        judge,
-        received.arrival.now,
-        received.message,
-        &received.via,
-        received.method,
-        received.short,
-        &mut names,
-    ) {
+    match proxy.verdict(alloc, judge, received, &mut names) {
         Ok(decided) => {
             let server = judge.server();
             let hops = judge.hops();
             let configured = Configured { server, hops };
-            let request = NewRequest {
-                arrival: received.arrival,
-                message: received.message,
-                via: &received.via,
-            };
-            serve(
-                alloc,
-                &configured,
-                proxy,
-                &request,
-                key,
-                &mut names,
-                decided,
-            )
+            let request = NewRequest { received, key };
+            serve(alloc, &configured, proxy, request, &mut names, decided)
         }
         Err(_) => Err(AllocError),
     }

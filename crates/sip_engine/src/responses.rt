@@ -8,11 +8,9 @@ ghost use Rattle.sip_core.specs.state.declared.open_request.OpenRequest.{OpenReq
 ghost use Rattle.sip_core.specs.verdict_model.Verdict as Definition;
 ghost use Rattle.sip_engine_request.specs.Steps.{IsWhole, Takes};
 
-use crate::received_response::ReceivedResponse;
 use sip_core::laws;
-use sip_engine_open::proxy::Proxy;
+use sip_engine_open::proxy::{Configured, Proxy, ReceivedResponse};
 use sip_engine_open::{take_dropped, take_response};
-use sip_engine_request::Configured;
 use sip_event::StepOut;
 use sip_timers::Timers;
 use std::alloc::{AllocError, Global};
@@ -45,17 +43,7 @@ fn take_found<T: Timers>(
     ensures whole { IsWhole proxy.old proxy.new result }
 {
     if is_taken(proxy, place, branch, response.has_more_vias) {
-        return take_response(
-            alloc,
-            configured.server,
-            configured.hops,
-            proxy,
-            response.arrival,
-            place,
-            branch,
-            response.status,
-            response.message,
-        );
+        return take_response(alloc, configured, proxy, response, place, branch);
     }
     Ok(take_dropped(alloc, proxy, response.arrival))
 }

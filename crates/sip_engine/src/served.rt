@@ -1,7 +1,6 @@
-ghost use Rattle.std.specs.Prelude.{◌≡◌, Some, IfOk};
+ghost use Rattle.std.specs.Prelude.{IfOk};
 ghost use Rattle.sip_core.specs.Verdict.{HasRoom, Is};
 ghost use Rattle.sip_core.specs.state.Names.{AreNames};
-ghost use Rattle.sip_transaction_table.specs.Key.{key_of};
 ghost use Rattle.sip_core.specs.verdict_model.Verdict as Definition;
 ghost use Rattle.sip_engine_request.specs.Steps.{IsNew, IsWhole, Takes};
 ghost use Rattle.sip_engine.specs.Delivery.{IsServed};
@@ -9,15 +8,14 @@ ghost use Rattle.sip_engine.specs.Delivery.{IsServed};
 use crate::answering::{answer, cancel};
 use crate::asking::take_asked;
 use crate::going::go_within;
-use sip_base::Shared;
+use crate::new_request::NewRequest;
 use sip_core::Verdict;
 use sip_core::state::Names;
-use sip_engine_open::proxy::Proxy;
+use sip_engine_open::proxy::{Configured, Proxy};
 use sip_engine_open::take_dropped;
-use sip_engine_request::{Configured, NewRequest, send_ack};
+use sip_engine_request::send_ack;
 use sip_event::StepOut;
 use sip_timers::Timers;
-use sip_transaction_table::Key;
 use std::alloc::{AllocError, Global};
 
 /// The step of a new request, of what was decided about it. `AllocError` is the only refusal; nothing is changed then.
@@ -25,48 +23,32 @@ pub(crate) fn serve<T: Timers>(
     alloc: Global,
     configured: &Configured<'_>,
     proxy: &mut Proxy<T>,
-    request: &NewRequest<'_>,
-    key: Key,
+    request: NewRequest<'_>,
     names: &mut Option<Names>,
     decided: Verdict<'_>,
 ) -> Result<StepOut, AllocError>
-    requires new { IsNew proxy.old.state request.now.arrival key }
-    requires key { key_of request.now.message.now ≡ Some key }
-    requires names { AreNames request.now.message.now names.old }
+    requires new { IsNew proxy.old.state request.received.now.arrival request.key }
+    requires names { AreNames request.received.now.message.now names.old }
     requires room { HasRoom proxy.old.room decided }
-    requires served { IsServed configured.now.server.now proxy.old.state request.now.arrival key decided }
+    requires served { IsServed configured.now.server.now proxy.old.state request.received.now.arrival request.key decided }
     ensures does { IfOk result (λ out. (verdict : Definition.Verdict)
-        → Is configured.now.server.now proxy.old.state.bindings request.now.arrival.now
-        (Definition.found_for_cancel proxy.old.state key request.now.arrival.from) verdict decided.entry
-        → Takes configured.now.server.now proxy.old.state request.now.arrival request.now.message.now verdict out proxy.new.state) }
+        → Is configured.now.server.now proxy.old.state.bindings request.entry.received.now.arrival.now
+        (Definition.found_for_cancel proxy.old.state request.entry.key request.entry.received.now.arrival.from) verdict decided.entry
+        → Takes configured.now.server.now proxy.old.state request.entry.received.now.arrival request.entry.received.now.message.now verdict out proxy.new.state) }
     ensures whole { IsWhole proxy.old proxy.new result }
 {
     match decided {
-        Verdict::Dropped => Ok(take_dropped(alloc, proxy, request.arrival)),
-        Verdict::AckOn(address, id) => send_ack(alloc, configured, proxy, request, address, id),
-        Verdict::Cancel => {
-            let key = Shared::new(alloc, key)?;
-            cancel(alloc, configured, proxy, request, key)
+        Verdict::Dropped => Ok(take_dropped(alloc, proxy, request.received.arrival)),
+        Verdict::AckOn(address, id) => {
+            send_ack(alloc, configured, proxy, request.received, address, id)
         }
+        Verdict::Cancel => cancel(alloc, configured, proxy, request),
         Verdict::Answer(status, extras) => {
-            let key = Shared::new(alloc, key)?;
-            answer(
-                alloc,
-                configured.server,
-                proxy,
-                request,
-                key,
-                status,
-                &extras,
-            )
+            answer(alloc, configured.server, proxy, request, status, &extras)
         }
         Verdict::InDialog(address, id) => {
-            let key = Shared::new(alloc, key)?;
-            go_within(alloc, configured, proxy, request, key, names, address, id)
+            go_within(alloc, configured, proxy, request, names, (address, id))
         }
-        Verdict::Judged(judged) => {
-            let key = Shared::new(alloc, key)?;
-            take_asked(alloc, configured, proxy, request, key, names, judged)
-        }
+        Verdict::Judged(judged) => take_asked(alloc, configured, proxy, request, names, judged),
     }
 }

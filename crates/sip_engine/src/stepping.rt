@@ -16,7 +16,7 @@ use crate::histories::reached_states_are_sound;
 use crate::take_datagram;
 use sip_core::Judge;
 use sip_engine_open::forwarding::Arrival;
-use sip_engine_open::proxy::Proxy;
+use sip_engine_open::proxy::{Configured, Proxy};
 use sip_event::{StepOut, Ticket};
 use sip_policy::Rules;
 use sip_timers::Timers;
@@ -78,8 +78,21 @@ pub(crate) fn fire<T: Timers, R: Rules>(
     }
     reached_states_are_sound();
     let now = moment_of(proxy, at);
-    let out = sip_engine_open::fire(alloc, judge.server(), judge.hops(), proxy, now)?;
+    let server = judge.server();
+    let hops = judge.hops();
+    let configured = Configured { server, hops };
+    let out = sip_engine_open::fire(alloc, &configured, proxy, now)?;
     Ok(out)
+}
+
+/// A datagram as it is handed in: when it came, in milliseconds, the word that makes the nonce of a challenge, its source, and
+/// its bytes.
+#[derive(Drop)]
+pub(crate) struct Coming<'a> {
+    pub(crate) at: u64,
+    pub(crate) word: u128,
+    pub(crate) from: Addr,
+    pub(crate) bytes: &'a [u8],
 }
 
 /// Takes a datagram that came from an address.
@@ -87,23 +100,20 @@ pub(crate) fn deliver<T: Timers, R: Rules>(
     alloc: Global,
     judge: &Judge<R>,
     proxy: &mut Proxy<T>,
-    at: u64,
-    word: u128,
-    from: Addr,
-    bytes: &[u8],
+    coming: &Coming<'_>,
 ) -> Result<StepOut, StepError>
     requires reached { IsReached judge.now proxy.old.state }
-    requires none_due { at < 2 ^ 62 → NoneBy (moment_of proxy.old.state at) proxy.old.state.requests
-        × NoneAgainBy (moment_of proxy.old.state at) proxy.old.state.requests }
-    ensures refused { IfSome (refusal_of proxy.old.state at) (λ e. result ≡ Err e) }
-    ensures otherwise { refusal_of proxy.old.state at ≡ None → IfErr result (λ e. e ≡ NoMemory) }
+    requires none_due { coming.now.at < 2 ^ 62 → NoneBy (moment_of proxy.old.state coming.now.at) proxy.old.state.requests
+        × NoneAgainBy (moment_of proxy.old.state coming.now.at) proxy.old.state.requests }
+    ensures refused { IfSome (refusal_of proxy.old.state coming.now.at) (λ e. result ≡ Err e) }
+    ensures otherwise { refusal_of proxy.old.state coming.now.at ≡ None → IfErr result (λ e. e ≡ NoMemory) }
     ensures unchanged { OnErr result (proxy.new.state ≡ proxy.old.state) }
     ensures timers { OnErr result (proxy.new.timers ≡ proxy.old.timers) }
     ensures queue { OnOk result (KeepsOrder proxy.old.timers proxy.new.timers proxy.new.state.requests) }
-    ensures step { IfOk result (λ out. IsStep judge.now proxy.old.state (Given (Datagram at word from bytes.now)) out proxy.new.state) }
+    ensures step { IfOk result (λ out. IsStep judge.now proxy.old.state (Given (Datagram coming.now.at coming.now.word coming.now.from coming.now.bytes.now)) out proxy.new.state) }
     ensures secrets { proxy.new.secrets ≡ proxy.old.secrets }
 {
-    if is_too_large(at) {
+    if is_too_large(coming.at) {
         return Err(StepError::MomentTooLarge);
     }
     if is_too_large(proxy.next()) {
@@ -111,14 +121,14 @@ pub(crate) fn deliver<T: Timers, R: Rules>(
     }
     reached_states_are_sound();
     let number = proxy.next();
-    let now = moment_of(proxy, at);
+    let now = moment_of(proxy, coming.at);
     let arrival = Arrival {
         number,
         now,
-        word,
-        from,
+        word: coming.word,
+        from: coming.from,
     };
-    let out = take_datagram(alloc, judge, proxy, arrival, bytes)?;
+    let out = take_datagram(alloc, judge, proxy, arrival, coming.bytes)?;
     Ok(out)
 }
 
@@ -146,6 +156,9 @@ pub(crate) fn fault<T: Timers, R: Rules>(
         return Err(StepError::MomentTooLarge);
     }
     let now = moment_of(proxy, at);
-    let out = sip_engine_open::fault(alloc, judge.server(), judge.hops(), proxy, now, ticket)?;
+    let server = judge.server();
+    let hops = judge.hops();
+    let configured = Configured { server, hops };
+    let out = sip_engine_open::fault(alloc, &configured, proxy, now, ticket)?;
     Ok(out)
 }

@@ -1,6 +1,6 @@
 -- The branch that a ticket names, and what its fault does.
-use Rattle.std.proofs.Common.{◌≡◌, ◌∙◌, ℕ, Bool, zero, suc, ◌<◌, List, [], ◌∷◌, find, length, slice_get, position, Contains, Option, Result, Some, None, Ok, Err, IfOk}
-use Rattle.std.proofs.Common.{IsSome, is_some, refl, sym, ap, subst, true≢false, arith}
+use Rattle.std.proofs.Common.{◌≡◌, ◌∙◌, ℕ, Bool, ◌<◌, List, [], ◌∷◌, find, slice_get, position, Contains, Option, Result, Some, None, Ok, Err, IfOk}
+use Rattle.std.proofs.Common.{IsSome, is_some, refl, sym, ap, subst, true≢false}
 use Rattle.std.specs.Prelude.{option_map, ◌==◌}
 use Rattle.std.specs.Option.{option_and_then, unwrap_or}
 use Rattle.std.specs.declared.alloc.AllocError.{AllocError}
@@ -26,28 +26,9 @@ use Rattle.sip_engine_open.specs.TimeSteps.{IsDraftOf, Leaves}
 use Rattle.sip_engine_open.proofs.Drafts.{IsDraftAt}
 use Rattle.sip_engine_open.proofs.Lists.{at_place, contained, found_at, found_within}
 use Rattle.sip_engine_open.proofs.Steps.{change_done, nothing_done}
+use Rattle.sip_engine_open.proofs.Found.{with_branch}
 
 -- ---- places
-
-pub place_within : (requests : List OpenRequest) (place branch : ℕ) → IsSome (branch_at requests (place, branch)) → place < length requests
-place_within [] place branch some = absurd (true≢false (sym some))
-place_within (r ∷ rs) zero branch some = omega arith
-place_within (r ∷ rs) (suc k) branch some = let h : k < length rs = place_within rs k branch some in omega (arith, h)
-
--- the branches of a request
-in_branches : (r : OpenRequest) (branches : List Branch) (branch : ℕ) → IsSome {T = OpenRequest × Branch}
-    (option_map (λ (b : Branch). (r, b)) (slice_get branches branch)) → branch < length branches
-in_branches r [] branch some = absurd (true≢false (sym some))
-in_branches r (b ∷ bs) zero some = omega arith
-in_branches r (b ∷ bs) (suc k) some = let h : k < length bs = in_branches r bs k some in omega (arith, h)
-
--- a request with its branch at a place, if there are such
-abbrev pub with_branch : ℕ → Option OpenRequest → Option (OpenRequest × Branch)
-with_branch branch o = option_and_then (λ (r : OpenRequest). option_map (λ (b : Branch). (r, b)) (slice_get r.branches branch)) o
-
-pub branch_within : (requests : List OpenRequest) (place branch : ℕ) (r : OpenRequest) → IsSome (branch_at requests (place, branch)) → slice_get requests place ≡ Some r
-    → branch < length r.branches
-branch_within requests place branch r some at = in_branches r r.branches branch (subst (λ (o : Option OpenRequest). IsSome (with_branch branch o)) at some)
 
 -- what was read at both places is what is found there
 read_is : (requests : List OpenRequest) (place branch : ℕ) (x : OpenRequest) (b : Branch) → slice_get requests place ≡ Some x → slice_get x.branches branch ≡ Some b

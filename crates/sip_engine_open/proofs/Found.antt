@@ -32,7 +32,7 @@ place_within (r ∷ rs) zero branch some = omega arith
 place_within (r ∷ rs) (suc k) branch some = let h : k < length rs = place_within rs k branch some in omega (arith, h)
 
 -- the branches of a request
-in_branches : (r : OpenRequest) (branches : List Branch) (branch : ℕ) → IsSome {T = OpenRequest × Branch}
+pub in_branches : (r : OpenRequest) (branches : List Branch) (branch : ℕ) → IsSome {T = OpenRequest × Branch}
     (option_map (λ (b : Branch). (r, b)) (slice_get branches branch)) → branch < length branches
 in_branches r [] branch some = absurd (true≢false (sym some))
 in_branches r (b ∷ bs) zero some = omega arith

@@ -18,13 +18,10 @@ ghost use Rattle.sip_core.specs.verdict_model.Verdict.{Copy};
 use crate::counting::{change, pass};
 use sip_core::is_ack;
 use sip_dialog_lessons::Lessons;
-use sip_dialog_lessons::state::Server;
 use sip_event::StepOut;
-use sip_hops::Hops;
-use sip_message_form::View;
 use sip_proxy::context::Input;
 use sip_proxy::forwarding::{Arrival, Drafted, copy_packets};
-use sip_proxy::{Draft, Proxy};
+use sip_proxy::{Configured, Draft, Proxy, ReceivedRequest};
 use sip_text::Items;
 use sip_timers::Timers;
 use std::alloc::{AllocError, Global};
@@ -33,8 +30,7 @@ use std::alloc::{AllocError, Global};
 /// is the only refusal.
 fn draft_ack<T: Timers>(
     alloc: Global,
-    server: &Server,
-    hops: &Hops,
+    configured: &Configured<'_>,
     proxy: &Proxy<T>,
     now: u64,
     place: usize,
@@ -48,7 +44,7 @@ fn draft_ack<T: Timers>(
     ensures sends { IfOk result (λ draft. draft.drafted.packets ≡ []) }
     ensures tells { IfOk result (λ draft. draft.drafted.lessons ≡ []) }
 {
-    let draft = proxy.draft_input(alloc, server, hops, now, place, Input::Ack)?;
+    let draft = proxy.draft_input(alloc, configured, now, place, Input::Ack)?;
     let Draft {
         change,
         drafted: _drafted,
@@ -64,8 +60,7 @@ fn draft_ack<T: Timers>(
 /// refusal; nothing is changed then.
 fn acknowledge<T: Timers>(
     alloc: Global,
-    server: &Server,
-    hops: &Hops,
+    configured: &Configured<'_>,
     proxy: &mut Proxy<T>,
     arrival: Arrival,
     place: usize,
@@ -81,7 +76,7 @@ fn acknowledge<T: Timers>(
     ensures queue { OnOk result (KeepsOrder proxy.old.timers proxy.new.timers proxy.new.state.requests) }
     ensures secrets { proxy.new.secrets ≡ proxy.old.secrets }
 {
-    let draft = draft_ack(alloc, server, hops, proxy, arrival.now, place)?;
+    let draft = draft_ack(alloc, configured, proxy, arrival.now, place)?;
     change(alloc, proxy, arrival, place, draft)
 }
 
@@ -109,32 +104,31 @@ fn answer_again<T: Timers>(
     Ok(pass(alloc, proxy, arrival, packets))
 }
 
-/// The step of a request of a method with the key of the open request at a place: an ACK acknowledges its final answer; any
+/// The step of a request with the key of the open request at a place: an ACK acknowledges its final answer; any
 /// other is a copy and gets the last answer again, but no 2xx to an INVITE, and nothing once an ACK came or the transaction
 /// ended (RFC 3261 13.3.1.4, 17.2). `AllocError` is the only refusal; nothing is changed then.
 pub fn take_copy<T: Timers>(
     alloc: Global,
-    server: &Server,
-    hops: &Hops,
+    configured: &Configured<'_>,
     proxy: &mut Proxy<T>,
-    arrival: Arrival,
     place: usize,
-    method: &[u8],
-    request: &View<'_>,
+    request: &ReceivedRequest<'_>,
 ) -> Result<StepOut, AllocError>
-    requires coming { IsComing proxy.old.state arrival }
+    requires coming { IsComing proxy.old.state request.now.arrival }
     requires place { place < length proxy.old.state.requests }
-    requires request { IsRequestOf method.now request.now.start }
+    requires request { IsRequestOf request.now.method.now request.now.message.now.start }
     ensures does { IfOk result (λ out. (r : OpenRequest) → slice_get proxy.old.state.requests place ≡ Some r
-        → Does server.now proxy.old.state arrival.now (effect_of server.now (arrival_of arrival) request.now (Copy r)
-        (counted (arrival_of arrival) proxy.old.state)) out proxy.new.state) }
+        → Does configured.now.server.now proxy.old.state request.now.arrival.now
+        (effect_of configured.now.server.now (arrival_of request.now.arrival) request.now.message.now (Copy r)
+        (counted (arrival_of request.now.arrival) proxy.old.state)) out proxy.new.state) }
     ensures unchanged { OnErr result (proxy.new.state ≡ proxy.old.state) }
     ensures timers { OnErr result (proxy.new.timers ≡ proxy.old.timers) }
     ensures queue { OnOk result (KeepsOrder proxy.old.timers proxy.new.timers proxy.new.state.requests) }
     ensures secrets { proxy.new.secrets ≡ proxy.old.secrets }
 {
-    if is_ack(method) {
-        return acknowledge(alloc, server, hops, proxy, arrival, place);
+    let arrival = request.arrival;
+    if is_ack(request.method) {
+        return acknowledge(alloc, configured, proxy, arrival, place);
     }
     answer_again(alloc, proxy, arrival, place)
 }

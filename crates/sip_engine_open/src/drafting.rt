@@ -7,12 +7,11 @@ ghost use Rattle.sip_dialog_lessons.specs.state.declared.server.Server as Declar
 ghost use Rattle.sip_proxy.specs.fork.Ending.{IsDeadlineOf, ended};
 ghost use Rattle.sip_engine_open.specs.TimeSteps.{IsDueAs, IsFired, IsLastOf, IsOfPart, IsQuietEnd, ending_of};
 
-use sip_dialog_lessons::state::{Branch, OpenRequest, Server};
-use sip_hops::Hops;
+use sip_dialog_lessons::state::{Branch, OpenRequest};
 use sip_proxy::context::Input;
 use sip_proxy::fork::{Due, First};
 use sip_proxy::transaction_table::Transaction;
-use sip_proxy::{Draft, Proxy};
+use sip_proxy::{Configured, Draft, Proxy};
 use sip_timers::Timers;
 use std::alloc::{AllocError, Global};
 
@@ -78,8 +77,7 @@ pub(crate) fn quiet_end<T: Timers>(proxy: &Proxy<T>, first: First) -> Option<Tra
 /// Drafts what is due first, at its own moment. `AllocError` is the only refusal.
 pub(crate) fn draft_first<T: Timers>(
     alloc: Global,
-    server: &Server,
-    hops: &Hops,
+    configured: &Configured<'_>,
     proxy: &Proxy<T>,
     first: First,
 ) -> Result<Draft, AllocError>
@@ -87,11 +85,11 @@ pub(crate) fn draft_first<T: Timers>(
     requires later { proxy.now.state.moment ≤ first.due }
     requires small { first.due < 2 ^ 62 }
     ensures fired { IfOk result (λ draft. (r : OpenRequest) → slice_get proxy.now.state.requests first.place ≡ Some r
-        → IsFired hops.now.addresses server.now first.due first.what r draft) }
+        → IsFired configured.now.hops.now.addresses configured.now.server.now first.due first.what r draft) }
     ensures kept { IfOk result (λ draft. (r : OpenRequest) → slice_get proxy.now.state.requests first.place ≡ Some r
         → IsKeptAs first.due r draft.change) }
     ensures few { IfOk result (λ draft. beginnings draft.drafted.lessons ≤ 1) }
 {
     let input = input_of(proxy.get(first.place), first);
-    proxy.draft_input(alloc, server, hops, first.due, first.place, input)
+    proxy.draft_input(alloc, configured, first.due, first.place, input)
 }

@@ -15,11 +15,10 @@ ghost use Rattle.sip_engine_open.specs.TimeSteps.{IsDraftOf};
 
 use crate::drafting::branch_of;
 use crate::stepping::{change, pass};
-use sip_dialog_lessons::state::{Branch, OpenRequest, Phase, Server};
+use sip_dialog_lessons::state::{Branch, OpenRequest, Phase};
 use sip_event::{StepOut, Ticket};
-use sip_hops::Hops;
 use sip_proxy::context::Input;
-use sip_proxy::{Draft, Proxy};
+use sip_proxy::{Configured, Draft, Proxy};
 use sip_timers::Timers;
 use std::alloc::{AllocError, Global};
 
@@ -77,8 +76,7 @@ fn find_failed<T: Timers>(proxy: &Proxy<T>, ticket: Ticket) -> Option<(usize, us
 /// only refusal.
 fn draft_fault<T: Timers>(
     alloc: Global,
-    server: &Server,
-    hops: &Hops,
+    configured: &Configured<'_>,
     proxy: &Proxy<T>,
     now: u64,
     place: usize,
@@ -88,21 +86,20 @@ fn draft_fault<T: Timers>(
     requires later { proxy.now.state.moment ≤ now }
     requires small { now < 2 ^ 62 }
     ensures draft { IfOk result (λ draft. (found : OpenRequest × Branch) → branch_at proxy.now.state.requests (place, branch) ≡ Some found
-        → IsDraftOf hops.now.addresses server.now now (send_failed server.now now found.0 found.1) draft) }
+        → IsDraftOf configured.now.hops.now.addresses configured.now.server.now now (send_failed configured.now.server.now now found.0 found.1) draft) }
     ensures kept { IfOk result (λ draft. (r : OpenRequest) → slice_get proxy.now.state.requests place ≡ Some r → IsKeptAs now r draft.change) }
     ensures few { IfOk result (λ draft. beginnings draft.drafted.lessons ≤ 1) }
 {
     found_places_are_within();
     let branch = branch_of(proxy.get(place), branch);
-    proxy.draft_input(alloc, server, hops, now, place, Input::SendFault { branch })
+    proxy.draft_input(alloc, configured, now, place, Input::SendFault { branch })
 }
 
 /// The branch at a place of the open request at a place could not be sent to. `AllocError` is the only refusal; nothing is
 /// changed then.
 fn fail<T: Timers>(
     alloc: Global,
-    server: &Server,
-    hops: &Hops,
+    configured: &Configured<'_>,
     proxy: &mut Proxy<T>,
     now: u64,
     place: usize,
@@ -110,9 +107,9 @@ fn fail<T: Timers>(
 ) -> Result<StepOut, AllocError>
     requires found { IsSome (branch_at proxy.old.state.requests (place, branch)) }
     requires moment { MayCome proxy.old.state now }
-    requires rows { hops.now.addresses ≡ server.now.config.addresses }
     ensures does { IfOk result (λ out. (found : OpenRequest × Branch) → branch_at proxy.old.state.requests (place, branch) ≡ Some found
-        → Does server.now proxy.old.state now (changed server.now now proxy.old.state (send_failed server.now now found.0 found.1)) out
+        → Does configured.now.server.now proxy.old.state now
+        (changed configured.now.server.now now proxy.old.state (send_failed configured.now.server.now now found.0 found.1)) out
         proxy.new.state) }
     ensures at_moment { IfOk result (λ out. out.at ≡ now) }
     ensures moment { IfOk result (λ out. proxy.new.state.moment ≡ now) }
@@ -123,7 +120,7 @@ fn fail<T: Timers>(
     ensures secrets { proxy.new.secrets ≡ proxy.old.secrets }
 {
     found_places_are_within();
-    let draft = draft_fault(alloc, server, hops, proxy, now, place, branch)?;
+    let draft = draft_fault(alloc, configured, proxy, now, place, branch)?;
     change(alloc, proxy, now, place, draft)
 }
 
@@ -131,16 +128,14 @@ fn fail<T: Timers>(
 /// any other fault changes the moment alone, and takes no memory. `AllocError` is the only refusal; nothing is changed then.
 pub fn fault<T: Timers>(
     alloc: Global,
-    server: &Server,
-    hops: &Hops,
+    configured: &Configured<'_>,
     proxy: &mut Proxy<T>,
     now: u64,
     ticket: Ticket,
 ) -> Result<StepOut, AllocError>
     requires moment { MayCome proxy.old.state now }
-    requires rows { hops.now.addresses ≡ server.now.config.addresses }
     ensures step { IfOk result (λ out. (at : ℕ) → now ≡ moment_of proxy.old.state at
-        → IsFault server.now proxy.old.state at ticket out proxy.new.state) }
+        → IsFault configured.now.server.now proxy.old.state at ticket out proxy.new.state) }
     ensures never_refused { failed_of ticket proxy.old.state.requests ≡ None → IsOk result }
     ensures at_moment { IfOk result (λ out. out.at ≡ now) }
     ensures moment { IfOk result (λ out. proxy.new.state.moment ≡ now) }
@@ -151,7 +146,7 @@ pub fn fault<T: Timers>(
     ensures secrets { proxy.new.secrets ≡ proxy.old.secrets }
 {
     if let Some((place, branch)) = find_failed(proxy, ticket) {
-        return fail(alloc, server, hops, proxy, now, place, branch);
+        return fail(alloc, configured, proxy, now, place, branch);
     }
     Ok(pass(alloc, proxy, now))
 }

@@ -8,11 +8,9 @@ ghost use Rattle.sip_engine_open.specs.Timers.{IsFiredFirst};
 use crate::drafting::{draft_first, quiet_end};
 use crate::next::due_by;
 use crate::stepping::{change, end, pass};
-use sip_dialog_lessons::state::Server;
 use sip_event::StepOut;
-use sip_hops::Hops;
-use sip_proxy::Proxy;
 use sip_proxy::fork::First;
+use sip_proxy::{Configured, Proxy};
 use sip_timers::Timers;
 use std::alloc::{AllocError, Global};
 
@@ -20,8 +18,7 @@ use std::alloc::{AllocError, Global};
 /// refusal; nothing is changed then.
 fn fire_first<T: Timers>(
     alloc: Global,
-    server: &Server,
-    hops: &Hops,
+    configured: &Configured<'_>,
     proxy: &mut Proxy<T>,
     first: First,
 ) -> Result<StepOut, AllocError>
@@ -29,9 +26,8 @@ fn fire_first<T: Timers>(
     requires in_order { IsOfFirst proxy.old.timers proxy.old.state.requests first }
     requires later { proxy.old.state.moment ≤ first.due }
     requires small { first.due < 2 ^ 62 }
-    requires rows { hops.now.addresses ≡ server.now.config.addresses }
     ensures step { IfOk result (λ out. (now : ℕ) → first.due ≤ now
-        → IsFiredFirst server.now proxy.old.timers proxy.old.state now out proxy.new.state) }
+        → IsFiredFirst configured.now.server.now proxy.old.timers proxy.old.state now out proxy.new.state) }
     ensures at_first { IfOk result (λ out. out.at ≡ first.due) }
     ensures at_moment { IfOk result (λ out. out.at ≡ proxy.new.state.moment) }
     ensures next_stays { IfOk result (λ out. proxy.new.state.next ≡ proxy.old.state.next) }
@@ -43,7 +39,7 @@ fn fire_first<T: Timers>(
     if let Some(transaction) = quiet_end(proxy, first) {
         return Ok(end(alloc, proxy, first.due, first.place, transaction));
     }
-    let draft = draft_first(alloc, server, hops, proxy, first)?;
+    let draft = draft_first(alloc, configured, proxy, first)?;
     change(alloc, proxy, first.due, first.place, draft)
 }
 
@@ -53,25 +49,23 @@ fn fire_first<T: Timers>(
 /// taken. `AllocError` is the only refusal; nothing is changed then.
 pub fn fire<T: Timers>(
     alloc: Global,
-    server: &Server,
-    hops: &Hops,
+    configured: &Configured<'_>,
     proxy: &mut Proxy<T>,
     now: u64,
 ) -> Result<StepOut, AllocError>
     requires later { proxy.old.state.moment ≤ now }
     requires small { now < 2 ^ 62 }
-    requires rows { hops.now.addresses ≡ server.now.config.addresses }
     requires none_before { NoneBefore proxy.old.state.moment proxy.old.state.requests }
     requires none_again { NoneAgainBefore proxy.old.state.moment proxy.old.state.requests }
-    ensures step { IfOk result (λ out. IsStep server.now proxy.old.state (Passing now) out proxy.new.state) }
+    ensures step { IfOk result (λ out. IsStep configured.now.server.now proxy.old.state (Passing now) out proxy.new.state) }
     ensures waited { NoneBy now proxy.old.state.requests → NoneAgainBy now proxy.old.state.requests
-        → IfOk result (λ out. IsTime server.now proxy.old.state now out proxy.new.state) }
+        → IfOk result (λ out. IsTime configured.now.server.now proxy.old.state now out proxy.new.state) }
     ensures never_refused { NoneBy now proxy.old.state.requests → NoneAgainBy now proxy.old.state.requests → IsOk result }
     ensures happens { (due : ℕ) → IsNext proxy.old.state.requests due → due ≤ now
-        → IfOk result (λ out. IsDeadline server.now proxy.old.state now out proxy.new.state
-        ⊎ IsResend server.now proxy.old.state now out proxy.new.state) }
+        → IfOk result (λ out. IsDeadline configured.now.server.now proxy.old.state now out proxy.new.state
+        ⊎ IsResend configured.now.server.now proxy.old.state now out proxy.new.state) }
     ensures in_order { (due : ℕ) → IsNext proxy.old.state.requests due → due ≤ now
-        → IfOk result (λ out. IsFiredFirst server.now proxy.old.timers proxy.old.state now out proxy.new.state) }
+        → IfOk result (λ out. IsFiredFirst configured.now.server.now proxy.old.timers proxy.old.state now out proxy.new.state) }
     ensures fired { (due : ℕ) → IsNext proxy.old.state.requests due → due ≤ now → IfOk result (λ out. out.at ≡ due) }
     ensures at_moment { IfOk result (λ out. out.at ≡ proxy.new.state.moment) }
     ensures no_earlier { IfOk result (λ out. proxy.old.state.moment ≤ out.at) }
@@ -83,7 +77,7 @@ pub fn fire<T: Timers>(
     ensures secrets { proxy.new.secrets ≡ proxy.old.secrets }
 {
     if let Some(first) = due_by(proxy, now) {
-        return fire_first(alloc, server, hops, proxy, first);
+        return fire_first(alloc, configured, proxy, first);
     }
     Ok(pass(alloc, proxy, now))
 }

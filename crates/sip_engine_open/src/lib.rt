@@ -38,5 +38,5 @@ pub mod forwarding {
 
 /// Of `sip_proxy`.
 pub mod proxy {
-    pub use sip_proxy::Proxy;
+    pub use sip_proxy::{Configured, Proxy, ReceivedRequest, ReceivedResponse};
 }

@@ -16,13 +16,10 @@ ghost use Rattle.sip_core.specs.verdict_model.Verdict.{Respond};
 ghost use Rattle.sip_engine_open.specs.Steps.{IsDraftOf};
 
 use crate::counting::change;
-use sip_dialog_lessons::state::{Branch, OpenRequest, Server};
+use sip_dialog_lessons::state::{Branch, OpenRequest};
 use sip_event::StepOut;
-use sip_hops::Hops;
-use sip_message_form::View;
 use sip_proxy::context::Input;
-use sip_proxy::forwarding::Arrival;
-use sip_proxy::{Draft, Proxy};
+use sip_proxy::{Configured, Draft, Proxy, ReceivedResponse};
 use sip_timers::Timers;
 use std::alloc::{AllocError, Global};
 
@@ -45,70 +42,55 @@ fn branch_of(open_request: &OpenRequest, branch: usize) -> &Branch
 /// `AllocError` is the only refusal.
 fn draft_response<T: Timers>(
     alloc: Global,
-    server: &Server,
-    hops: &Hops,
+    configured: &Configured<'_>,
     proxy: &Proxy<T>,
-    now: u64,
+    response: &ReceivedResponse<'_>,
     place: usize,
     branch: usize,
-    status: u16,
-    response: &View<'_>,
 ) -> Result<Draft, AllocError>
     requires found { IsSome (branch_at proxy.now.state.requests (place, branch)) }
-    requires later { proxy.now.state.moment ≤ now }
-    requires small { now < 2 ^ 62 }
+    requires later { proxy.now.state.moment ≤ response.now.arrival.now }
+    requires small { response.now.arrival.now < 2 ^ 62 }
     ensures draft { IfOk result (λ draft. (found : OpenRequest × Branch) → branch_at proxy.now.state.requests (place, branch) ≡ Some found
-        → IsDraftOf hops.now.addresses server.now now found.0 (responded server.now now found.0 found.1 status response.now)
-        (acked_again server.now found.0 found.1 status) draft) }
-    ensures kept { IfOk result (λ draft. (r : OpenRequest) → slice_get proxy.now.state.requests place ≡ Some r → IsKeptAs now r draft.change) }
+        → IsDraftOf configured.now.hops.now.addresses configured.now.server.now response.now.arrival.now found.0
+        (responded configured.now.server.now response.now.arrival.now found.0 found.1 response.now.status response.now.message.now)
+        (acked_again configured.now.server.now found.0 found.1 response.now.status) draft) }
+    ensures kept { IfOk result (λ draft. (r : OpenRequest) → slice_get proxy.now.state.requests place ≡ Some r → IsKeptAs response.now.arrival.now r draft.change) }
     ensures few { IfOk result (λ draft. beginnings draft.drafted.lessons ≤ 1) }
 {
     found_places_are_within();
     let branch = branch_of(proxy.get(place), branch);
     let input = Input::Response {
         branch,
-        status,
-        response,
+        status: response.status,
+        response: response.message,
     };
-    proxy.draft_input(alloc, server, hops, now, place, input)
+    proxy.draft_input(alloc, configured, response.arrival.now, place, input)
 }
 
-/// The step of a response of a status that came to a branch of an open request, by their places as [`Proxy::find_branch`]
+/// The step of a response that came to a branch of an open request, by their places as [`Proxy::find_branch`]
 /// gives them: ACKs go first, then what goes to the caller, then CANCELs; a further 300 to 699 to an INVITE gets its ACK
 /// again (RFC 3261 16.7, 17.1). `AllocError` is the only refusal; nothing is changed then.
 pub fn take_response<T: Timers>(
     alloc: Global,
-    server: &Server,
-    hops: &Hops,
+    configured: &Configured<'_>,
     proxy: &mut Proxy<T>,
-    arrival: Arrival,
+    response: &ReceivedResponse<'_>,
     place: usize,
     branch: usize,
-    status: u16,
-    response: &View<'_>,
 ) -> Result<StepOut, AllocError>
-    requires coming { IsComing proxy.old.state arrival }
+    requires coming { IsComing proxy.old.state response.now.arrival }
     requires found { IsSome (branch_at proxy.old.state.requests (place, branch)) }
-    requires rows { hops.now.addresses ≡ server.now.config.addresses }
     ensures does { IfOk result (λ out. (found : OpenRequest × Branch) → branch_at proxy.old.state.requests (place, branch) ≡ Some found
-        → Does server.now proxy.old.state arrival.now (effect_of server.now (arrival_of arrival) response.now
-        (Respond found.0 found.1 status) (counted (arrival_of arrival) proxy.old.state)) out proxy.new.state) }
+        → Does configured.now.server.now proxy.old.state response.now.arrival.now
+        (effect_of configured.now.server.now (arrival_of response.now.arrival) response.now.message.now
+        (Respond found.0 found.1 response.now.status) (counted (arrival_of response.now.arrival) proxy.old.state)) out proxy.new.state) }
     ensures unchanged { OnErr result (proxy.new.state ≡ proxy.old.state) }
     ensures timers { OnErr result (proxy.new.timers ≡ proxy.old.timers) }
     ensures queue { OnOk result (KeepsOrder proxy.old.timers proxy.new.timers proxy.new.state.requests) }
     ensures secrets { proxy.new.secrets ≡ proxy.old.secrets }
 {
     found_places_are_within();
-    let draft = draft_response(
-        alloc,
-        server,
-        hops,
-        proxy,
-        arrival.now,
-        place,
-        branch,
-        status,
-        response,
-    )?;
-    change(alloc, proxy, arrival, place, draft)
+    let draft = draft_response(alloc, configured, proxy, response, place, branch)?;
+    change(alloc, proxy, response.arrival, place, draft)
 }

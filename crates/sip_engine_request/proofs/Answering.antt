@@ -6,11 +6,9 @@ use Rattle.sip_event.specs.declared.event.StepOut.{StepOut}
 use Rattle.sip_proxy.specs.Proxy.{Becomes, with_bindings, with_nonces}
 use Rattle.sip_audit.specs.declared.record.Record.{Record}
 use Rattle.sip_core.specs.context_model.Opening.{closing}
-use Rattle.sip_core.specs.context_model.Sending.{made_answer}
 use Rattle.sip_dialog.specs.Sameness.{SameDialogs}
 use Rattle.sip_dialog.specs.declared.dialog.Dialog.{Dialog}
 use Rattle.sip_message_fields.specs.declared.field.Field.{Field}
-use Rattle.sip_message_form.specs.Text.{text_of}
 use Rattle.sip_message_form.specs.declared.message.Message.{Message}
 use Rattle.sip_transaction_table.specs.declared.key.Key.{Key}
 use Rattle.sip_location.specs.Binding.{live}
@@ -31,6 +29,7 @@ use Rattle.sip_uas.specs.Drafts as Drafts
 use Rattle.sip_uas.specs.Drafts.{IsOpenable, with_opened}
 use Rattle.sip_uas.specs.declared.draft.Draft.{Draft}
 use Rattle.sip_engine_request.specs.Admitting.{IsOpenableIn}
+use Rattle.sip_uas.proofs.Replying.{text_by}
 
 -- ---- answers
 
@@ -45,10 +44,6 @@ pub record Replies (requests : List OpenRequest) (dialogs : List Dialog) (effect
   pub none_again : retransmissions effect.originals ≡ []
   pub requests_are : effect.state.requests ≡ with_room request requests
   pub dialogs_are : effect.state.dialogs ≡ dialogs
-
--- the text of an answer
-abbrev pub text_by : Server → Arrival → Message → ℕ → List Field → List ℕ
-text_by server a m status extras = text_of (made_answer server a.number m a.from status extras)
 
 pub reply_replies : (server : Server) (a : Arrival) (m : Message) (status : ℕ) (extras : List Field) (records : List Record) (state : ProxyState)
     → Replies state.requests state.dialogs (replied server (arrival_of a) m status extras records state)

@@ -33,7 +33,8 @@ use Rattle.sip_uas.specs.Asking.{after_asking, are_nobody, is_answered_here}
 use Rattle.sip_uas.specs.Drafts as Drafts
 use Rattle.sip_uas.specs.Drafts.{AreBound, with_opened}
 use Rattle.sip_uas.specs.declared.draft.Draft.{Draft}
-use Rattle.sip_engine_request.proofs.Answering.{Replies, step_done, text_by}
+use Rattle.sip_engine_request.proofs.Answering.{Replies, step_done}
+use Rattle.sip_uas.proofs.Replying.{text_by}
 
 -- ---- bindings
 

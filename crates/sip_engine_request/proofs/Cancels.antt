@@ -36,7 +36,7 @@ use Rattle.sip_dialog_lessons.specs.state.declared.proxy_state.ProxyState.{Proxy
 use Rattle.sip_dialog_lessons.specs.state.declared.server.Server.{Server}
 use Rattle.sip_core.specs.verdict_model.Verdict as Definition
 use Rattle.sip_uas.specs.Drafts.{IsOpenable}
-use Rattle.sip_engine_request.proofs.Answering.{text_by}
+use Rattle.sip_uas.proofs.Replying.{text_by}
 
 -- ---- the request that is named
 
@@ -47,10 +47,10 @@ stands_at (r ∷ rs) place lt = (get_or (r ∷ rs) place r, slice_get-get_or (r 
 
 -- a request, if it came from this IP address
 abbrev pub from_source : Addr → OpenRequest → Option OpenRequest
-from_source from r = cond (bytes_eq r.source.ip from.ip) (Some r) None
+from_source from r = cond (bytes_eq r.request.source.ip from.ip) (Some r) None
 
 pub named_by : (requests : List OpenRequest) (key : Key) (from : Addr) (place : ℕ) (r : OpenRequest) (t : Bool) → slice_get requests place ≡ Some r
-    → option_and_then (slice_get requests) (Some place) ≡ find (Definition.is_cancelled_by key) requests → bytes_eq r.source.ip from.ip ≡ t
+    → option_and_then (slice_get requests) (Some place) ≡ find (Definition.is_cancelled_by key) requests → bytes_eq r.request.source.ip from.ip ≡ t
     → option_and_then (from_source from) (find (Definition.is_cancelled_by key) requests) ≡ cond t (Some r) None
 named_by requests key from place r t there found same =
     ap (λ (o : Option OpenRequest). option_and_then (from_source from) o) (sym found ∙ there) ∙ ap (λ (b : Bool). cond b (Some r) None) same

@@ -20,9 +20,10 @@ use Rattle.sip_proxy.specs.steps_model.Effect.{Effect, ack_packet, asked, counte
 use Rattle.sip_proxy.specs.steps_model.Effect.{sending, sent_to}
 use Rattle.sip_proxy.specs.steps_model.Step.{Does, originals, retransmissions}
 use Rattle.sip_digest.specs.declared.nonces.Nonce.{Nonce}
-use Rattle.sip_uas.specs.forwarding.Arrivals.{arrival_of}
+use Rattle.sip_uas.specs.forwarding.Arrivals.{arrival_of, arrived}
 use Rattle.sip_uas.specs.forwarding.declared.arrival.Arrival.{Arrival}
 use Rattle.sip_dialog_lessons.specs.state.Dialogs.{after_request}
+use Rattle.sip_dialog_lessons.specs.state.KeptRequest.{KeptRequest}
 use Rattle.sip_dialog_lessons.specs.state.State.{with_one_more}
 use Rattle.sip_dialog_lessons.specs.state.declared.open_request.OpenRequest.{OpenRequest}
 use Rattle.sip_dialog_lessons.specs.state.declared.proxy_state.ProxyState.{ProxyState}
@@ -32,7 +33,7 @@ use Rattle.sip_targets.specs.declared.targets.Targets.TheVariants.{Bindings, Hop
 use Rattle.sip_targets.specs.Targets.{target_list}
 use Rattle.sip_core.specs.verdict_model.Verdict as Definition
 use Rattle.sip_core.specs.verdict_model.declared.question.Question.{Question}
-use Rattle.sip_engine_request.specs.Routing.{are_somebody}
+use Rattle.sip_core.specs.Verdict.{are_somebody}
 
 -- ---- a request
 
@@ -40,17 +41,18 @@ use Rattle.sip_engine_request.specs.Routing.{are_somebody}
 opened_one : (r : OpenRequest) (state : ProxyState) → Definition.is_full state ≡ false → opened r state ≡ with_one_more r state.requests
 opened_one r state is = ap (λ (t : Bool). cond t state.requests (with_one_more r state.requests)) is
 
--- a request that was opened, with what was sent and recorded of it, and what the dialogs learnt
-forks : (server : Server) (now : ℕ) (call request : OpenRequest) (records made : List Record) (drafted packets : List Packet) (lessons : List Lesson)
+-- a request that was opened as what it is, with what was sent and recorded of it, and what the dialogs learnt
+forks : (server : Server) (now : ℕ) (call to request : OpenRequest) (records made : List Record) (drafted packets : List Packet) (lessons : List Lesson)
     (known : List Dialog) (old before new : ProxyState)
-    → Definition.is_full before ≡ false → AreSent (opening_packets server now call) [] drafted → packets ≡ drafted → made ≡ records
+    → call ≡ to → Definition.is_full before ≡ false → AreSent (opening_packets server now call) [] drafted → packets ≡ drafted → made ≡ records
     → request ≡ (opening server now call).request
     → before.moment ≡ now → after_lessons now lessons known ≡ dialogs_after server now (opening server now call) before.dialogs
     → new.moment ≡ now → new.next ≡ before.next → new.bindings ≡ before.bindings → new.nonces ≡ before.nonces → new.requests ≡ with_one_more request before.requests
     → SameDialogs now new.dialogs (after_lessons now lessons known)
-    → Does server old now (forked server now call records before) (record { at = now; packets = packets; records = made }) new
-forks server now call request records made drafted packets lessons known old before new room sent goes recorded is came learnt moment next bindings nonces requests
-    dialogs =
+    → Does server old now (forked server now to records before) (record { at = now; packets = packets; records = made }) new
+forks server now call to request records made drafted packets lessons known old before new same room sent goes recorded is came learnt moment next bindings nonces
+    requests dialogs =
+    let done : Does server old now (forked server now call records before) (record { at = now; packets = packets; records = made }) new =
     record {
       at_moment = refl;
       sends = ap originals goes ∙ sent.originals;
@@ -67,7 +69,8 @@ forks server now call request records made drafted packets lessons known old bef
                 subst (λ (at : ℕ). SameDialogs at new.dialogs (dialogs_after server now (opening server now call) before.dialogs)) (sym moment)
                 (subst (SameDialogs now new.dialogs) learnt dialogs);
           };
-    }
+    } in
+    subst (λ (r : OpenRequest). Does server old now (forked server now r records before) (record { at = now; packets = packets; records = made }) new) same done
 
 -- ---- to its targets
 
@@ -79,22 +82,25 @@ to_somebody server a m q rule (Hop uri address) state somebody = refl
 to_somebody server a m q rule NotFound state somebody = absurd (true≢false (sym somebody))
 to_somebody server a m q rule Unavailable state somebody = absurd (true≢false (sym somebody))
 
-pub sent_does : (rows : List HostAddress) (server : Server) (a : Arrival) (m : Message) (q : Question) (rule : ℕ) (targets : Targets) (request : OpenRequest)
+pub sent_does : (rows : List HostAddress) (server : Server) (a : Arrival) (k : KeptRequest) (q : Question) (rule : ℕ) (targets : Targets) (request : OpenRequest)
     (made : List Record) (drafted packets : List Packet)
-    (lessons : List Lesson) (old mid new : ProxyState) → Definition.is_full old ≡ false → are_somebody targets ≡ true → rows ≡ server.config.addresses
-    → AreSent (opening_packets server a.now (call_to (arrival_of a) m targets)) [] drafted → packets ≡ drafted
-    → made ≡ record_of server (arrival_of a) m q (Sent rule (length (target_list targets))) ∷ []
-    → request ≡ (opening server a.now (call_to (arrival_of a) m targets)).request
-    → Teach rows server a.now lessons (λ dialogs. dialogs_after server a.now (opening server a.now (call_to (arrival_of a) m targets)) dialogs)
+    (lessons : List Lesson) (old mid new : ProxyState) → k.source ≡ a.from → Definition.is_full old ≡ false → are_somebody targets ≡ true
+    → rows ≡ server.config.addresses
+    → AreSent (opening_packets server a.now (call_to (arrived a k) k.message targets)) [] drafted → packets ≡ drafted
+    → made ≡ record_of server (arrival_of a) k.message q (Sent rule (length (target_list targets))) ∷ []
+    → request ≡ (opening server a.now (call_to (arrived a k) k.message targets)).request
+    → Teach rows server a.now lessons (λ dialogs. dialogs_after server a.now (opening server a.now (call_to (arrived a k) k.message targets)) dialogs)
     → Becomes a.now (with_one_more request old.requests) lessons (counted (arrival_of a) old) mid → new ≡ asked (arrival_of a) q mid
-    → Does server old a.now (effect_of server (arrival_of a) m (Definition.Send q rule targets) (counted (arrival_of a) old))
+    → Does server old a.now (effect_of server (arrival_of a) k.message (Definition.Send q rule targets) (counted (arrival_of a) old))
     (record { at = a.now; packets = packets; records = made }) new
-sent_does rows server a m q rule targets request made drafted packets lessons old mid new room somebody same sent goes recorded is taught became spent =
+sent_does rows server a k q rule targets request made drafted packets lessons old mid new from_is room somebody same sent goes recorded is taught became spent =
     subst (λ (effect : Effect). Does server old a.now effect (record { at = a.now; packets = packets; records = made }) new)
-    (to_somebody server a m q rule targets (counted (arrival_of a) old) somebody)
-    (forks server a.now (call_to (arrival_of a) m targets) request (record_of server (arrival_of a) m q (Sent rule (length (target_list targets))) ∷ []) made drafted
+    (to_somebody server a k.message q rule targets (counted (arrival_of a) old) somebody)
+    (forks server a.now (call_to (arrived a k) k.message targets) (call_to (arrival_of a) k.message targets) request
+    (record_of server (arrival_of a) k.message q (Sent rule (length (target_list targets))) ∷ []) made drafted
     packets lessons old.dialogs old
-    (asked (arrival_of a) q (counted (arrival_of a) old)) new room sent goes recorded is refl (taught (sym same) old.dialogs)
+    (asked (arrival_of a) q (counted (arrival_of a) old)) new (ap (λ (from : Addr). call_to (record (arrival_of a) { from = from }) k.message targets) from_is)
+    room sent goes recorded is refl (taught (sym same) old.dialogs)
     (ap (λ (s : ProxyState). s.moment) spent ∙ became.moment_is) (ap (λ (s : ProxyState). s.next) spent ∙ became.next_is)
     (ap (λ (s : ProxyState). s.bindings) spent ∙ became.bindings_are)
     (ap (λ (s : ProxyState). s.nonces) spent ∙ ap (λ (nonces : List Nonce). used nonces a.now q.proof) became.nonces_are)
@@ -104,19 +110,21 @@ sent_does rows server a m q rule targets request made drafted packets lessons ol
 
 -- ---- in a dialog
 
-pub within_does : (rows : List HostAddress) (server : Server) (a : Arrival) (m : Message) (address : Addr) (id : DialogId) (request : OpenRequest) (made : List Record)
-    (drafted packets : List Packet)
-    (lessons : List Lesson) (old new : ProxyState) → Definition.is_full old ≡ false → rows ≡ server.config.addresses
-    → AreSent (opening_packets server a.now (call_within server (arrival_of a) m address)) [] drafted → packets ≡ drafted → made ≡ []
-    → request ≡ (opening server a.now (call_within server (arrival_of a) m address)).request
-    → Teach rows server a.now lessons (λ dialogs. dialogs_after server a.now (opening server a.now (call_within server (arrival_of a) m address))
-    (after_request server a.now id m dialogs))
+pub within_does : (rows : List HostAddress) (server : Server) (a : Arrival) (k : KeptRequest) (address : Addr) (id : DialogId) (request : OpenRequest)
+    (made : List Record) (drafted packets : List Packet)
+    (lessons : List Lesson) (old new : ProxyState) → k.source ≡ a.from → Definition.is_full old ≡ false → rows ≡ server.config.addresses
+    → AreSent (opening_packets server a.now (call_within server (arrived a k) k.message address)) [] drafted → packets ≡ drafted → made ≡ []
+    → request ≡ (opening server a.now (call_within server (arrived a k) k.message address)).request
+    → Teach rows server a.now lessons (λ dialogs. dialogs_after server a.now (opening server a.now (call_within server (arrived a k) k.message address))
+    (after_request server a.now id k.message dialogs))
     → Becomes a.now (with_one_more request old.requests) lessons (counted (arrival_of a) old) new
-    → Does server old a.now (effect_of server (arrival_of a) m (Definition.InDialog address id) (counted (arrival_of a) old))
+    → Does server old a.now (effect_of server (arrival_of a) k.message (Definition.InDialog address id) (counted (arrival_of a) old))
     (record { at = a.now; packets = packets; records = made }) new
-within_does rows server a m address id request made drafted packets lessons old new room same sent goes none is taught became =
-    forks server a.now (call_within server (arrival_of a) m address) request [] made drafted packets lessons old.dialogs old
-    (renewing server (arrival_of a) m id (counted (arrival_of a) old)) new
+within_does rows server a k address id request made drafted packets lessons old new from_is room same sent goes none is taught became =
+    forks server a.now (call_within server (arrived a k) k.message address) (call_within server (arrival_of a) k.message address) request [] made drafted packets
+    lessons old.dialogs old
+    (renewing server (arrival_of a) k.message id (counted (arrival_of a) old)) new
+    (ap (λ (from : Addr). call_within server (record (arrival_of a) { from = from }) k.message address) from_is)
     room sent goes none is refl (taught (sym same) old.dialogs) became.moment_is became.next_is became.bindings_are became.nonces_are became.requests_are
     became.dialogs_are
 

@@ -1,4 +1,3 @@
 pub mod Admitting
-pub mod Routing
 pub mod Steps
 pub use Rattle.sip_uas.specs as uas

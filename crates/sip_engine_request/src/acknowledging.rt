@@ -4,11 +4,10 @@ ghost use Rattle.sip_core.specs.verdict_model.Verdict as Definition;
 ghost use Rattle.sip_engine_request.specs.Steps.{IsWhole, Takes};
 
 use crate::forwarded::take_lessons;
-use crate::{Configured, NewRequest};
 use sip_dialog::DialogId;
 use sip_event::StepOut;
-use sip_proxy::Proxy;
 use sip_proxy::forwarding::forward_ack;
+use sip_proxy::{Configured, Proxy, ReceivedRequest};
 use sip_text::Items;
 use sip_timers::Timers;
 use sip_uri::Addr;
@@ -21,7 +20,7 @@ pub fn send_ack<T: Timers>(
     alloc: Global,
     configured: &Configured<'_>,
     proxy: &mut Proxy<T>,
-    request: &NewRequest<'_>,
+    request: &ReceivedRequest<'_>,
     address: Addr,
     id: DialogId,
 ) -> Result<StepOut, AllocError>
@@ -39,7 +38,7 @@ pub fn send_ack<T: Timers>(
         hops,
         arrival,
         request.message,
-        request.via,
+        &request.via,
         address,
         id,
     )?;

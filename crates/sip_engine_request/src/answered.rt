@@ -3,7 +3,6 @@ ghost use Rattle.sip_uas.specs.transactions_model.Fits.{IsFinalAnswer};
 ghost use Rattle.sip_core.specs.verdict_model.Verdict as Definition;
 ghost use Rattle.sip_engine_request.specs.Steps.{IsNew, IsWhole, Takes};
 
-use crate::KeyedRequest;
 use crate::taking::take_draft;
 use sip_dialog_lessons::state::Server;
 use sip_event::StepOut;
@@ -11,7 +10,7 @@ use sip_message_fields::Fields;
 use sip_proxy::Proxy;
 use sip_text::Items;
 use sip_timers::Timers;
-use sip_uas::answer;
+use sip_uas::{FinalAnswer, KeyedRequest, answer};
 use std::alloc::{AllocError, Global};
 
 /// The step of a new request that is answered at once with a final status and further fields, before policy is asked (RFC
@@ -27,19 +26,14 @@ pub fn take_answered<T: Timers>(
 ) -> Result<StepOut, AllocError>
     requires new { IsNew proxy.old.state request.arrival request.key }
     requires final_status { IsFinalAnswer status }
-    ensures does { IfOk result (λ out. Takes server.now proxy.old.state request.arrival request.request
+    ensures does { IfOk result (λ out. Takes server.now proxy.old.state request.arrival request.request.message
         (Definition.Answer status extras.now) out proxy.new.state) }
     ensures whole { IsWhole proxy.old proxy.new result }
 {
     let is_full = proxy.is_full();
     let records = Items::new(alloc);
-    let KeyedRequest {
-        arrival,
-        key,
-        request,
-    } = request;
-    let draft = answer(
-        alloc, server, arrival, key, request, status, extras, records, is_full,
-    )?;
+    let said = FinalAnswer { status, extras };
+    let arrival = request.arrival;
+    let draft = answer(alloc, server, request, &said, records, is_full)?;
     take_draft(alloc, proxy, arrival, draft)
 }

@@ -1,5 +1,5 @@
 //! The step of a CANCEL (RFC 3261 9.2, 16.10): its own answer, and what it makes of the open request that it names.
-ghost use Rattle.std.specs.Prelude.{◌≡◌, ◌+◌, ◌<◌, ◌^◌, ◌++◌, ◌∷◌, [], false, length, slice_get, IfOk, IfSome, OnOk};
+ghost use Rattle.std.specs.Prelude.{◌≡◌, ◌+◌, ◌<◌, ◌^◌, ◌++◌, ◌∷◌, [], false, length, slice_get, IfOk, IfSome};
 ghost use Rattle.std.specs.Option.{option_and_then};
 ghost use Rattle.sip_core.specs.context_model.Opening.{closing};
 ghost use Rattle.sip_message_form.specs.Text.{text_of};
@@ -10,30 +10,32 @@ ghost use Rattle.sip_uas.specs.Drafts.{IsOpenable};
 ghost use Rattle.sip_engine_request.specs.Steps.{IsNew, IsWhole, Takes};
 
 use crate::answered::take_answered;
-use crate::{Configured, KeyedRequest};
-use sip_dialog_lessons::state::{OpenRequest, Server};
+use sip_dialog_lessons::state::Server;
 use sip_event::{Packet, StepOut};
 use sip_message_fields::Fields;
-use sip_proxy::context::{Input, Sent};
+use sip_proxy::context::Input;
 use sip_proxy::fork::Opening;
 use sip_proxy::forwarding::Drafted;
-use sip_proxy::{Draft, Proxy};
+use sip_proxy::{Configured, Draft, Proxy};
 use sip_text::Items;
 use sip_timers::Timers;
 use sip_transaction_table::Key;
-use sip_uas::forwarding::{change_packets, reply};
+use sip_uas::KeyedRequest;
+use sip_uas::forwarding::{put_packets, reply};
 use sip_uas::transactions_model::fitting_events::opens_fitting;
 use sip_uas::transactions_model::openings::answered_at_once;
 use sip_uri::Addr;
 use std::alloc::{AllocError, Global};
 
 /// The place of the open request that a CANCEL with a key names, if the CANCEL comes from its IP address (RFC 3261 9.2).
+#[tactic(auto, using(crate::proofs::Cancels::named_by))]
 fn find_named<T: Timers>(proxy: &Proxy<T>, key: &Key, from: Addr) -> Option<usize>
     ensures named { option_and_then (slice_get proxy.now.state.requests) result ≡ Definition.found_for_cancel proxy.now.state key.now from }
     ensures within { IfSome result (λ place. place < length proxy.now.state.requests) }
 {
     let place = proxy.find_cancelled(key)?;
-    if proxy.get(place).source.ip.as_slice() == from.ip.as_slice() {
+    let source = proxy.get(place).request.get().source();
+    if source.ip.as_slice() == from.ip.as_slice() {
         Some(place)
     } else {
         None
@@ -51,10 +53,10 @@ struct Agreed {
 fn agree(alloc: Global, server: &Server, cancel: KeyedRequest) -> Result<Agreed, AllocError>
     requires { cancel.arrival.now + 32000 < 2 ^ 64 }
     ensures packet { IfOk result (λ agreed. agreed.packet
-        ≡ answer_packet false cancel.arrival.number cancel.request cancel.arrival.from
-        (text_of (made_answer server.now cancel.arrival.number cancel.request cancel.arrival.from 200 []))) }
-    ensures opened { IfOk result (λ agreed. agreed.opened ≡ closing (arrival_of cancel.arrival) cancel.request 200
-        (text_of (made_answer server.now cancel.arrival.number cancel.request cancel.arrival.from 200 []))) }
+        ≡ answer_packet false cancel.arrival.number cancel.request.message cancel.arrival.from
+        (text_of (made_answer server.now cancel.arrival.number cancel.request.message cancel.arrival.from 200 []))) }
+    ensures opened { IfOk result (λ agreed. agreed.opened ≡ closing (arrival_of cancel.arrival) cancel.request.message 200
+        (text_of (made_answer server.now cancel.arrival.number cancel.request.message cancel.arrival.from 200 []))) }
     ensures opens { IfOk result (λ agreed. IsOpenable cancel.arrival cancel.key agreed.opened) }
 {
     opens_fitting();
@@ -73,25 +75,6 @@ fn agree(alloc: Global, server: &Server, cancel: KeyedRequest) -> Result<Agreed,
     })
 }
 
-/// Adds packets of an open request in their order.
-fn put_packets(
-    alloc: Global,
-    out: &mut Items<Packet>,
-    request: &OpenRequest,
-    packets: Items<Packet>,
-) -> Result<(), AllocError>
-    ensures { OnOk result (out.new ≡ out.old ++ packets) }
-{
-    let sent = Sent {
-        acks: packets,
-        upward: Items::new(alloc),
-        cancels: Items::new(alloc),
-        copies: Items::new(alloc),
-    };
-    let _none = change_packets(alloc, out, request, sent)?;
-    Ok(())
-}
-
 /// A draft whose packets go behind another one.
 fn behind(alloc: Global, first: Packet, draft: Draft) -> Result<Draft, AllocError>
     ensures change { IfOk result (λ both. both.change ≡ draft.change) }
@@ -100,9 +83,10 @@ fn behind(alloc: Global, first: Packet, draft: Draft) -> Result<Draft, AllocErro
 {
     let Draft { change, drafted } = draft;
     let Drafted { packets, lessons } = drafted;
+    let mut packets = packets;
     let mut all = Items::new(alloc);
     all.push(first)?;
-    put_packets(alloc, &mut all, change.request(), packets)?;
+    put_packets(alloc, &mut all, &mut packets)?;
     let drafted = Drafted {
         packets: all,
         lessons,
@@ -121,15 +105,14 @@ fn cancel_at<T: Timers>(
     requires new { IsNew proxy.old.state cancel.arrival cancel.key }
     requires space { Definition.is_full proxy.old.state ≡ false }
     requires place { place < length proxy.old.state.requests }
-    ensures does { IfOk result (λ out. Takes configured.now.server.now proxy.old.state cancel.arrival cancel.request
+    ensures does { IfOk result (λ out. Takes configured.now.server.now proxy.old.state cancel.arrival cancel.request.message
         (Definition.Cancel (slice_get proxy.old.state.requests place)) out proxy.new.state) }
     ensures whole { IsWhole proxy.old proxy.new result }
 {
     let server = configured.server;
-    let hops = configured.hops;
     let now = cancel.arrival.now;
     let agreed = agree(alloc, server, cancel)?;
-    let draft = proxy.draft_input(alloc, server, hops, now, place, Input::Cancel)?;
+    let draft = proxy.draft_input(alloc, configured, now, place, Input::Cancel)?;
     let both = behind(alloc, agreed.packet, draft)?;
     let packets = proxy.open_and_change(now, agreed.opened, place, both)?;
     let _number = proxy.count();
@@ -151,7 +134,7 @@ pub fn take_cancel<T: Timers>(
 ) -> Result<StepOut, AllocError>
     requires new { IsNew proxy.old.state cancel.arrival cancel.key }
     requires space { Definition.is_full proxy.old.state ≡ false }
-    ensures does { IfOk result (λ out. Takes configured.now.server.now proxy.old.state cancel.arrival cancel.request
+    ensures does { IfOk result (λ out. Takes configured.now.server.now proxy.old.state cancel.arrival cancel.request.message
         (Definition.Cancel (Definition.found_for_cancel proxy.old.state cancel.key cancel.arrival.from)) out
         proxy.new.state) }
     ensures whole { IsWhole proxy.old proxy.new result }

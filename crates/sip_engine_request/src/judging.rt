@@ -7,7 +7,6 @@ ghost use Rattle.sip_uas.specs.Asking as Asking;
 ghost use Rattle.sip_engine_request.specs.Admitting.{IsAnswered};
 ghost use Rattle.sip_engine_request.specs.Steps.{IsNew, IsWhole, Takes};
 
-use crate::KeyedRequest;
 use crate::deciding::take_decision;
 use crate::taking::take_draft;
 use sip_core::Judged;
@@ -15,7 +14,7 @@ use sip_dialog_lessons::state::Server;
 use sip_event::StepOut;
 use sip_proxy::Proxy;
 use sip_timers::Timers;
-use sip_uas::judged as draft_judged;
+use sip_uas::{KeyedRequest, judged as draft_judged};
 use std::alloc::{AllocError, Global};
 
 /// The step of a request outside a dialog about which policy was asked, and that is answered here: it is challenged, denied,
@@ -35,16 +34,12 @@ pub fn take_judged<T: Timers>(
     requires answers { IsAnswered server.now proxy.old.state.bindings request.arrival.now judged }
     ensures does { IfOk result (λ out. (named : Option OpenRequest) (verdict : Definition.Verdict)
         → Is server.now proxy.old.state.bindings request.arrival.now named verdict (Arrived.Judged judged.entry)
-        → Takes server.now proxy.old.state request.arrival request.request verdict out proxy.new.state) }
+        → Takes server.now proxy.old.state request.arrival request.request.message verdict out proxy.new.state) }
     ensures whole { IsWhole proxy.old proxy.new result }
 {
     let is_full = proxy.is_full();
-    let KeyedRequest {
-        arrival,
-        key,
-        request,
-    } = request;
-    let draft = draft_judged(alloc, server, arrival, key, request, &judged, is_full)?;
+    let arrival = request.arrival;
+    let draft = draft_judged(alloc, server, request, &judged, is_full)?;
     let out = take_draft(alloc, proxy, arrival, draft)?;
     take_decision(proxy, arrival, judged);
     Ok(out)

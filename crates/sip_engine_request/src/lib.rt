@@ -11,12 +11,9 @@
 mod acknowledging;
 mod answered;
 mod cancelling;
-mod configured;
 mod deciding;
 mod forwarded;
 mod judging;
-mod keyed_request;
-mod new_request;
 mod records;
 mod routed;
 mod sending;
@@ -26,12 +23,10 @@ mod within;
 pub use acknowledging::send_ack;
 pub use answered::take_answered;
 pub use cancelling::take_cancel;
-pub use configured::Configured;
 pub use judging::take_judged;
-pub use keyed_request::KeyedRequest;
-pub use new_request::NewRequest;
 pub use routed::Sending;
 pub use sending::send_to;
+pub use sip_uas::KeyedRequest;
 pub use within::send_within;
 
 /// Of `sip_uas`.

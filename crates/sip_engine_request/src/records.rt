@@ -8,12 +8,11 @@ ghost use Rattle.sip_core.specs.verdict_model.Verdict.{minute_on};
 
 use crate::Sending;
 use sip_audit::{Outcome, Record};
-use sip_core::Judged;
 use sip_core::state::Heard;
 use sip_targets::Targets;
 use sip_text::Items;
 use sip_uas::forwarding::Arrival;
-use sip_uas::record_of;
+use sip_uas::records_of;
 use std::alloc::{AllocError, Global};
 
 /// How many targets there are, if that is a number of 32 bits.
@@ -27,32 +26,9 @@ fn count_of(targets: &Targets) -> Option<u32>
     }
 }
 
-/// What is recorded of a request that policy was asked about, and of which this became.
-fn recorded(
-    alloc: Global,
-    arrival: Arrival,
-    request: &Heard,
-    judged: &Judged<'_>,
-    outcome: Outcome,
-) -> Result<Items<Record>, AllocError>
-    ensures { IfOk result (λ records. (server : Server) → judged.now.minute ≡ minute_on server judged.now.question
-        → records ≡ Effects.record_of server (arrival_of arrival) request.now judged.now.question outcome ∷ []) }
-{
-    let records = record_of(
-        alloc,
-        arrival.number,
-        arrival.now,
-        &request.start(),
-        &judged.question,
-        judged.minute,
-        outcome,
-    )?;
-    Ok(records)
-}
-
 /// What is recorded of a request that a rule lets through to its targets. `AllocError` is the only refusal; it also comes
 /// where there are more targets than numbers of 32 bits.
-pub(crate) fn records_of(
+pub(crate) fn sending_records(
     alloc: Global,
     arrival: Arrival,
     request: &Heard,
@@ -60,13 +36,13 @@ pub(crate) fn records_of(
 ) -> Result<Items<Record>, AllocError>
     ensures { IfOk result (λ records. (server : Server)
         → sending.now.judged.now.minute ≡ minute_on server sending.now.judged.now.question
-        → records ≡ Effects.record_of server (arrival_of arrival) request.now sending.now.judged.now.question
+        → records ≡ Effects.record_of server (arrival_of arrival) request.now.message sending.now.judged.now.question
         (Sent sending.now.rule (length (target_list sending.now.targets.now))) ∷ []) }
 {
     let Some(targets) = count_of(sending.targets) else {
         return Err(AllocError);
     };
-    recorded(
+    records_of(
         alloc,
         arrival,
         request,

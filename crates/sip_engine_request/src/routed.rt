@@ -1,5 +1,5 @@
 ghost use Rattle.std.specs.Prelude.{◌≡◌, true};
-ghost use Rattle.sip_engine_request.specs.Routing.{are_somebody};
+ghost use Rattle.sip_core.specs.Verdict.{are_somebody};
 
 use sip_core::Judged;
 use sip_targets::Targets;

@@ -2,13 +2,14 @@ ghost use Rattle.std.specs.Prelude.{◌≡◌, false, IfOk};
 ghost use Rattle.sip_core.specs.verdict_model.Verdict as Definition;
 ghost use Rattle.sip_engine_request.specs.Steps.{IsNew, IsWhole, Takes};
 
+use crate::Sending;
 use crate::forwarded::{take_credential, take_request};
-use crate::records::records_of;
-use crate::{Configured, KeyedRequest, Sending};
+use crate::records::sending_records;
 use sip_event::StepOut;
-use sip_proxy::Proxy;
 use sip_proxy::forwarding::forward_to;
+use sip_proxy::{Configured, Proxy};
 use sip_timers::Timers;
+use sip_uas::KeyedRequest;
 use std::alloc::{AllocError, Global};
 
 /// A request outside a dialog that a rule let through is sent to its targets, which are somebody, and is open from then on
@@ -25,7 +26,7 @@ pub fn send_to<T: Timers>(
     requires new { IsNew proxy.old.state request.arrival request.key }
     requires space { Definition.is_full proxy.old.state ≡ false }
     requires minute { sending.now.judged.now.minute ≡ Definition.minute_on configured.now.server.now sending.now.judged.now.question }
-    ensures does { IfOk result (λ out. Takes configured.now.server.now proxy.old.state request.arrival request.request
+    ensures does { IfOk result (λ out. Takes configured.now.server.now proxy.old.state request.arrival request.request.message
         (Definition.Send sending.now.judged.now.question sending.now.rule sending.now.targets.now) out proxy.new.state) }
     ensures whole { IsWhole proxy.old proxy.new result }
 {
@@ -36,7 +37,7 @@ pub fn send_to<T: Timers>(
         key,
         request,
     } = request;
-    let records = records_of(alloc, arrival, request.get(), sending)?;
+    let records = sending_records(alloc, arrival, request.get(), sending)?;
     let forwarded = forward_to(alloc, server, hops, arrival, key, request, sending.targets)?;
     let packets = take_request(alloc, proxy, arrival, forwarded)?;
     take_credential(proxy, arrival, sending.judged);

@@ -3,13 +3,13 @@ ghost use Rattle.sip_core.specs.verdict_model.Verdict as Definition;
 ghost use Rattle.sip_engine_request.specs.Steps.{IsNew, IsWhole, Takes};
 
 use crate::forwarded::take_request;
-use crate::{Configured, KeyedRequest};
 use sip_dialog::DialogId;
 use sip_event::StepOut;
-use sip_proxy::Proxy;
 use sip_proxy::forwarding::forward_within;
+use sip_proxy::{Configured, Proxy};
 use sip_text::Items;
 use sip_timers::Timers;
+use sip_uas::KeyedRequest;
 use sip_uri::Addr;
 use std::alloc::{AllocError, Global};
 
@@ -26,7 +26,7 @@ pub fn send_within<T: Timers>(
 ) -> Result<StepOut, AllocError>
     requires new { IsNew proxy.old.state request.arrival request.key }
     requires space { Definition.is_full proxy.old.state ≡ false }
-    ensures does { IfOk result (λ out. Takes configured.now.server.now proxy.old.state request.arrival request.request
+    ensures does { IfOk result (λ out. Takes configured.now.server.now proxy.old.state request.arrival request.request.message
         (Definition.InDialog address id) out proxy.new.state) }
     ensures whole { IsWhole proxy.old proxy.new result }
 {

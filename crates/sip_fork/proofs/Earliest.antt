@@ -22,10 +22,10 @@ use Rattle.sip_fork.specs.Timing.{Timing}
 use Rattle.sip_fork.specs.declared.due.Due.{Due}
 use Rattle.sip_fork.proofs.Dues.{something}
 use Rattle.sip_fork.proofs.Firsts.{first_le, none_before, none_again_before}
-use Rattle.sip_fork.proofs.Lists.{count-cons}
 use Rattle.sip_fork.proofs.Moments.{due_then}
 use Rattle.sip_fork.proofs.Named.{is_itself, is_owner, is_timer, row_none, is_found, is_due}
 use Rattle.sip_fork.proofs.Tying.{at_place, kept_at, contexts}
+use Rattle.sip_timers.proofs.Counting.{count-cons}
 
 -- ---- the first timer
 

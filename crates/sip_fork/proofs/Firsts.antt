@@ -7,7 +7,7 @@ use Rattle.std.proofs.lemmas.List.Elements.{All-head, All-tail}
 use Rattle.std.proofs.lemmas.List.Sums.{sum_by-cons}
 use Rattle.sip_timers.specs.declared.timer.Timer.{Timer}
 use Rattle.sip_timers.specs.Timers.{AreOrdered, due_before}
-use Rattle.sip_fork.proofs.Lists.{count-cons, count_le, all_append, all_weaker}
+use Rattle.sip_fork.proofs.Lists.{all_append, all_weaker}
 use Rattle.sip_dialog_lessons.specs.state.State.{deadlines_of}
 use Rattle.model_steps.specs.context_model.Retransmission.{resends_of}
 use Rattle.model_steps.specs.Step.{NoneBefore, NoneAgainBefore}
@@ -16,6 +16,7 @@ use Rattle.sip_request.specs.declared.request.Request.{Request}
 use Rattle.sip_fork.specs.Contexts.{IsKept}
 use Rattle.sip_fork.proofs.Moments.{due_then, deadlines_named, resends_named}
 use Rattle.sip_fork.specs.Timing.{Timing}
+use Rattle.sip_timers.proofs.Counting.{count_le, count-cons}
 
 -- what stands is due no earlier than the first
 pub first_le : (t : Timer) (ts : List Timer) (m : ℕ) → AreOrdered (t ∷ ts) → 1 ≤ count_by (due_then m) (t ∷ ts) → t.due ≤ m

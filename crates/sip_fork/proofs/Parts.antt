@@ -6,7 +6,7 @@ use Rattle.sip_timers.specs.declared.timer.Owner.{Owner}
 use Rattle.sip_timers.specs.declared.timer.Timer.{Timer}
 use Rattle.sip_request.specs.transactions_model.Ties.{named, part_timers}
 use Rattle.sip_request.specs.transactions_model.declared.timer_keys.TimerKeys.{TimerKeys}
-use Rattle.sip_fork.proofs.Lists.{count-cons}
+use Rattle.sip_timers.proofs.Counting.{count-cons}
 
 pub count_part : (p : Timer → Bool) (number : ℕ) (owner : Owner) (keys : TimerKeys) (ts : List (Letter × ℕ))
     → count_by p (part_timers number owner keys ts) ≡ count_by (λ (t : Letter × ℕ). p (named number owner keys t)) ts

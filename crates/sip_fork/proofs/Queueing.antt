@@ -7,7 +7,7 @@ use Rattle.std.proofs.lemmas.Bool.Decides.{nat_tests}
 use Rattle.std.proofs.lemmas.List.{map-append, reverse-append}
 use Rattle.std.proofs.lemmas.List.Concat.{flat_map-append}
 use Rattle.std.proofs.lemmas.List.Elements.{filter-append, recursion_from_All}
-use Rattle.std.proofs.lemmas.List.Sums.{sum_by-cons, sum_by-append}
+use Rattle.std.proofs.lemmas.List.Sums.{sum_by-cons}
 use Rattle.std.proofs.lemmas.Option.{slice_get_within, get_or_from_slice_get}
 use Rattle.sip_timers.specs.declared.letter.Letter.{Letter}
 use Rattle.sip_timers.specs.declared.timer.Owner.{Owner}
@@ -34,18 +34,13 @@ use Rattle.model_branches.specs.Kept.{AreNumbered}
 use Rattle.sip_fork.specs.Firing.{IsQueueOf, KeepsOrder}
 use Rattle.sip_fork.specs.Queue.{IsQueue}
 use Rattle.sip_fork.proofs.Tying.{contexts, kept_at}
+use Rattle.sip_timers.proofs.Moving.{count-append, count-one}
 
 -- ---- counts
 
 count-entries : (p : Entry → Bool) (ts : List Timer) → count_by p (entries ts) ≡ count_by (λ t. p (entry_of t)) ts
 count-entries p [] = refl
 count-entries p (t ∷ ts) = omega (arith, count-entries p ts, entries-cons p (entry_of t) (entries ts), sum_by-cons (λ (u : Timer). cond (p (entry_of u)) 1 0) t ts)
-
-count-append : (p : Timer → Bool) (xs ys : List Timer) → count_by p (xs ++ ys) ≡ count_by p xs + count_by p ys
-count-append p xs ys = sum_by-append (λ (u : Timer). cond (p u) 1 0) xs ys
-
-count-one : (p : Timer → Bool) (t : Timer) → count_by p (t ∷ []) ≡ cond (p t) 1 0
-count-one p t = let e : count_by p (t ∷ []) ≡ cond (p t) 1 0 + count_by p [] = sum_by-cons (λ (u : Timer). cond (p u) 1 0) t [] in omega arith
 
 count-reverse : (p : Timer → Bool) (ts : List Timer) → count_by p (reverse ts) ≡ count_by p ts
 count-reverse p [] = refl

@@ -3,8 +3,9 @@ use Rattle.std.proofs.Common.{◌≡◌, ℕ, ◌<◌, ◌≤◌, Bool, true, fa
 use Rattle.std.specs.Prelude.{◌&&◌, count_by}
 use Rattle.std.specs.List.{AllByRecursion}
 use Rattle.sip_timers.specs.declared.letter.Letter.{Letter}
-use Rattle.sip_fork.proofs.Lists.{count-cons, count_le, none_passes}
+use Rattle.sip_fork.proofs.Lists.{none_passes}
 use Rattle.sip_request.specs.transactions_model.Ties.{IsFor, GoesAgain, Ends, Behind}
+use Rattle.sip_timers.proofs.Counting.{count_le, count-cons}
 
 -- a test fails at each moment of a part's timers
 one_fails : (q : ℕ → Bool) (again deadline : Option ℕ) (t : Letter × ℕ) → IsFor again deadline t → ((m : ℕ) → again ≡ Some m → q m ≡ false)

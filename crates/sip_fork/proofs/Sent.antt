@@ -18,8 +18,8 @@ use Rattle.model_steps.specs.context_model.FoundBranch.{found_branch}
 use Rattle.sip_request.specs.declared.request.Request.{Request}
 use Rattle.sip_fork.specs.Contexts.{IsKept}
 use Rattle.sip_fork.specs.Places.{branch_at}
-use Rattle.sip_fork.proofs.Lists.{count-cons}
 use Rattle.sip_fork.proofs.Tying.{contexts}
+use Rattle.sip_timers.proofs.Counting.{count-cons}
 
 -- ---- what open requests have
 

@@ -118,6 +118,38 @@ impl<T: Timers> Contexts<T> {
         self.moment
     }
 
+    /// Only where another table has the same open requests, at the same moment. Takes no memory, and costs by their texts.
+    pub fn is_same(&self, other: &Contexts<T>) -> bool
+        ensures requests { result ≡ true → self.now.requests ≡ other.now.requests }
+        ensures moment { result ≡ true → self.now.moment ≡ other.now.moment }
+    {
+        if !self.has_requests_of(other) {
+            return false;
+        }
+        let mine = self.moment();
+        let theirs = other.moment();
+        mine == theirs
+    }
+
+    /// Only where another table has the same open requests, in their order.
+    fn has_requests_of(&self, other: &Contexts<T>) -> bool
+        ensures { result ≡ true → self.now.requests ≡ other.now.requests }
+    {
+        let count = self.len();
+        let other_count = other.len();
+        if count != other_count {
+            return false;
+        }
+        for place in 0..count {
+            let mine = self.get(place);
+            let theirs = other.get(place);
+            if !mine.is_same(theirs) {
+                return false;
+            }
+        }
+        true
+    }
+
     /// How many requests are open: at most 1,024. Their numbers rise, and their keys differ.
     pub fn len(&self) -> usize
         ensures value { result ≡ length self.now.requests }

@@ -3,6 +3,7 @@ use Rattle.std.proofs.Common.{◌≡◌, ◌∙◌, ℕ, ◌+◌, ◌≤◌, ◌
 use Rattle.std.specs.Prelude.{count_by, nat_lt}
 use Rattle.std.proofs.lemmas.Bool.Decides.{nat_tests}
 use Rattle.sip_message_form.specs.declared.message.Message.{Message}
+use Rattle.sip_uri.specs.declared.addr.Addr.{Addr}
 use Rattle.sip_transaction_table.specs.declared.key.Key.{Key}
 use Rattle.sip_hops.specs.declared.host_address.HostAddress.{HostAddress}
 use Rattle.sip_dialog.specs.declared.dialog.Dialog.{Dialog}
@@ -76,9 +77,22 @@ pub request_is : (server : Server) (now : ℕ) (call to request : OpenRequest) �
     → request ≡ (opening server now to).request
 request_is server now call to request same is = is ∙ ap (λ (r : OpenRequest). (opening server now r).request) same
 
-pub opens_so : (server : Server) (a : Arrival) (key : Key) (call to request : OpenRequest) → call ≡ to → request ≡ (opening server a.now call).request
-    → IsOpenable a key (opening server a.now to).request → IsOpenable a key request
-opens_so server a key call to request same is opens = subst (IsOpenable a key) (sym (request_is server a.now call to request same is)) opens
+-- where its datagram came from says nothing of whether a request can be opened
+opens_from : (a : Arrival) (from : Addr) (key : Key) (r : OpenRequest) → IsOpenable (record a { from = from }) key r → IsOpenable a key r
+opens_from a from key r opens =
+    record {
+      number = opens.number;
+      key = opens.key;
+      fits = opens.fits;
+      within = opens.within;
+      branched = opens.branched;
+    }
+
+pub opens_so : (server : Server) (a : Arrival) (from : Addr) (key : Key) (call to request : OpenRequest) → call ≡ to
+    → request ≡ (opening server a.now call).request
+    → IsOpenable (record a { from = from }) key (opening server a.now to).request → IsOpenable a key request
+opens_so server a from key call to request same is opens =
+    subst (IsOpenable a key) (sym (request_is server a.now call to request same is)) (opens_from a from key (opening server a.now to).request opens)
 
 -- behind lessons that do something, what the opening tells
 pub told_behind : (rows : List HostAddress) (server : Server) (now : ℕ) (call to : OpenRequest) (first lessons : List Lesson) (edit : Server → ℕ → List Dialog

@@ -80,7 +80,7 @@ best_begins_none server r all = by_test (is_answering r.side && all_final r) whe
 tried_unsent : (server : Server) (now : ℕ) (r : OpenRequest) → AreUnsent r.finals → AreUnsent (tried now (trying server r) r).finals
 tried_unsent server now r all = by_test (is_tried r) where
   up : Upward
-  up = record { status = 100; message = made_answer server r.number r.request r.source 100 []; target = None }
+  up = record { status = 100; message = made_answer server r.number r.request.message r.request.source 100 []; target = None }
 
   by_test : (t : Bool) → AreUnsent (tried now (cond t (up ∷ []) []) r).finals
   by_test true = all

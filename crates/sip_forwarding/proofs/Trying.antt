@@ -16,7 +16,7 @@ use Rattle.model_steps.specs.Effect.{upward_packets}
 
 -- the 100 as it goes to the caller
 abbrev trying_of : Server → OpenRequest → Upward
-trying_of server r = record { status = 100; message = made_answer server r.number r.request r.source 100 []; target = None }
+trying_of server r = record { status = 100; message = made_answer server r.number r.request.message r.request.source 100 []; target = None }
 
 -- the request after a provisional answer of a text
 abbrev told : ℕ → List ℕ → OpenRequest → OpenRequest
@@ -44,7 +44,7 @@ by_tried server now r true e = refl
 by_tried server now r false e = absurd (cc)
 
 pub request_after : (server : Server) (now : ℕ) (r after : OpenRequest) (text : List ℕ) → is_tried r ≡ true
-    → text ≡ text_of (made_answer server r.number r.request r.source 100 [])
+    → text ≡ text_of (made_answer server r.number r.request.message r.request.source 100 [])
     → after ≡ record r { answer = Some (record { status = 100; text = text }); again = first_resend now } → after ≡ tried now (trying server r) r
 request_after server now r after text is made e = e ∙ ap (λ (w : List ℕ). told now w r) made ∙ answered_is server now r ∙ by_tried server now r (is_tried r) is
 
@@ -54,7 +54,7 @@ by_sent server r true e = refl
 by_sent server r false e = absurd (cc)
 
 pub packet_sent : (server : Server) (r : OpenRequest) (text : List ℕ) (packet : Packet) (old new : List Packet) → is_tried r ≡ true
-    → text ≡ text_of (made_answer server r.number r.request r.source 100 [])
+    → text ≡ text_of (made_answer server r.number r.request.message r.request.source 100 [])
     → packet ≡ answer_to false r text → new ≡ old ++ packet ∷ [] → new ≡ old ++ upward_packets r (trying server r)
 packet_sent server r text packet old new is made p e =
     e ∙ ap (λ (v : List Packet). old ++ v) (ap (λ (q : Packet). q ∷ []) (p ∙ ap (λ (w : List ℕ). answer_to false r w) made) ∙ by_sent server r (is_tried r) is)

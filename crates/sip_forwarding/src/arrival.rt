@@ -1,7 +1,7 @@
 ghost use Rattle.std.specs.Prelude.{◌≡◌, ◌+◌, ◌<◌, ◌^◌, Some};
 ghost use Rattle.sip_transaction_table.specs.Key.{key_of};
 ghost use Rattle.sip_context_branches.specs.context_model.Opening as Definitions;
-ghost use Rattle.sip_forwarding.specs.Arrivals.{arrival_of};
+ghost use Rattle.sip_forwarding.specs.Arrivals.{arrived};
 
 use model_steps::state::{Heard, OpenRequest, Side};
 use sip_base::Shared;
@@ -25,21 +25,19 @@ pub struct Arrival {
 }
 
 /// A request that comes, with its key, before anything was sent for it. Takes no memory.
-#[tactic(auto, using(crate::proofs::Keys::key_is))]
 pub(crate) fn arriving(
     alloc: Global,
     arrival: Arrival,
     key: Shared<Key>,
     request: Shared<Heard>,
 ) -> OpenRequest
-    requires key { key_of request ≡ Some key }
+    requires key { key_of request.message ≡ Some key }
     requires now { arrival.now + 32000 < 2 ^ 64 }
-    ensures { result ≡ Definitions.arriving (arrival_of arrival) request }
+    ensures { result ≡ Definitions.arriving (arrived arrival request) request.message }
 {
     OpenRequest {
         key,
         request,
-        source: arrival.from,
         number: arrival.number,
         arrived_at: arrival.now,
         answer: None,

@@ -3,7 +3,7 @@ ghost use Rattle.std.specs.Prelude.{◌≡◌, ◌+◌, ◌<◌, ◌^◌, ◌∷
 ghost use Rattle.sip_transaction_table.specs.Key.{key_of};
 ghost use Rattle.sip_targets.specs.Targets.{target_list};
 ghost use Rattle.sip_context_branches.specs.context_model.Opening as Definitions;
-ghost use Rattle.sip_forwarding.specs.Arrivals.{arrival_of};
+ghost use Rattle.sip_forwarding.specs.Arrivals.{arrived};
 
 use crate::arrival::{Arrival, arriving};
 use crate::branches::{branches_to, dialog_branch};
@@ -40,9 +40,9 @@ pub(crate) fn forking(
     request: Shared<Heard>,
     branches: Items<Branch>,
 ) -> Result<OpenRequest, AllocError>
-    requires key { key_of request ≡ Some key }
+    requires key { key_of request.message ≡ Some key }
     requires now { arrival.now + 32000 < 2 ^ 64 }
-    ensures { IfOk result (λ open_request. open_request ≡ Definitions.forking (arrival_of arrival) request branches) }
+    ensures { IfOk result (λ open_request. open_request ≡ Definitions.forking (arrived arrival request) request.message branches) }
 {
     let finals = unsent(alloc, branches.as_slice())?;
     let mut open_request = arriving(alloc, arrival, key, request);
@@ -59,10 +59,10 @@ pub(crate) fn fork_to(
     request: Shared<Heard>,
     targets: &Targets,
 ) -> Result<OpenRequest, AllocError>
-    requires key { key_of request ≡ Some key }
+    requires key { key_of request.message ≡ Some key }
     requires now { arrival.now + 32000 < 2 ^ 64 }
     requires count { length (target_list targets.now) + 1 < 2 ^ 32 }
-    ensures { IfOk result (λ call. call ≡ Definitions.forking (arrival_of arrival) request
+    ensures { IfOk result (λ call. call ≡ Definitions.forking (arrived arrival request) request.message
         (Definitions.branches_from arrival.now 1 (target_list targets.now))) }
 {
     let branches = branches_to(alloc, arrival.now, targets)?;
@@ -78,7 +78,7 @@ fn dialog_branches(
     address: Addr,
 ) -> Result<Items<Branch>, AllocError>
     requires { now + 32000 < 2 ^ 64 }
-    ensures { IfOk result (λ branches. branches ≡ Definitions.dialog_branch server.now now request.now address ∷ []) }
+    ensures { IfOk result (λ branches. branches ≡ Definitions.dialog_branch server.now now request.now.message address ∷ []) }
 {
     let view = request.view(alloc)?;
     let mut branches = Items::new(alloc);
@@ -96,10 +96,10 @@ pub(crate) fn fork_within(
     request: Shared<Heard>,
     address: Addr,
 ) -> Result<OpenRequest, AllocError>
-    requires key { key_of request ≡ Some key }
+    requires key { key_of request.message ≡ Some key }
     requires now { arrival.now + 32000 < 2 ^ 64 }
-    ensures { IfOk result (λ call. call ≡ Definitions.forking (arrival_of arrival) request
-        (Definitions.dialog_branch server.now arrival.now request address ∷ [])) }
+    ensures { IfOk result (λ call. call ≡ Definitions.forking (arrived arrival request) request.message
+        (Definitions.dialog_branch server.now arrival.now request.message address ∷ [])) }
 {
     let branches = dialog_branches(alloc, server, arrival.now, request.get(), address)?;
     forking(alloc, arrival, key, request, branches)

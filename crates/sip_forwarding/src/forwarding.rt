@@ -3,7 +3,7 @@
 ghost use Rattle.std.specs.Prelude.{◌≡◌, ◌≤◌, ◌<◌, ◌+◌, ◌^◌, [], length, nat_lt, count_by, Some, IfOk};
 ghost use Rattle.sip_transaction_table.specs.Key.{key_of};
 ghost use Rattle.sip_targets.specs.Targets.{target_list};
-ghost use Rattle.sip_forwarding.specs.Arrivals.{arrival_of};
+ghost use Rattle.sip_forwarding.specs.Arrivals.{arrival_of, arrived};
 ghost use Rattle.sip_dialog_lessons.specs.state.Dialogs.{after_request};
 ghost use Rattle.sip_forwarding.specs.context_model.Opening as Openings;
 ghost use Rattle.model_steps.specs.Effect.{opening_packets, dialogs_after};
@@ -78,8 +78,9 @@ fn can_be_numbered(targets: &Targets) -> bool
 }
 
 /// A request that came, with its key, is sent to its targets (RFC 3261 16.5, 16.6): exactly the packets of its opening,
-/// the request after it, and what that tells the dialogs. The request can be opened, and no dialog begins. `AllocError` is
-/// the only refusal; it also comes where there are more targets than numbers of branches.
+/// the request after it, and what that tells the dialogs. Its source is the one that it was kept with. The request can be
+/// opened, and no dialog begins. `AllocError` is the only refusal; it also comes where there are more targets than numbers
+/// of branches.
 pub fn forward_to(
     alloc: Global,
     server: &Server,
@@ -89,18 +90,18 @@ pub fn forward_to(
     request: Shared<Heard>,
     targets: &Targets,
 ) -> Result<Forwarded, AllocError>
-    requires key { key_of request ≡ Some key }
+    requires key { key_of request.message ≡ Some key }
     requires now { arrival.now + 32000 < 2 ^ 64 }
     ensures packets { IfOk result (λ forwarded. forwarded.packets
-        ≡ opening_packets server.now arrival.now (call_to (arrival_of arrival) request targets.now)) }
+        ≡ opening_packets server.now arrival.now (call_to (arrived arrival request) request.message targets.now)) }
     ensures sent { IfOk result
-        (λ forwarded. AreSent (opening_packets server.now arrival.now (call_to (arrival_of arrival) request targets.now)) [] forwarded.packets) }
+        (λ forwarded. AreSent (opening_packets server.now arrival.now (call_to (arrived arrival request) request.message targets.now)) [] forwarded.packets) }
     ensures request { IfOk result (λ forwarded. forwarded.request
-        ≡ (Openings.opening server.now arrival.now (call_to (arrival_of arrival) request targets.now)).request) }
+        ≡ (Openings.opening server.now arrival.now (call_to (arrived arrival request) request.message targets.now)).request) }
     ensures opens { IfOk result (λ forwarded. IsOpenable (arrival_of arrival) key forwarded.request) }
     ensures lessons { IfOk result (λ forwarded. Teach hops.now.addresses server.now arrival.now forwarded.lessons
         (λ dialogs. dialogs_after server.now arrival.now (Openings.opening server.now arrival.now
-        (call_to (arrival_of arrival) request targets.now)) dialogs)) }
+        (call_to (arrived arrival request) request.message targets.now)) dialogs)) }
     ensures none_begins { IfOk result (λ forwarded. beginnings forwarded.lessons ≡ 0) }
 {
     if !can_be_numbered(targets) {
@@ -127,7 +128,7 @@ fn renewing_kept(
     request: &Heard,
 ) -> Result<Lessons, AllocError>
     ensures told { IfOk result (λ lessons. Adds hops.now.addresses [] lessons
-        (λ server now dialogs. after_request server now id request.now dialogs)) }
+        (λ server now dialogs. after_request server now id request.now.message dialogs)) }
     ensures none_begins { IfOk result (λ lessons. beginnings lessons ≡ 0) }
 {
     let request = request.view(alloc)?;
@@ -137,7 +138,8 @@ fn renewing_kept(
 
 /// A request of a dialog that came, with its key, is sent on to the address that the dialog holds (RFC 3261 16.12): exactly
 /// the packets of its opening, the request after it, and what that tells the dialogs, behind the renewal of its own (12.2).
-/// The request can be opened, and no dialog begins. `AllocError` is the only refusal.
+/// Its source is the one that it was kept with. The request can be opened, and no dialog begins. `AllocError` is the only
+/// refusal.
 pub fn forward_within(
     alloc: Global,
     server: &Server,
@@ -148,19 +150,19 @@ pub fn forward_within(
     address: Addr,
     id: DialogId,
 ) -> Result<Forwarded, AllocError>
-    requires key { key_of request ≡ Some key }
+    requires key { key_of request.message ≡ Some key }
     requires now { arrival.now + 32000 < 2 ^ 64 }
     ensures packets { IfOk result (λ forwarded. forwarded.packets
-        ≡ opening_packets server.now arrival.now (call_within server.now (arrival_of arrival) request address)) }
+        ≡ opening_packets server.now arrival.now (call_within server.now (arrived arrival request) request.message address)) }
     ensures sent { IfOk result
-        (λ forwarded. AreSent (opening_packets server.now arrival.now (call_within server.now (arrival_of arrival) request address)) []
+        (λ forwarded. AreSent (opening_packets server.now arrival.now (call_within server.now (arrived arrival request) request.message address)) []
         forwarded.packets) }
     ensures request { IfOk result (λ forwarded. forwarded.request
-        ≡ (Openings.opening server.now arrival.now (call_within server.now (arrival_of arrival) request address)).request) }
+        ≡ (Openings.opening server.now arrival.now (call_within server.now (arrived arrival request) request.message address)).request) }
     ensures opens { IfOk result (λ forwarded. IsOpenable (arrival_of arrival) key forwarded.request) }
     ensures lessons { IfOk result (λ forwarded. Teach hops.now.addresses server.now arrival.now forwarded.lessons
         (λ dialogs. dialogs_after server.now arrival.now (Openings.opening server.now arrival.now
-        (call_within server.now (arrival_of arrival) request address)) (after_request server.now arrival.now id request dialogs))) }
+        (call_within server.now (arrived arrival request) request.message address)) (after_request server.now arrival.now id request.message dialogs))) }
     ensures none_begins { IfOk result (λ forwarded. beginnings forwarded.lessons ≡ 0) }
 {
     opens();

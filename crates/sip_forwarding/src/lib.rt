@@ -29,7 +29,7 @@ pub use arrival::Arrival;
 pub use changing::{Drafted, draft_change};
 pub use copies::copy_packets;
 pub use forwarding::{Forwarded, forward_to, forward_within};
-pub use packets::change_packets;
+pub use packets::put_packets;
 pub use renewing::{ForwardedAck, forward_ack};
 pub use replying::{Replied, reply};
 

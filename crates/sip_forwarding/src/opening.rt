@@ -41,7 +41,8 @@ fn is_tried(request: &OpenRequest) -> bool
 /// The text of the 100 of a request.
 fn trying_text(alloc: Global, server: &Server, request: &OpenRequest) -> Result<Bytes, AllocError>
     ensures { IfOk result (λ text. text
-        ≡ text_of (Sendings.made_answer server.now request.now.number request.now.request request.now.source 100 [])) }
+        ≡ text_of (Sendings.made_answer server.now request.now.number
+        request.now.request.message request.now.request.source 100 [])) }
 {
     let extras = Fields::new(alloc);
     made_answer(
@@ -49,7 +50,6 @@ fn trying_text(alloc: Global, server: &Server, request: &OpenRequest) -> Result<
         server,
         request.number,
         request.request.get(),
-        request.source,
         100,
         &extras,
     )

@@ -59,9 +59,9 @@ fn put_all(
     move_packets(alloc, out, packets.as_mut_slice())
 }
 
-/// Adds packets in their order, which are taken out of their list, if there are some.
+/// Adds packets in their order, which are taken out of their list, if there are some. `AllocError` is the only refusal.
 #[inline(always)]
-pub(crate) fn put_packets(
+pub fn put_packets(
     alloc: Global,
     out: &mut Items<Packet>,
     packets: &mut Items<Packet>,
@@ -121,7 +121,7 @@ pub(crate) fn put_change(
 /// Adds what an event made an open request send, given the request after it: ACKs, then what goes to the caller, then
 /// CANCELs (this project's profile). Gives what goes to the caller, of which dialogs learn. `AllocError` is the only
 /// refusal.
-pub fn change_packets(
+pub(crate) fn change_packets(
     alloc: Global,
     out: &mut Items<Packet>,
     request: &OpenRequest,

@@ -5,7 +5,7 @@ ghost use Rattle.sip_message_form.specs.Text.{text_of};
 ghost use Rattle.sip_transaction_table.specs.Key.{key_of};
 ghost use Rattle.sip_context_branches.specs.context_model.Opening as Definitions;
 ghost use Rattle.sip_context_branches.specs.context_model.Sending as Sendings;
-ghost use Rattle.sip_forwarding.specs.Arrivals.{arrival_of};
+ghost use Rattle.sip_forwarding.specs.Arrivals.{arrived};
 
 use crate::arrival::{Arrival, arriving};
 use model_steps::state::{AnswerText, Heard, LastAnswer, OpenRequest, Server, Side};
@@ -40,26 +40,18 @@ fn make(
     status: u16,
     extras: &Fields,
 ) -> Result<Made, AllocError>
-    ensures packet { IfOk result (λ made. made.packet ≡ Sendings.answer_packet false arrival.number request.now arrival.from
-        (text_of (Sendings.made_answer server.now arrival.number request.now arrival.from status extras.now))) }
+    ensures packet { IfOk result (λ made. made.packet ≡ Sendings.answer_packet false arrival.number request.now.message request.now.source
+        (text_of (Sendings.made_answer server.now arrival.number request.now.message request.now.source status extras.now))) }
     ensures answer { IfOk result
         (λ made. made.answer ≡ record {
           status = status;
           text = text_of
-              (Sendings.made_answer server.now arrival.number request.now arrival.from status extras.now);
+              (Sendings.made_answer server.now arrival.number request.now.message request.now.source status extras.now);
         }) }
 {
-    let text = made_answer(
-        alloc,
-        server,
-        arrival.number,
-        request,
-        arrival.from,
-        status,
-        extras,
-    )?;
+    let text = made_answer(alloc, server, arrival.number, request, status, extras)?;
     let kept = AnswerText::copy(alloc, text.as_slice())?;
-    let packet = answer_packet(false, arrival.number, request, arrival.from, text);
+    let packet = answer_packet(false, arrival.number, request, text);
     let answer = LastAnswer { status, text: kept };
     Ok(Made { packet, answer })
 }
@@ -72,9 +64,9 @@ fn closing(
     request: Shared<Heard>,
     answer: LastAnswer,
 ) -> OpenRequest
-    requires key { key_of request ≡ Some key }
+    requires key { key_of request.message ≡ Some key }
     requires now { arrival.now + 32000 < 2 ^ 64 }
-    ensures { result ≡ Definitions.closing (arrival_of arrival) request answer.status answer.text }
+    ensures { result ≡ Definitions.closing (arrived arrival request) request.message answer.status answer.text }
 {
     let mut open_request = arriving(alloc, arrival, key, request);
     open_request.answer = Some(answer);
@@ -85,7 +77,8 @@ fn closing(
 }
 
 /// A request that came gets its final answer of a status at once, made here with further fields: the packet of the answer,
-/// and the request, which is open from then on (RFC 3261 8.2.6, 17.2). `AllocError` is the only refusal.
+/// and the request, which is open from then on (RFC 3261 8.2.6, 17.2). Its source is the one that it was kept with.
+/// `AllocError` is the only refusal.
 pub fn reply(
     alloc: Global,
     server: &Server,
@@ -95,12 +88,12 @@ pub fn reply(
     status: u16,
     extras: &Fields,
 ) -> Result<Replied, AllocError>
-    requires key { key_of request ≡ Some key }
+    requires key { key_of request.message ≡ Some key }
     requires now { arrival.now + 32000 < 2 ^ 64 }
-    ensures packet { IfOk result (λ replied. replied.packet ≡ Sendings.answer_packet false arrival.number request arrival.from
-        (text_of (Sendings.made_answer server.now arrival.number request arrival.from status extras.now))) }
-    ensures request { IfOk result (λ replied. replied.request ≡ Definitions.closing (arrival_of arrival) request status
-        (text_of (Sendings.made_answer server.now arrival.number request arrival.from status extras.now))) }
+    ensures packet { IfOk result (λ replied. replied.packet ≡ Sendings.answer_packet false arrival.number request.message request.source
+        (text_of (Sendings.made_answer server.now arrival.number request.message request.source status extras.now))) }
+    ensures request { IfOk result (λ replied. replied.request ≡ Definitions.closing (arrived arrival request) request.message status
+        (text_of (Sendings.made_answer server.now arrival.number request.message request.source status extras.now))) }
 {
     let made = make(alloc, server, arrival, request.get(), status, extras)?;
     let packet = made.packet;

@@ -118,7 +118,7 @@ impl Sources {
         number_in(&self.recent, ip).max(number_in(&self.earlier, ip))
     }
 
-    /// Those of late become the earlier ones, which are forgotten.
+    /// Those of late become the earlier ones, which are forgotten: only where half the table is full of sources.
     fn turn(&mut self)
         ensures { self.new ≡ record { secret = self.old.secret; recent = []; earlier = self.old.recent; recent_until = 0; earlier_until = self.old.recent_until } }
     {

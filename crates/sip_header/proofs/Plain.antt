@@ -1,5 +1,6 @@
--- Parameters of tokens with nothing round them, read in one pass.
-use Rattle.std.proofs.Common.{◌≡◌, ℕ, Bool, true, false, List, [], ◌∷◌, ◌++◌, length, Option, Some, None, refl, sym, ap, subst, ◌∙◌, append_assoc, arith, length-append}
+-- Parameters of tokens and of quoted text with nothing round them, read in one pass.
+use Rattle.std.proofs.Common.{◌≡◌, ◌⊎◌, inl, inr, ℕ, Bool, true, false, List, [], ◌∷◌, ◌++◌, length, Option, Some, None, refl, sym, ap, subst, ◌∙◌, append_assoc, arith}
+use Rattle.std.proofs.Common.{length-append}
 use Rattle.std.specs.Prelude.{option_map, is_some, ◌==◌, ◌||◌}
 use Rattle.std.specs.Option.{option_and_then}
 use Rattle.std.specs.List.{list_all}
@@ -13,7 +14,11 @@ use Rattle.sip_text.specs.Cuts.{split_from, parts_at, parts_behind}
 use Rattle.sip_text.proofs.CutsOutside.{parts_split, one_part}
 use Rattle.sip_text.proofs.Trims as Trims
 use Rattle.sip_header.specs.declared.parameters.Parameter.{Parameter}
-use Rattle.sip_header.specs.Parameters.{is_value, needs_value, IsAssigned, parameter_in, parameters_in, said_in, closing, IsLess, Begins, GoesOn, parameter_of}
+use Rattle.sip_text.specs.Escapes.{unquoted}
+use Rattle.sip_text.proofs.QuotedFronts.{passed_quoted, quoted_trimmed}
+use Rattle.sip_uri.specs.Host.{is_host}
+use Rattle.sip_header.specs.Parameters.{is_value, needs_value, IsAssigned, parameter_in, parameters_in, said_in, closing, IsLess, IsValueAt, Begins, GoesOn}
+use Rattle.sip_header.specs.Parameters.{parameter_of}
 use Rattle.sip_header.proofs.Words.{AllPassing, IsSplit, split_of, front_is, rest_is, all_passing, all_weaker, token_is_full, not_blank}
 use Rattle.sip_header.proofs.ParameterLaws.{read_parameter}
 use Rattle.sip_header.proofs.Lookup.{some_said}
@@ -147,6 +152,87 @@ value_begins name text value rest kept given behind token front back some closed
     ∙ ap (λ (w : List ℕ). name ++ 61 ∷ w) (sym whole) in
     rw (same, is) (subst (λ (w : List ℕ). Begins w (record { name = name; value = Some value }) behind) parts
     (value_here name value behind token (is_token_here text value front some)))
+
+-- ---- a parameter of a token and quoted text
+
+front_twice : (a b : List ℕ) (o : Option (List ℕ × List ℕ)) → in_front a (in_front b o) ≡ in_front (a ++ b) o
+front_twice a b None = refl
+front_twice a b (Some x) = ap (λ (w : List ℕ). Some (w, x.1)) (sym (append_assoc a b x.0))
+
+front_none : (o : Option (List ℕ × List ℕ)) → o ≡ in_front [] o
+front_none None = refl
+front_none (Some x) = refl
+
+pub passes : (p : ℕ → Bool) (mark : ℕ) (left right : List ℕ) → p mark ≡ false → p 34 ≡ false → AllPassing p left
+    → split_from Outside mark (left ++ right) ≡ in_front left (split_from Outside mark right)
+passes p mark [] right fails quote all = front_none (split_from Outside mark right)
+passes p mark (b ∷ left) right fails quote all =
+    let one : split_from Outside mark (b ∷ (left ++ right)) ≡ in_front (b ∷ []) (split_from Outside mark (left ++ right)) =
+    rw (differs p mark b fails all.0, differs p 34 b quote all.0) refl in
+    one ∙ ap (in_front (b ∷ [])) (passes p mark left right fails quote all.1) ∙ front_twice (b ∷ []) left (split_from Outside mark right)
+
+-- a front in which nothing is cut is the first part
+parts_of_front : (front : List ℕ) (behind : Option (List ℕ)) → ((right : List ℕ) → split_from Outside 59 (front ++ right) ≡ in_front front (split_from Outside 59 right))
+    → parts_at 59 (front ++ closing behind) ≡ front ∷ parts_behind 59 behind
+parts_of_front front None passed =
+    one_part 59 (front ++ []) (sym (passed [])) ∙ ap (λ (w : List ℕ). w ∷ []) (append-nil front)
+parts_of_front front (Some rest) passed =
+    let cut : split_from Outside 59 (front ++ 59 ∷ rest) ≡ Some (front, rest) = passed (59 ∷ rest) ∙ ap (λ (w : List ℕ). Some (w, rest)) (append-nil front) in
+    parts_split 59 (front ++ 59 ∷ rest) front rest (sym cut)
+
+passes_assigned : (name value : List ℕ) → is_token_text name ≡ true → is_some (unquoted value) ≡ true → (right : List ℕ)
+    → split_from Outside 59 ((name ++ 61 ∷ value) ++ right) ≡ in_front (name ++ 61 ∷ value) (split_from Outside 59 right)
+passes_assigned name value token quoted right =
+    let rest : Option (List ℕ × List ℕ) = split_from Outside 59 right in
+    let sign : split_from Outside 59 (61 ∷ (value ++ right)) ≡ in_front (61 ∷ []) (split_from Outside 59 (value ++ right)) = refl in
+    ap (split_from Outside 59) (append_assoc name (61 ∷ value) right)
+    ∙ passes is_token_byte 59 name (61 ∷ (value ++ right)) refl refl (tokens name token)
+    ∙ ap (in_front name) (sign ∙ ap (in_front (61 ∷ [])) (passed_quoted 59 right value refl quoted) ∙ front_twice (61 ∷ []) value (split_from Outside 59 right))
+    ∙ front_twice name (61 ∷ value) (split_from Outside 59 right)
+
+is_quoted_value : (value : List ℕ) (token host : Bool) → is_token_text value ≡ token → is_host value ≡ host → is_some (unquoted value) ≡ true → is_value value ≡ true
+is_quoted_value value true host t h quoted = rw t refl
+is_quoted_value value false true t h quoted = rw (t, h) refl
+is_quoted_value value false false t h quoted = rw (t, h, quoted) refl
+
+quoted_here : (name value : List ℕ) (behind : Option (List ℕ)) → is_token_text name ≡ true → is_some (unquoted value) ≡ true
+    → Begins ((name ++ 61 ∷ value) ++ closing behind) (record { name = name; value = Some value }) behind
+quoted_here name value behind token quoted =
+    let assigned : IsAssigned (name ++ 61 ∷ value) name value = record {
+      left = name;
+      right = value;
+      whole = refl;
+      is_name = trimmed_token name token;
+      is_value = quoted_trimmed value quoted;
+    } in
+    let fits : is_value value ≡ true = is_quoted_value value (is_token_text value) (is_host value) refl refl quoted in
+    let is : parameter_in (name ++ 61 ∷ value) ≡ Some (record { name = name; value = Some value }) =
+    read_parameter (name ++ 61 ∷ value) (record { name = name; value = Some value }) (assigned, token, fits) in
+    record {
+      says = ap parameters_in (parts_of_front (name ++ 61 ∷ value) behind (passes_assigned name value token quoted)) ∙ ap (option_and_then
+          (λ first. option_map (λ others. first ∷ others) (parameters_in (parts_behind 59 behind)))) is;
+      less = less_close (name ++ 61 ∷ value) behind;
+    }
+
+pub token_at_front : (text value rest : List ℕ) → value ≡ token_at text → rest ≡ behind_token text → (length value == 0) ≡ false → IsValueAt text value rest
+token_at_front text value rest front back some =
+    record { whole = token_whole text value rest front back; is_said = inl (is_token_here text value front some) }
+
+pub quoted_at_front : (text value rest : List ℕ) → text ≡ value ++ rest → is_some (unquoted value) ≡ true → IsValueAt text value rest
+quoted_at_front text value rest whole quoted = record { whole = whole; is_said = inr quoted }
+
+said_here : (name value : List ℕ) (behind : Option (List ℕ)) → is_token_text name ≡ true → (is_token_text value ≡ true) ⊎ (is_some (unquoted value) ≡ true)
+    → Begins ((name ++ 61 ∷ value) ++ closing behind) (record { name = name; value = Some value }) behind
+said_here name value behind token (inl is) = value_here name value behind token is
+said_here name value behind token (inr quoted) = quoted_here name value behind token quoted
+
+pub value_at_begins : (name text value rest kept given : List ℕ) (behind : Option (List ℕ)) → is_token_text name ≡ true → IsValueAt text value rest
+    → rest ≡ closing behind → kept ≡ name → given ≡ value → Begins (name ++ 61 ∷ text) (record { name = kept; value = Some given }) behind
+value_at_begins name text value rest kept given behind token at closed same is =
+    let whole : text ≡ value ++ closing behind = at.whole ∙ ap (λ (w : List ℕ). value ++ w) closed in
+    let parts : (name ++ 61 ∷ value) ++ closing behind ≡ name ++ 61 ∷ text = append_assoc name (61 ∷ value) (closing behind)
+    ∙ ap (λ (w : List ℕ). name ++ 61 ∷ w) (sym whole) in
+    rw (same, is) (subst (λ (w : List ℕ). Begins w (record { name = name; value = Some value }) behind) parts (said_here name value behind token at.is_said))
 
 pub part_begins : (text part : List ℕ) (parameter : Parameter) (behind : Option (List ℕ)) → parts_at 59 text ≡ part ∷ parts_behind 59 behind → IsLess text behind
     → parameter_in part ≡ Some parameter → Begins text parameter behind

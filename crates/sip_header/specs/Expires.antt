@@ -36,7 +36,11 @@ abbrev pub parameter_expires : Option Parameter → Expires
 parameter_expires None = Absent
 parameter_expires (Some parameter) = expires_from (option_and_then seconds_of parameter.value)
 
+-- what the `expires` among the parameters of a contact says
+abbrev pub parameters_expires : List Parameter → Expires
+parameters_expires parameters = parameter_expires (parameter_of (codes "expires") parameters)
+
 -- What the `expires` of a contact says (RFC 3261 20.10); without a value, or quoted, it is malformed.
 abbrev pub contact_expires : ContactItem → Expires
 contact_expires Star = Absent
-contact_expires (Address address) = parameter_expires (parameter_of (codes "expires") address.parameters)
+contact_expires (Address address) = parameters_expires address.parameters

@@ -1,5 +1,5 @@
 -- Header parameters (RFC 3261 20 and 25.1, generic-param).
-use Rattle.std.specs.Prelude.{◌≡◌, ◌++◌, ◌<◌, ℕ, Bool, length, true, false, ◌||◌, is_some, if◌then◌else◌, List, [], ◌∷◌, codes, Option}
+use Rattle.std.specs.Prelude.{◌≡◌, ◌⊎◌, ◌++◌, ◌<◌, ℕ, Bool, length, true, false, ◌||◌, is_some, if◌then◌else◌, List, [], ◌∷◌, codes, Option}
 use Rattle.std.specs.Prelude.{Some, None, option_map}
 use Rattle.std.specs.Option.{option_and_then, unwrap_or}
 use Rattle.std.specs.Str.{byte}
@@ -67,6 +67,11 @@ said_in texts = unwrap_or (parameters_in texts) []
 abbrev pub closing : Option (List ℕ) → List ℕ
 closing None = []
 closing (Some rest) = byte ";" ∷ rest
+
+-- a text begins with a token or with quoted text, behind which the rest stands
+pub record IsValueAt (text value rest : List ℕ) : Type 0 where
+  pub whole : text ≡ value ++ rest
+  pub is_said : (is_token_text value ≡ true) ⊎ (is_some (unquoted value) ≡ true)
 
 -- less is left behind a parameter
 abbrev pub IsLess : List ℕ → Option (List ℕ) → Type 0

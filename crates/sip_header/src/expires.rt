@@ -3,7 +3,7 @@ ghost use Rattle.std.specs.Option.{option_and_then};
 ghost use Rattle.sip_header.specs.Expires as Reading;
 
 use crate::contact_item::ContactItem;
-use crate::parameters::parameter_of;
+use crate::parameters::{Parameters, parameter_of};
 use sip_message_fields::{FieldName, ViewFields};
 use sip_text::{Text, decimal};
 
@@ -51,16 +51,24 @@ fn value_expires(value: &Option<Text<'_>>) -> Expires
     }
 }
 
+/// What the `expires` among the parameters of a contact says (RFC 3261 20.10); without a value, or quoted, it is malformed. Takes no
+/// memory.
+pub fn parameters_expires(parameters: &Parameters<'_>) -> Expires
+    ensures { result ≡ Reading.parameters_expires parameters.now }
+{
+    match parameter_of(parameters, b"expires") {
+        Some(parameter) => value_expires(&parameter.value),
+        None => Expires::Absent,
+    }
+}
+
 /// What the `expires` of a contact says (RFC 3261 20.10); without a value, or quoted, it is malformed. Takes no
 /// memory.
 pub fn contact_expires(item: &ContactItem<'_>) -> Expires
     ensures { result ≡ Reading.contact_expires item.now }
 {
-    let ContactItem::Address(address) = item else {
-        return Expires::Absent;
-    };
-    match parameter_of(&address.parameters, b"expires") {
-        Some(parameter) => value_expires(&parameter.value),
-        None => Expires::Absent,
+    match item {
+        ContactItem::Star => Expires::Absent,
+        ContactItem::Address(address) => parameters_expires(&address.parameters),
     }
 }

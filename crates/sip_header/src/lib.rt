@@ -32,9 +32,9 @@ pub use contact_item::{ContactItem, contact_of};
 pub use core_fields::{CoreFields, core_of};
 pub use cseq::{CSeq, cseq_of};
 pub use error::HeaderError;
-pub use expires::{Expires, contact_expires, expires_of};
+pub use expires::{Expires, contact_expires, expires_of, parameters_expires};
 pub use max_forwards::{MaxForwards, max_forwards_of};
-pub use name_addr::{AnyUri, NameAddr, name_addr_of};
+pub use name_addr::{AnyUri, NameAddr, name_addr_of, parameters_behind_bracket};
 pub use parameters::{
     Parameter, Parameters, branch_of, one_before_rport, parameter_of, tag_of, value_of,
 };

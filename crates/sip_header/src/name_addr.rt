@@ -209,8 +209,9 @@ fn bare(bytes: &[u8]) -> Option<Parts<'_>>
     Some(Parts { uri, parameters })
 }
 
-/// The parameters behind a `>`.
-fn parameters_behind_bracket(bytes: &[u8]) -> Option<Parameters<'_>>
+/// The parameters behind the `>` of an address (RFC 3261 20.10), each behind its `;`. None where something else stands there. Takes no
+/// memory.
+pub fn parameters_behind_bracket(bytes: &[u8]) -> Option<Parameters<'_>>
     ensures { result ≡ behind_bracket (parts_at 59 bytes.now) }
 {
     let (gap, behind) = first_part(bytes, b';');

@@ -4,11 +4,11 @@ ghost use Rattle.std.specs.Str.{byte};
 ghost use Rattle.sip_text.specs.Words.{is_token_text};
 ghost use Rattle.sip_text.specs.Cuts.{parts_at, parts_behind};
 ghost use Rattle.sip_header.specs.Parameters.{is_value, needs_value, bare_parameter, valued_parameter, parameter_in, parameters_in};
-ghost use Rattle.sip_header.specs.Parameters.{said_in, closing, Begins, GoesOn, parameter_of, value_of, tag_of, branch_of};
+ghost use Rattle.sip_header.specs.Parameters.{said_in, closing, IsValueAt, Begins, GoesOn, parameter_of, value_of, tag_of, branch_of};
 
 use sip_text::{
-    Text, first_part, is_quoted, is_token, same_bytes, same_no_case, split_outside, split_token,
-    without_blanks,
+    Text, first_part, is_quoted, is_token, same_bytes, same_no_case, split_outside, split_quoted,
+    split_token, without_blanks,
 };
 use sip_uri::is_host;
 use std::marker::Model;
@@ -98,16 +98,27 @@ fn plain_name<'v>(name: &'v [u8], rest: &'v [u8]) -> Option<(Parameter<'v>, Opti
     Some((parameter, behind))
 }
 
-/// A parameter of a name and the token behind its `=`, and what follows it.
+/// The token, or the quoted text, at the front of a text, and what follows it.
+#[inline(always)]
+#[tactic(auto, using(crate::proofs::Plain::quoted_at_front))]
+fn plain_value_at(text: &[u8]) -> Option<(&[u8], &[u8])>
+    ensures { IfSome result (λ x. IsValueAt text.now x.0.now x.1.now) }
+{
+    let (value, rest) = split_token(text);
+    if value.is_empty() {
+        let (quoted, behind) = split_quoted(text)?;
+        return Some((quoted, behind));
+    }
+    Some((value, rest))
+}
+
+/// A parameter of a name and the token or the quoted text behind its `=`, and what follows it.
 #[inline(always)]
 fn plain_value<'v>(name: &'v [u8], text: &'v [u8]) -> Option<(Parameter<'v>, Option<&'v [u8]>)>
     requires { is_token_text name.now ≡ true }
     ensures { IfSome result (λ x. Begins (name.now ++ byte "=" ∷ text.now) x.0 (option_map (λ y. y.now) x.1)) }
 {
-    let (value, rest) = split_token(text);
-    if value.is_empty() {
-        return None;
-    }
+    let (value, rest) = plain_value_at(text)?;
     let behind = plain_end(rest)?;
     let parameter = Parameter {
         name: Text::new(name),
@@ -116,8 +127,8 @@ fn plain_value<'v>(name: &'v [u8], text: &'v [u8]) -> Option<(Parameter<'v>, Opt
     Some((parameter, behind))
 }
 
-/// The parameter at the front of a text, and what follows its `;`, where name and value are tokens with nothing round
-/// them, as those of most are: so each byte is read once. None says nothing.
+/// The parameter at the front of a text, and what follows its `;`, where its name is a token and its value one or quoted text, with
+/// nothing round them, as phones write them: so each byte is read once. None says nothing.
 #[inline(always)]
 fn plain_parameter(text: &[u8]) -> Option<(Parameter<'_>, Option<&[u8]>)>
     ensures { IfSome result (λ x. Begins text.now x.0 (option_map (λ y. y.now) x.1)) }

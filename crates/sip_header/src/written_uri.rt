@@ -1,5 +1,5 @@
 use sip_text::Text;
-use sip_uri::UriRef;
+use sip_uri_ref::UriRef;
 
 /// The URI of an address.
 #[derive(Drop)]

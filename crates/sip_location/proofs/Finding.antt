@@ -108,7 +108,7 @@ only_first aor (f ∷ fs) le = by_test (is_same_aor f.aor aor) refl le (only_fir
   by_test false other few rest = rest few
 
 -- the bindings of an address are those of the first that is filed of it
-of_first : (aor : Aor) (by_code : ℕ → Option Filed) (crowd : List Filed) → AreFiled by_code crowd
+pub of_first : (aor : Aor) (by_code : ℕ → Option Filed) (crowd : List Filed) → AreFiled by_code crowd
     → of_aor aor (rows_in by_code crowd) ≡ bindings_of aor (first_rows (filed_of aor by_code crowd))
 of_first aor by_code crowd h = of_filed aor by_code crowd h.coded ∙ only_first aor (option_to_list (by_code (code_of aor)) ++ crowd) (h.once aor)
 

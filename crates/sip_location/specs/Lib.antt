@@ -12,4 +12,5 @@ pub mod Locations
 pub mod Code
 pub mod Filed
 pub mod FiledAor
+pub mod Alive
 pub mod Refreshing

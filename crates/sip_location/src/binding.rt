@@ -57,7 +57,7 @@ impl<'a> BindingRef<'a> {
         BindingRef { aor, row }
     }
 
-    /// Its address of record.
+    /// Its address of record: only tests ask for it, where a step was refused its memory.
     pub fn aor(&self) -> AorRef<'a>
         ensures { result ≡ self.now.aor }
     {
@@ -73,7 +73,7 @@ impl<'a> BindingRef<'a> {
         self.row.uri_text()
     }
 
-    /// The Call-ID of the REGISTER that made it.
+    /// The Call-ID of the REGISTER that made it: only tests ask for it, where a step was refused its memory.
     pub fn call_id(&self) -> &'a [u8]
         ensures { result.now ≡ self.now.call_id }
     {

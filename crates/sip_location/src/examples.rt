@@ -1,8 +1,8 @@
-ghost use Rattle.std.specs.Prelude.{◌≡◌, [], ◌∷◌, ◌++◌, codes, Ok, Err};
+ghost use Rattle.std.specs.Prelude.{◌≡◌, [], ◌∷◌, codes, Ok, Err};
 ghost use Rattle.sip_uri.specs.Examples as Uris;
 ghost use Rattle.sip_header.specs.declared.expires.Expires.TheVariants.{Absent, Malformed, Seconds};
 ghost use Rattle.sip_header.specs.declared.contact_item.ContactItem.TheVariants.{Star};
-ghost use Rattle.sip_location.specs.declared.error.LocationError.TheVariants.{BadStar, TooBrief, OldCSeq, TooMany};
+ghost use Rattle.sip_location.specs.declared.error.LocationError.TheVariants.{BadStar, TooBrief, OldCSeq};
 ghost use Rattle.sip_location.specs.Examples;
 ghost use Rattle.sip_location.specs.Registration.{registered};
 
@@ -43,45 +43,4 @@ pub fn contact_intervals()
 pub fn replaces_each_equal_contact()
     ensures { Examples.contacts_after Examples.carols_bindings (Examples.asking (codes "c2") 1 (Examples.contact_alone Uris.carol ∷ []))
         ≡ Ok (Uris.carol ∷ Uris.bob ∷ []) }
-{}
-
-/// A contact that is too brief, or older, leaves the bindings of all contacts as they were. A seventeenth
-/// binding is too many.
-pub fn all_or_none()
-    ensures brief { registered Examples.two_bindings (Examples.asking (codes "c2") 1
-        (Examples.contact_alone Uris.bob ∷ Examples.contact_for (codes "59") ∷ [])) 1000 ≡ Err TooBrief }
-    ensures old { registered Examples.two_bindings (Examples.asking (codes "c1") 2
-        (Examples.contact_alone Uris.bob ∷ Examples.contact_for (codes "60") ∷ [])) 1000 ≡ Err OldCSeq }
-    ensures other_call { Examples.contacts_after Examples.two_bindings
-        (Examples.asking (codes "c9") 5 (Examples.contact_for (codes "60") ∷ [])) ≡ Ok (Examples.first_contact ∷ Examples.second_contact ∷ []) }
-    ensures seventeenth { registered Examples.sixteen_bindings (Examples.asking (codes "c2") 1 (Examples.contact_alone Uris.bob ∷ [])) 1000
-        ≡ Err TooMany }
-    ensures expired { Examples.contacts_after (Examples.sixteen_bindings
-        ++ record (Examples.binding_by (codes "c1") 1 Uris.bob) { expires_at = 1000 } ∷ []) (Examples.asking (codes "c2") 1 [])
-        ≡ Ok (Examples.sixteen_contacts) }
-{}
-
-/// In the same Call-ID a contact is bound anew by a higher CSeq, in its place and with the new expiry; by an equal
-/// one it is refused, and so is one that is lower (RFC 3261 10.3 step 7).
-pub fn refreshed_contact()
-    ensures higher { Examples.live_after Examples.mufasa 1000 Examples.two_bindings
-        (Examples.asking (codes "c1") 3 (Examples.contact_for (codes "60") ∷ []))
-        ≡ Ok (record (Examples.binding_by (codes "c1") 3 Examples.first_contact) { expires_at = 61000 }
-        ∷ Examples.binding_by (codes "c9") 5 Examples.second_contact ∷ []) }
-    ensures equal { registered Examples.two_bindings (Examples.asking (codes "c1") 2 (Examples.contact_for (codes "60") ∷ [])) 1000 ≡ Err OldCSeq }
-    ensures lower { registered Examples.two_bindings (Examples.asking (codes "c1") 1 (Examples.contact_for (codes "60") ∷ [])) 1000 ≡ Err OldCSeq }
-    ensures removed { registered Examples.two_bindings (Examples.asking (codes "c1") 2 (Examples.contact_for (codes "0") ∷ [])) 1000 ≡ Err OldCSeq }
-{}
-
-/// A REGISTER of one address of record leaves another its bindings at every moment, one that has expired, too; also
-/// a `*` that removes all (RFC 3261 10.3).
-pub fn other_address_is_untouched()
-    ensures bound { Examples.live_after Examples.alice 1000 Examples.beside_alice
-        (Examples.asking (codes "c1") 3 (Examples.contact_for (codes "60") ∷ [])) ≡ Ok (Examples.alices_binding Examples.first_contact 3601000 ∷ []) }
-    ensures earlier { Examples.live_after Examples.alice 999 Examples.beside_alice
-        (Examples.asking (codes "c1") 3 (Examples.contact_for (codes "60") ∷ []))
-        ≡ Ok (Examples.alices_binding Examples.second_contact 1000 ∷ Examples.alices_binding Examples.first_contact 3601000 ∷ []) }
-    ensures removed { Examples.live_after Examples.alice 999 Examples.beside_alice (Examples.removing_all 3)
-        ≡ Ok (Examples.alices_binding Examples.second_contact 1000 ∷ Examples.alices_binding Examples.first_contact 3601000 ∷ []) }
-    ensures none_left { Examples.live_after Examples.mufasa 1000 Examples.beside_alice (Examples.removing_all 3) ≡ Ok [] }
 {}

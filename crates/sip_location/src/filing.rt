@@ -1,8 +1,12 @@
 //! Where the rows of each address of record stand: found by a code in constant time, however many addresses there are.
 ghost use Rattle.std.specs.Prelude.{◌≡◌, ◌≤◌, ◌<◌, ◌-◌, ◌++◌, ◌==◌, ℕ, [], false, not, filter, nat_eq, vec_len, vec_capacity, OnOk};
-ghost use Rattle.std.specs.Prelude.{option_to_list, if◌then◌else◌};
-ghost use Rattle.std.specs.HashMap.{get, spare};
+ghost use Rattle.std.specs.Prelude.{◌≢◌, ◌∷◌, true, MatchOption, IfSome, option_to_list, if◌then◌else◌};
+ghost use Rattle.std.specs.HashMap.{get, spare, values};
+ghost use Rattle.std.specs.List.{AllByRecursion};
 ghost use Rattle.std.specs.Option.{option_map_or};
+ghost use Rattle.sip_uri.specs.declared.aor.Aor.{Aor};
+ghost use Rattle.sip_location.specs.Alive.{lives, LivesAlike};
+ghost use Rattle.sip_location.specs.Binding.{live};
 ghost use Rattle.sip_location.specs.Filed.{bindings_of, is_filed_of, first_rows, with_rows, IsReplaced};
 ghost use Rattle.sip_location.specs.Locations.{of_aor};
 
@@ -10,6 +14,7 @@ use crate::aor_ref::AorRef;
 use crate::code::code_of;
 use crate::filed::Filed;
 use crate::row::Row;
+use crate::standing::is_live_row;
 use sip_uri::Aor;
 use std::alloc::{AllocError, Global};
 use std::collections::HashMap;
@@ -58,13 +63,31 @@ impl Filing {
     pub(crate) fn rows_of(&self, aor: &Aor) -> &[Row]
         ensures { bindings_of aor.now result.now ≡ of_aor aor.now self.now.rows }
     {
-        let aor = AorRef::of(aor);
-        if let Some(filed) = self.by_code.get(&code_of(&aor)) {
-            if filed.aor.is_same(&aor) {
+        self.rows_at(&AorRef::of(aor))
+    }
+
+    /// The same of an address of record that is lent.
+    fn rows_at(&self, asked: &AorRef<'_>) -> &[Row]
+        ensures { bindings_of asked.now result.now ≡ of_aor asked.now self.now.rows }
+    {
+        if let Some(filed) = self.by_code.get(&code_of(asked)) {
+            if filed.aor.is_same(asked) {
                 return filed.rows.as_slice();
             }
         }
-        rows_among(&self.crowd, &aor)
+        rows_among(&self.crowd, asked)
+    }
+
+    /// Only where each address of record that has rows here has the same live ones in another filing, in their order. Takes no
+    /// memory; a look-up for each.
+    pub(crate) fn lives_in(&self, other: &Filing, now: u64) -> bool
+        ensures { result ≡ true → (aor : Aor) → of_aor aor self.now.rows ≢ []
+            → live aor now self.now.rows ≡ live aor now other.now.rows }
+    {
+        if !all_under_codes(&self.by_code, other, now) {
+            return false;
+        }
+        all_in_crowd(self.crowd.as_slice(), other, now)
     }
 
     /// Makes room for one address more, whatever its code. `AllocError` is the only refusal.
@@ -91,6 +114,84 @@ impl Filing {
             put(&mut self.by_code, code, filed);
         }
     }
+}
+
+/// The first row that lives, and those behind it.
+fn next_live(rows: &[Row], now: u64) -> Option<(&Row, &[Row])>
+    ensures { MatchOption result (lives now rows.now ≡ []) (λ found. lives now rows.now ≡ found.0.now ∷ lives now found.1.now) }
+{
+    let mut rest = rows;
+    while let Some((first, others)) = rest.split_first() {
+        if is_live_row(first, now) {
+            return Some((first, others));
+        }
+        rest = others;
+    }
+    None
+}
+
+/// What is left of some rows behind the first that lives, only where that is the same as another row; all, where that one doesn't
+/// live.
+fn behind_same<'a>(row: &Row, rest: &'a [Row], now: u64) -> Option<&'a [Row]>
+    ensures { IfSome result (λ left. lives now rest.now ≡ lives now (row.now ∷ []) ++ lives now left.now) }
+{
+    if !is_live_row(row, now) {
+        return Some(rest);
+    }
+    let (first, others) = next_live(rest, now)?;
+    if !row.is_same(first) {
+        return None;
+    }
+    Some(others)
+}
+
+/// Only where of two lists of rows the same live, in their order.
+fn live_alike(left: &[Row], right: &[Row], now: u64) -> bool
+    ensures { result ≡ true → lives now left.now ≡ lives now right.now }
+{
+    let mut rest = right;
+    for row in left {
+        let Some(others) = behind_same(row, rest, now) else {
+            return false;
+        };
+        rest = others;
+    }
+    match next_live(rest, now) {
+        Some(_) => false,
+        None => true,
+    }
+}
+
+/// Only where the address of record of what is filed has the same live rows in a filing.
+fn lives_alike(filed: &Filed, other: &Filing, now: u64) -> bool
+    ensures { result ≡ true → LivesAlike other.now.rows now filed.now }
+{
+    let aor = filed.aor.lent();
+    live_alike(filed.rows.as_slice(), other.rows_at(&aor), now)
+}
+
+/// Only where that is so of all that stands under codes.
+fn all_under_codes(by_code: &HashMap<u64, Filed>, other: &Filing, now: u64) -> bool
+    ensures { result ≡ true → AllByRecursion (LivesAlike other.now.rows now) (values by_code.now) }
+{
+    for filed in by_code.values() {
+        if !lives_alike(filed, other, now) {
+            return false;
+        }
+    }
+    true
+}
+
+/// Only where that is so of each in a crowd.
+fn all_in_crowd(crowd: &[Filed], other: &Filing, now: u64) -> bool
+    ensures { result ≡ true → AllByRecursion (LivesAlike other.now.rows now) crowd.now }
+{
+    for filed in crowd {
+        if !lives_alike(filed, other, now) {
+            return false;
+        }
+    }
+    true
 }
 
 /// The rows of an address of record in a crowd; where it has none, no rows.
@@ -124,7 +225,7 @@ fn leave(crowd: &mut Vec<Filed>, aor: &AorRef<'_>)
     crowd.retain(|filed| !filed.aor.is_same(aor));
 }
 
-/// Adds rows to a crowd, if there are any.
+/// Adds rows to a crowd, if there are any. Called only where two have one digest.
 fn join(crowd: &mut Vec<Filed>, filed: Filed)
     requires { vec_len crowd.old < vec_capacity crowd.old }
     ensures { crowd.new.items ≡ crowd.old.items ++ option_to_list (with_rows filed) }

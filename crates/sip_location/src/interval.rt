@@ -15,7 +15,7 @@ const DAY: u64 = 86_400;
 pub(crate) const MINUTE: u64 = 60;
 
 /// A contact's own `expires`, else the request's.
-fn own_or(own: Expires, expires: Expires) -> Expires
+pub(crate) fn own_or(own: Expires, expires: Expires) -> Expires
     ensures { result ≡ Definitions.own_or own expires }
 {
     match own {

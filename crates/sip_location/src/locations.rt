@@ -1,6 +1,6 @@
 //! The calls of the registrar: bindings are looked up, a REGISTER is planned, and its plan is taken (RFC 3261 10.3 steps 6 to 8).
 //! Who may register or list is decided before (`sip_core`).
-ghost use Rattle.std.specs.Prelude.{◌≡◌, ◌≤◌, ◌<◌, ◌^◌, ℕ, List, [], false, nat_lt, length, filter, Ok, IsOk, IfOk, IfErr, IfSome, OnOk, OnErr};
+ghost use Rattle.std.specs.Prelude.{◌≡◌, ◌≤◌, ◌<◌, ◌^◌, ℕ, List, [], true, false, nat_lt, length, filter, Ok, IsOk, IfOk, IfErr, IfSome, OnOk, OnErr};
 ghost use Rattle.sip_uri.specs.declared.aor.Aor.{Aor};
 ghost use Rattle.sip_uri.specs.Aor.{is_same_aor};
 ghost use Rattle.sip_location.specs.declared.binding.Binding.{Binding};
@@ -11,7 +11,7 @@ ghost use Rattle.sip_location.specs.Filed.{bindings_of};
 ghost use Rattle.sip_location.specs.Locations.{of_aor, IsPlan, IsRefusal};
 ghost use Rattle.sip_location.specs.Registration.{edited, registered};
 ghost use Rattle.sip_location.specs.Refreshing.{asked_by};
-ghost use Rattle.sip_location.specs.Sameness.{SameOutcome};
+ghost use Rattle.sip_location.specs.Sameness.{SameBindings, SameOutcome};
 
 use crate::aor_ref::AorRef;
 use crate::candidates::Candidates;
@@ -76,6 +76,17 @@ impl Locations {
         ensures { result ≡ length (live aor.now now self.now.rows) }
     {
         live_count(self.filing.rows_of(aor), now)
+    }
+
+    /// Only where others say the same from a moment on: each address of record has the same live bindings, in their order. Takes
+    /// no memory; a look-up for each address in either.
+    pub fn is_same(&self, other: &Locations, now: u64) -> bool
+        ensures { result ≡ true → SameBindings now self.now.rows other.now.rows }
+    {
+        if !self.filing.lives_in(&other.filing, now) {
+            return false;
+        }
+        other.filing.lives_in(&self.filing, now)
     }
 
     /// What a REGISTER is to make of the bindings of its address of record (RFC 3261 10.3). It changes no binding, and

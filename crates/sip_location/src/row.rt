@@ -1,9 +1,10 @@
-ghost use Rattle.std.specs.Prelude.{◌≡◌, ◌≤◌, ◌++◌, length, take, IfOk};
+ghost use Rattle.std.specs.Prelude.{◌≡◌, ◌≤◌, ◌++◌, true, length, take, IfOk};
 ghost use Rattle.std.specs.Box.{boxed_slice_items};
 ghost use Rattle.sip_uri.specs.Uri.{text_of, IsValid};
 ghost use Rattle.sip_location.specs.KeptBinding.{uri_in, kept_in, IsUriText};
 
 use crate::block::joined;
+use sip_text::same_bytes;
 use sip_uri::{Uri, UriError, parse_uri};
 use std::alloc::{AllocError, Global};
 use std::boxed::BoxedSlice;
@@ -82,6 +83,26 @@ impl Row {
         ensures { result ≡ self.now.expires_at }
     {
         self.expires_at
+    }
+
+    /// Only where another row has its CSeq, and lives as long.
+    fn counts_as(&self, other: &Row) -> bool
+        ensures { result ≡ true → (self.now.cseq ≡ other.now.cseq) × (self.now.expires_at ≡ other.now.expires_at) }
+    {
+        self.cseq == other.cseq && self.expires_at == other.expires_at
+    }
+
+    /// Only where another row says the same. Takes no memory.
+    pub(crate) fn is_same(&self, other: &Row) -> bool
+        ensures { result ≡ true → self.now ≡ other.now }
+    {
+        if !self.counts_as(other) {
+            return false;
+        }
+        if !same_bytes(self.call_id(), other.call_id()) {
+            return false;
+        }
+        same_bytes(self.uri_text(), other.uri_text())
     }
 
     /// Its URI, which is read.

@@ -1,7 +1,6 @@
 -- A turn, of its pieces, and turns, one behind the other.
 use Rattle.std.proofs.Common.{◌≡◌, ◌≢◌, ◌⊎◌, false, inl, inr, ℕ, ◌+◌, ◌≤◌, ◌<◌, zero, suc, List, [], ◌∷◌, ◌++◌, Option, None, Some, refl, sym, ◌∙◌, ap, subst, arith}
 use Rattle.std.proofs.Common.{append-nil}
-use Rattle.std.specs.Prelude.{IsSome}
 use Rattle.rand_core.specs.Stream.{Stream}
 use Rattle.sip_loop_link.specs.declared.datagram.Given.{Given}
 use Rattle.sip_loop_link.specs.declared.datagram.Heard.{Heard}
@@ -40,12 +39,9 @@ use Rattle.sip_loop.proofs.Handed.{breaks_on}
 use Rattle.sip_loop.proofs.Printed.{prints_untold}
 use Rattle.sip_loop.proofs.Runs.{chain_on}
 use Rattle.sip_loop.proofs.Sayable.{datagram_says, small_moment}
+use Rattle.sip_loop.proofs.WhatIsDue.{is_some}
 
 -- ---- refusals
-
-is_some : {X : Type 0} (o : Option X) → (o ≡ None → ⊥) → IsSome o
-is_some None h = absurd (h refl)
-is_some (Some x) h = refl
 
 -- a step that isn't refused for want of memory is refused as the server says
 why_step : (turn : Turn) (state : ProxyState) (e : StepError) → (refusal_of_event state (event_of_turn turn) ≡ None → e ≡ steps.NoMemory)

@@ -42,7 +42,7 @@ use Rattle.sip_loop.proofs.Sayable.{small_moment}
 
 -- ---- refusals
 
-is_some : {X : Type 0} (o : Option X) → (o ≡ None → ⊥) → IsSome o
+pub is_some : {X : Type 0} (o : Option X) → (o ≡ None → ⊥) → IsSome o
 is_some None h = absurd (h refl)
 is_some (Some x) h = refl
 
@@ -87,14 +87,6 @@ due_not_journal at refusals.Step h is = cc
 
 some_is : {m n : ℕ} → Some m ≡ Some n → m ≡ n
 some_is h = cc
-
--- nothing is due at all
-pub none_some : (o : Option ℕ) (due m : ℕ) → o ≡ None → o ≡ Some due → m < due
-none_some o due m is e = absurd (cc)
-
--- what is due first isn't due yet
-pub not_yet : (o : Option ℕ) (due other most m : ℕ) → o ≡ Some due → o ≡ Some other → most < due → most ≡ m → m < other
-not_yet o due other most m is e later same = let one : due ≡ other = some_is (sym is ∙ e) in omega (arith, one, later, same)
 
 -- ---- one step
 

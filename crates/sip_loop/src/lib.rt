@@ -3,7 +3,7 @@
 //!
 //! - Used: `sipd_command`, turn by turn.
 //! - Not here: the socket itself (`sip_loop_link`), what a journal writes (`sip_record`), and what lines are printed on.
-//! - Tried: `test_engine`, and over sockets `tests/serve.py`.
+//! - Tried: `test_serve`, and over sockets `tests/serve.py`.
 //!
 //! ```text
 //! serve(alloc, &mut engine, &mut link, &mut journal, &mut audit, &mut clock, &mut words, turns)?;

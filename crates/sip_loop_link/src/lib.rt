@@ -3,7 +3,7 @@
 //!
 //! - Used: `sip_loop` asks the link and the clock, `sipd_command` opens the socket.
 //! - Not here: what is done with a datagram.
-//! - Tried: worked examples in `src/examples.rt`, as contracts that compute; `test_engine`, on memory and on loopback.
+//! - Tried: worked examples in `src/examples.rt`, as contracts that compute; `test_serve`, on memory and on loopback.
 #![tactic(auto)]
 
 mod clock;

@@ -3,3 +3,4 @@ pub mod KnownNames
 pub mod Spelled
 pub mod Keeping
 pub mod Slicing
+pub mod ToldNames

@@ -1,8 +1,9 @@
 -- The names of fields that this project knows, by themselves.
-use Rattle.std.specs.Prelude.{ℕ, List, Option, Some, None, option_map}
+use Rattle.std.specs.Prelude.{◌≡◌, ℕ, Bool, true, List, Option, Some, None, option_map}
 use Rattle.std.specs.Option.{unwrap_or}
 use Rattle.sip_message_fields.specs.declared.field_name.FieldName.{FieldName}
 use Rattle.sip_message_fields.specs.declared.field_name.FieldName.TheVariants as Name
+use Rattle.sip_message_fields.specs.FieldName.{name_of}
 use Rattle.sip_message_fields.specs.declared.known.KnownName.{KnownName}
 use Rattle.sip_message_fields.specs.declared.known.KnownName.TheVariants.{Via, From, To, CallId, CSeq, Contact, MaxForwards, ContentLength}
 use Rattle.sip_message_fields.specs.declared.known.KnownName.TheVariants.{ContentType, ContentEncoding, Subject, Supported, Route}
@@ -70,3 +71,12 @@ known_of (Name.Other name) = None
 -- the name of a field by which of them it is, and otherwise as it was written
 abbrev pub name_seen : Option KnownName → List ℕ → FieldName
 name_seen known written = unwrap_or (option_map field_name_of known) (Name.Other written)
+
+-- how a name that was written is read where it was told to be none of those that are known; else as it was written
+abbrev pub told_as : Bool → Option KnownName → List ℕ → FieldName
+told_as true None written = name_of written
+told_as told known written = Name.Other written
+
+-- where it was told whether a name that was written is known, one that isn't said to be is none of those that are
+abbrev pub IsTold : Bool → Option KnownName → List ℕ → Type 0
+IsTold told known written = told_as told known written ≡ Name.Other written

@@ -1,8 +1,10 @@
-ghost use Rattle.std.specs.Prelude.{◌≡◌, [], ◌∷◌, ◌++◌, IfOk, OnOk, OnErr, length, map, option_map};
+//! The fields of a message that owns them (RFC 3261 7.3.1). A datagram that is read has them as parts of itself, which are looked up and
+//! edited (`ViewFields`).
+ghost use Rattle.std.specs.Prelude.{◌≡◌, [], ◌∷◌, ◌++◌, IfOk, OnOk, OnErr, map};
 
 use crate::field::Field;
 use crate::field_name::FieldName;
-use crate::named::{copies_of, count_of, first_of, values_in, with_first};
+use crate::named::values_in;
 use std::alloc::{AllocError, Global};
 use std::marker::Model;
 
@@ -22,9 +24,7 @@ impl Model for Fields {
 }
 
 impl Fields {
-    ghost use Rattle.sip_message_fields.specs.Named.{first_named, all_named};
-    ghost use Rattle.sip_message_fields.specs.Values;
-    ghost use Rattle.sip_message_fields.specs.Values.{values_of, first_value};
+    ghost use Rattle.sip_message_fields.specs.Values.{values_of};
 
     /// No fields. Takes no memory.
     pub fn new(alloc: Global) -> Self
@@ -51,76 +51,10 @@ impl Fields {
         self.list.as_slice()
     }
 
-    /// The first field of a name.
-    pub fn first_field(&self, name: &FieldName) -> Option<&Field>
-        ensures { option_map (λ field. field.now) result ≡ first_named name.now self.now }
-    {
-        first_of(self.list.as_slice(), name)
-    }
-
-    /// The value of the first field of a name.
-    pub fn first(&self, name: &FieldName) -> Option<&[u8]>
-        ensures { option_map (λ value. value.now) result ≡ first_value name.now self.now }
-    {
-        let field = self.first_field(name)?;
-        Some(field.value.as_slice())
-    }
-
     /// The values of the fields of a name, in their order.
     pub fn values(&self, alloc: Global, name: &FieldName) -> Result<Vec<&[u8]>, AllocError>
         ensures { IfOk result (λ values. map (λ value. value.now) values.items ≡ values_of name.now self.now) }
     {
         values_in(alloc, self.list.as_slice(), name)
-    }
-
-    /// Copies of the fields, the first of a name with another value.
-    pub fn with_first(
-        &self,
-        alloc: Global,
-        name: &FieldName,
-        value: &[u8],
-    ) -> Result<Fields, AllocError>
-        ensures { IfOk result (λ edited. edited ≡ Values.with_first name.now value.now self.now) }
-    {
-        with_first(alloc, self.list.as_slice(), name, value)
-    }
-
-    /// How many fields have a name.
-    #[tactic(auto, using(crate::proofs::Counting::count_values))]
-    pub fn count(&self, name: &FieldName) -> usize
-        ensures { result ≡ length (values_of name.now self.now) }
-    {
-        count_of(self.list.as_slice(), name)
-    }
-
-    /// Adds copies of other fields at the end. At an error the fields are as before.
-    pub fn extend(&mut self, others: &Fields) -> Result<(), AllocError>
-        ensures ok { OnOk result (self.new ≡ self.old ++ others.now) }
-        ensures err { OnErr result (self.new ≡ self.old) }
-    {
-        let mut copies = others.list.clone()?;
-        self.list.append(&mut copies)
-    }
-
-    /// Adds copies of those of other fields that have a name. At an error the fields are as before.
-    pub fn extend_named(
-        &mut self,
-        alloc: Global,
-        name: &FieldName,
-        others: &Fields,
-    ) -> Result<(), AllocError>
-        ensures ok { OnOk result (self.new ≡ self.old ++ all_named name.now others.now) }
-        ensures err { OnErr result (self.new ≡ self.old) }
-    {
-        let mut copies = copies_of(alloc, others.list.as_slice(), name)?;
-        self.list.append(&mut copies.list)
-    }
-
-    /// The fields as a list, which they give up.
-    pub fn into_list(self) -> Vec<Field>
-        ensures { result.items ≡ self }
-    {
-        let Fields { list } = self;
-        list
     }
 }

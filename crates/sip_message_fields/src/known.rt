@@ -1,5 +1,5 @@
 //! Which names of fields this project knows: their spellings, and their compact forms (RFC 3261 7.3.3).
-ghost use Rattle.std.specs.Prelude.{◌≡◌, [], ◌∷◌, length, MatchOption};
+ghost use Rattle.std.specs.Prelude.{◌≡◌, true, [], ◌∷◌, length, MatchOption};
 ghost use Rattle.sip_message_fields.specs.FieldName.{spelling, name_of, is_length, is_list, is_same_name};
 ghost use Rattle.sip_message_fields.specs.KnownName.{field_name_of, known_of, name_seen};
 ghost use Rattle.sip_message_fields.specs.Spellings.{is_spelled, name_of_length};
@@ -36,6 +36,13 @@ pub enum KnownName {
     Warning,
     MinExpires,
     Timestamp,
+}
+
+/// Only where two names are one.
+pub(crate) fn same_known(left: KnownName, right: KnownName) -> bool
+    ensures { result ≡ true → left ≡ right }
+{
+    left == right
 }
 
 /// Whether a name is spelled so, without case.

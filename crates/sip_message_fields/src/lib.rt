@@ -32,7 +32,7 @@ mod view_named;
 pub use field::Field;
 pub use field_name::{FieldName, known_name};
 pub use fields::Fields;
-pub use kept_field::KeptField;
+pub use kept_field::{KeptField, same_fields};
 pub use known::KnownName;
 pub use lines::{Lines, lines_at, put_marked};
 pub use piece::Piece;

@@ -1,3 +1,5 @@
+//! A field that is lent, a part of what was read (RFC 3261 7.3.1): its name, its value, and its line as it was written, where that is
+//! known, so that it is copied as a whole where the field goes on.
 ghost use Rattle.std.specs.Prelude.{◌≡◌, IfOk, IfSome};
 ghost use Rattle.sip_message_fields.specs.Lines.{line_of};
 
@@ -68,7 +70,7 @@ impl<'a> ViewField<'a> {
         }
     }
 
-    /// A field that was made, of which no byte is copied.
+    /// A field that was made, of which no byte is copied. In the server no response that is made as a view has further fields.
     pub fn of_field(field: &'a Field) -> Result<Self, AllocError>
         ensures { IfOk result (λ view. view ≡ field.now) }
     {

@@ -13,19 +13,36 @@ use std::marker::Model;
 
 /// The name of a field of a view, seen as that name: one that this project knows, or any other as a part of what
 /// was read.
-#[derive(Clone, Drop)]
+#[derive(Drop)]
 pub struct ViewName<'a> {
     known: Option<KnownName>,
+    /// Whether it was looked for among the names that this project knows, so that one that isn't known is compared with none of them.
+    is_told: bool,
     spelling: &'a [u8],
 }
 
 impl<'a> Model for ViewName<'a> {
     ghost use Rattle.sip_message_fields.specs.declared.field_name.FieldName.{FieldName};
-    ghost use Rattle.sip_message_fields.specs.KnownName.{name_seen};
+    ghost use Rattle.sip_message_fields.specs.KnownName.{name_seen, IsTold};
 
     ghost Value = { FieldName };
 
     ghost view = { λ n. name_seen n.known n.spelling.now };
+
+    ghost invariant = { λ n. IsTold n.is_told n.known n.spelling.now };
+}
+
+/// Written out, so that a copy is known to be equal.
+impl<'a> Clone for ViewName<'a> {
+    ghost is_clone = { λ name copy. copy ≡ name };
+
+    fn clone(&self) -> Result<ViewName<'a>, AllocError> {
+        Ok(ViewName {
+            known: self.known,
+            is_told: self.is_told,
+            spelling: self.spelling,
+        })
+    }
 }
 
 /// Whether a name is its full spelling, of which it is known whether this project knows it: another name always is.
@@ -47,24 +64,27 @@ impl<'a> ViewName<'a> {
     {
         ViewName {
             known: Some(name),
+            is_told: true,
             spelling: b"",
         }
     }
 
     /// The name that is written so (RFC 3261 7.3.1 and 7.3.3).
     #[inline(always)]
+    #[tactic(auto, using(crate::proofs::ToldNames::told_by))]
     pub fn of_part(name: &'a [u8]) -> Self
         ensures { result ≡ name_of name.now }
     {
         ViewName {
             known: KnownName::from_bytes(name),
+            is_told: true,
             spelling: name,
         }
     }
 
     /// The name that is written so (RFC 3261 7.3.1 and 7.3.3), and whether this is its full spelling, letter by letter.
     #[inline(always)]
-    #[tactic(auto, using(crate::proofs::KnownNames::full_name, crate::proofs::KnownNames::full_again))]
+    #[tactic(auto, using(crate::proofs::KnownNames::full_name, crate::proofs::KnownNames::full_again, crate::proofs::ToldNames::told_by))]
     pub fn of_written(name: &'a [u8]) -> (Self, bool)
         ensures name { result.0 ≡ name_of name.now }
         ensures full { result.1 ≡ bytes_eq name.now (spelling (name_of name.now)) }
@@ -72,6 +92,7 @@ impl<'a> ViewName<'a> {
         if let Some(known) = spelled_in_full(name) {
             let written = ViewName {
                 known: Some(known),
+                is_told: true,
                 spelling: name,
             };
             return (written, true);
@@ -79,29 +100,33 @@ impl<'a> ViewName<'a> {
         let known = KnownName::from_bytes(name);
         let written = ViewName {
             known,
+            is_told: true,
             spelling: name,
         };
         (written, is_in_full(known, name))
     }
 
-    /// The name of a field that was made, of which no byte is copied.
+    /// The name of a field that was made, of which no byte is copied. In the server no response that is made as a view has
+    /// further fields.
     #[inline]
     pub fn of_field_name(name: &'a FieldName) -> Self
         ensures { result ≡ name.now }
     {
         ViewName {
             known: KnownName::of(name),
+            is_told: false,
             spelling: name.spelling(),
         }
     }
 
-    /// A name that this project doesn't know.
+    /// A name that this project doesn't know. In the server no step asks for a field of such a name.
     #[inline]
     pub fn of_other(spelling: &'a [u8]) -> Self
         ensures { result ≡ Other spelling.now }
     {
         ViewName {
             known: None,
+            is_told: false,
             spelling,
         }
     }
@@ -111,7 +136,11 @@ impl<'a> ViewName<'a> {
     pub(crate) fn of_kept(known: Option<KnownName>, spelling: &'a [u8]) -> Self
         ensures { result ≡ name_seen known spelling.now }
     {
-        ViewName { known, spelling }
+        ViewName {
+            known,
+            is_told: false,
+            spelling,
+        }
     }
 
     /// The same name, of which no byte is copied.
@@ -121,6 +150,7 @@ impl<'a> ViewName<'a> {
     {
         Ok(ViewName {
             known: self.known,
+            is_told: self.is_told,
             spelling: self.spelling,
         })
     }
@@ -169,7 +199,7 @@ impl<'a> ViewName<'a> {
     }
 
     /// Whether it is a name, of which it is known whether this project knows it: only of other names the spelling is
-    /// compared.
+    /// compared, and with a known name only where it wasn't told when it was read.
     #[inline]
     pub(crate) fn is_named(&self, known: Option<KnownName>, name: &FieldName) -> bool
         requires { name_seen known (spelling name.now) ≡ name.now }
@@ -177,6 +207,12 @@ impl<'a> ViewName<'a> {
     {
         match (self.known, known) {
             (Some(left), Some(right)) => left.is_same(right),
+            (None, Some(_)) => {
+                if self.is_told {
+                    return false;
+                }
+                self.is_spelled(name)
+            }
             _ => self.is_spelled(name),
         }
     }

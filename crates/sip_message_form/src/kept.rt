@@ -1,6 +1,6 @@
 //! A message kept by its written form, which goes out as it stands: so are kept the answers that came or were made here.
 //! The request of an open request is kept in fewer bytes (`KeptParts`).
-ghost use Rattle.std.specs.Prelude.{◌≡◌, IfOk, All, drop, map};
+ghost use Rattle.std.specs.Prelude.{◌≡◌, true, IfOk, All, drop, map};
 ghost use Rattle.sip_message_fields.specs.Values;
 ghost use Rattle.sip_message_fields.specs.KeptField.{field_kept, IsStored};
 ghost use Rattle.sip_message_form.specs.Text.{text_of, AreLinesOf};
@@ -15,8 +15,9 @@ use crate::view_start::ViewStart;
 use crate::view_writing::put_lines;
 use sip_message_fields::{
     FieldName, KeptField, ViewField, ViewFields, fields_in, fields_in_with_first, lines_at,
+    same_fields,
 };
-use sip_text::{Buffer, Span};
+use sip_text::{Buffer, Span, same_bytes};
 use std::alloc::{AllocError, Global};
 use std::marker::Model;
 
@@ -141,5 +142,24 @@ impl Kept {
         let store = self.store.as_slice();
         let fields = fields_in_with_first(alloc, store, self.list.as_slice(), name, value)?;
         Ok(View::new(start_in(store, self.start), fields, self.body.of(store)))
+    }
+
+    /// Only where another says the same; so it does where both are kept in the same bytes. Takes no memory, and costs by the
+    /// bytes.
+    pub fn is_same(&self, other: &Kept) -> bool
+        ensures { result ≡ true → self.now ≡ other.now }
+    {
+        if !self.start.is_same(&other.start) {
+            return false;
+        }
+        if !self.body.is_same(other.body) {
+            return false;
+        }
+        let list = self.list.as_slice();
+        if !same_fields(list, other.list.as_slice()) {
+            return false;
+        }
+        let store = self.store.as_slice();
+        same_bytes(store, other.store.as_slice())
     }
 }

@@ -1,6 +1,6 @@
 //! The form in which an open request keeps its request (`Heard` of `sip_state`): its fields are looked up and put where they stand.
 //! An answer is kept by its written form (`Kept`).
-ghost use Rattle.std.specs.Prelude.{◌≡◌, ◌++◌, IfOk, OnOk, option_map};
+ghost use Rattle.std.specs.Prelude.{◌≡◌, true, ◌++◌, IfOk, OnOk, option_map};
 ghost use Rattle.std.specs.List.{flat_map};
 ghost use Rattle.sip_message_fields.specs.Named.{all_named, first_named, first_of};
 ghost use Rattle.sip_message_fields.specs.Values;
@@ -13,8 +13,9 @@ use crate::message_view::View;
 use crate::view_start::ViewStart;
 use sip_message_fields::{
     FieldName, KeptField, ViewField, ViewFields, fields_in, fields_in_with_first, put, put_fields,
+    same_fields,
 };
-use sip_text::{Buffer, Span};
+use sip_text::{Buffer, Span, same_bytes};
 use std::alloc::{AllocError, Global};
 use std::marker::Model;
 
@@ -145,5 +146,24 @@ impl KeptParts {
         let store = self.store.as_slice();
         let fields = fields_in_with_first(alloc, store, self.list.as_slice(), name, value)?;
         Ok(View::new(start_in(store, self.start), fields, self.body.of(store)))
+    }
+
+    /// Only where another says the same; so it does where both are kept in the same bytes. Takes no memory, and costs by the
+    /// bytes.
+    pub fn is_same(&self, other: &KeptParts) -> bool
+        ensures { result ≡ true → self.now ≡ other.now }
+    {
+        if !self.start.is_same(&other.start) {
+            return false;
+        }
+        if !self.body.is_same(other.body) {
+            return false;
+        }
+        let list = self.list.as_slice();
+        if !same_fields(list, other.list.as_slice()) {
+            return false;
+        }
+        let store = self.store.as_slice();
+        same_bytes(store, other.store.as_slice())
     }
 }

@@ -1,4 +1,4 @@
-ghost use Rattle.std.specs.Prelude.{◌≡◌, IfOk};
+ghost use Rattle.std.specs.Prelude.{◌≡◌, true, IfOk};
 ghost use Rattle.sip_message_form.specs.ViewStart.{start_seen};
 ghost use Rattle.sip_message_form.specs.KeptStart.{start_kept, IsStartStored, IsStartPut};
 
@@ -16,6 +16,29 @@ pub(crate) struct KeptStart {
     pub(crate) first: Span,
     pub(crate) uri: Span,
     pub(crate) version: Span,
+}
+
+/// Only where two codes are one, or there is neither.
+fn same_code(left: Option<u16>, right: Option<u16>) -> bool
+    ensures { result ≡ true → left ≡ right }
+{
+    match (left, right) {
+        (Some(one), Some(other)) => one == other,
+        (None, None) => true,
+        _ => false,
+    }
+}
+
+impl KeptStart {
+    /// Only where it is another one.
+    pub(crate) fn is_same(&self, other: &KeptStart) -> bool
+        ensures { result ≡ true → self.now ≡ other.now }
+    {
+        same_code(self.code, other.code)
+            && self.first.is_same(other.first)
+            && self.uri.is_same(other.uri)
+            && self.version.is_same(other.version)
+    }
 }
 
 /// Puts a request line into a store.
@@ -38,7 +61,7 @@ fn put_request(
     })
 }
 
-/// Puts a status line into a store.
+/// Puts a status line into a store. In the server no response is kept so.
 fn put_status(store: &mut Buffer, code: u16, reason: &[u8]) -> Result<KeptStart, AllocError>
     ensures { IfOk result (λ kept. IsStartPut store.old (Start.Status code reason.now) store.new kept) }
 {

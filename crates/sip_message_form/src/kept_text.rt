@@ -11,7 +11,7 @@ use sip_message_fields::put_marked;
 use sip_text::{Buffer, Span};
 use std::alloc::AllocError;
 
-/// Puts a request line with its CRLF into a store.
+/// Puts a request line with its CRLF into a store. In the server no request is kept so.
 fn put_request(
     store: &mut Buffer,
     method: &[u8],

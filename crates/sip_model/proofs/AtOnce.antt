@@ -1,7 +1,7 @@
 -- What a datagram is answered at once, or sent on as, is what the verdict on it says.
 use Rattle.std.proofs.Common.{◌≡◌, ℕ, ◌+◌, Bool, true, false, not, ◌&&◌, ◌||◌, cond, List, [], ◌∷◌, ◌++◌, map, filter, flat_map, Option, Some, None, is_some, option_map}
 use Rattle.std.proofs.Common.{refl, ap, ◌∙◌}
-use Rattle.std.specs.List.{AllByRecursion, list_any, list_all}
+use Rattle.std.specs.List.{AllByRecursion, list_any}
 use Rattle.sip_message_form.specs.declared.message.Message.{Message}
 use Rattle.sip_best.specs.declared.final_answer.Final.{Final}
 use Rattle.sip_best.specs.Ranks.{outranks}
@@ -13,7 +13,7 @@ use Rattle.model_steps.specs.state.declared.branch.Branch.{Branch}
 use Rattle.model_steps.specs.state.declared.branch.Phase.TheVariants.{Unheard, Ended}
 use Rattle.model_steps.specs.state.declared.open_request.OpenRequest.{OpenRequest}
 use Rattle.model_steps.specs.state.declared.open_request.Upward.{Upward}
-use Rattle.model_steps.specs.state.State.{is_invite, is_final, is_answering}
+use Rattle.model_steps.specs.state.State.{is_invite, is_answering}
 use Rattle.model_steps.specs.context_model.Sending.{made_answer, branch_packets}
 use Rattle.model_steps.specs.context_model.Branches.{all_final, upward_of, upward_list, after_upward, answered, is_cancellable, cancel_branch, new_cancels, with_cancels}
 use Rattle.model_steps.specs.context_model.Branches.{settled}
@@ -21,6 +21,7 @@ use Rattle.model_steps.specs.context_model.Opening.{arriving, forking, branches_
 use Rattle.model_steps.specs.state.Arrival.{Arrival}
 use Rattle.model_steps.specs.Effect.{change_packets, upward_packets, opening_packets}
 use Rattle.sip_model.specs.Access.{has_address, answer_alone, sent_to_branches}
+use Rattle.sip_model.proofs.Edits.{targets_final}
 
 -- ---- branches that are first sent
 
@@ -34,10 +35,6 @@ pub record IsFresh (now : ℕ) (b : Branch) : Type 0 where
 pub targets_fresh : (now number : ℕ) (targets : List Target) → AllByRecursion (IsFresh now) (branches_from now number targets)
 targets_fresh now number [] = tt
 targets_fresh now number (t ∷ ts) = (record { is_target = refl; is_wanted = refl; is_due = refl }, targets_fresh now (number + 1) ts)
-
--- whether all branches to targets have a final answer
-abbrev targets_final : List Branch → Bool
-targets_final bs = list_all (λ (b : Branch). is_final b.phase) (filter (λ (b : Branch). not b.is_cancel) bs)
 
 -- where one has an address, not all are final
 some_unheard : (now : ℕ) (bs : List Branch) → AllByRecursion (IsFresh now) bs → list_any has_address bs ≡ true → targets_final bs ≡ false

@@ -58,7 +58,7 @@ ready_left (Done due f) e = absurd (cc)
 ready_left Ended e = absurd (cc)
 
 -- the last of three tests that all pass
-last_true : (x y z : Bool) → (x && y && z) ≡ true → z ≡ true
+pub last_true : (x y z : Bool) → (x && y && z) ≡ true → z ≡ true
 last_true true true z e = e
 last_true true false z e = absurd (cc)
 last_true false y z e = absurd (cc)

@@ -57,8 +57,8 @@ module _ (server : Server) (history : List Link) (state : ProxyState) (act : Act
 
   -- An answer to a request: one that is made here, which is a 403 only as a denial; or one that came for a branch of the request, which is open.
   pub data IsAnswer (r : OpenRequest) : Message → Type 0 where
-    Made : (status : ℕ) (extras : List Field) → ((status ≡ 403) → IsDenied server state act r.number r.request extras)
-        → IsAnswer r (made_answer server r.number r.request r.source status extras)
+    Made : (status : ℕ) (extras : List Field) → ((status ≡ 403) → IsDenied server state act r.number r.request.message extras)
+        → IsAnswer r (made_answer server r.number r.request.message r.request.source status extras)
     Came : (status : ℕ) (response : Message) (challenges : List Field) → Contains state.requests r → CameFor server history r.number status response
         → AllByRecursion (IsTakenAlong server history r.number) challenges → (is_challenge_status status ≡ false → challenges ≡ [])
         → IsAnswer r (taking_along (without_top_via response) challenges)
@@ -85,13 +85,13 @@ module _ (server : Server) (history : List Link) (state : ProxyState) (act : Act
       → ((status : ℕ) (m : Message) → IsTaken server past r.number status m → IsAnswer r m) → IfSome (best_upward server s) (MayGoUp r)
   best_answers past r s same finals came = by_test (is_answering s.side && all_final s) where
     by_message : (status : ℕ) (o : Option Message) → IsTakenAs server past r.number status o
-        → IsAnswer r (option_map_or (λ v. v) o (made_answer server r.number r.request r.source status []))
+        → IsAnswer r (option_map_or (λ v. v) o (made_answer server r.number r.request.message r.request.source status []))
     by_message status None up = Made status [] (λ e. absurd (up e))
     by_message status (Some m) up = came status m up
 
     rising : (f : Final) → GoesUp server past r.number f → MayGoUp r (upward_of server s f)
     rising f up =
-        subst (λ (q : OpenRequest). IsAnswer r (option_map_or (λ v. v) f.message (made_answer server q.number q.request q.source f.status [])))
+        subst (λ (q : OpenRequest). IsAnswer r (option_map_or (λ v. v) f.message (made_answer server q.number q.request.message q.request.source f.status [])))
         (sym same) (by_message f.status f.message up)
 
     by_best : (o : Option Final) → IfSome o (GoesUp server past r.number) → IfSome (option_map (upward_of server s) o) (MayGoUp r)
@@ -336,22 +336,24 @@ module _ (server : Server) (history : List Link) (state : ProxyState) (act : Act
   -- ---- its effect
 
   -- an answer to a request that is open is owed
-  answer_owed : (r s : OpenRequest) → IsOpen state act r.number r.request r.source → bare s ≡ bare r → (m : Message) → IsAnswer r m → Owed (answer_to false s (text_of m))
+  answer_owed : (r s : OpenRequest) → IsOpen state act r.number r.request.message r.request.source → bare s ≡ bare r → (m : Message) → IsAnswer r m
+      → Owed (answer_to false s (text_of m))
   answer_owed r s opened same _ (Made status extras denial) =
-      Answers r.number r.request r.source status extras opened denial (ap (λ q. answer_to false q
-      (text_of (made_answer server r.number r.request r.source status extras))) same)
+      Answers r.number r.request.message r.request.source status extras opened denial (ap (λ q. answer_to false q
+      (text_of (made_answer server r.number r.request.message r.request.source status extras))) same)
   answer_owed r s opened same _ (Came status response challenges there came along only) =
       Forwards r status response challenges there came along only (ap (λ q. answer_to false q (text_of (taking_along (without_top_via response) challenges))) same)
 
   -- what goes to the caller of a request that is open is owed
-  pub upward_owed : (r s : OpenRequest) (us : List Upward) → IsOpen state act r.number r.request r.source → bare s ≡ bare r → AllByRecursion (MayGoUp r) us
+  pub upward_owed : (r s : OpenRequest) (us : List Upward) → IsOpen state act r.number r.request.message r.request.source → bare s ≡ bare r
+      → AllByRecursion (MayGoUp r) us
       → AllByRecursion Owed (upward_packets s us)
   upward_owed r s us opened same h =
       all_map Owed (λ (u : Upward). answer_to false s (text_of u.message)) us
       (all_weaker (MayGoUp r) (λ u. Owed (answer_to false s (text_of u.message))) (λ u a. answer_owed r s opened same u.message a) us h)
 
   -- all that a change sends is
-  pub change_owed : (r : OpenRequest) (c : Change) → IsOpen state act r.number r.request r.source → IsDue r c → AllByRecursion Owed (change_packets c)
+  pub change_owed : (r : OpenRequest) (c : Change) → IsOpen state act r.number r.request.message r.request.source → IsDue r c → AllByRecursion Owed (change_packets c)
   change_owed r c opened h =
       all_append Owed (c.acks ++ upward_packets c.request c.upward) c.cancels
       (all_append Owed c.acks (upward_packets c.request c.upward) h.acks (upward_owed r c.request c.upward opened h.is_same h.upward)) h.cancels

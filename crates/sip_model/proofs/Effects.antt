@@ -73,7 +73,8 @@ tried_branches now (u ∷ us) r = tried_branches now us (answered now u r)
 -- nor any final answer that is kept
 tried_finals : (server : Server) (now : ℕ) (r : OpenRequest) → (tried now (trying server r) r).finals ≡ r.finals
 tried_finals server now r = by_test (is_tried r) where
-  by_test : (t : Bool) → (tried now (cond t (record { status = 100; message = made_answer server r.number r.request r.source 100 []; target = None } ∷ []) []) r).finals
+  by_test : (t : Bool) → (tried now (cond t (record { status = 100; message = made_answer server r.number r.request.message r.request.source 100 []; target = None } ∷ [])
+      []) r).finals
       ≡ r.finals
   by_test true = refl
   by_test false = refl

@@ -27,8 +27,9 @@ use Rattle.sip_model.proofs.Places.{IsIn, all_in, all_push, all_weaker, all_repl
 use Rattle.sip_model.proofs.Moves.{Resends, IsStarted, IsOpening, Answered, Sent, IsMove, Stays, TurnsAway, Opens, Changes, Acknowledges, kept_by_moves}
 use Rattle.sip_model.proofs.Events.{resent_counted, IsSome, IsSeen, IsFinalStatus, is_target, IsCounted, change_event}
 use Rattle.sip_model.proofs.Openings.{tried_first, tried_is}
-use Rattle.sip_model.proofs.Waits.{IsSound, targets_final, upward_counted, settled_counted, settled_waits, event_sound}
+use Rattle.sip_model.proofs.Waits.{IsSound, upward_counted, settled_counted, settled_waits, event_sound}
 use Rattle.sip_model.proofs.Steps.{stands_at, step_taken}
+use Rattle.sip_model.proofs.Edits.{targets_final}
 
 -- ---- a request as it is opened
 

@@ -345,9 +345,9 @@ module _ (server : Server) (state : ProxyState) (a : Arrival) (bytes : List ℕ)
     same_source r h false = tt
 
     by_found : (o : Option OpenRequest) → IfSome o (Contains state.requests)
-        → IfSome (option_and_then (λ (r : OpenRequest). cond (bytes_eq r.source.ip a.from.ip) (Some r) None) o) (Contains state.requests)
+        → IfSome (option_and_then (λ (r : OpenRequest). cond (bytes_eq r.request.source.ip a.from.ip) (Some r) None) o) (Contains state.requests)
     by_found None h = tt
-    by_found (Some r) h = same_source r h (bytes_eq r.source.ip a.from.ip)
+    by_found (Some r) h = same_source r h (bytes_eq r.request.source.ip a.from.ip)
 
     by_tests : (t u : Bool) → Fits server state a bytes m short (cond t (Answer 400 []) (cond u (Answer 503 []) (Cancel (found_for_cancel state key a.from))))
     by_tests true u = (fresh, (refl, λ e. omega arith))

@@ -1,7 +1,6 @@
 -- What stays of an open request through what happens to it.
 use Rattle.std.proofs.Common.{◌≡◌, ◌∙◌, inl, ℕ, ◌+◌, ◌==◌, not, ◌&&◌, ◌||◌, List, [], ◌∷◌, map, cond, Bool, true, false, refl, sym, ap, subst, Contains, Option, Some}
 use Rattle.std.proofs.Common.{None, true≢false, arith, ◌++◌}
-use Rattle.std.proofs.lemmas.Bool.Decides.{nat_tests}
 use Rattle.std.specs.List.{AllByRecursion}
 use Rattle.sip_message_form.specs.declared.message.Message.{Message}
 use Rattle.sip_best.specs.declared.final_answer.Final.{Final}
@@ -29,6 +28,7 @@ use Rattle.sip_model.proofs.Lists.{all_append, all_map, all_weaker, all_contains
 use Rattle.sip_model.proofs.Apart.{TargetsDiffer, goes_to, differ_edited, differ_with_cancels}
 use Rattle.sip_model.proofs.Cancels.{all_with_cancels}
 use Rattle.sip_model.proofs.Finals.{IsHonest, IsMarked, IsOfSixteen, IsHonestRequest}
+use Rattle.sip_model.proofs.Rising.{number_is}
 
 -- what an open request is from its first moment: its key, the request, its source and its number
 abbrev pub bare : OpenRequest → OpenRequest
@@ -75,10 +75,6 @@ same_parts true true false e = absurd (cc)
 same_parts true false true e = absurd (cc)
 same_parts true false false e = (refl, refl)
 same_parts false x b e = absurd (cc)
-
--- numbers that pass the test are equal
-pub number_is : (a b : ℕ) → (a == b) ≡ true → a ≡ b
-number_is a b e = grind (arith, nat_tests)
 
 -- of two that go where a branch goes, whichever
 pub goes_either : (number : ℕ) (t : Bool) (x y z : Branch) → goes_to number x ≡ goes_to number z → goes_to number y ≡ goes_to number z

@@ -73,4 +73,4 @@ pub mod Audited
 pub mod Steady
 pub mod Standing
 mod Under
-mod Chains
+pub mod Chains

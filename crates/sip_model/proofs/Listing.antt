@@ -13,10 +13,10 @@ use Rattle.sip_model.specs.Listed.{IsListed}
 use Rattle.sip_model.proofs.Lists.{all_map, all_passing, all_there}
 
 -- seconds, a part of one counting as one
-enough : (expires now : ℕ) → now < expires → expires ≤ now + 1000 * ((expires - now + 999) / 1000)
+pub enough : (expires now : ℕ) → now < expires → expires ≤ now + 1000 * ((expires - now + 999) / 1000)
 enough expires now later = omega (arith, later)
 
-no_more : (expires now : ℕ) → now < expires → now + 1000 * ((expires - now + 999) / 1000) < expires + 1000
+pub no_more : (expires now : ℕ) → now < expires → now + 1000 * ((expires - now + 999) / 1000) < expires + 1000
 no_more expires now later = omega (arith, later)
 
 -- a binding that lives

@@ -29,9 +29,11 @@ use Rattle.sip_model.proofs.Places.{in_from_contains}
 use Rattle.sip_model.proofs.Apart.{TargetsDiffer, goes_to, differ_edited, differ_with_cancels, only_target}
 use Rattle.sip_model.proofs.Lists.{all_map, all_weaker, all_contains, all_there, head_there, tail_there}
 use Rattle.sip_model.proofs.Finals.{came_before}
-use Rattle.sip_model.proofs.Later.{bare, bare_branch, same_parts, number_is}
+use Rattle.sip_model.proofs.Later.{bare, bare_branch, same_parts}
 use Rattle.sip_model.proofs.Settling.{settled_number}
 use Rattle.sip_model.proofs.Waits.{upward_branches}
+use Rattle.sip_model.proofs.Edits.{map_both}
+use Rattle.sip_model.proofs.Rising.{number_is}
 
 -- whether a branch has neither its CANCEL nor a final answer
 abbrev pub is_waiting : Phase → Bool
@@ -142,11 +144,6 @@ settled_given server history now acks relayed r all differ =
     }
 
 -- ---- what an event makes of the branches, before the request settles
-
--- edits one after the other
-map_twice : (f g : Branch → Branch) (bs : List Branch) → map f (map g bs) ≡ map (λ (x : Branch). f (g x)) bs
-map_twice f g [] = refl
-map_twice f g (b ∷ bs) = ap (λ (xs : List Branch). f (g b) ∷ xs) (map_twice f g bs)
 
 -- of two tests that fail the first fails
 neither : (a b : Bool) → (a || b) ≡ false → a ≡ false
@@ -425,7 +422,7 @@ module _ (server : Server) (link : Link) (past : List Link) (now : ℕ) (r : Ope
           edit = λ x. mark (before x);
           is_change = refl;
           is_same = refl;
-          branches_are = map_twice mark before r.branches;
+          branches_are = map_both mark before r.branches;
           stays = λ x. marked_stays (before x) ((before x).is_cancel || is_final (before x).phase) ∙ phase_stays c phase x (is_same_branch x c);
           stays_kind = λ x. marked_kind (before x) ((before x).is_cancel || is_final (before x).phase) ∙ phase_kind c phase x (is_same_branch x c);
           edited =

@@ -73,7 +73,8 @@ closing_answers sent a m status text none =
 -- a 100 is no final answer
 none_tried : (server : Server) (r : OpenRequest) → finals_up r (trying server r) ≡ []
 none_tried server r = by_test (is_tried r) where
-  by_test : (t : Bool) → finals_up r (cond t (record { status = 100; message = made_answer server r.number r.request r.source 100 []; target = None } ∷ []) []) ≡ []
+  by_test : (t : Bool) → finals_up r (cond t (record { status = 100; message = made_answer server r.number r.request.message r.request.source 100 []; target = None }
+      ∷ []) []) ≡ []
   by_test true = refl
   by_test false = refl
 
@@ -120,7 +121,7 @@ apart : (a b : ℕ) → a + 1 ≤ b → (a == b) ≡ false
 apart a b h = grind (arith, nat_tests)
 
 -- nor the other way round
-apart_back : (a b : ℕ) → (a == b) ≡ false → (b == a) ≡ false
+pub apart_back : (a b : ℕ) → (a == b) ≡ false → (b == a) ≡ false
 apart_back a b h = grind (arith, nat_tests)
 
 -- numbers that pass the test are equal
@@ -181,7 +182,7 @@ fit_replaced finals sent new old (x ∷ xs) own e few there fit all =
 -- ---- moves
 
 -- requests of one key are both INVITEs or neither is
-same_invite : (a b : OpenRequest) → a.key ≡ b.key → is_invite a ≡ is_invite b
+pub same_invite : (a b : OpenRequest) → a.key ≡ b.key → is_invite a ≡ is_invite b
 same_invite a b e = ap (λ (k : Key). bytes_eq k.method (codes "INVITE")) e
 
 -- a change of an open request

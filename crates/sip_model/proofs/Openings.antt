@@ -23,11 +23,16 @@ use Rattle.sip_model.proofs.Settling.{settled_key, settled_number, settled_due, 
 
 -- the 100 that goes up first, if one does
 abbrev pub tried_first : Server → OpenRequest → Option Upward
-tried_first server r = cond (is_tried r) (Some (record { status = 100; message = made_answer server r.number r.request r.source 100 []; target = None })) None
+tried_first server r = cond (is_tried r) (Some (record { status = 100; message = made_answer server r.number r.request.message r.request.source 100 []; target = None }))
+    None
 
 -- a 100 that goes up is an answer that goes up
 pub tried_is : (server : Server) (now : ℕ) (r : OpenRequest) → tried now (trying server r) r ≡ after_upward now (tried_first server r) r
-tried_is server now r = by_test (is_tried r) (record { status = 100; message = made_answer server r.number r.request r.source 100 []; target = None }) where
+tried_is server now r = by_test (is_tried r) (record {
+  status = 100;
+  message = made_answer server r.number r.request.message r.request.source 100 [];
+  target = None;
+}) where
   by_test : (t : Bool) (u : Upward) → tried now (cond t (u ∷ []) []) r ≡ after_upward now (cond t (Some u) None) r
   by_test true u = refl
   by_test false u = refl

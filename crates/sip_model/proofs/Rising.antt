@@ -21,7 +21,7 @@ pub record IsRising (requests : List OpenRequest) (next : ℕ) : Type 0 where
   pub below : AllByRecursion (λ (x : OpenRequest). x.number < next) requests
 
 -- numbers that pass the test are equal
-number_is : (a b : ℕ) → (a == b) ≡ true → a ≡ b
+pub number_is : (a b : ℕ) → (a == b) ≡ true → a ≡ b
 number_is a b e = grind (arith, nat_tests)
 
 -- what holds of all numbers holds of them with a request in place of the one of its number

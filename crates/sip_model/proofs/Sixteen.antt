@@ -87,7 +87,7 @@ few_of_chain server first history last h = λ aor moment after.
 -- ---- targets
 
 -- as many targets as contacts, and as many contacts as bindings
-length_mapped : {X Y : Type 0} (f : X → Y) (xs : List X) → length (map f xs) ≡ length xs
+pub length_mapped : {X Y : Type 0} (f : X → Y) (xs : List X) → length (map f xs) ≡ length xs
 length_mapped f [] = refl
 length_mapped f (x ∷ xs) = omega (arith, length_mapped f xs)
 

@@ -36,6 +36,7 @@ use Rattle.sip_model.specs.Order.{ByDeadline, ByFault, deadlines_left, is_number
 use Rattle.sip_model.specs.Ends.{again_by, parts_left, sends_left, steps_left, time_left}
 use Rattle.sip_model.proofs.Again.{chain_again}
 use Rattle.sip_model.proofs.DeadlinesLeft.{branches_left, ended, ended_left, ended_not_more, ends_left, map_left, passed_left, resent_left, settled_left, upward_left}
+use Rattle.sip_model.proofs.DeadlinesLeft.{last_true}
 use Rattle.sip_model.proofs.DeadlinesLeft.{wanted_left}
 use Rattle.sip_model.proofs.Events.{change_event, resent_number}
 use Rattle.sip_model.proofs.FirstDue.{fewer_due}
@@ -323,11 +324,6 @@ unheard_due (Heard due) e = absurd (cc)
 unheard_due (Cancelled due) e = absurd (cc)
 unheard_due (Done due f) e = absurd (cc)
 unheard_due Ended e = absurd (cc)
-
-last_true : (x y z : Bool) → (x && y && z) ≡ true → z ≡ true
-last_true true true z e = e
-last_true true false z e = absurd (cc)
-last_true false y z e = absurd (cc)
 
 -- all that a step sends, by what goes for the first time and what goes again
 all_packets : (packets : List Packet) → length packets ≡ length (originals packets) + length (retransmissions packets)

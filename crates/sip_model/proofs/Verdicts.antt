@@ -91,7 +91,7 @@ fits_either requests m false v w first second = second
 -- ---- a response
 
 -- a branch that is found is one of an open request
-abbrev IsFound : List OpenRequest → Option (OpenRequest × Branch) → Type 0
+abbrev pub IsFound : List OpenRequest → Option (OpenRequest × Branch) → Type 0
 IsFound requests None = Unit {0}
 IsFound requests (Some x) = IsIn x.0 requests × IsIn x.1 x.0.branches
 
@@ -120,7 +120,7 @@ found_at server rs text None = tt
 found_at server rs text (Some c) = found_branch_is server text c.method rs
 
 -- by the branch of the top Via
-found_for : (server : Server) (rs : List OpenRequest) (text : Option (List ℕ)) (cseq : Option CSeq)
+pub found_for : (server : Server) (rs : List OpenRequest) (text : Option (List ℕ)) (cseq : Option CSeq)
     → IsFound rs (option_and_then (λ t. option_and_then (λ c. found_branch server t c.method rs) cseq) text)
 found_for server rs None cseq = tt
 found_for server rs (Some text) cseq = found_at server rs text cseq
@@ -167,7 +167,7 @@ cancel_fits server state a m short key is_new =
     fits_either state.requests m (is_bad_request server.config.own m short) (Answer 400 []) _ is_new
     (fits_either state.requests m (is_full state) (Answer 503 []) (Cancel (found_for_cancel state key a.from)) is_new (
       is_new,
-      there_after state.requests (λ r. bytes_eq r.source.ip a.from.ip) (find (is_cancelled_by key) state.requests)
+      there_after state.requests (λ r. bytes_eq r.request.source.ip a.from.ip) (find (is_cancelled_by key) state.requests)
           (λ r e. (found_in (is_cancelled_by key) state.requests r e).0),
     ))
 

@@ -22,6 +22,7 @@ use Rattle.sip_model.proofs.Cancels.{all_with_cancels}
 use Rattle.sip_model.proofs.Places.{count_cons, one_at}
 use Rattle.sip_model.proofs.Events.{IsSome, IsSeen, IsFinalStatus, is_target, IsCounted, IsEvent, final_either}
 use Rattle.sip_model.proofs.Answers.{Tells, NoneFinal, OneFinal, tells, upward_side}
+use Rattle.sip_model.proofs.Edits.{targets_final}
 
 -- an open request: its final answers are all there, it waits for a branch while it owes an answer, and it hasn't left
 pub record IsSound (r : OpenRequest) : Type 0 where
@@ -115,10 +116,6 @@ cancels_counted now r h = record {
 }
 
 -- ---- whether all branches are final
-
--- whether all branches to targets have a final answer
-abbrev pub targets_final : List Branch → Bool
-targets_final bs = list_all (λ (b : Branch). is_final b.phase) (filter (λ (b : Branch). not b.is_cancel) bs)
 
 -- one branch that is sent a CANCEL doesn't count in that
 one_final_more : (now : ℕ) (x : Branch) (rest others : List Branch) (t : Bool) → is_cancellable x ≡ t → targets_final rest ≡ targets_final others

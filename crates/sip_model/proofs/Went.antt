@@ -53,28 +53,29 @@ use Rattle.sip_model.specs.Lives.{first_sending, sent_first}
 use Rattle.sip_model.proofs.Lists.{all_append, all_flat_map, all_weaker, all_contains, all_there}
 use Rattle.sip_model.proofs.Places.{IsIn, in_from_contains, all_in, all_push, all_replaced, found_in}
 use Rattle.sip_model.proofs.Apart.{TargetsDiffer, only_target}
-use Rattle.sip_model.proofs.Later.{same_parts, number_is}
+use Rattle.sip_model.proofs.Later.{same_parts}
 use Rattle.sip_model.proofs.Moves.{IsStarted}
 use Rattle.sip_model.proofs.Finals.{IsHonestRequest, AreHonest}
 use Rattle.sip_model.proofs.Verdicts.{Fits, verdict_fits}
 use Rattle.sip_model.proofs.Repeats.{step_repeats}
 use Rattle.sip_model.proofs.Under.{honest_under}
 use Rattle.sip_model.proofs.Owing.{honest_of_chain}
+use Rattle.sip_model.proofs.Rising.{number_is}
 
 -- ---- lists
 
 -- what holds of each of two lists together holds of each of the first
-all_left : {X : Type 0} (P : X → Type 0) (xs ys : List X) → AllByRecursion P (xs ++ ys) → AllByRecursion P xs
+pub all_left : {X : Type 0} (P : X → Type 0) (xs ys : List X) → AllByRecursion P (xs ++ ys) → AllByRecursion P xs
 all_left P [] ys h = tt
 all_left P (x ∷ xs) ys h = (h.0, all_left P xs ys h.1)
 
 -- and of the second
-all_right : {X : Type 0} (P : X → Type 0) (xs ys : List X) → AllByRecursion P (xs ++ ys) → AllByRecursion P ys
+pub all_right : {X : Type 0} (P : X → Type 0) (xs ys : List X) → AllByRecursion P (xs ++ ys) → AllByRecursion P ys
 all_right P [] ys h = h
 all_right P (x ∷ xs) ys h = all_right P xs ys h.1
 
 -- what holds of the images holds of each image
-all_mapped : {X Y : Type 0} (P : Y → Type 0) (f : X → Y) (xs : List X) → AllByRecursion P (map f xs) → AllByRecursion (λ x. P (f x)) xs
+pub all_mapped : {X Y : Type 0} (P : Y → Type 0) (f : X → Y) (xs : List X) → AllByRecursion P (map f xs) → AllByRecursion (λ x. P (f x)) xs
 all_mapped P f [] h = tt
 all_mapped P f (x ∷ xs) h = (h.0, all_mapped P f xs h.1)
 

@@ -201,7 +201,7 @@ pub record IsTakenAlong (server : Server) (history : List Link) (number : ℕ) (
 -- A request is answered here in a step: it is open, or the step's datagram brings it, new and no ACK. One that is answered at once
 -- is open in its own step.
 pub data IsOpen (state : ProxyState) (act : Act) : ℕ → Message → Addr → Type 0 where
-  Before : (r : OpenRequest) → Contains state.requests r → IsOpen state act r.number r.request r.source
+  Before : (r : OpenRequest) → Contains state.requests r → IsOpen state act r.number r.request.message r.request.source
   Brought : (a : Arrival) (bytes : List ℕ) (m : Message) (short : Bool) (key : Key) → IsSaidAt state act a bytes m short → key_of m ≡ Some key
       → find (has_key key) state.requests ≡ None → bytes_eq (method_of m.start) (codes "ACK") ≡ false → IsOpen state act a.number m a.from
 

@@ -5,12 +5,11 @@ ghost use Rattle.sip_fork.specs.context.declared.input.Input.{Input};
 ghost use Rattle.sip_dialog_lessons.specs.state.declared.open_request.OpenRequest.{OpenRequest};
 ghost use Rattle.sip_proxy.specs.Drafts.{IsDrafted};
 
+use crate::configured::Configured;
 use crate::proxy::Proxy;
-use sip_dialog_lessons::state::Server;
 use sip_fork::context::Input;
 use sip_fork::{Change, Prepared};
 use sip_forwarding::{Drafted, draft_change};
-use sip_hops::Hops;
 use sip_timers::Timers;
 use std::alloc::{AllocError, Global};
 
@@ -32,8 +31,7 @@ impl<T: Timers> Proxy<T> {
     pub fn draft_input(
         &self,
         alloc: Global,
-        server: &Server,
-        hops: &Hops,
+        configured: &Configured<'_>,
         now: u64,
         place: usize,
         input: Input<'_>,
@@ -43,11 +41,13 @@ impl<T: Timers> Proxy<T> {
         requires small { now < 2 ^ 62 }
         requires about { (r : OpenRequest) → slice_get self.now.state.requests place ≡ Some r → IsOf r now input }
         ensures { IfOk result (λ draft. (r : OpenRequest) → slice_get self.now.state.requests place ≡ Some r
-            → IsDrafted hops.now.addresses server.now now r input.entry draft) }
+            → IsDrafted configured.now.hops.now.addresses configured.now.server.now now r input.entry draft) }
     {
         inputs_come_to_requests();
-        let Prepared { change, sent } = self.contexts.plan(alloc, server, now, place, input)?;
-        let drafted = draft_change(alloc, hops, change.request(), sent)?;
+        let Prepared { change, sent } = self
+            .contexts
+            .plan(alloc, configured.server, now, place, input)?;
+        let drafted = draft_change(alloc, configured.hops, change.request(), sent)?;
         Ok(Draft { change, drafted })
     }
 }

@@ -1,6 +1,5 @@
-ghost use Rattle.std.specs.Prelude.{◌≡◌, ◌<◌, ◌^◌, IfOk, is_some, List, Option, Some};
+ghost use Rattle.std.specs.Prelude.{◌≡◌, ◌<◌, ◌^◌, IfOk, is_some, List, Option};
 ghost use Rattle.sip_core.specs.Verdict.{HasRoom, Is, IsRequestOf, goes_on};
-ghost use Rattle.sip_edit.specs.ReceivedRequest.{top_via};
 ghost use Rattle.sip_core.specs.state.Names.{AreNames};
 ghost use Rattle.sip_transaction_table.specs.declared.key.Key.{Key};
 ghost use Rattle.sip_location.specs.declared.binding.Binding.{Binding};
@@ -9,38 +8,31 @@ ghost use Rattle.sip_dialog_lessons.specs.state.declared.open_request.OpenReques
 ghost use Rattle.sip_core.specs.verdict_model.Verdict as Definition;
 
 use crate::proxy::Proxy;
+use crate::received_request::ReceivedRequest;
 use sip_core::state::Names;
 use sip_core::{Judge, Known, Received, Verdict, ack_verdict, new_verdict};
-use sip_header::Via;
-use sip_message_form::View;
 use sip_policy::Rules;
 use sip_timers::Timers;
 use std::alloc::{AllocError, Global};
 
 impl<T: Timers> Proxy<T> {
-    /// The verdict on a request of a method, with this Via on top, that no open one is found for, of whose body fewer
-    /// bytes may have come than its length says (RFC 3261 9.2, 10.3, 16.3 to 16.5), at a moment in milliseconds. What
-    /// names its dialogs is made exactly where it goes on and is kept. Nothing is changed; there is room for the plan
-    /// that a REGISTER gives. `AllocError` is the only refusal.
+    /// The verdict on a request that no open one is found for (RFC 3261 9.2, 10.3, 16.3 to 16.5), at the moment at which it
+    /// came. What names its dialogs is made exactly where it goes on and is kept. Nothing is changed; there is room for
+    /// the plan that a REGISTER gives. `AllocError` is the only refusal.
     pub fn verdict<'v, R: Rules>(
         &mut self,
         alloc: Global,
         judge: &Judge<R>,
-        now: u64,
-        request: &'v View<'_>,
-        via: &Via<'_>,
-        method: &[u8],
-        short: bool,
+        request: &ReceivedRequest<'v>,
         names: &mut Option<Names>,
     ) -> Result<Verdict<'v>, AllocError>
-        requires moment { now < 2 ^ 62 }
-        requires request { IsRequestOf method.now request.now.start }
-        requires via { top_via request.now ≡ Some via.now }
-        ensures verdict { IfOk result (λ verdict. (a : Arrival) (key : Key) → a.now ≡ now
-            → Is judge.now self.old.state.bindings now (Definition.found_for_cancel self.old.state key a.from)
-            (Definition.new_verdict judge.now self.old.state a request.now short method.now key) verdict) }
+        requires moment { request.now.arrival.now < 2 ^ 62 }
+        requires request { IsRequestOf request.now.method.now request.now.message.now.start }
+        ensures verdict { IfOk result (λ verdict. (a : Arrival) (key : Key) → a.now ≡ request.now.arrival.now
+            → Is judge.now self.old.state.bindings request.now.arrival.now (Definition.found_for_cancel self.old.state key a.from)
+            (Definition.new_verdict judge.now self.old.state a request.now.message.now request.now.short request.now.method.now key) verdict) }
         ensures room { IfOk result (HasRoom self.new.room) }
-        ensures names { AreNames request.now names.new }
+        ensures names { AreNames request.now.message.now names.new }
         ensures made { IfOk result (λ verdict. is_some names.new ≡ goes_on verdict) }
         ensures unchanged { self.new.state ≡ self.old.state }
         ensures timers { self.new.timers ≡ self.old.timers }
@@ -53,40 +45,35 @@ impl<T: Timers> Proxy<T> {
             is_full,
         };
         let received = Received {
-            moment: now,
-            message: request,
-            via,
-            method,
-            short,
+            moment: request.arrival.now,
+            message: request.message,
+            via: &request.via,
+            method: request.method,
+            short: request.short,
         };
         new_verdict(alloc, judge, &mut self.locations, &known, &received, names)
     }
 
-    /// The verdict on an ACK, with this Via on top, that a 2xx calls for, or that belongs to no open request: it goes
-    /// on in a dialog that is known, or is dropped (RFC 3261 13.2.2.4, 16.11). Nothing is changed. `AllocError` is the
-    /// only refusal.
+    /// The verdict on an ACK that a 2xx calls for, or that belongs to no open request: it goes on in a dialog that is known,
+    /// or is dropped (RFC 3261 13.2.2.4, 16.11). Nothing is changed. `AllocError` is the only refusal.
     pub fn ack_verdict<'v, R: Rules>(
         &self,
         alloc: Global,
         judge: &Judge<R>,
-        now: u64,
-        request: &'v View<'_>,
-        via: &Via<'_>,
-        method: &[u8],
-        short: bool,
+        request: &ReceivedRequest<'v>,
     ) -> Result<Verdict<'v>, AllocError>
-        requires request { IsRequestOf method.now request.now.start }
-        requires via { top_via request.now ≡ Some via.now }
+        requires request { IsRequestOf request.now.method.now request.now.message.now.start }
         ensures { IfOk result (λ verdict. (rows : List Binding) (named : Option OpenRequest)
-            → Is judge.now rows now named (Definition.ack_verdict judge.now self.now.state now request.now short) verdict) }
+            → Is judge.now rows request.now.arrival.now named
+            (Definition.ack_verdict judge.now self.now.state request.now.arrival.now request.now.message.now request.now.short) verdict) }
     {
         let _open = &self.contexts;
         let received = Received {
-            moment: now,
-            message: request,
-            via,
-            method,
-            short,
+            moment: request.arrival.now,
+            message: request.message,
+            via: &request.via,
+            method: request.method,
+            short: request.short,
         };
         ack_verdict(alloc, judge, &self.dialogs, &received)
     }

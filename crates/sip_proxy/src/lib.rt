@@ -9,18 +9,24 @@
 
 mod cancelling;
 mod changing;
+mod configured;
 mod drafting;
 mod ending;
 mod judging;
 mod proxy;
+mod received_request;
+mod received_response;
 mod registering;
 
+pub use configured::Configured;
 pub use drafting::Draft;
 pub use proxy::Proxy;
+pub use received_request::ReceivedRequest;
+pub use received_response::ReceivedResponse;
 
 /// Of `sip_context`.
 pub mod context {
-    pub use sip_fork::context::{Input, Sent, is_accepted};
+    pub use sip_fork::context::{Input, is_accepted};
 }
 
 /// Of `sip_fork`.

@@ -1,7 +1,10 @@
 //! What the proxy knows, as the steps look it up, and a moment or a number that passes alone.
 //! All other changes are in `changing`, `cancelling`, `ending` and `registering`.
 ghost use Rattle.std.specs.Prelude.{◌≡◌, ◌<◌, ◌≤◌, ◌==◌, ◌+◌, ◌^◌, List, [], false, length, position, slice_get, nat_le, find, option_map};
-ghost use Rattle.std.specs.Prelude.{MatchOption, Some, IfOk, IfSome};
+ghost use Rattle.std.specs.Prelude.{true, map, MatchOption, Some, IfOk, IfSome};
+ghost use Rattle.sip_digest.specs.Nonces.{lasting};
+ghost use Rattle.sip_dialog.specs.Sameness.{as_seen, SameDialogs};
+ghost use Rattle.sip_location.specs.Sameness.{SameBindings};
 ghost use Rattle.std.specs.List.{AllPairs};
 ghost use Rattle.std.specs.Option.{option_and_then};
 ghost use Rattle.sip_fork.specs.Due.{IsFirst, IsFirstAt, IsNothingDue, IsOfFirst};
@@ -129,6 +132,44 @@ impl<T: Timers> Proxy<T> {
     {
         let _open = &self.contexts;
         self.next
+    }
+
+    /// Only where another gives the next datagram the number that it does.
+    fn counts_as(&self, other: &Proxy<T>) -> bool
+        ensures { result ≡ true → self.now.state.next ≡ other.now.state.next }
+    {
+        let mine = self.next();
+        let theirs = other.next();
+        mine == theirs
+    }
+
+    /// Only where another says the same from its moment on, which is this one's: the same open requests and next number, the
+    /// same live bindings of each address of record, the same nonces from the first that lives, and the same known dialogs,
+    /// whichever INVITE began those with a 2xx. Takes no memory, and costs by what stands.
+    pub fn is_same(&self, other: &Proxy<T>) -> bool
+        ensures moment { result ≡ true → self.now.state.moment ≡ other.now.state.moment }
+        ensures next { result ≡ true → self.now.state.next ≡ other.now.state.next }
+        ensures bindings { result ≡ true → SameBindings self.now.state.moment self.now.state.bindings other.now.state.bindings }
+        ensures nonces { result ≡ true → lasting self.now.state.moment self.now.state.nonces
+            ≡ lasting self.now.state.moment other.now.state.nonces }
+        ensures requests { result ≡ true → self.now.state.requests ≡ other.now.state.requests }
+        ensures dialogs { result ≡ true → SameDialogs self.now.state.moment (map as_seen self.now.state.dialogs)
+            (map as_seen other.now.state.dialogs) }
+    {
+        if !self.counts_as(other) {
+            return false;
+        }
+        let now = self.contexts.moment();
+        if !self.contexts.is_same(&other.contexts) {
+            return false;
+        }
+        if !self.nonces.is_same(&other.nonces, now) {
+            return false;
+        }
+        if !self.locations.is_same(&other.locations, now) {
+            return false;
+        }
+        self.dialogs.is_same(&other.dialogs, now)
     }
 
     /// The live bindings of an address of record at the last moment, in their order, lent. Takes no memory.

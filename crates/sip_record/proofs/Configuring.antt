@@ -15,6 +15,7 @@ use Rattle.sip_replay_script.proofs.LineEnds.{ends_add}
 use Rattle.sip_segment_text.proofs.Segments.{gives_both, gives_nothing, gives_one, some_configuration, some_lines}
 use Rattle.sip_record.specs.Record.{GrewKnown, NotesConfiguration}
 use Rattle.sip_record.specs.Recorder.{told, FrontOfConfiguration, FrontOfText, IsFirstPiece, WritesConfiguration, WritesText}
+use Rattle.sip_record.proofs.Recording.{on_ok}
 
 -- what a call says where it went well, and where it didn't
 pub ok_is : {X E P : Type 0} (r : Result X E) → is_ok r ≡ true → OnOk r P → P
@@ -161,10 +162,6 @@ known_written : (old new : Option (List ℕ)) (flushed : Type 0) (configuration 
 known_written None new flushed configuration w = tt
 known_written (Some front) None flushed configuration w = w.written
 known_written (Some front) (Some all) flushed configuration w = record { text = w.text; says = w.says; grown = w.written }
-
-on_ok : {X E : Type 0} (result : Result X E) {P : Type 0} → P → OnOk result P
-on_ok (Ok x) p = p
-on_ok (Err e) p = tt
 
 pub configured_ok : {E : Type 0} (result : Result (Unit {0}) E) → (before done : Bool) (old new : Option (List ℕ)) (flushed : Type 0) (configuration : List ℕ)
     → before ≡ false → (done ≡ true → WritesConfiguration old new flushed configuration)

@@ -13,11 +13,12 @@ use Rattle.sip_text.proofs.PlainDecimals.{plain_read}
 use Rattle.sip_uri.specs.Host.{is_not}
 use Rattle.sip_uri.proofs.Tests.{all_join, split_again}
 use Rattle.sip_replay_script.specs.Lines.{IsLine}
-use Rattle.sip_replay_script.proofs.WrittenEvents.{no_end, number_others, encoded_others, number_short}
+use Rattle.sip_replay_script.proofs.WrittenEvents.{no_end, encoded_others, number_short}
 use Rattle.sip_record.specs.declared.record_head.RecordHead.{RecordHead}
 use Rattle.sip_record.specs.declared.record_mark.RecordMark.{RecordMark}
 use Rattle.sip_record.specs.declared.record_mark.RecordMark.TheVariants.{Whole, Broken, Left}
 use Rattle.sip_record.specs.RecordHead.{head_line, head_text, head_of, mark_front, mark_in, word_in, digest_in, HasHeadTypes}
+use Rattle.sip_audit.proofs.Words.{number_others}
 
 byte_small : (k n : ℕ) → byte_at k n < 256
 byte_small zero n = omega arith

@@ -23,7 +23,7 @@ written_known None new event says h = tt
 written_known (Some front) None event says h = h
 written_known (Some front) (Some all) event says h = record { text = event_text event; says = record_one (event_text event) event says; grown = h }
 
-on_ok : {X E : Type 0} (result : Result X E) {P : Type 0} → P → OnOk result P
+pub on_ok : {X E : Type 0} (result : Result X E) {P : Type 0} → P → OnOk result P
 on_ok (Ok x) p = p
 on_ok (Err e) p = tt
 

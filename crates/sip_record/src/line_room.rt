@@ -1,12 +1,12 @@
-ghost use Rattle.std.specs.Prelude.{◌≡◌, ◌≤◌, ◌+◌, ◌*◌, ◌++◌, ◌∷◌, [], length, take};
-ghost use Rattle.hex.specs.Hex.{encode_lower};
+ghost use Rattle.std.specs.Prelude.{◌≡◌, ◌≤◌, ◌+◌, ◌++◌, ◌∷◌, [], length};
+ghost use Rattle.sip_replay_script.specs.Escaped.{escaped};
 
-use hex::encode_to_slice;
+use sip_replay_script::put_escaped;
 use std::alloc::{AllocError, Global};
 use std::marker::Model;
 
-/// The room for the longest line: what stands in front of a datagram's digits, two digits for each of 65,508 bytes, and LF.
-const ROOM: usize = 131_225;
+/// The room for the longest line: what stands in front of a datagram's text, three bytes for each of 65,508, and LF.
+const ROOM: usize = 196_733;
 
 /// Room that is made once, for the line of any datagram, and for a line of a configuration.
 #[derive(Drop)]
@@ -22,16 +22,7 @@ impl Model for LineRoom {
 
     ghost view = { λ r. r.block.items };
 
-    ghost invariant = { λ r. 131225 ≤ vec_capacity r.block };
-}
-
-/// Writes bytes as digits behind the first bytes of a text.
-fn put_digits(text: &mut [u8], start: usize, bytes: &[u8])
-    requires { length text.old ≡ start + 2 * length bytes.now }
-    ensures { text.new ≡ take start text.old ++ encode_lower bytes.now }
-{
-    let done = encode_to_slice(bytes, &mut text[start..]);
-    prove!(done.is_ok());
+    ghost invariant = { λ r. 196733 ≤ vec_capacity r.block };
 }
 
 impl LineRoom {
@@ -42,11 +33,11 @@ impl LineRoom {
         })
     }
 
-    /// The line of a datagram: what stands in front of its digits, the digits, and LF. Takes no memory.
+    /// The line of a datagram: what stands in front of its text, the text, and LF. Takes no memory.
     pub(crate) fn line(&mut self, front: &[u8], bytes: &[u8]) -> &[u8]
         requires front { length front.now ≤ 208 }
         requires bytes { length bytes.now ≤ 65508 }
-        ensures { result.now ≡ front.now ++ (encode_lower bytes.now ++ 10 ∷ []) }
+        ensures { result.now ≡ front.now ++ (escaped bytes.now ++ 10 ∷ []) }
     {
         self.set(front, bytes);
         self.block.as_slice()
@@ -56,19 +47,20 @@ impl LineRoom {
     fn set(&mut self, front: &[u8], bytes: &[u8])
         requires front { length front.now ≤ 208 }
         requires bytes { length bytes.now ≤ 65508 }
-        ensures { self.new ≡ front.now ++ (encode_lower bytes.now ++ 10 ∷ []) }
+        ensures { self.new ≡ front.now ++ (escaped bytes.now ++ 10 ∷ []) }
     {
         self.block.clear();
         self.block.extend_from_slice(front).unwrap();
-        let whole = front.len() + 2 * bytes.len();
-        self.block.resize(whole, 0).unwrap();
-        put_digits(self.block.as_mut_slice(), front.len(), bytes);
+        let most = front.len() + 3 * bytes.len();
+        self.block.resize(most, 0).unwrap();
+        let end = put_escaped(self.block.as_mut_slice(), front.len(), bytes);
+        self.block.truncate(end);
         self.end();
     }
 
     /// A line of its own: what it begins with, other bytes, and LF. Takes no memory.
     pub(crate) fn plain(&mut self, front: &[u8], bytes: &[u8]) -> &[u8]
-        requires { length front.now + length bytes.now ≤ 131224 }
+        requires { length front.now + length bytes.now ≤ 196732 }
         ensures { result.now ≡ front.now ++ (bytes.now ++ 10 ∷ []) }
     {
         self.set_plain(front, bytes);
@@ -77,7 +69,7 @@ impl LineRoom {
 
     /// Makes it that line.
     fn set_plain(&mut self, front: &[u8], bytes: &[u8])
-        requires { length front.now + length bytes.now ≤ 131224 }
+        requires { length front.now + length bytes.now ≤ 196732 }
         ensures { self.new ≡ front.now ++ (bytes.now ++ 10 ∷ []) }
     {
         self.block.clear();
@@ -88,7 +80,7 @@ impl LineRoom {
 
     /// Ends the line.
     fn end(&mut self)
-        requires { length self.old ≤ 131224 }
+        requires { length self.old ≤ 196732 }
         ensures { self.new ≡ self.old ++ 10 ∷ [] }
     {
         self.block.push_reserved(b'\n');

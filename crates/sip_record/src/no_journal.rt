@@ -27,6 +27,7 @@ impl Journal for NoJournal {
         Ok(())
     }
 
+    /// Called only where a packet can't be sent, over a socket and without a record.
     fn failed(&mut self, _at: u64, _ticket: Ticket) -> Result<(), JournalFault> {
         Ok(())
     }

@@ -9,7 +9,7 @@ ghost use Rattle.sip_record.specs.Recorder.{CantWrite, WritesEvent};
 use crate::line_room::LineRoom;
 use sip_event::Ticket;
 use sip_replay_script::{
-    PrintStop, TellingWriter, empty_text, fault_text, hand_on, hex_front, put, time_text,
+    PrintStop, TellingWriter, empty_text, fault_text, hand_on, put, text_front, time_text,
 };
 use sip_uri::Addr;
 
@@ -71,7 +71,7 @@ fn write_bytes<W: TellingWriter>(
     ensures gave_up { result ≡ false → GaveUp (W.has_failed writer.new) (W.called writer.new) }
     ensures part { WritesFront (W.contents writer.old) (W.contents writer.new) (datagram_text at word from bytes.now) }
 {
-    let front = hex_front(at, word, from);
+    let front = text_front(at, word, from);
     let text = line.line(front.as_slice(), bytes);
     write(writer, text).is_ok()
 }

@@ -1,5 +1,5 @@
 -- Records, one behind the other, and two of one text.
-use Rattle.std.proofs.Common.{◌≡◌, ◌∙◌, ℕ, List, [], ◌∷◌, ◌++◌, append_assoc, append-nil, drop, Option, Some, None, refl, sym, ap, ap₂, subst}
+use Rattle.std.proofs.Common.{◌≡◌, ◌∙◌, ℕ, List, [], ◌∷◌, ◌++◌, append_assoc, append-nil, Option, Some, None, refl, sym, ap, ap₂, subst}
 use Rattle.std.specs.Io.KnownBytes.{Appends}
 use Rattle.std.specs.List.{AllByRecursion}
 use Rattle.sip_config_types.specs.declared.config.Config.{Config}
@@ -33,6 +33,7 @@ use Rattle.sip_loop.specs.Replays.{ReplaysTo}
 use Rattle.sip_loop.specs.Serving.{AreInTurn, IsTurnOf}
 use Rattle.sip_recorded.specs.Recorded.{IsRecordedUnder}
 use Rattle.sip_recorded.proofs.Joining.{RunsJoin, recorded_on}
+use Rattle.sip_replay.proofs.OneList.{rest_is}
 
 -- ---- turns
 
@@ -99,10 +100,6 @@ pub events_on : RunsJoin → (server now : Server) (first : ℕ) (text more : Li
     → (runs : Runs now old new events None) → IsRecordedUnder server now first (text ++ more) (steps ++ runs.steps) new
 events_on join server now first text more steps old new events h says runs =
     recorded_on join server now now first text more steps old new events [] h (says_alone events more says) (takes_alone now old new events runs)
-
-rest_is : (front xs ys : List ℕ) → front ++ xs ≡ front ++ ys → xs ≡ ys
-rest_is [] xs ys e = e
-rest_is (b ∷ front) xs ys e = rest_is front xs ys (ap (drop 1) e)
 
 -- what a journal was told of events
 pub noted_text : (before after : Option (Option (List ℕ))) (front more : List ℕ) (events : List Event) → before ≡ Some (Some front) → after ≡ Some (Some (front ++ more))

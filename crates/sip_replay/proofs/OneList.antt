@@ -3,7 +3,7 @@ use Rattle.std.proofs.Common.{◌≡◌, ◌≢◌, ℕ, List, [], ◌∷◌, �
 use Rattle.sip_event.specs.declared.event.Event.{Event}
 use Rattle.sip_replay_script.specs.Events.{SaysEvent, SaysEvents, IsNoEvent}
 
-rest_is : (front xs ys : List ℕ) → front ++ xs ≡ front ++ ys → xs ≡ ys
+pub rest_is : (front xs ys : List ℕ) → front ++ xs ≡ front ++ ys → xs ≡ ys
 rest_is [] xs ys e = e
 rest_is (b ∷ front) xs ys e = rest_is front xs ys (ap (drop 1) e)
 

@@ -33,7 +33,7 @@ use Rattle.sip_replay_script.proofs.Fronts.{appends_kept, front_all, front_none,
 use Rattle.std.proofs.lemmas.List.Sums.{sum_by-append}
 use Rattle.sip_replay.proofs.Replaying.{AllAreLawful, Replays}
 use Rattle.sip_resume.proofs.of_run.{run_on}
-use Rattle.sip_replay.proofs.Running.{RunsJoin}
+use Rattle.sip_resume.proofs.Running.{RunsJoin}
 
 -- ---- nothing was taken
 

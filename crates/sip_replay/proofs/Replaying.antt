@@ -19,7 +19,8 @@ use Rattle.std.proofs.lemmas.List.Sums.{sum_by-append}
 use Rattle.sip_replay_script.specs.Events.{SaysEvent, SaysEvents}
 use Rattle.sip_replay.specs.Replays.{server_with, Plays, PlaysNext, IsReplay, IsLawfulReplay}
 use Rattle.sip_replay_script.proofs.Fronts.{appends_kept}
-use Rattle.sip_replay.proofs.Running.{RunsJoin, plays_nothing, plays_both}
+use Rattle.sip_replay.proofs.Running.{plays_nothing, plays_both}
+use Rattle.sip_resume.proofs.Running.{RunsJoin}
 
 -- a text that says one event more
 pub says_more : (events : List Event) (event : Event) (text more : List ℕ) → SaysEvents events text → SaysEvent more event

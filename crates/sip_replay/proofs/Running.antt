@@ -1,32 +1,23 @@
 -- A run of the server, step by step, and what is printed of it.
-use Rattle.std.proofs.Common.{◌≡◌, inr, ℕ, List, [], ◌∷◌, ◌++◌, Option, None, Some, refl, sym, ◌∙◌, ap, subst, append-nil}
+use Rattle.std.proofs.Common.{◌≡◌, inr, ℕ, List, [], ◌∷◌, ◌++◌, Option, None, Some, refl, sym, ◌∙◌, ap, subst}
 use Rattle.std.proofs.lemmas.Grind.{flat_map-append}
 use Rattle.std.proofs.lemmas.List.{reverse-append}
 use Rattle.std.specs.Io.KnownBytes.{Appends}
 use Rattle.std.proofs.KnownBytes.{Appends-nil, Appends-trans}
 use Rattle.sip_event.specs.declared.event.Event.{Event}
-use Rattle.sip_event.specs.declared.event.Event.TheVariants.{Datagram, Time, Fault}
 use Rattle.sip_event.specs.declared.event.StepOut.{StepOut}
 use Rattle.model_bounds.specs.state.declared.server.Server.{Server}
-use Rattle.model_bounds.specs.state.declared.proxy_state.ProxyState.{ProxyState}
 use Rattle.model_order.specs.Order.{IsFirstOf, IsQueueAfter, Standing}
 use Rattle.model_bounds.specs.steps_model.Step.{Given, IsStep, Passing, moment_of}
-use Rattle.model_bounds.specs.model.Run.{Link, IsRun, event_moment, events_of, steps_of, first_moment}
+use Rattle.model_bounds.specs.model.Run.{event_moment, events_of, steps_of}
 use Rattle.sip_replay_print.specs.Print.{step_text, printed}
 use Rattle.model_transactions.specs.Queue.{Entry}
 use Rattle.model_order.proofs.Along.{queue_behind, queue_next}
-use Rattle.model_ties.specs.Ties.{IsPrompt}
 use Rattle.model_ties.proofs.Orderly.{orderly_joined}
 use Rattle.sip_resume.specs.run.Due.{Fires, NothingDueBy}
 use Rattle.sip_resume.proofs.of_run.{run_on}
 use Rattle.sip_replay.specs.Replays.{Plays}
-
--- an event that comes once nothing is due by its moment waited for all that was
-pub prompt_event : (server : Server) (mid new : ProxyState) (event : Event) (out : StepOut) → NothingDueBy (moment_of mid (event_moment event)) mid
-    → IsPrompt server mid (Given event) out new
-prompt_event server mid new (Datagram at word from bytes) out none = tt
-prompt_event server mid new (Time at) out none = tt
-prompt_event server mid new (Fault at ticket) out none = (none.none, none.none_again)
+use Rattle.sip_resume.proofs.Running.{RunsJoin, prompt_event, printed_more}
 
 -- no step yet
 pub plays_nothing : (server : Server) (state : Standing) (until : Option ℕ) (before : Option (List ℕ)) → Plays server state state [] until before before
@@ -38,10 +29,6 @@ plays_nothing server state until before = record {
   queue = refl;
   written = Appends-nil before;
 }
-
--- what is printed of one step more
-pub printed_more : (steps : List StepOut) (out : StepOut) → printed (steps ++ out ∷ []) ≡ printed steps ++ step_text out
-printed_more steps out = flat_map-append step_text steps (out ∷ []) ∙ ap (λ l. printed steps ++ l) (append-nil (step_text out))
 
 -- time passes
 passing_step : (server : Server) (old mid new : Standing) (at : ℕ) (out : StepOut) (a b c : Option (List ℕ)) → Plays server old mid [] (Some at) a b
@@ -97,13 +84,6 @@ pub plays_event : (server then_server : Server) (old mid new : Standing) (at : �
 plays_event server then_server old mid new at event out a b c same is h none step queue written =
     event_step server old mid new event out a b c (subst (λ (m : ℕ). Plays server old mid [] (Some m) a b) is h)
     (subst (λ (m : ℕ). NothingDueBy (moment_of mid.state m) mid.state) is none) (subst (λ s. IsStep s mid.state (Given event) out new.state) same step) queue written
-
--- two runs, one behind the other, are one
-abbrev pub RunsJoin : Type 0
-RunsJoin =
-    (server : Server) (first middle last : ProxyState) (events more : List Event) (until : Option ℕ) (steps further : List StepOut) (history later : List Link)
-    → IsRun server first events (first_moment more until) steps history middle → IsRun server middle more until further later last
-    → IsRun server first (events ++ more) until (steps ++ further) (later ++ history) last
 
 -- an event more
 pub plays_both : RunsJoin → (server : Server) (old mid new : Standing) (events : List Event) (event : Event) (a b c : Option (List ℕ))

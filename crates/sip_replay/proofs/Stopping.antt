@@ -1,20 +1,18 @@
 -- How a replay stops.
-use Rattle.std.proofs.Common.{◌≡◌, ℕ, inl, inr, List, [], ◌∷◌, ◌++◌, Bool, true, false, Option, None, Some, refl, sym, ◌∙◌, ap, subst}
+use Rattle.std.proofs.Common.{◌≡◌, ℕ, inl, inr, List, [], ◌∷◌, ◌++◌, Option, None, Some, refl, sym, ◌∙◌, ap, subst}
 use Rattle.std.specs.Prelude.{IsSome, if◌then◌else◌}
 use Rattle.std.specs.Io.KnownBytes.{Appends}
 use Rattle.std.proofs.lemmas.List.{reverse-append}
 use Rattle.sip_event.specs.declared.event.Event.{Event}
-use Rattle.sip_event.specs.declared.event.Event.TheVariants.{Datagram, Time, Fault}
 use Rattle.sip_event.specs.declared.event.StepOut.{StepOut}
 use Rattle.model_bounds.specs.state.declared.server.Server.{Server}
-use Rattle.model_bounds.specs.state.declared.proxy_state.ProxyState.{ProxyState}
 use Rattle.model_transactions.specs.Queue.{Entry}
 use Rattle.model_order.specs.Order.{IsFirstOf, Standing}
 use Rattle.model_bounds.specs.steps_model.Step.{Given, IsStep, Passing, moment_of}
 use Rattle.model_bounds.specs.model.Run.{event_moment, events_of, steps_of}
 use Rattle.sip_resume.specs.run.engine.declared.error.StepError.{StepError}
 use Rattle.sip_resume.specs.run.engine.declared.error.StepError.TheVariants as step_errors
-use Rattle.sip_resume.specs.run.engine.StepError.{refusal_at, is_too_large}
+use Rattle.sip_resume.specs.run.engine.StepError.{refusal_at}
 use Rattle.sip_replay_print.specs.Print.{step_text, printed}
 use Rattle.sip_replay.specs.Errors.{stop_of_print, stop_of_step}
 use Rattle.sip_replay_script.specs.Devices.{WritesFront}
@@ -28,7 +26,8 @@ use Rattle.sip_replay.specs.declared.stop.Stop.TheVariants as stops
 use Rattle.sip_replay_script.specs.declared.print_stop.PrintStop.{PrintStop}
 use Rattle.sip_replay_script.specs.declared.print_stop.PrintStop.TheVariants as print_stops
 use Rattle.sip_replay_script.proofs.Fronts.{front_all, front_second}
-use Rattle.sip_replay.proofs.Running.{printed_more, prompt_event}
+use Rattle.sip_resume.proofs.Running.{prompt_event, printed_more}
+use Rattle.sip_resume.proofs.Refused.{too_late}
 
 -- ---- a step that is refused
 
@@ -118,16 +117,6 @@ part_event server old mid new event out a b c h none step front = record {
   orderly = (prompt_event server mid.state new.state event out none, h.orderly);
   writes = front_more a b c h.steps out h.written front;
 }
-
-some_else : {X : Type 0} (b : Bool) (x : X) (other : Option X) → IsSome (if b then Some x else None) → IsSome (if b then Some x else other)
-some_else true x other h = h
-some_else false x other h = absurd (cc)
-
--- a moment that is too large is that for each event
-too_late : (state : ProxyState) (event : Event) → IsSome (refusal_at (event_moment event)) → IsSome (refusal_of_event state event)
-too_late state (Datagram at word from bytes) h = some_else (is_too_large at) step_errors.MomentTooLarge _ h
-too_late state (Time at) h = h
-too_late state (Fault at ticket) h = h
 
 firing_taking : (server : Server) (old : Standing) (event : Event) (a b : Option (List ℕ)) (G : Type 0) (stop : Stop)
     → FiringStops server old (event_moment event) a b G stop → TakingStops server old event a b G stop

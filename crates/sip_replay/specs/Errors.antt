@@ -1,5 +1,5 @@
 -- The numbers of refusals, and why an event wasn't replayed.
-use Rattle.std.specs.Prelude.{◌≡◌, ◌≤◌, ⊤, ℕ, Option}
+use Rattle.std.specs.Prelude.{⊤, ℕ}
 use Rattle.sip_resume.specs.run.engine.declared.error.StepError.{StepError}
 use Rattle.sip_resume.specs.run.engine.declared.error.StepError.TheVariants as step_errors
 use Rattle.sip_replay_script.specs.declared.print_stop.PrintStop.{PrintStop}
@@ -8,7 +8,6 @@ use Rattle.sip_replay_script.specs.declared.read_stop.ReadStop.{ReadStop}
 use Rattle.sip_replay_script.specs.declared.read_stop.ReadStop.TheVariants as read_stops
 use Rattle.sip_replay.specs.declared.stop.Stop.{Stop}
 use Rattle.sip_replay.specs.declared.stop.Stop.TheVariants as stops
-use Rattle.sip_replay_script.specs.Devices.{later}
 use Rattle.sip_replay.specs.declared.error.ReplayError.{ReplayError}
 use Rattle.sip_replay.specs.declared.error.ReplayError.TheVariants.{NoMemory, Script, Read, Write}
 
@@ -42,12 +41,6 @@ stop_of_step step_errors.Worn = stops.Script
 abbrev pub stop_of_print : PrintStop → Stop
 stop_of_print print_stops.NoMemory = stops.NoMemory
 stop_of_print print_stops.Write = stops.Write
-
--- a reader was asked at most that often
-pub record IsAsked (most : ℕ) (old new : Option ℕ) : Type 0 where
-  pub times : ℕ
-  pub within : times ≤ most
-  pub counted : new ≡ later times old
 
 -- Read is answered where the reader failed, or was asked as often as it may be; Write where the writer gave up.
 abbrev pub IsFaulted : Type 0 → Type 0 → ReplayError → Type 0

@@ -6,10 +6,10 @@ ghost use Rattle.model_bounds.specs.steps_model.Step.{Given, IsStep, moment_of};
 ghost use Rattle.model_order.specs.Order.{IsQueueAfter, first_standing};
 ghost use Rattle.sip_resume.specs.run.Due.{NothingDueBy, standing_of};
 ghost use Rattle.sip_resume.specs.run.Refusals.{RefusesStep, refusal_of_event};
-ghost use Rattle.sip_replay_script.specs.Devices.{later, GaveUp};
+ghost use Rattle.sip_replay_script.specs.Devices.{later, GaveUp, IsAsked};
 ghost use Rattle.sip_replay_script.specs.Lines.{pending, IsOver, IsSpent};
 ghost use Rattle.sip_replay_script.specs.Script.{event_of};
-ghost use Rattle.sip_replay.specs.Errors.{IsAsked, IsFaulted};
+ghost use Rattle.sip_replay.specs.Errors.{IsFaulted};
 ghost use Rattle.sip_replay.specs.Refusals.{IsRefused, Refuses, TakingStops};
 ghost use Rattle.sip_replay.specs.Replays.{server_with, IsLawfulReplay, IsReplay, Plays, PlaysNext};
 
@@ -64,7 +64,7 @@ pub fn replay<T: Timers, R: Rules, I: TellingReader, W: TellingWriter>(
     }
 }
 
-#[tactic(auto, using(crate::proofs::Calls::never_asked))]
+#[tactic(auto, using(sip_replay_script::proofs::Calls::never_asked))]
 fn play<T: Timers, R: Rules, I: TellingReader, W: TellingWriter>(
     alloc: Global,
     config: Config,

@@ -27,10 +27,13 @@ use Rattle.sip_event.specs.declared.event.Event.TheVariants.{Datagram, Time, Fau
 use Rattle.sip_replay_script.specs.declared.script.DatagramHead.{DatagramHead}
 use Rattle.sip_replay_script.specs.declared.script.Line.{Line}
 use Rattle.sip_replay_script.specs.declared.script.Line.TheVariants.{Head, Whole}
-use Rattle.sip_replay_script.specs.Script.{line_of, line_of_kind, datagram_line, hex_line, hex_parts, time_line, fault_line, head_of, at_of, ticket_of, datagram_at}
-use Rattle.sip_replay_script.specs.Script.{◌>>=◌}
-use Rattle.sip_replay_script.proofs.WrittenEvents.{IsSource, below_again, source_again, number_others, source_others, word_others}
+use Rattle.sip_replay_script.specs.Escaped.{text_bytes_of}
+use Rattle.sip_replay_script.specs.Script.{line_of, line_of_kind, datagram_line, text_line, hex_line, head_parts, time_line, fault_line, head_of, at_of, ticket_of}
+use Rattle.sip_replay_script.specs.Script.{datagram_at, ◌>>=◌}
+use Rattle.sip_replay_script.proofs.WrittenEvents.{IsSource, source_again, source_others, word_others}
 use Rattle.sip_replay_script.proofs.Samples.{HasSample, IsWhole, IsNumber, IsPairs, IsWord, Parts, both_sample, number_sample, pairs_sample, word_sample, noughts_sample}
+use Rattle.sip_replay_script.proofs.TextSamples.{HasEnds, IsText, both_ends, text_ends_so}
+use Rattle.sip_audit.proofs.Words.{below_again, number_others}
 
 -- ---- what a reading that gave something found
 
@@ -277,7 +280,7 @@ from_others text f = ap (list_all (is_not 32)) f.written ∙ source_others 32 re
 from_again : (text : List ℕ) (f : IsFrom text) → addr_of text ≡ Some f.source
 from_again text f = ap addr_of f.written ∙ source_again f.source f.is
 
--- ---- the lines of the four kinds
+-- ---- the lines of the five kinds
 
 abbrev pub Moment : List ℕ → Type 0
 Moment text = IsNumber 0 (2 ^ 62) text
@@ -290,6 +293,9 @@ FaultLine text = Parts (IsWhole (codes "fault")) (Parts Moment (Parts (IsNumber 
 
 abbrev pub DatagramLine : List ℕ → Type 0
 DatagramLine text = Parts (IsWhole (codes "datagram")) (Parts Moment (Parts IsFrom IsWord 32) 32) 32 text
+
+abbrev pub TextLine : List ℕ → Type 0
+TextLine text = Parts (IsWhole (codes "text")) (Parts Moment (Parts IsFrom (Parts IsWord IsText 32) 32) 32) 32 text
 
 abbrev pub HexLine : List ℕ → Type 0
 HexLine text = Parts (IsWhole (codes "hex")) (Parts Moment (Parts IsFrom (Parts IsWord IsPairs 32) 32) 32) 32 text
@@ -322,6 +328,12 @@ datagram_of : (second moment rest source word : List ℕ) (m w : ℕ) (a : Addr)
     → at_of moment ≡ Some m → addr_of source ≡ Some a
     → word_of word ≡ Some w → line_of (codes "datagram" ++ 32 ∷ second) ≡ Some (Head (record { at = m; word = w; from = a }))
 datagram_of second moment rest source word m w a e f g h i = rw (e, f, g, h, i) refl
+
+text_of : (second moment rest source more word escapes bytes : List ℕ) (m w : ℕ) (a : Addr) → split_at_byte 32 second ≡ Some (moment, rest)
+    → split_at_byte 32 rest ≡ Some (source, more) → split_at_byte 32 more ≡ Some (word, escapes)
+    → at_of moment ≡ Some m → addr_of source ≡ Some a → word_of word ≡ Some w → text_bytes_of escapes ≡ Some bytes
+    → line_of (codes "text" ++ 32 ∷ second) ≡ Some (Whole (Datagram m w a bytes))
+text_of second moment rest source more word escapes bytes m w a e f g h i j k = rw (e, f, g, h, i, j, k) refl
 
 hex_of : (second moment rest source more word digits bytes : List ℕ) (m w : ℕ) (a : Addr) → split_at_byte 32 second ≡ Some (moment, rest)
     → split_at_byte 32 rest ≡ Some (source, more) → split_at_byte 32 more ≡ Some (word, digits)
@@ -368,6 +380,25 @@ datagram_says_some text p =
           r.is_second.says;
     }
 
+pub text_says_some : (text : List ℕ) → TextLine text → Says text
+text_says_some text p =
+    let q = p.is_second in
+    let r = q.is_second in
+    let s = r.is_second in
+    record {
+      said = Whole (Datagram q.is_first.number s.is_first.word r.is_first.source s.is_second.bytes);
+      says =
+          ap line_of (behind_kind (codes "text") text p.first p.second p.cut p.is_first)
+          ∙ text_of p.second q.first q.second r.first r.second s.first s.second s.is_second.bytes q.is_first.number s.is_first.word r.is_first.source
+          (split_so 32 p.second q.first q.second refl q.cut (no_mark 32 0 (2 ^ 62) q.first refl (omega arith) q.is_first))
+          (split_so 32 q.second r.first r.second refl r.cut (from_others r.first r.is_first))
+          (split_so 32 r.second s.first s.second refl s.cut (word_alone s.first s.is_first))
+          (read_again (2 ^ 62) q.first (omega arith) q.is_first)
+          (from_again r.first r.is_first)
+          s.is_first.says
+          s.is_second.says;
+    }
+
 pub hex_says_some : (text : List ℕ) → HexLine text → Says text
 hex_says_some text p =
     let q = p.is_second in
@@ -389,14 +420,16 @@ hex_says_some text p =
 
 -- ---- a line that says something is one
 
-kind_cases : (d h t f : Bool) (one two three four : Option Line) (said : Line) → (if d then one else if h then two else if t then three else if f then four else None)
-    ≡ Some said
-    → ((d ≡ true) × (one ≡ Some said)) ⊎ (((h ≡ true) × (two ≡ Some said)) ⊎ (((t ≡ true) × (three ≡ Some said)) ⊎ ((f ≡ true) × (four ≡ Some said))))
-kind_cases true h t f one two three four said e = inl (refl, e)
-kind_cases false true t f one two three four said e = inr (inl (refl, e))
-kind_cases false false true f one two three four said e = inr (inr (inl (refl, e)))
-kind_cases false false false true one two three four said e = inr (inr (inr (refl, e)))
-kind_cases false false false false one two three four said e = absurd cc
+kind_cases : (d x h t f : Bool) (one two three four five : Option Line) (said : Line)
+    → (if d then one else if x then two else if h then three else if t then four else if f then five else None) ≡ Some said
+    → ((d ≡ true) × (one ≡ Some said)) ⊎ (((x ≡ true) × (two ≡ Some said)) ⊎ (((h ≡ true) × (three ≡ Some said)) ⊎ (((t ≡ true) × (four ≡ Some said))
+    ⊎ ((f ≡ true) × (five ≡ Some said)))))
+kind_cases true x h t f one two three four five said e = inl (refl, e)
+kind_cases false true h t f one two three four five said e = inr (inl (refl, e))
+kind_cases false false true t f one two three four five said e = inr (inr (inl (refl, e)))
+kind_cases false false false true f one two three four five said e = inr (inr (inr (inl (refl, e))))
+kind_cases false false false false true one two three four five said e = inr (inr (inr (inr (refl, e))))
+kind_cases false false false false false one two three four five said e = absurd cc
 
 record HeadIs (moment source word : List ℕ) : Type 0 where
   is_moment : Moment moment
@@ -465,18 +498,19 @@ datagram_parts text first second said cut kind e =
       };
     }
 
-so_pairs : (text digits : List ℕ) → text ≡ digits → IsPairs digits → IsPairs text
-so_pairs text digits e is = subst IsPairs (sym e) is
+so_behind : (B : List ℕ → Type 0) (text behind : List ℕ) → text ≡ behind → B behind → B text
+so_behind B text behind e is = subst B (sym e) is
 
-hex_parts_are : (text : List ℕ) (head : DatagramHead) (digits : List ℕ) → hex_parts text ≡ Some (head, digits) → IsPairs digits
-    → Parts Moment (Parts IsFrom (Parts IsWord IsPairs 32) 32) 32 text
-hex_parts_are text head digits e pairs =
+-- where a head and a field behind it are said
+head_parts_are : (B : List ℕ → Type 0) (text : List ℕ) (head : DatagramHead) (behind : List ℕ) → head_parts text ≡ Some (head, behind) → B behind
+    → Parts Moment (Parts IsFrom (Parts IsWord B 32) 32) 32 text
+head_parts_are B text head behind e field =
     let a = bind_some (split_at_byte 32 text) (λ a. split_at_byte 32 a.1 >>= λ b. split_at_byte 32 b.1 >>= λ c. head_of a.0 b.0 c.0 >>= λ head. Some (head, c.1))
-    (head, digits) e in
-    let b = bind_some (split_at_byte 32 a.0.1) (λ b. split_at_byte 32 b.1 >>= λ c. head_of a.0.0 b.0 c.0 >>= λ head. Some (head, c.1)) (head, digits) a.2 in
-    let c = bind_some (split_at_byte 32 b.0.1) (λ c. head_of a.0.0 b.0.0 c.0 >>= λ head. Some (head, c.1)) (head, digits) b.2 in
-    let h = bind_some (head_of a.0.0 b.0.0 c.0.0) (λ head. Some (head, c.0.1)) (head, digits) c.2 in
-    let last : c.0.1 ≡ digits = (pair_is (h.0, c.0.1) (head, digits) h.2).1 in
+    (head, behind) e in
+    let b = bind_some (split_at_byte 32 a.0.1) (λ b. split_at_byte 32 b.1 >>= λ c. head_of a.0.0 b.0 c.0 >>= λ head. Some (head, c.1)) (head, behind) a.2 in
+    let c = bind_some (split_at_byte 32 b.0.1) (λ c. head_of a.0.0 b.0.0 c.0 >>= λ head. Some (head, c.1)) (head, behind) b.2 in
+    let h = bind_some (head_of a.0.0 b.0.0 c.0.0) (λ head. Some (head, c.0.1)) (head, behind) c.2 in
+    let last : c.0.1 ≡ behind = (pair_is (h.0, c.0.1) (head, behind) h.2).1 in
     let is = head_is a.0.0 b.0.0 c.0.0 h.0 h.1 in
     record {
       first = a.0.0;
@@ -493,38 +527,55 @@ hex_parts_are text head digits e pairs =
           second = c.0.1;
           cut = split_is 32 b.0.1 c.0.0 c.0.1 c.1;
           is_first = is.is_word;
-          is_second = so_pairs c.0.1 digits last pairs;
+          is_second = so_behind B c.0.1 behind last field;
         };
       };
+    }
+
+text_line_parts : (text first second : List ℕ) (said : Line) → text ≡ first ++ 32 ∷ second → bytes_eq first (codes "text") ≡ true → text_line second ≡ Some said
+    → TextLine text
+text_line_parts text first second said cut kind e =
+    let p = bind_some (head_parts second) (λ p. text_bytes_of p.1 >>= λ bytes. Some (Whole (datagram_at p.0 bytes))) said e in
+    let b = bind_some (text_bytes_of p.0.1) (λ bytes. Some (Whole (datagram_at p.0.0 bytes))) said p.2 in
+    record {
+      first = first;
+      second = second;
+      cut = cut;
+      is_first = (bytes_eq-Decides first (codes "text")).0 kind;
+      is_second = head_parts_are IsText second p.0.0 p.0.1 p.1 (record { bytes = b.0; says = b.1 });
     }
 
 hex_line_parts : (text first second : List ℕ) (said : Line) → text ≡ first ++ 32 ∷ second → bytes_eq first (codes "hex") ≡ true → hex_line second ≡ Some said
     → HexLine text
 hex_line_parts text first second said cut kind e =
-    let p = bind_some (hex_parts second) (λ p. hex_bytes_of p.1 >>= λ bytes. Some (Whole (datagram_at p.0 bytes))) said e in
+    let p = bind_some (head_parts second) (λ p. hex_bytes_of p.1 >>= λ bytes. Some (Whole (datagram_at p.0 bytes))) said e in
     let b = bind_some (hex_bytes_of p.0.1) (λ bytes. Some (Whole (datagram_at p.0.0 bytes))) said p.2 in
     record {
       first = first;
       second = second;
       cut = cut;
       is_first = (bytes_eq-Decides first (codes "hex")).0 kind;
-      is_second = hex_parts_are second p.0.0 p.0.1 p.1 (record { bytes = b.0; says = b.1 });
+      is_second = head_parts_are IsPairs second p.0.0 p.0.1 p.1 (record { bytes = b.0; says = b.1 });
     }
 
-pub line_cases : (text : List ℕ) (said : Line) → line_of text ≡ Some said → DatagramLine text ⊎ (HexLine text ⊎ (TimeLine text ⊎ FaultLine text))
+pub line_cases : (text : List ℕ) (said : Line) → line_of text ≡ Some said
+    → DatagramLine text ⊎ (TextLine text ⊎ (HexLine text ⊎ (TimeLine text ⊎ FaultLine text)))
 line_cases text said e =
     let p = bind_some (split_at_byte 32 text) (λ p. line_of_kind p.0 p.1) said e in
     let kind : List ℕ = p.0.0 in
     let rest : List ℕ = p.0.1 in
     let cut : text ≡ kind ++ 32 ∷ rest = split_is 32 text kind rest p.1 in
-    elim (kind_cases (bytes_eq kind (codes "datagram")) (bytes_eq kind (codes "hex")) (bytes_eq kind (codes "time")) (bytes_eq kind (codes "fault")) (datagram_line rest)
-    (hex_line rest) (time_line rest) (fault_line rest) said p.2) [
+    elim (kind_cases (bytes_eq kind (codes "datagram")) (bytes_eq kind (codes "text")) (bytes_eq kind (codes "hex")) (bytes_eq kind (codes "time"))
+    (bytes_eq kind (codes "fault")) (datagram_line rest) (text_line rest) (hex_line rest) (time_line rest) (fault_line rest) said p.2) [
       | inl d ↦ inl (datagram_parts text kind rest said cut d.0 d.1)
       | inr other ↦ elim other [
-        | inl h ↦ inr (inl (hex_line_parts text kind rest said cut h.0 h.1))
-        | inr another ↦ elim another [
-          | inl t ↦ inr (inr (inl (time_parts text kind rest said cut t.0 t.1)))
-          | inr f ↦ inr (inr (inr (fault_parts text kind rest said cut f.0 f.1)))
+        | inl x ↦ inr (inl (text_line_parts text kind rest said cut x.0 x.1))
+        | inr third ↦ elim third [
+          | inl h ↦ inr (inr (inl (hex_line_parts text kind rest said cut h.0 h.1)))
+          | inr last ↦ elim last [
+            | inl t ↦ inr (inr (inr (inl (time_parts text kind rest said cut t.0 t.1))))
+            | inr f ↦ inr (inr (inr (inr (fault_parts text kind rest said cut f.0 f.1))))
+          ]
         ]
       ]
     ]
@@ -553,3 +604,11 @@ hex_sample =
     (both_sample Moment _ 32 (48 ∷ []) _ moment_sample
     (both_sample IsFrom _ 32 (codes "0.0.0.0:1") _ from_sample
     (both_sample IsWord IsPairs 32 (codes "00000000000000000000000000000000") _ noughts_sample pairs_sample)))
+
+-- that of a line `text` goes on by an end of its sample, or within an escape by a digit
+pub text_sample : HasEnds TextLine (codes "text 0 0.0.0.0:1 00000000000000000000000000000000 n") (codes "0") (codes "f")
+text_sample =
+    both_ends (IsWhole (codes "text")) _ 32 (codes "text") _ (codes "0") (codes "f") (word_sample (codes "text"))
+    (both_ends Moment _ 32 (48 ∷ []) _ (codes "0") (codes "f") moment_sample
+    (both_ends IsFrom _ 32 (codes "0.0.0.0:1") _ (codes "0") (codes "f") from_sample
+    (both_ends IsWord IsText 32 (codes "00000000000000000000000000000000") _ (codes "0") (codes "f") noughts_sample text_ends_so)))

@@ -23,17 +23,22 @@ use Rattle.sip_replay_script.proofs.Datagrams.{behind, behind_any, says_more}
 use Rattle.sip_replay_script.proofs.CutEvents.{cut_at, head_is, no_line, not_nil}
 use Rattle.sip_replay_script.proofs.OneReading.{no_refusal}
 use Rattle.sip_replay_script.proofs.WrittenEvents.{no_end, recorded_says}
-use Rattle.sip_replay_script.proofs.Samples.{HasSample}
-use Rattle.sip_replay_script.proofs.CutLines.{DatagramLine, FaultLine, HexLine, Says, TimeLine, datagram_says_some, datagram_sample, fault_says_some, fault_sample}
-use Rattle.sip_replay_script.proofs.CutLines.{hex_says_some, hex_sample, line_cases, time_says_some, time_sample}
+use Rattle.sip_replay_script.proofs.Samples.{Finished, HasSample}
+use Rattle.sip_replay_script.proofs.CutLines.{DatagramLine, FaultLine, HexLine, Says, TextLine, TimeLine, datagram_says_some, datagram_sample, fault_says_some}
+use Rattle.sip_replay_script.proofs.CutLines.{fault_sample, hex_says_some, hex_sample, line_cases, text_says_some, text_sample, time_says_some, time_sample}
 
 -- ---- the front of a line that begins an event
 
--- it ends as one of the shortest lines does
+-- it ends as the shortest line `text` does, or by one of two digits
+abbrev pub EndsInText : List ℕ → Type 0
+EndsInText text =
+    EndsAs text (codes "text 0 0.0.0.0:1 00000000000000000000000000000000 n") ⊎ (EndsAs text (codes "0") ⊎ EndsAs text (codes "f"))
+
+-- or as one of the other shortest lines
 pub EndsSo : List ℕ → Type 0
 EndsSo text =
-    EndsAs text (codes "datagram 0 0.0.0.0:1 00000000000000000000000000000000") ⊎ (EndsAs text (codes "hex 0 0.0.0.0:1 00000000000000000000000000000000 00")
-    ⊎ (EndsAs text (codes "time 0") ⊎ EndsAs text (codes "fault 0 0/0")))
+    EndsAs text (codes "datagram 0 0.0.0.0:1 00000000000000000000000000000000") ⊎ (EndsInText text
+    ⊎ (EndsAs text (codes "hex 0 0.0.0.0:1 00000000000000000000000000000000 00") ⊎ (EndsAs text (codes "time 0") ⊎ EndsAs text (codes "fault 0 0/0"))))
 
 says_some : (line : List ℕ) → IsSome (line_of line) → Says line
 says_some line e = by_said (line_of line) refl e
@@ -42,15 +47,27 @@ says_some line e = by_said (line_of line) refl e
     by_said None is e = absurd cc
     by_said (Some said) is e = record { said = said; says = is }
 
-ends_by : (A : List ℕ → Type 0) (sample text more : List ℕ) → HasSample A sample → ((line : List ℕ) → A line → Says line) → length (text ++ more) ≤ 200000
-    → A (text ++ more) → EndsAs text sample
-ends_by A sample text more h says short is =
-    let f = h.finishes text more is in
+finished : (A : List ℕ → Type 0) (sample text more : List ℕ) → ((line : List ℕ) → A line → Says line) → length (text ++ more) ≤ 200000 → Finished A sample text more
+    → EndsAs text sample
+finished A sample text more says short f =
     let said : Says (text ++ f.tail) = says (text ++ f.tail) f.accepts in
     let fits : length f.tail ≤ length more = f.short in
     let whole : length (text ++ more) ≡ length text + length more = length-append text more in
     let size : length (text ++ f.tail) ≡ length text + length f.tail = length-append text f.tail in
     record { front = f.front; tail = f.tail; cut = f.cut; begins = record { short = omega (arith, short, fits, whole, size); says = ap is_some said.says } }
+
+ends_by : (A : List ℕ → Type 0) (sample text more : List ℕ) → HasSample A sample → ((line : List ℕ) → A line → Says line) → length (text ++ more) ≤ 200000
+    → A (text ++ more) → EndsAs text sample
+ends_by A sample text more h says short is = finished A sample text more says short (h.finishes text more is)
+
+ends_in_text : (text more : List ℕ) → length (text ++ more) ≤ 200000 → TextLine (text ++ more) → EndsInText text
+ends_in_text text more short is = elim (text_sample.finishes text more is) [
+  | inl f ↦ inl (finished TextLine _ text more text_says_some short f)
+  | inr other ↦ elim other [
+    | inl f ↦ inr (inl (finished TextLine _ text more text_says_some short f))
+    | inr f ↦ inr (inr (finished TextLine _ text more text_says_some short f))
+  ]
+]
 
 pub ends_so : (text : List ℕ) → BeginsLine text → EndsSo text
 unfolding EndsSo
@@ -60,10 +77,13 @@ ends_so text b =
     elim (line_cases (text ++ b.more) s.said s.says) [
       | inl d ↦ inl (ends_by DatagramLine _ text b.more datagram_sample datagram_says_some short d)
       | inr other ↦ elim other [
-        | inl h ↦ inr (inl (ends_by HexLine _ text b.more hex_sample hex_says_some short h))
-        | inr another ↦ elim another [
-          | inl t ↦ inr (inr (inl (ends_by TimeLine _ text b.more time_sample time_says_some short t)))
-          | inr f ↦ inr (inr (inr (ends_by FaultLine _ text b.more fault_sample fault_says_some short f)))
+        | inl x ↦ inr (inl (ends_in_text text b.more short x))
+        | inr third ↦ elim third [
+          | inl h ↦ inr (inr (inl (ends_by HexLine _ text b.more hex_sample hex_says_some short h)))
+          | inr last ↦ elim last [
+            | inl t ↦ inr (inr (inr (inl (ends_by TimeLine _ text b.more time_sample time_says_some short t))))
+            | inr f ↦ inr (inr (inr (inr (ends_by FaultLine _ text b.more fault_sample fault_says_some short f))))
+          ]
         ]
       ]
     ]
@@ -154,6 +174,12 @@ cut_by rest sample begun is_line single e =
     let s : Says (rest ++ e.tail) = says_some (rest ++ e.tail) e.begins.says in
     cut_with rest e.tail s.said begun (record { short = e.begins.short; single = omega (arith, none, sum, first) }) s.says
 
+cut_in_text : (rest : List ℕ) → rest ≢ [] → IsLine rest → EndsInText rest → IsCutRecord rest
+cut_in_text rest begun is_line x = elim x [
+  | inl f ↦ cut_by rest _ begun is_line refl f
+  | inr other ↦ elim other [ inl f ↦ cut_by rest _ begun is_line refl f | inr f ↦ cut_by rest _ begun is_line refl f ]
+]
+
 -- the front of such a line was cut, in a record
 cut_record : (rest : List ℕ) → rest ≢ [] → IsLine rest → BeginsLine rest → IsCutRecord rest
 unfolding EndsSo
@@ -161,10 +187,10 @@ cut_record rest begun is_line b =
     elim (ends_so rest b) [
       | inl d ↦ cut_by rest _ begun is_line refl d
       | inr other ↦ elim other [
-        | inl h ↦ cut_by rest _ begun is_line refl h
-        | inr another ↦ elim another [
-          | inl t ↦ cut_by rest _ begun is_line refl t
-          | inr f ↦ cut_by rest _ begun is_line refl f
+        | inl x ↦ cut_in_text rest begun is_line x
+        | inr third ↦ elim third [
+          | inl h ↦ cut_by rest _ begun is_line refl h
+          | inr last ↦ elim last [ inl t ↦ cut_by rest _ begun is_line refl t | inr f ↦ cut_by rest _ begun is_line refl f ]
         ]
       ]
     ]
@@ -408,17 +434,22 @@ ends_nowhere text sample count all none e =
 
 pub last_begins : (text : List ℕ) → (EndsAs text (codes "time 0") → ⊥) → (EndsAs text (codes "fault 0 0/0") → ⊥)
     → (EndsAs text (codes "datagram 0 0.0.0.0:1 00000000000000000000000000000000") → ⊥)
-    → (b : Bool) → IsTrue b ↔ EndsAs text (codes "hex 0 0.0.0.0:1 00000000000000000000000000000000 00") → IsTrue b ↔ BeginsLine text
+    → (EndsAs text (codes "hex 0 0.0.0.0:1 00000000000000000000000000000000 00") → ⊥)
+    → (EndsAs text (codes "text 0 0.0.0.0:1 00000000000000000000000000000000 n") → ⊥) → (EndsAs text (codes "0") → ⊥)
+    → (b : Bool) → IsTrue b ↔ EndsAs text (codes "f") → IsTrue b ↔ BeginsLine text
 unfolding EndsSo
-last_begins text time fault plain b hex = (
-  λ t. begins_so text _ (hex.0 t),
+last_begins text time fault plain hex letter least b most = (
+  λ t. begins_so text _ (most.0 t),
   λ begins. elim (ends_so text begins) [
     | inl d ↦ absurd (plain d)
     | inr other ↦ elim other [
-      | inl h ↦ hex.1 h
-      | inr another ↦ elim another [
-        | inl t ↦ absurd (time t)
-        | inr f ↦ absurd (fault f)
+      | inl x ↦ elim x [
+        | inl l ↦ absurd (letter l)
+        | inr digit ↦ elim digit [ inl d ↦ absurd (least d) | inr d ↦ most.1 d ]
+      ]
+      | inr third ↦ elim third [
+        | inl h ↦ absurd (hex h)
+        | inr last ↦ elim last [ inl t ↦ absurd (time t) | inr f ↦ absurd (fault f) ]
       ]
     ]
   ],

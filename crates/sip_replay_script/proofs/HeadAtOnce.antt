@@ -21,7 +21,8 @@ use Rattle.sip_replay_script.specs.Script.{IsNumberAt, IsNumberBefore, IsSourceB
 use Rattle.sip_replay_script.specs.EventText.{head_before}
 use Rattle.sip_event.specs.declared.event.Event.TheVariants.{Time}
 use Rattle.sip_replay_script.specs.declared.script.Line.TheVariants.{Head, Whole}
-use Rattle.sip_replay_script.proofs.WrittenEvents.{IsSource, head_says, head_single, head_short, head_more, no_end, number_others, number_short, time_says, word_long}
+use Rattle.sip_replay_script.proofs.WrittenEvents.{IsSource, head_says, head_single, head_short, head_more, no_end, number_short, time_says, word_long}
+use Rattle.sip_audit.proofs.Words.{number_others}
 
 -- the digits of a text from a place on write a number
 pub record AreDigits (text : List ℕ) (from count number : ℕ) : Type 0 where

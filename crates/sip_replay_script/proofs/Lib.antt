@@ -1,9 +1,11 @@
+pub mod ByteTexts
 pub mod Calls
 pub mod CutEvents
 pub mod CutLines
 pub mod Damaged
 pub mod DatagramWord
 pub mod Datagrams
+pub mod Escaping
 pub mod Fronts
 pub mod Gathering
 pub mod HeadAtOnce
@@ -11,9 +13,12 @@ pub mod HeadLines
 pub mod Keeping
 pub mod LineEnds
 pub mod OneReading
+pub mod PlainRuns
 pub mod RecordTexts
 pub mod Samples
 pub mod Saying
+pub mod TextSamples
+pub mod Unescaping
 pub mod Unread
 pub mod Written
 pub mod WrittenEvents

@@ -1,20 +1,19 @@
 -- What is written of an event says it.
-use Rattle.std.proofs.Common.{◌≡◌, ℕ, zero, suc, ◌<◌, ◌≤◌, ◌+◌, ◌*◌, ◌/◌, ◌%◌, ◌^◌, Bool, true, false, nat_le, nat_lt, List, [], ◌∷◌, ◌++◌, length, count_by, decimal}
+use Rattle.std.proofs.Common.{◌≡◌, ℕ, zero, suc, ◌<◌, ◌≤◌, ◌+◌, ◌*◌, ◌/◌, ◌%◌, ◌^◌, Bool, true, false, nat_le, List, [], ◌∷◌, ◌++◌, length, count_by, decimal}
 use Rattle.std.proofs.Common.{Some, refl, sym, ap, ◌∙◌, arith, inl, inr, append_assoc, append-nil, length-append}
 use Rattle.std.specs.Prelude.{◌&&◌, ◌==◌, not, codes, slice_index}
 use Rattle.std.specs.List.{list_all}
-use Rattle.std.specs.Option.{option_and_then}
 use Rattle.std.specs.Char.{is_ascii_digit}
-use Rattle.std.proofs.lemmas.Bool.{lt-ltb, ltb-true, le-leb, leb-true, ne_eqb}
+use Rattle.std.proofs.lemmas.Bool.{ltb-true, le-leb, leb-true, ne_eqb}
 use Rattle.std.proofs.lemmas.Fmt.{length-decimal-le}
 use Rattle.hex.specs.Hex.{lower_digits, encode_with, encode_lower, IsBytes}
 use Rattle.hex.proofs.HexLemmas.{length-encode_with, decode_of-encode_lower}
-use Rattle.sip_text.specs.Numbers.{plain_decimal_below, plain_port_of, under, hex_bytes_of}
-use Rattle.sip_text.proofs.PlainDecimals.{digits_alone, plain_read}
+use Rattle.sip_text.specs.Numbers.{plain_port_of, hex_bytes_of}
+use Rattle.sip_text.proofs.PlainDecimals.{plain_read}
 use Rattle.sip_uri.specs.declared.addr.Addr.{Addr}
 use Rattle.sip_uri.specs.Addresses.{ip_of, ip_text, addr_of, addr_text}
 use Rattle.sip_uri.specs.Host.{is_not}
-use Rattle.sip_uri.proofs.Tests.{and_both, and_is, not_is, others, all_join, split_again}
+use Rattle.sip_uri.proofs.Tests.{and_both, and_is, not_is, is_other, all_join, split_again}
 use Rattle.sip_uri.proofs.Dotted.{text_read}
 use Rattle.sip_digest.specs.NonceText.{nonce_text, word_of}
 use Rattle.sip_digest.proofs.NonceTexts.{names, names_word}
@@ -22,11 +21,15 @@ use Rattle.sip_event.specs.declared.event.Event.{Event}
 use Rattle.sip_event.specs.declared.event.Event.TheVariants.{Datagram, Time, Fault}
 use Rattle.sip_event.specs.declared.packet.Ticket.{Ticket}
 use Rattle.sip_replay_script.specs.declared.script.Line.TheVariants.{Head, Whole}
+use Rattle.sip_replay_script.specs.Escaped.{byte_text, escaped, is_plain}
 use Rattle.sip_replay_script.specs.Lines.{is_end}
 use Rattle.sip_replay_script.specs.Script.{line_of}
 use Rattle.sip_replay_script.specs.Events.{SaysEvent, SaysDatagram, ended}
 use Rattle.sip_replay_script.specs.Recorded.{SaysRecorded}
-use Rattle.sip_replay_script.specs.EventText.{event_text, head_before, is_sayable, is_moment, HasTypes, IsAddr}
+use Rattle.sip_replay_script.specs.EventText.{event_text, head_before, older_text, is_sayable, is_moment, HasTypes, IsAddr}
+use Rattle.sip_replay_script.proofs.ByteTexts.{each_text, escaped_first, escaped_none, escaped_short}
+use Rattle.sip_replay_script.proofs.Unescaping.{text_again}
+use Rattle.sip_audit.proofs.Words.{below_again, number_others}
 
 -- ---- bytes that don't stand in a text
 
@@ -35,9 +38,6 @@ no_end [] e = refl
 no_end (b ∷ bs) e =
     let both = and_both (is_not 10 b) (list_all (is_not 10) bs) e in
     rw (not_is (b == 10) both.0, no_end bs both.1) refl
-
-pub number_others : (mark : ℕ) → is_ascii_digit mark ≡ false → (n : ℕ) → n < 2 ^ 64 → list_all (is_not mark) (decimal n) ≡ true
-number_others mark none n lt = others is_ascii_digit mark none (decimal n) (digits_alone n lt)
 
 all_there : (p : ℕ → Bool) (xs : List ℕ) (k : ℕ) → p 0 ≡ true → list_all p xs ≡ true → p (slice_index xs k) ≡ true
 all_there p [] k default all = default
@@ -50,6 +50,19 @@ encoded_others mark default digits [] = refl
 encoded_others mark default digits (b ∷ rest) =
     and_is _ _ (all_there (is_not mark) lower_digits (b / 16) default digits)
     (and_is _ _ (all_there (is_not mark) lower_digits (b % 16) default digits) (encoded_others mark default digits rest))
+
+-- the text of a byte has no LF
+plain_single : (b : ℕ) → is_plain b ≡ true → list_all (is_not 10) (b ∷ []) ≡ true
+plain_single b plain = and_is (is_not 10 b) true (is_other is_plain 10 refl b plain) refl
+
+text_single : (b : ℕ) → list_all (is_not 10) (byte_text b) ≡ true
+unfolding encode_with
+text_single b = each_text (λ (l : List ℕ). list_all (is_not 10) l ≡ true) b (plain_single b) refl refl refl (encoded_others 10 refl refl (b ∷ []))
+
+escaped_single : (bytes : List ℕ) → list_all (is_not 10) (escaped bytes) ≡ true
+escaped_single [] = ap (list_all (is_not 10)) escaped_none
+escaped_single (b ∷ bytes) =
+    ap (list_all (is_not 10)) (escaped_first b bytes) ∙ all_join (is_not 10) (byte_text b) (escaped bytes) (text_single b) (escaped_single bytes)
 
 pub word_others : (mark : ℕ) → is_not mark 0 ≡ true → list_all (is_not mark) lower_digits ≡ true → (word : ℕ) → list_all (is_not mark) (nonce_text word) ≡ true
 unfolding nonce_text
@@ -113,11 +126,6 @@ module _ (mark : ℕ) (digit : is_ascii_digit mark ≡ false) (dot : is_not mark
       (let lt : a.port < 65536 = is.small in number_others mark digit a.port (omega (arith, lt)))
 
 -- ---- words that say what was written
-
-pub below_again : (limit n : ℕ) → n < limit → n < 2 ^ 64 → plain_decimal_below limit (decimal n) ≡ Some n
-below_again limit n lt small =
-    let test : nat_lt n limit ≡ true = lt-ltb n limit lt in
-    ap (option_and_then (under limit)) (plain_read n small) ∙ rw test refl
 
 port_again : (port : ℕ) → 0 < port → port < 65536 → plain_port_of (decimal port) ≡ Some port
 port_again port some small =
@@ -242,6 +250,19 @@ head_more moment word source rest more =
     (append_assoc (addr_text source) (32 ∷ (nonce_text word ++ rest)) more ∙ ap (λ (l : List ℕ). addr_text source ++ 32 ∷ l) (append_assoc (nonce_text word) rest more))
 
 module _ (moment word : ℕ) (source : Addr) (lt : moment < 2 ^ 62) (fits : word < 2 ^ 128) (from : IsSource source) where
+  text_says : (bytes : List ℕ) → IsBytes bytes → 0 < length bytes → line_of (codes "text " ++ head_before moment word source (32 ∷ escaped bytes))
+      ≡ Some (Whole (Datagram moment word source bytes))
+  text_says bytes are some =
+      rw (
+        split_again 32 (decimal moment) (addr_text source ++ 32 ∷ (nonce_text word ++ 32 ∷ escaped bytes)) (number_others 32 refl moment (omega (arith, lt))) refl,
+        split_again 32 (addr_text source) (nonce_text word ++ 32 ∷ escaped bytes) (source_others 32 refl refl refl source from) refl,
+        split_again 32 (nonce_text word) (escaped bytes) (word_others 32 refl refl word) refl,
+        below_again (2 ^ 62) moment lt (omega (arith, lt)),
+        source_again source from,
+        word_again word fits,
+        text_again bytes are some,
+      ) refl
+
   hex_says : (b : ℕ) (bytes : List ℕ) → IsBytes (b ∷ bytes) → line_of (codes "hex " ++ head_before moment word source (32 ∷ encode_lower (b ∷ bytes)))
       ≡ Some (Whole (Datagram moment word source (b ∷ bytes)))
   hex_says b bytes are =
@@ -314,8 +335,26 @@ module _ (moment word : ℕ) (source : Addr) (lt : moment < 2 ^ 62) (fits : word
       let third : length (nonce_text word ++ rest) ≡ length (nonce_text word) + length rest = length-append (nonce_text word) rest in
       omega (arith, at, address, digits, first, second, third)
 
-  written_hex : (b : ℕ) (bytes : List ℕ) → IsBytes (b ∷ bytes) → length (b ∷ bytes) ≤ 65508
+  written_text : (b : ℕ) (bytes : List ℕ) → IsBytes (b ∷ bytes) → length (b ∷ bytes) ≤ 65508
       → SaysRecorded (event_text (Datagram moment word source (b ∷ bytes))) (Datagram moment word source (b ∷ bytes))
+  written_text b bytes are few = inl (record {
+    line = codes "text " ++ head_before moment word source (32 ∷ escaped (b ∷ bytes));
+    is_line = record {
+      short =
+          let head : length (head_before moment word source (32 ∷ escaped (b ∷ bytes))) ≤ 158 + length (32 ∷ escaped (b ∷ bytes)) =
+          head_short (32 ∷ escaped (b ∷ bytes)) in
+          let size : length (escaped (b ∷ bytes)) ≤ 3 * length (b ∷ bytes) = escaped_short (b ∷ bytes) in
+          omega (arith, few, head, size);
+      single = no_end (codes "text " ++ head_before moment word source (32 ∷ escaped (b ∷ bytes)))
+          (head_single (32 ∷ escaped (b ∷ bytes)) (escaped_single (b ∷ bytes)));
+    };
+    text_is = ap (λ (l : List ℕ). codes "text " ++ l) (sym (head_more moment word source (32 ∷ escaped (b ∷ bytes)) (10 ∷ [])));
+    says = text_says (b ∷ bytes) are (omega arith);
+  })
+
+  -- and so is what an older record has
+  written_hex : (b : ℕ) (bytes : List ℕ) → IsBytes (b ∷ bytes) → length (b ∷ bytes) ≤ 65508
+      → SaysRecorded (older_text moment word source (b ∷ bytes)) (Datagram moment word source (b ∷ bytes))
   written_hex b bytes are few = inl (record {
     line = codes "hex " ++ head_before moment word source (32 ∷ encode_lower (b ∷ bytes));
     is_line = record {
@@ -348,7 +387,7 @@ module _ (moment word : ℕ) (source : Addr) (lt : moment < 2 ^ 62) (fits : word
 written_datagram : (moment word : ℕ) (source : Addr) (bytes : List ℕ) → moment < 2 ^ 62 → word < 2 ^ 128 → IsSource source → IsBytes bytes → length bytes ≤ 65508
     → SaysRecorded (event_text (Datagram moment word source bytes)) (Datagram moment word source bytes)
 written_datagram moment word source [] lt fits from are few = written_empty moment word source lt fits from
-written_datagram moment word source (b ∷ bytes) lt fits from are few = written_hex moment word source lt fits from b bytes are few
+written_datagram moment word source (b ∷ bytes) lt fits from are few = written_text moment word source lt fits from b bytes are few
 
 moment_is : (moment : ℕ) → is_moment moment ≡ true → moment < 2 ^ 62
 moment_is moment e = ltb-true moment (2 ^ 62) e
@@ -360,6 +399,13 @@ written_recorded (Datagram moment word source bytes) is e =
     written_datagram moment word source bytes (moment_is moment whole.0) is.0 (is_source source is.1 rest.0) is.2 (leb-true (length bytes) 65508 rest.1)
 written_recorded (Time moment) is e = written_time moment (moment_is moment e)
 written_recorded (Fault moment t) is e = written_fault moment t (moment_is moment e) is.0 is.1
+
+pub older_recorded : (moment word : ℕ) (source : Addr) (b : ℕ) (bytes : List ℕ) → HasTypes (Datagram moment word source (b ∷ bytes))
+    → is_sayable (Datagram moment word source (b ∷ bytes)) ≡ true → SaysRecorded (older_text moment word source (b ∷ bytes)) (Datagram moment word source (b ∷ bytes))
+older_recorded moment word source b bytes is e =
+    let whole = and_both (is_moment moment) (not (source.port == 0) && nat_le (length (b ∷ bytes)) 65508) e in
+    let rest = and_both (not (source.port == 0)) (nat_le (length (b ∷ bytes)) 65508) whole.1 in
+    written_hex moment word source (moment_is moment whole.0) is.0 (is_source source is.1 rest.0) b bytes is.2 (leb-true (length (b ∷ bytes)) 65508 rest.1)
 
 pub written_says : (event : Event) → HasTypes event → is_sayable event ≡ true → SaysEvent (event_text event) event
 written_says event is e = recorded_says (event_text event) event (written_recorded event is e)

@@ -8,6 +8,12 @@ use Rattle.std.specs.Io.KnownBytes.{Appends}
 abbrev pub later : ℕ → Option ℕ → Option ℕ
 later n calls = option_map (λ m. m + n) calls
 
+-- a reader was asked at most that often
+pub record IsAsked (most : ℕ) (old new : Option ℕ) : Type 0 where
+  pub times : ℕ
+  pub within : times ≤ most
+  pub counted : new ≡ later times old
+
 -- an interrupted call is tried again; any other error is a fault
 abbrev pub IsFault : ErrorKind → Type 0
 IsFault kind = kind ≢ Interrupted

@@ -6,15 +6,20 @@ use Rattle.sip_event.specs.declared.event.Event.{Event}
 use Rattle.sip_event.specs.declared.event.Event.TheVariants.{Datagram, Time, Fault}
 use Rattle.sip_uri.specs.declared.addr.Addr.{Addr}
 use Rattle.sip_uri.specs.Addresses.{addr_text}
+use Rattle.sip_replay_script.specs.Escaped.{escaped}
 
 -- AT IP:PORT WORD, and what stands behind it
 abbrev pub head_before : ℕ → ℕ → Addr → List ℕ → List ℕ
 head_before moment word source rest = decimal moment ++ 32 ∷ (addr_text source ++ 32 ∷ (nonce_text word ++ rest))
 
--- `hex AT IP:PORT WORD DIGITS`; of a datagram without bytes `datagram AT IP:PORT WORD`, and a line `.`
+-- `text AT IP:PORT WORD TEXT`; of a datagram without bytes `datagram AT IP:PORT WORD`, and a line `.`
 abbrev pub datagram_text : ℕ → ℕ → Addr → List ℕ → List ℕ
 datagram_text moment word source [] = codes "datagram " ++ head_before moment word source (10 ∷ 46 ∷ 10 ∷ [])
-datagram_text moment word source (b ∷ bytes) = codes "hex " ++ head_before moment word source (32 ∷ (encode_lower (b ∷ bytes) ++ 10 ∷ []))
+datagram_text moment word source (b ∷ bytes) = codes "text " ++ head_before moment word source (32 ∷ (escaped (b ∷ bytes) ++ 10 ∷ []))
+
+-- what an older record has of a datagram with bytes: `hex AT IP:PORT WORD DIGITS`
+abbrev pub older_text : ℕ → ℕ → Addr → List ℕ → List ℕ
+older_text moment word source bytes = codes "hex " ++ head_before moment word source (32 ∷ (encode_lower bytes ++ 10 ∷ []))
 
 -- an event's text, each line with its LF: of a moment `time AT`, of a fault `fault AT D/K`
 abbrev pub event_text : Event → List ℕ

@@ -1,4 +1,5 @@
 pub mod Devices
+pub mod Escaped
 pub mod EventText
 pub mod Events
 pub mod Gathered

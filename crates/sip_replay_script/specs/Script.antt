@@ -14,6 +14,7 @@ use Rattle.sip_uri.specs.Addresses.{addr_of, addr_text}
 use Rattle.sip_text.specs.Numbers.{plain_decimal_of, plain_decimal_below, hex_bytes_of}
 use Rattle.sip_digest.specs.NonceText.{word_of}
 use Rattle.sip_text.specs.Splits.{split_at_byte}
+use Rattle.sip_replay_script.specs.Escaped.{text_bytes_of}
 use Rattle.sip_replay_script.specs.Lines.{BeginsWith}
 
 -- the second step, if the first gave a value
@@ -51,7 +52,7 @@ abbrev pub event_of : Line → List ℕ → Event
 event_of (Head head) bytes = datagram_at head bytes
 event_of (Whole event) bytes = event
 
--- what stands behind the word `datagram`, `hex`, `time` or `fault` and its space
+-- what stands behind the word `datagram`, `text`, `hex`, `time` or `fault` and its space
 abbrev pub datagram_line : List ℕ → Option Line
 datagram_line text = do
   a ← split_at_byte 32 text
@@ -59,17 +60,24 @@ datagram_line text = do
   head ← head_of a.0 b.0 b.1
   Some (Head head)
 
-abbrev pub hex_parts : List ℕ → Option (DatagramHead × List ℕ)
-hex_parts text = do
+-- a head, and what stands behind it
+abbrev pub head_parts : List ℕ → Option (DatagramHead × List ℕ)
+head_parts text = do
   a ← split_at_byte 32 text
   b ← split_at_byte 32 a.1
   c ← split_at_byte 32 b.1
   head ← head_of a.0 b.0 c.0
   Some (head, c.1)
 
+abbrev pub text_line : List ℕ → Option Line
+text_line text = do
+  parts ← head_parts text
+  bytes ← text_bytes_of parts.1
+  Some (Whole (datagram_at parts.0 bytes))
+
 abbrev pub hex_line : List ℕ → Option Line
 hex_line text = do
-  parts ← hex_parts text
+  parts ← head_parts text
   bytes ← hex_bytes_of parts.1
   Some (Whole (datagram_at parts.0 bytes))
 
@@ -88,12 +96,14 @@ fault_line text = do
 abbrev pub line_of_kind : List ℕ → List ℕ → Option Line
 line_of_kind kind rest =
     if bytes_eq kind (codes "datagram") then datagram_line rest
+    else if bytes_eq kind (codes "text") then text_line rest
     else if bytes_eq kind (codes "hex") then hex_line rest
     else if bytes_eq kind (codes "time") then time_line rest
     else if bytes_eq kind (codes "fault") then fault_line rest
     else None
 
--- an event's first line: `datagram AT IP:PORT WORD`, `hex AT IP:PORT WORD DIGITS`, `time AT` or `fault AT D/K` (this project's profile)
+-- an event's first line: `datagram AT IP:PORT WORD`, `text AT IP:PORT WORD TEXT`, `hex AT IP:PORT WORD DIGITS`, `time AT` or
+-- `fault AT D/K` (this project's profile)
 abbrev pub line_of : List ℕ → Option Line
 line_of text = do
   parts ← split_at_byte 32 text

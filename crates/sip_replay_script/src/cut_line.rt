@@ -28,7 +28,8 @@ fn stop_in_line(alloc: Global, line: &[u8]) -> ReadStop
     }
 }
 
-/// Whether a text is the front of a line that begins an event. Wherever it is cut, it goes on as the shortest line of its kind does.
+/// Whether a text is the front of a line that begins an event. Wherever it is cut, it goes on as the shortest line of its kind does,
+/// or, within an escape of a line `text`, by one digit.
 fn begins_line(alloc: Global, text: &[u8]) -> Result<bool, AllocError>
     ensures { IfOk result (λ begins. IsTrue begins ↔ BeginsLine text.now) }
 {
@@ -45,11 +46,24 @@ fn begins_line(alloc: Global, text: &[u8]) -> Result<bool, AllocError>
     )? {
         return Ok(true);
     }
-    ends_as(
+    if ends_as(
         alloc,
         text,
         b"hex 0 0.0.0.0:1 00000000000000000000000000000000 00",
-    )
+    )? {
+        return Ok(true);
+    }
+    if ends_as(
+        alloc,
+        text,
+        b"text 0 0.0.0.0:1 00000000000000000000000000000000 n",
+    )? {
+        return Ok(true);
+    }
+    if ends_as(alloc, text, b"0")? {
+        return Ok(true);
+    }
+    ends_as(alloc, text, b"f")
 }
 
 /// Whether a text and some end of a sample are a line that begins an event.

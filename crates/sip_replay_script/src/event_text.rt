@@ -20,15 +20,15 @@ fn put_head(text: &mut HeadLine, at: u64, word: u128, from: Addr)
     text.put_number(at);
 }
 
-/// What stands in front of a datagram's digits: `hex AT IP:PORT WORD` and a space. AT is in milliseconds. Takes no memory.
-pub fn hex_front(at: u64, word: u128, from: Addr) -> HeadLine
-    ensures front { (rest : List ℕ) → result ++ rest ≡ codes "hex " ++ EventText.head_before at word from (32 ∷ rest) }
+/// What stands in front of a datagram's text: `text AT IP:PORT WORD` and a space. AT is in milliseconds. Takes no memory.
+pub fn text_front(at: u64, word: u128, from: Addr) -> HeadLine
+    ensures front { (rest : List ℕ) → result ++ rest ≡ codes "text " ++ EventText.head_before at word from (32 ∷ rest) }
     ensures size { length result ≤ 208 }
 {
     let mut text = HeadLine::new();
     text.put(b' ');
     put_head(&mut text, at, word, from);
-    text.put_word(b"hex ");
+    text.put_word(b"text ");
     text
 }
 

@@ -8,7 +8,7 @@ use std::marker::Model;
 use std::simd::prelude::*;
 
 /// So many bytes are looked at and copied at once.
-const LANES: usize = 16;
+pub(crate) const LANES: usize = 16;
 
 /// How much room is made at first.
 const FIRST_ROOM: usize = 2048;
@@ -52,7 +52,7 @@ fn end_in_lanes(text: &[u8], at: usize) -> Option<usize>
 
 /// Copies so many bytes from a place on to a place of the room. Behind them the room stays.
 #[inline(always)]
-fn copy_lanes(text: &[u8], from: usize, room: &mut [u8], to: usize)
+pub(crate) fn copy_lanes(text: &[u8], from: usize, room: &mut [u8], to: usize)
     requires from { from + 16 ≤ length text.now }
     requires to { to + 16 ≤ length room.old }
     ensures copied { take (to + 16) room.new ≡ take to room.old ++ take 16 (drop from text.now) }

@@ -1,6 +1,11 @@
-ghost use Rattle.std.specs.Prelude.{◌≡◌, ◌≢◌, ◌∷◌, ◌++◌, ℕ, List, [], true};
+ghost use Rattle.std.specs.Prelude.{◌≡◌, ◌≢◌, ◌<◌, ◌∷◌, ◌++◌, ℕ, List, [], true, length, Some};
+ghost use Rattle.std.specs.List.{list_all};
+ghost use Rattle.hex.specs.Hex.{IsBytes};
 ghost use Rattle.sip_event.specs.declared.event.Event.{Event};
-ghost use Rattle.sip_replay_script.specs.EventText.{event_text, is_sayable, HasTypes};
+ghost use Rattle.sip_event.specs.declared.event.Event.TheVariants.{Datagram};
+ghost use Rattle.sip_uri.specs.declared.addr.Addr.{Addr};
+ghost use Rattle.sip_replay_script.specs.Escaped.{escaped, is_plain, text_bytes_of};
+ghost use Rattle.sip_replay_script.specs.EventText.{event_text, is_sayable, older_text, HasTypes};
 ghost use Rattle.sip_replay_script.specs.Events.{SaysEvent, SaysEvents, IsNoEvent};
 ghost use Rattle.sip_replay_script.specs.Recorded.{SaysRecord, SaysRecorded};
 
@@ -40,4 +45,19 @@ pub fn written_event_is_recorded()
     ensures written { (event : Event) → HasTypes event → is_sayable event ≡ true → SaysRecorded (event_text event) event }
     ensures one { (text : List ℕ) (event : Event) → SaysRecorded text event → SaysEvent text event }
     ensures all { (events : List Event) (text : List ℕ) → SaysRecord events text → SaysEvents events text }
+{}
+
+/// In a line `text` each datagram has one text, and each text says one datagram at most: what is written of its bytes is read as
+/// them, and what is read as them is what is written of them. Bytes that are printable, and none of them `\`, stand there as they are.
+pub fn each_datagram_has_one_text()
+    ensures read { (bytes : List ℕ) → IsBytes bytes → 0 < length bytes → text_bytes_of (escaped bytes) ≡ Some bytes }
+    ensures written { (text bytes : List ℕ) → text_bytes_of text ≡ Some bytes → text ≡ escaped bytes }
+    ensures plain { (bytes : List ℕ) → list_all is_plain bytes ≡ true → escaped bytes ≡ bytes }
+{}
+
+/// An older record has its datagrams in lines `hex`: what was written of one says it still, as a record does.
+pub fn older_line_is_recorded()
+    ensures { (moment word : ℕ) (source : Addr) (b : ℕ) (bytes : List ℕ) → HasTypes (Datagram moment word source (b ∷ bytes))
+        → is_sayable (Datagram moment word source (b ∷ bytes)) ≡ true
+        → SaysRecorded (older_text moment word source (b ∷ bytes)) (Datagram moment word source (b ∷ bytes)) }
 {}

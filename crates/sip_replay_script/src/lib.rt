@@ -2,7 +2,7 @@
 //! call. And what a record says of its events.
 //!
 //! - Used: `sip_replay`, for each line of its script; `sip_record` and `sip_resume`, for each event that is recorded and taken again;
-//!   `sip_segment_text`, which reads configurations between its lines; `sip_replay_print`, `sipd_report` and `sipd_start`, for what they
+//!   `sip_segment_text` and `sipd_report`, which read lines of their own through it; `sip_replay_print` and `sipd_start`, for what they
 //!   write to and read from.
 //! - Not here: the server; how its steps are printed (`sip_replay_print`); what a record says of its configurations (`sip_segment_text`).
 //! - Tried: worked examples in `src/examples.rt`, as contracts that compute; `test_engine`.
@@ -10,6 +10,7 @@
 
 mod cut_line;
 mod device;
+mod escaped;
 mod event;
 mod event_text;
 pub mod examples;
@@ -18,15 +19,18 @@ mod gathered;
 mod head_line;
 pub mod laws;
 mod lines;
+mod plain;
 mod print_stop;
 mod read_stop;
 mod recorded;
 mod script;
+mod unescaped;
 mod writing;
 
 pub use device::{TellingReader, TellingWriter};
+pub use escaped::put_escaped;
 pub use event::next_line;
-pub use event_text::{empty_text, fault_text, hex_front, time_text};
+pub use event_text::{empty_text, fault_text, text_front, time_text};
 pub use front::{put_addr, put_byte, put_number, put_word};
 pub use gathered::Gathered;
 pub use head_line::HeadLine;

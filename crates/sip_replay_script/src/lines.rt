@@ -110,9 +110,9 @@ impl Lines {
         Ok(Some(self.unread()[0]))
     }
 
-    /// The bytes that were read and not given yet.
+    /// The bytes that were read and not given yet. Takes no memory.
     #[inline(always)]
-    pub(crate) fn unread(&self) -> &[u8]
+    pub fn unread(&self) -> &[u8]
         ensures unread { result.now ≡ self.now.unread }
         ensures few { length result.now ≤ 8192 }
     {
@@ -130,7 +130,7 @@ impl Lines {
     }
 
     /// Goes on behind a line of so many bytes that stands whole among the unread bytes, and its LF.
-    pub(crate) fn pass(&mut self, count: usize)
+    pub fn pass(&mut self, count: usize)
         requires { count < length self.old.unread }
         ensures unread { self.new.unread ≡ drop (count + 1) self.old.unread }
         ensures number { self.new.number ≡ self.old.number + 1 }
@@ -141,7 +141,7 @@ impl Lines {
     }
 
     /// Goes on behind so many bytes, which are so many lines that stand whole among the unread bytes, each with its LF.
-    pub(crate) fn pass_lines(&mut self, count: usize, lines: usize)
+    pub fn pass_lines(&mut self, count: usize, lines: usize)
         requires { (count ≤ length self.old.unread) × (lines ≤ count) }
         ensures unread { self.new.unread ≡ drop count self.old.unread }
         ensures number { self.new.number ≡ self.old.number + lines }

@@ -10,6 +10,7 @@ ghost use Rattle.sip_replay_script.specs.Script.{IsNumberBefore, IsSourceBefore,
 ghost use Rattle.sip_replay_script.specs.declared.script.Line.TheVariants.{Head, Whole};
 ghost use Rattle.sip_event.specs.declared.event.Event.TheVariants.{Time};
 
+use crate::unescaped::text_bytes;
 use memchr::memchr_iter;
 use sip_digest::word_of;
 use sip_event::{Event, Ticket};
@@ -136,21 +137,38 @@ fn fault_line(text: &[u8]) -> Option<Line>
     Some(Line::Whole(Event::Fault { at, ticket }))
 }
 
-/// The head and the digits behind the word `hex`.
-fn hex_parts(text: &[u8]) -> Option<(DatagramHead, &[u8])>
-    ensures { MatchOption result (Script.hex_parts text.now ≡ None) (λ parts. Script.hex_parts text.now ≡ Some (parts.0, parts.1.now)) }
+/// The head behind the word `text` or `hex`, and what stands behind it.
+fn head_parts(text: &[u8]) -> Option<(DatagramHead, &[u8])>
+    ensures { MatchOption result (Script.head_parts text.now ≡ None) (λ parts. Script.head_parts text.now ≡ Some (parts.0, parts.1.now)) }
 {
     let (at, rest) = split_once(text, b' ')?;
     let (from, rest) = split_at_space(rest)?;
-    let (word, digits) = split_once(rest, b' ')?;
+    let (word, behind) = split_once(rest, b' ')?;
     let head = head_of(at, from, word)?;
-    Some((head, digits))
+    Some((head, behind))
+}
+
+fn text_line(alloc: Global, text: &[u8]) -> Result<Option<Line>, AllocError>
+    ensures { IfOk result (λ line. line ≡ Script.text_line text.now) }
+{
+    let Some((head, escaped)) = head_parts(text) else {
+        return Ok(None);
+    };
+    match text_bytes(alloc, escaped)? {
+        Some(bytes) => Ok(Some(Line::Whole(Event::Datagram {
+            at: head.at,
+            word: head.word,
+            from: head.from,
+            bytes,
+        }))),
+        None => Ok(None),
+    }
 }
 
 fn hex_line(alloc: Global, text: &[u8]) -> Result<Option<Line>, AllocError>
     ensures { IfOk result (λ line. line ≡ Script.hex_line text.now) }
 {
-    let Some((head, digits)) = hex_parts(text) else {
+    let Some((head, digits)) = head_parts(text) else {
         return Ok(None);
     };
     match hex_bytes(alloc, digits)? {
@@ -169,6 +187,9 @@ fn line_of_kind(alloc: Global, kind: &[u8], rest: &[u8]) -> Result<Option<Line>,
     requires { bytes_eq kind.now (codes "datagram") ≡ false }
     ensures { IfOk result (λ line. line ≡ Script.line_of_kind kind.now rest.now) }
 {
+    if same_bytes(kind, b"text") {
+        return text_line(alloc, rest);
+    }
     if same_bytes(kind, b"hex") {
         return hex_line(alloc, rest);
     }
@@ -280,8 +301,8 @@ pub(crate) fn time_at_once(text: &[u8]) -> Option<(u64, usize)>
     Some((at, next - 1))
 }
 
-/// What an event's first line says: `datagram AT IP:PORT WORD`, `hex AT IP:PORT WORD DIGITS`, `time AT`
-/// or `fault AT D/K`; `None` where it is any other line. Moments are in milliseconds below 2^62.
+/// What an event's first line says: `datagram AT IP:PORT WORD`, `text AT IP:PORT WORD TEXT`, `hex AT IP:PORT WORD DIGITS`,
+/// `time AT` or `fault AT D/K`; `None` where it is any other line. Moments are in milliseconds below 2^62.
 pub fn line_of(alloc: Global, text: &[u8]) -> Result<Option<Line>, AllocError>
     ensures { IfOk result (λ line. line ≡ Script.line_of text.now) }
 {

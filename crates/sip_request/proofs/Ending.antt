@@ -20,8 +20,9 @@ use Rattle.sip_request.specs.Ended.{become, branch_ended, ended_at, side_ended}
 use Rattle.sip_request.specs.Named.{named_by}
 use Rattle.sip_request.specs.Walk.{left_timers}
 use Rattle.sip_request.specs.declared.request.Request.{Request}
-use Rattle.sip_request.proofs.Moving.{Moves-stays, count-append}
+use Rattle.sip_request.proofs.Moving.{Moves-stays}
 use Rattle.sip_request.proofs.Walking.{Moves-pair, without_keys}
+use Rattle.sip_timers.proofs.Moving.{count-append}
 
 -- ---- what has ended has no timer
 

@@ -9,7 +9,7 @@ use Rattle.sip_timers.specs.declared.timer.Owner.{Owner}
 use Rattle.sip_timers.specs.declared.timer.Owner.TheVariants as Of
 use Rattle.sip_timers.specs.declared.timer.Timer.{Timer}
 use Rattle.sip_timers.specs.Setting.{IsNew, SetsInOrder}
-use Rattle.sip_timers.proofs.Setting.{SetsInOrder-both, SetsInOrder-further}
+use Rattle.sip_timers.proofs.Setting.{SetsInOrder-both, SetsInOrder-further, all-append}
 use Rattle.model_transactions.specs.state.declared.branch.Branch.{Branch}
 use Rattle.model_transactions.specs.state.declared.open_request.OpenRequest.{OpenRequest}
 use Rattle.model_transactions.specs.context_model.Branches.{is_same_branch}
@@ -18,7 +18,7 @@ use Rattle.model_transactions.specs.declared.timer_keys.TimerKeys.{TimerKeys}
 use Rattle.model_transactions.specs.Matching.{IsAlone, is_next, past, AreMatched}
 use Rattle.sip_request.specs.Order.{keyed, left_branches, met_timers, met_at, branches_in_order}
 use Rattle.sip_request.specs.Walk.{left_timers}
-use Rattle.sip_request.proofs.Setting.{all-append, all-weaker, all-reverse, new-append, owned, new_of_owner}
+use Rattle.sip_request.proofs.Setting.{all-weaker, all-reverse, new-append, owned, new_of_owner}
 
 -- ---- branches that are the same
 

@@ -1,16 +1,12 @@
 -- How the timers of slots, parts and requests move: what stands is counted by every test.
-use Rattle.std.proofs.Common.{◌≡◌, ℕ, ◌+◌, Bool, List, [], ◌++◌, cond, Option, refl, arith}
-use Rattle.std.specs.Prelude.{count_by}
-use Rattle.std.proofs.lemmas.List.Sums.{sum_by-append}
+use Rattle.std.proofs.Common.{◌≡◌, ℕ, ◌+◌, List, [], ◌++◌, Option, refl, arith}
 use Rattle.sip_timers.specs.declared.letter.Letter.{Letter}
 use Rattle.sip_timers.specs.declared.timer.Timer.{Timer}
 use Rattle.sip_timers.specs.Moves.{IsHeld, Moves}
 use Rattle.model_transactions.specs.declared.timer_keys.TimerKeys.{TimerKeys}
 use Rattle.sip_request.specs.declared.part.Part.{Part}
 use Rattle.sip_request.specs.Slots.{part_standing, slot_timers}
-
-pub count-append : (p : Timer → Bool) (xs ys : List Timer) → count_by p (xs ++ ys) ≡ count_by p xs + count_by p ys
-count-append p xs ys = sum_by-append (λ (u : Timer). cond (p u) 1 0) xs ys
+use Rattle.sip_timers.proofs.Moving.{count-append}
 
 -- what stands stays
 pub Moves-stays : (ts named : List Timer) → Moves ts named ts named

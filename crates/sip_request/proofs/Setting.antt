@@ -9,7 +9,7 @@ use Rattle.sip_timers.specs.declared.timer.Owner.{Owner}
 use Rattle.sip_timers.specs.declared.timer.Timer.{Timer}
 use Rattle.sip_timers.specs.Timers.{placed, without}
 use Rattle.sip_timers.specs.Setting.{IsNew, SetsInOrder}
-use Rattle.sip_timers.proofs.Setting.{SetsInOrder-none, SetsInOrder-beside, SetsInOrder-stopped, SetsInOrder-started, SetsInOrder-both, SetsInOrder-further}
+use Rattle.sip_timers.proofs.Setting.{SetsInOrder-none, SetsInOrder-beside, SetsInOrder-stopped, SetsInOrder-started, SetsInOrder-both, SetsInOrder-further, all-append}
 use Rattle.model_transactions.specs.declared.timer_keys.TimerKeys.{TimerKeys}
 use Rattle.model_transactions.specs.Ties.{part_timers}
 use Rattle.sip_request.specs.declared.part.Part.{Part}
@@ -17,10 +17,6 @@ use Rattle.sip_request.specs.Order.{slot_of, IsInSlot, AreInSlots, part_in_order
 use Rattle.sip_request.specs.Slots.{part_standing, slot_timers}
 
 -- ---- what is new
-
-pub all-append : (P : Timer → Type 0) (ts us : List Timer) → AllByRecursion P ts → AllByRecursion P us → AllByRecursion P (ts ++ us)
-all-append P [] us a b = b
-all-append P (t ∷ ts) us a b = (a.0, all-append P ts us a.1 b)
 
 pub all-weaker : (P Q : Timer → Type 0) (ts : List Timer) → ((t : Timer) → P t → Q t) → AllByRecursion P ts → AllByRecursion Q ts
 all-weaker P Q [] each a = tt

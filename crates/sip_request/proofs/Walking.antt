@@ -17,7 +17,8 @@ use Rattle.sip_request.specs.declared.part.PartTimers.{PartTimers}
 use Rattle.sip_request.specs.Near.{AreBefore, IsNear}
 use Rattle.sip_request.specs.Slots.{IsBefore, IsPartNear, listed}
 use Rattle.sip_request.specs.Walk.{left_timers}
-use Rattle.sip_request.proofs.Moving.{count-append, Moves-stays}
+use Rattle.sip_request.proofs.Moving.{Moves-stays}
+use Rattle.sip_timers.proofs.Moving.{count-append}
 
 -- ---- moments
 

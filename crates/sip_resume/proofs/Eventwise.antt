@@ -23,13 +23,9 @@ use Rattle.sip_resume.specs.Parts.{NextStops, SaysNoneAt, EndsAt, TakesEvents}
 use Rattle.sip_resume.specs.declared.error.ResumeError.{ResumeError}
 use Rattle.sip_resume.specs.declared.error.ResumeError.TheVariants as errors
 use Rattle.sip_resume.proofs.Running.{RunsJoin, runs_on_nothing, runs_on_one, shown_both}
+use Rattle.sip_segment_config.proofs.SoFar.{if_kept}
 
 -- ---- what is known of bytes that stay
-
-pub if_kept : (X : List ℕ → Type 0) (a b : Option (List ℕ)) → Keeps a b → IfSome b X → IfSome a X
-if_kept X None b kept h = tt
-if_kept X (Some xs) None kept h = absurd kept
-if_kept X (Some xs) (Some ys) kept h = subst X kept h
 
 next_kept : (a b : Option (List ℕ)) (event : Event) → Keeps a b → IsNext b event → IsNext a event
 next_kept a b event kept h = record { text = h.text; says = h.says; begins = if_kept (λ bytes. (further : List ℕ) × (bytes ≡ h.text ++ further)) a b kept h.begins }
@@ -195,9 +191,6 @@ events_next join server then_server first mid new part rest before middle after 
 
 pub still_left : (n : ℕ) → n ≤ n
 still_left n = omega arith
-
-pub fewer_asks : (new mid old : ℕ) → new ≤ mid → mid ≤ old → new ≤ old
-fewer_asks new mid old h k = omega (arith, h, k)
 
 pub less_left : (new mid old : ℕ) → new < mid → mid ≤ old → new ≤ old
 less_left new mid old h k = omega (arith, h, k)

@@ -1,7 +1,6 @@
 -- Why an event of a record isn't taken.
 use Rattle.std.proofs.Common.{◌≡◌, inl, inr, ℕ, Bool, true, false, List, [], ◌∷◌, ◌++◌, Option, None, Some, refl, sym, subst}
-use Rattle.std.specs.Prelude.{IfSome, IsSome, if◌then◌else◌}
-use Rattle.std.specs.Io.KnownBytes.{Consumes}
+use Rattle.std.specs.Prelude.{IsSome, if◌then◌else◌}
 use Rattle.sip_event.specs.declared.event.Event.{Event}
 use Rattle.sip_event.specs.declared.event.Event.TheVariants.{Datagram, Time, Fault}
 use Rattle.model_bounds.specs.state.declared.server.Server.{Server}
@@ -26,6 +25,7 @@ use Rattle.sip_resume.specs.Resumes.{TurnStops, UnreadStops}
 use Rattle.sip_resume.specs.declared.error.ResumeError.{ResumeError}
 use Rattle.sip_resume.specs.declared.error.ResumeError.TheVariants as errors
 use Rattle.sip_resume.proofs.Running.{shown_by}
+use Rattle.sip_segment_config.proofs.Stopping.{next_bytes}
 
 -- ---- a step that is refused
 
@@ -38,12 +38,12 @@ pub step_stops : (refusal : Option StepError) (e : StepError) → RefusesStep re
 step_stops None e h = subst (λ x. StepStops None x) (sym h) tt
 step_stops (Some refusal) e h = some_stops refusal e
 
-some_else : {X : Type 0} (b : Bool) (x : X) (other : Option X) → IsSome (if b then Some x else None) → IsSome (if b then Some x else other)
+pub some_else : {X : Type 0} (b : Bool) (x : X) (other : Option X) → IsSome (if b then Some x else None) → IsSome (if b then Some x else other)
 some_else true x other h = h
 some_else false x other h = absurd (cc)
 
 -- a moment that is too large is that for each event
-too_late : (state : ProxyState) (event : Event) → IsSome (refusal_at (event_moment event)) → IsSome (refusal_of_event state event)
+pub too_late : (state : ProxyState) (event : Event) → IsSome (refusal_at (event_moment event)) → IsSome (refusal_of_event state event)
 too_late state (Datagram at word from bytes) h = some_else (is_too_large at) step_errors.MomentTooLarge _ h
 too_late state (Time at) h = h
 too_late state (Fault at ticket) h = h
@@ -105,11 +105,6 @@ own_unshown server old new event a c prints.NoMemory h = inr h
 own_unshown server old new event a c prints.Write h = inr h
 
 -- ---- an event that comes next
-
-pub next_bytes : (a b : Option (List ℕ)) (text : List ℕ) → Consumes a b text → IfSome a (λ bytes. (further : List ℕ) × (bytes ≡ text ++ further))
-next_bytes None b text h = tt
-next_bytes (Some xs) None text h = absurd h
-next_bytes (Some xs) (Some ys) text h = (ys, h)
 
 is_next : (part rest : Reading) (m r : Option (List ℕ)) (event : Event) → GivesRecorded part rest m r event → IsNext (pending part m) event
 is_next part rest m r event g = record { text = g.given.text; says = g.recorded; begins = next_bytes (pending part m) (pending rest r) g.given.text g.given.consumes }

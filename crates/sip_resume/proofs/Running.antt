@@ -82,7 +82,7 @@ runs_given server old mid new event out h none step queue = record {
 
 -- ---- what is shown of it
 
-printed_more : (steps : List StepOut) (out : StepOut) → printed (steps ++ out ∷ []) ≡ printed steps ++ step_text out
+pub printed_more : (steps : List StepOut) (out : StepOut) → printed (steps ++ out ∷ []) ≡ printed steps ++ step_text out
 printed_more steps out = flat_map-append step_text steps (out ∷ []) ∙ ap (λ l. printed steps ++ l) (append-nil (step_text out))
 
 shown_more : (a b c : Option (List ℕ)) (steps : List StepOut) (out : StepOut) → Shows a b steps → Appends b c (step_text out) → Shows a c (steps ++ out ∷ [])

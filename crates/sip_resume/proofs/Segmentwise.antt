@@ -34,9 +34,11 @@ use Rattle.sip_resume.specs.declared.error.ResumeError.TheVariants as events
 use Rattle.sip_resume.specs.declared.record_error.RecordError.{RecordError}
 use Rattle.sip_resume.specs.declared.record_error.RecordError.TheVariants as errors
 use Rattle.sip_run.proofs.Standings.{standing_is}
-use Rattle.sip_resume.proofs.Eventwise.{if_kept, noted_at, numbers_add}
-use Rattle.sip_resume.proofs.Refused.{next_bytes, stays}
+use Rattle.sip_resume.proofs.Eventwise.{noted_at, numbers_add}
+use Rattle.sip_resume.proofs.Refused.{stays}
 use Rattle.sip_resume.proofs.UnderRuns.{runs_none, runs_one}
+use Rattle.sip_segment_config.proofs.Stopping.{next_bytes}
+use Rattle.sip_segment_config.proofs.SoFar.{if_kept}
 
 -- ---- where no configuration is taken
 
@@ -355,7 +357,8 @@ stopped_under said noted server in_force config old reached new longest F known 
       lines_then = lines;
       half = so_far;
       last = last;
-      takes = segment_under said noted server in_force config old reached known part half before middle rest outs told so_far text lines last kept gives states is is_under
+      takes = segment_under said noted server in_force config old reached known part half before middle rest outs told so_far text lines last kept gives states is
+          is_under
           configured h;
       why = event_stops in_force reached new longest F rest lines so_far whole refusal stops;
       noted = noted outs.written told whole.written (record { configuration = text; events = h.events }) configured

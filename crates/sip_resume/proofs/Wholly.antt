@@ -1,6 +1,6 @@
 -- A record so far: its events, and the segments behind them.
 use Rattle.std.proofs.Common.{◌≡◌, inl, ℕ, ◌+◌, ◌<◌, cond, arith, Bool, true, false, List, [], ◌∷◌, ◌++◌, Option, None, Some, refl, sym, ◌∙◌, ap, ap₂, subst}
-use Rattle.std.proofs.Common.{append_assoc, append-nil}
+use Rattle.std.proofs.Common.{append-nil}
 use Rattle.std.specs.Prelude.{IfSome, count_by}
 use Rattle.std.specs.Io.KnownBytes.{Consumes, Keeps}
 use Rattle.std.specs.List.{AllByRecursion}
@@ -32,6 +32,7 @@ use Rattle.sip_resume.proofs.Retaken.{left_of}
 use Rattle.sip_resume.proofs.Running.{shown_both}
 use Rattle.sip_resume.proofs.Segmentwise.{event_stops, events_end, noted_none}
 use Rattle.sip_resume.proofs.UnderRuns.{config_both, frames_of, newest_is, runs_back, runs_both, runs_one, stated_both}
+use Rattle.sip_segment_config.proofs.SoFar.{says_more}
 
 abbrev pub SegmentTextsJoin : Type 0
 SegmentTextsJoin = (segments others : List Segment) (text more : List ℕ) → SaysSegments segments text → SaysSegments others more
@@ -93,16 +94,6 @@ record_begun server old new before rest lines lines_then outs outs_then last h =
 }
 
 -- ---- more segments
-
-says_more : SegmentTextsJoin → (events : List Event) (segments others : List Segment) (text more : List ℕ) → SaysWhole events segments text → SaysSegments others more
-    → SaysWhole events (segments ++ others) (text ++ more)
-says_more join events segments others text more h k = record {
-  taken = h.taken;
-  rest = h.rest ++ more;
-  cut = ap (λ (t : List ℕ). t ++ more) h.cut ∙ append_assoc h.taken h.rest more;
-  says = h.says;
-  others = join segments others h.rest more h.others k;
-}
 
 notes_more : NotedJoin → (old mid new : Option (Option (List ℕ))) (events : List Event) (segments others : List Segment) → NotesWhole old mid events segments
     → NotesSegments mid new others → NotesWhole old new events (segments ++ others)

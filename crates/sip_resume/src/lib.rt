@@ -5,7 +5,7 @@
 //!   resumed server has for its record.
 //! - Not here: what writes a record (`sip_record`), what the text of a configuration states
 //!   (`sip_segment_config`), how steps are printed (`sip_replay_print`).
-//! - Tried: `test_engine`, and over sockets `tests/serve.py`.
+//! - Tried: `test_serve`, and over sockets `tests/serve.py`.
 //!
 //! ```text
 //! let resumed = resume_record(alloc, &mut engine, &mut lines, &mut reader, longest, &mut journal, &mut NoSink)?;

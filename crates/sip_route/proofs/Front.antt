@@ -36,7 +36,7 @@ no_percent = record { name = refl; address = refl; opening = refl; closing = ref
 
 -- ---- texts that are the same in any case
 
-same_length : (left right : List ℕ) → is_same_text left right ≡ true → length left ≡ length right
+pub same_length : (left right : List ℕ) → is_same_text left right ≡ true → length left ≡ length right
 same_length [] [] e = refl
 same_length [] (y ∷ ys) e = absurd cc
 same_length (x ∷ xs) [] e = absurd cc

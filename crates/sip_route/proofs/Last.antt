@@ -7,10 +7,10 @@ use Rattle.sip_route.specs.Way.{first_route, last_route, begins_with_own}
 use Rattle.sip_route.specs.Routes.{all_but_last, without_own}
 use Rattle.sip_route.specs.declared.own.Own.{Own}
 
-abbrev seen : List (Bor (List ℕ)) → List (List ℕ)
+abbrev pub seen : List (Bor (List ℕ)) → List (List ℕ)
 seen xs = map (λ x. x.now) xs
 
-last_first : (xs rest : List (Bor (List ℕ))) (x : Bor (List ℕ)) → xs ≡ rest ++ x ∷ [] → reverse (seen xs) ≡ x.now ∷ reverse (seen rest)
+pub last_first : (xs rest : List (Bor (List ℕ))) (x : Bor (List ℕ)) → xs ≡ rest ++ x ∷ [] → reverse (seen xs) ≡ x.now ∷ reverse (seen rest)
 last_first xs rest x is = ap (λ (w : List (Bor (List ℕ))). reverse (seen w)) is ∙ ap reverse (map-append (λ (b : Bor (List ℕ)). b.now) rest (x ∷ []))
     ∙ reverse-append (seen rest) (x.now ∷ [])
 

@@ -1,19 +1,14 @@
 -- Routes as proxies write them.
-use Rattle.std.proofs.Common.{◌≡◌, ℕ, false, List, [], ◌∷◌, Option, Some, None, refl, sym, ap, ◌∙◌}
-use Rattle.std.specs.Prelude.{◌&&◌, ◌==◌, option_map}
+use Rattle.std.proofs.Common.{◌≡◌, ℕ, false, List, [], ◌∷◌, Option, sym, ap, ◌∙◌}
+use Rattle.std.specs.Prelude.{◌&&◌, ◌==◌}
 use Rattle.std.specs.Option.{option_map_or, unwrap_or}
-use Rattle.sip_uri.specs.Port.{port_value, port_number}
+use Rattle.sip_uri.specs.Port.{port_number}
 use Rattle.sip_header.specs.declared.name_addr.NameAddr.{NameAddr}
 use Rattle.sip_header.specs.PlainAddress.{IsBracketedPlace}
 use Rattle.sip_route.specs.declared.own.Own.{Own}
 use Rattle.sip_route.specs.Own.{is_own_host}
 use Rattle.sip_route.specs.Way.{names_own_place, begins_with_own}
-
-port_is : (digits : Option (List ℕ)) (port : Option ℕ) → option_map port_value digits ≡ option_map (λ n. Some n) port → port_number digits ≡ port
-port_is None None e = refl
-port_is None (Some n) e = absurd cc
-port_is (Some ds) None e = absurd cc
-port_is (Some ds) (Some n) e = cc
+use Rattle.sip_uri.proofs.PlainUris.{number_is}
 
 pub own_at : (own : Own) (value host : List ℕ) (port : Option ℕ) → IsBracketedPlace value host port
     → (is_own_host own host && unwrap_or port 5060 == own.port) ≡ begins_with_own own (value ∷ [])
@@ -23,4 +18,4 @@ own_at own value host port is =
     let named : names_own_place own is.address.uri ≡ (is_own_host own is.uri.host && unwrap_or (port_number is.uri.port) 5060 == own.port) =
     ap (names_own_place own) is.has_uri in
     sym (first ∙ named ∙ ap (λ (h : List ℕ). is_own_host own h && unwrap_or (port_number is.uri.port) 5060 == own.port) is.has_host
-    ∙ ap (λ (p : Option ℕ). is_own_host own host && unwrap_or p 5060 == own.port) (port_is is.uri.port port is.has_port))
+    ∙ ap (λ (p : Option ℕ). is_own_host own host && unwrap_or p 5060 == own.port) (number_is is.uri.port port is.has_port))

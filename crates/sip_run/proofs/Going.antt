@@ -5,13 +5,14 @@ use Rattle.sip_event.specs.declared.event.Event.{Event}
 use Rattle.sip_event.specs.declared.event.StepOut.{StepOut}
 use Rattle.sip_engine.specs.state.declared.server.Server.{Server}
 use Rattle.sip_engine.specs.state.declared.proxy_state.ProxyState.{ProxyState}
-use Rattle.sip_engine.specs.steps_model.Step.{Act, Given, Passing, IsStep}
-use Rattle.sip_engine.specs.model.Run.{Link, IsRun, IsPaced, IsUpTo, event_moment, events_of, steps_of, next_moment, first_moment}
+use Rattle.sip_engine.specs.steps_model.Step.{Given, Passing, IsStep}
+use Rattle.sip_engine.specs.model.Run.{Link, IsRun, event_moment, events_of, steps_of, first_moment}
 use Rattle.sip_run.specs.Due.{Fires}
 use Rattle.model_transactions.specs.Queue.{Entry}
 use Rattle.sip_engine.specs.order.Order.{IsFirstOf, IsQueueAfter, Standing}
 use Rattle.sip_engine.proofs.of_order.{queue_behind, queue_next, queued_joined}
 use Rattle.sip_run.specs.Runs.{AreTurns, IsInTurn, IsTurn, Goes}
+use Rattle.sip_run.proofs.RunOn.{run_on}
 
 -- no step yet
 pub goes_nothing : (server : Server) (standing : Standing) (until : Option ℕ) (list : List StepOut) → Goes server standing standing [] until list list
@@ -78,27 +79,6 @@ goes_taking server then_server old mid new at event out a b c same is h turn ste
     (subst (λ s. IsStep s mid.state (Given event) out new.state) same step) queue more
 
 -- ---- one run behind another
-
--- a run up to its last event is one up to any moment behind it
-paced_act : (until : Option ℕ) (act : Act) (history : List Link) → (IsUpTo None act × IsPaced (next_moment None act) history)
-    → (IsUpTo until act × IsPaced (next_moment until act) history)
-paced_act until (Given event) history h = h
-paced_act until (Passing at) history h = absurd h.0
-
-paced_on : (until : Option ℕ) (history : List Link) → IsPaced None history → IsPaced until history
-paced_on until [] h = tt
-paced_on until (link ∷ history) h = paced_act until link.act history h
-
-run_on : (server : Server) (old new : ProxyState) (events : List Event) (until : Option ℕ) (steps : List StepOut) (history : List Link)
-    → IsRun server old events None steps history new
-    → IsRun server old events until steps history new
-run_on server old new events until steps history h = record {
-  chain = h.chain;
-  paced = paced_on until history h.paced;
-  of_events = h.of_events;
-  of_steps = h.of_steps;
-  configured = h.configured;
-}
 
 abbrev pub RunsJoin : Type 0
 RunsJoin =

@@ -8,12 +8,12 @@ use Rattle.sip_engine.specs.steps_model.Step.{Act, Given, Passing}
 use Rattle.sip_engine.specs.model.Run.{Link, IsRun, IsPaced, IsUpTo, next_moment}
 
 -- a run up to its last event is one up to any moment behind it
-paced_act : (until : Option ℕ) (act : Act) (history : List Link) → (IsUpTo None act × IsPaced (next_moment None act) history)
+pub paced_act : (until : Option ℕ) (act : Act) (history : List Link) → (IsUpTo None act × IsPaced (next_moment None act) history)
     → (IsUpTo until act × IsPaced (next_moment until act) history)
 paced_act until (Given event) history h = h
 paced_act until (Passing at) history h = absurd h.0
 
-paced_on : (until : Option ℕ) (history : List Link) → IsPaced None history → IsPaced until history
+pub paced_on : (until : Option ℕ) (history : List Link) → IsPaced None history → IsPaced until history
 paced_on until [] h = tt
 paced_on until (link ∷ history) h = paced_act until link.act history h
 

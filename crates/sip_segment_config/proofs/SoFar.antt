@@ -38,7 +38,7 @@ SegmentGrows =
 
 -- ---- what is known of bytes that stay
 
-if_kept : (X : List ℕ → Type 0) (a b : Option (List ℕ)) → Keeps a b → IfSome b X → IfSome a X
+pub if_kept : (X : List ℕ → Type 0) (a b : Option (List ℕ)) → Keeps a b → IfSome b X → IfSome a X
 if_kept X None b kept h = tt
 if_kept X (Some xs) None kept h = absurd kept
 if_kept X (Some xs) (Some ys) kept h = subst X kept h
@@ -164,7 +164,7 @@ record Said (text : List ℕ) : Type 0 where
   segments : List Segment
   says : SaysWhole events segments text
 
-says_more : SegmentTextsJoin → (events : List Event) (segments others : List Segment) (text more : List ℕ) → SaysWhole events segments text → SaysSegments others more
+pub says_more : SegmentTextsJoin → (events : List Event) (segments others : List Segment) (text more : List ℕ) → SaysWhole events segments text → SaysSegments others more
     → SaysWhole events (segments ++ others) (text ++ more)
 says_more join events segments others text more h k = record {
   taken = h.taken;

@@ -8,7 +8,7 @@ use Rattle.sip_segment_config.specs.Stops.{IsNext, ReadStops, TextStops}
 use Rattle.sip_segment_config.specs.declared.stop.SegmentStop.{SegmentStop}
 use Rattle.sip_segment_config.specs.declared.stop.SegmentStop.TheVariants as stops
 
-next_bytes : (a b : Option (List ℕ)) (text : List ℕ) → Consumes a b text → IfSome a (λ bytes. (further : List ℕ) × (bytes ≡ text ++ further))
+pub next_bytes : (a b : Option (List ℕ)) (text : List ℕ) → Consumes a b text → IfSome a (λ bytes. (further : List ℕ) × (bytes ≡ text ++ further))
 next_bytes None b text h = tt
 next_bytes (Some xs) None text h = absurd h
 next_bytes (Some xs) (Some ys) text h = (ys, h)

@@ -25,6 +25,7 @@ use Rattle.sip_replay_script.proofs.LineEnds.{ends_add, one_end}
 use Rattle.sip_replay_script.proofs.OneReading.{line_stands, same_line}
 use Rattle.sip_segment_text.proofs.Segments.{configuration_is_line, configuration_no_piece, first_is_line, gives_both, gives_no_piece, gives_nothing, gives_one}
 use Rattle.sip_segment_text.proofs.Segments.{others_are_lines, parted, piece_is, IsPiece}
+use Rattle.sip_segment_text.proofs.FirstBytes.{true_false}
 
 -- ---- the first line of what gives the rest of a configuration
 
@@ -58,10 +59,6 @@ first_of_rest front text configuration says = by_lines says.gives.lines says.giv
       cut = is ∙ append_assoc (ended line) (flat_map ended lines) (ended (configuration_line configuration));
       kind = let p = parted line lines says.given gives in inl (p.piece, p.first);
     }
-
-true_false : (b : Bool) → b ≡ true → b ≡ false → ⊥
-true_false true e h = cc
-true_false false e h = cc
 
 or_none : (a b : Bool) → (a || b) ≡ false → (a ≡ false) × (b ≡ false)
 or_none true b e = absurd (cc)

@@ -77,7 +77,7 @@ no_record b text begins = record {
 -- ---- nor with a byte that begins none
 
 other_kind : (b : ℕ) (kind rest : List ℕ) → (b == 116) ≡ false → (b == 104) ≡ false → (b == 100) ≡ false → (b == 102) ≡ false → line_of_kind (b ∷ kind) rest ≡ None
-other_kind b kind rest is_t is_h is_d is_f = rw is_d (rw is_h (rw is_t (rw is_f refl)))
+other_kind b kind rest is_t is_h is_d is_f = rw is_d (rw is_t (rw is_h (rw is_f refl)))
 
 behind_other : (b : ℕ) (parts : Option (List ℕ × List ℕ)) → (b == 116) ≡ false → (b == 104) ≡ false → (b == 100) ≡ false → (b == 102) ≡ false
     → (in_front (b ∷ []) parts >>= (λ p. line_of_kind p.0 p.1)) ≡ None
@@ -108,7 +108,7 @@ no_line_other b e = by_tests (b == 116) (b == 104) (b == 100) (b == 102) refl re
 
 -- ---- no configuration begins so
 
-true_false : (b : Bool) → b ≡ true → b ≡ false → ⊥
+pub true_false : (b : Bool) → b ≡ true → b ≡ false → ⊥
 true_false true e h = cc
 true_false false e h = cc
 

@@ -11,7 +11,7 @@ use Rattle.sip_header.specs.Via.{via_of}
 use Rattle.sip_message_form.specs.declared.message.Message.{Message}
 use Rattle.sip_uri.specs.declared.addr.Addr.{Addr}
 use Rattle.sip_edit.specs.ReceivedRequest.{at_port, received_fields, address_by, response_address, top_via}
-use Rattle.sip_edit.specs.TopVia.{received_as, received_via}
+use Rattle.sip_edit.specs.TopVia.{received_via}
 use Rattle.sip_state.specs.declared.top_via.TopVia.{TopVia}
 use Rattle.sip_state.specs.TopVia.{IsTopVia}
 
@@ -45,14 +45,11 @@ edited fields value text from is gets =
     ap (λ (t : List ℕ). with_first Name.Via t fields) gets
     ∙ sym (ap (λ (o : Option (List ℕ)). option_map_or (λ (v : List ℕ). with_first Name.Via (received_via v from) fields) o fields) is)
 
--- one that can't be read stays
-pub unread : (value : List ℕ) (from : Addr) → via_of value ≡ None → received_via value from ≡ value
-unread value from is = ap (λ (o : Option Via). received_as o value from) is
-
 -- and the answers go where it says
 pub answered : (m : Message) (via : Via) (port : Option ℕ) → top_via m ≡ Some via → ((from : Addr) → at_port port from ≡ address_by (Some via) from) →
     (from : Addr) → at_port port from ≡ response_address m from
 answered m via port read is from = is from ∙ sym (ap (λ (o : Option Via). address_by o from) read)
 
-pub goes_back : (m : Message) (top : TopVia) (from address : Addr) → IsTopVia m top → address ≡ at_port top.port from → address ≡ response_address m from
-goes_back m top from address h is = is ∙ h.port from
+pub goes_back : (m : Message) (top : TopVia) (from address : Addr) → IsTopVia m top → top.source ≡ from → address ≡ at_port top.port top.source
+    → address ≡ response_address m from
+goes_back m top from address h same is = is ∙ h.port top.source ∙ ap (λ (a : Addr). response_address m a) same

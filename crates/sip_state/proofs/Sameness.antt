@@ -37,7 +37,7 @@ either_same now false one other one_right other_right h k = k
 -- what an answer that goes to the caller makes of them
 after_answer_same : (server : Server) (now : ℕ) (r : OpenRequest) (u : Upward) (left right : List Dialog) → SameDialogs now left right
     → SameDialogs now (after_answer server now r u left) (after_answer server now r u right)
-after_answer_same server now r u left right h = either_same now (nat_le u.status 100) _ _ _ _ h (by_dialog (dialog_of r.request)) where
+after_answer_same server now r u left right h = either_same now (nat_le u.status 100) _ _ _ _ h (by_dialog (dialog_of r.request.message)) where
   taught_same : (id : DialogId) → SameDialogs now (taught now id (addresses_of server u.message) left) (taught now id (addresses_of server u.message) right)
   taught_same id = edited_same now id (told (addresses_of server u.message)) left right h
 

@@ -31,13 +31,12 @@ of_received m source value text realm routes is edited = is ∙ ap (λ (w : List
 
 -- ---- that it is kept
 
-pub is_tail : (m : Message) (source from : Addr) (text kept realm : List ℕ) (written routes : RoutesKept) → text ≡ tail_of written kept (received m source)
-    → source ≡ from → kept ≡ realm → written ≡ routes →
-    text ≡ tail_of routes realm (received m from)
-is_tail m source from text kept realm written routes is is_source is_realm are_routes =
-    is ∙ ap (λ (a : Addr). tail_of written kept (received m a)) is_source
-    ∙ ap (λ (w : List ℕ). tail_of written w (received m from)) is_realm
-    ∙ ap (λ (r : RoutesKept). tail_of r realm (received m from)) are_routes
+pub is_tail : (m : Message) (source : Addr) (text kept realm : List ℕ) (written routes : RoutesKept) → text ≡ tail_of written kept (received m source)
+    → kept ≡ realm → written ≡ routes →
+    text ≡ tail_of routes realm (received m source)
+is_tail m source text kept realm written routes is is_realm are_routes =
+    is ∙ ap (λ (w : List ℕ). tail_of written w (received m source)) is_realm
+    ∙ ap (λ (r : RoutesKept). tail_of r realm (received m source)) are_routes
 
 -- ---- for whom it is
 

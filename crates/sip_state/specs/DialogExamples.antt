@@ -46,8 +46,7 @@ abbrev pub open_with : List ℕ → Message → OpenRequest
 open_with method m =
     record {
       key = record { branch = codes "z9hG4bKinv1"; host = codes "pc.host.com"; port = 5070; method = method };
-      request = m;
-      source = Places.local 5070;
+      request = record { message = m; source = Places.local 5070 };
       number = 4;
       arrived_at = 62000;
       answer = None;

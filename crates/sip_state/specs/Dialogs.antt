@@ -44,7 +44,7 @@ invite_answer server r u id =
       number = r.number;
       arrived_at = r.arrived_at;
       is_success = is_success u.status;
-      addresses = r.source ∷ option_to_list u.target ++ addresses_of server r.request ++ addresses_of server u.message;
+      addresses = r.request.source ∷ option_to_list u.target ++ addresses_of server r.request.message ++ addresses_of server u.message;
     }
 
 -- an answer to an INVITE that begins a dialog: one of 101 to 299 makes it known, one of 300 to 699 tells a known one addresses (RFC 3261 12.1)
@@ -54,7 +54,7 @@ after_invite_answer server now r u id dialogs =
 
 -- the dialog that an answer to an INVITE names: its Call-ID and From, and the answer's To, if this has a tag
 abbrev pub answered_dialog : OpenRequest → Message → Option DialogId
-answered_dialog r answer = option_and_then (λ core. answer_id core answer.fields) (result_ok (core_of r.request))
+answered_dialog r answer = option_and_then (λ core. answer_id core answer.fields) (result_ok (core_of r.request.message))
 
 -- an answer to a request without a To tag tells of a dialog only if the request is an INVITE (RFC 3261 12.1)
 abbrev pub after_first_answer : Server → ℕ → OpenRequest → Upward → List Dialog → List Dialog
@@ -68,7 +68,7 @@ after_answer_of server now r u None dialogs = after_first_answer server now r u 
 
 -- the dialogs after an answer went to the caller; a 100 tells nothing
 abbrev pub after_answer : Server → ℕ → OpenRequest → Upward → List Dialog → List Dialog
-after_answer server now r u dialogs = if nat_le u.status 100 then dialogs else after_answer_of server now r u (dialog_of r.request) dialogs
+after_answer server now r u dialogs = if nat_le u.status 100 then dialogs else after_answer_of server now r u (dialog_of r.request.message) dialogs
 
 -- after several, in their order
 abbrev pub after_answers : Server → ℕ → OpenRequest → List Upward → List Dialog → List Dialog

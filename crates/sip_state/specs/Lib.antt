@@ -4,6 +4,7 @@ pub mod Dialogs
 pub mod DialogExamples
 pub mod SameState
 pub mod TopVia
+pub mod KeptRequest
 pub mod Names
 pub mod Tail
 pub mod Heard

@@ -13,6 +13,10 @@ use Rattle.sip_state.specs.declared.names.Names.{Names}
 abbrev pub names_of : CoreFields → Names
 names_of core = record { call_id = core.call_id; from_tag = unwrap_or (tag_of core.from.parameters) []; to_tag = tag_of core.to.parameters }
 
+-- those of a request that names this dialog
+abbrev pub names_within : DialogId → Names
+names_within id = record { call_id = id.call_id; from_tag = id.from_tag; to_tag = Some id.to_tag }
+
 -- those of a request, if its core fields are read
 abbrev pub names_in : Message → Option Names
 names_in m = option_map names_of (result_ok (core_of m))

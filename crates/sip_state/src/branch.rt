@@ -1,6 +1,8 @@
+ghost use Rattle.std.specs.Prelude.{◌≡◌, true};
+
 use crate::resend::Resend;
 use sip_base::Shared;
-use sip_text::Bytes;
+use sip_text::{Bytes, same_bytes};
 use sip_uri::Addr;
 
 /// How far a branch is, with its deadline in milliseconds: the client transaction of its request, and Timer C of an INVITE
@@ -62,6 +64,28 @@ pub enum Phase {
     Ended,
 }
 
+impl Phase {
+    /// Only where another is the same, with its deadline. Takes no memory.
+    pub fn is_same(self, next: Phase) -> bool
+        ensures { result ≡ true → self ≡ next }
+    {
+        match (self, next) {
+            (Phase::Unheard { until }, Phase::Unheard { until: other }) => until == other,
+            (Phase::Heard { until }, Phase::Heard { until: other }) => until == other,
+            (Phase::Cancelled { until }, Phase::Cancelled { until: other }) => until == other,
+            (
+                Phase::Done { until, status },
+                Phase::Done {
+                    until: other,
+                    status: another,
+                },
+            ) => until == other && status == another,
+            (Phase::Ended, Phase::Ended) => true,
+            _ => false,
+        }
+    }
+}
+
 /// A branch of an open request (RFC 3261 16.6).
 #[derive(Clone)]
 pub struct Branch {
@@ -80,6 +104,73 @@ pub struct Branch {
     pub final_to: Option<Shared<Bytes>>,
     /// When what it sends goes again, while it does.
     pub again: Resend,
+}
+
+/// Only where two texts have the same bytes, or neither is there.
+fn same_text(left: &Option<Shared<Bytes>>, right: &Option<Shared<Bytes>>) -> bool
+    ensures { result ≡ true → left.now ≡ right.now }
+{
+    match (left, right) {
+        (Some(one), Some(other)) => same_bytes(one.get().as_slice(), other.get().as_slice()),
+        (None, None) => true,
+        _ => false,
+    }
+}
+
+/// Only where two addresses are one, or there is neither.
+fn same_address(left: Option<Addr>, right: Option<Addr>) -> bool
+    ensures { result ≡ true → left ≡ right }
+{
+    match (left, right) {
+        (Some(one), Some(other)) => one.is_same(other),
+        (None, None) => true,
+        _ => false,
+    }
+}
+
+impl Branch {
+    /// Only where another has its number, and each of the two is a CANCEL, or to be cancelled, where the other one is.
+    fn is_numbered_as(&self, other: &Branch) -> bool
+        ensures { result ≡ true → (self.now.number ≡ other.now.number) × (self.now.is_cancel ≡ other.now.is_cancel)
+            × (self.now.wants_cancel ≡ other.now.wants_cancel) }
+    {
+        self.number == other.number
+            && self.is_cancel == other.is_cancel
+            && self.wants_cancel == other.wants_cancel
+    }
+
+    /// Only where another goes to its target.
+    fn goes_as(&self, other: &Branch) -> bool
+        ensures { result ≡ true → (self.now.uri ≡ other.now.uri) × (self.now.address ≡ other.now.address) }
+    {
+        if !same_address(self.address, other.address) {
+            return false;
+        }
+        same_bytes(self.uri.get().as_slice(), other.uri.get().as_slice())
+    }
+
+    /// Only where another is as far.
+    fn is_as_far_as(&self, other: &Branch) -> bool
+        ensures { result ≡ true → (self.now.phase ≡ other.now.phase) × (self.now.final_to ≡ other.now.final_to)
+            × (self.now.again ≡ other.now.again) }
+    {
+        self.phase.is_same(other.phase)
+            && same_text(&self.final_to, &other.final_to)
+            && self.again.is_same(other.again)
+    }
+
+    /// Only where another is the same: one branch to one target, as far. Takes no memory.
+    pub(crate) fn is_same(&self, other: &Branch) -> bool
+        ensures { result ≡ true → self.now ≡ other.now }
+    {
+        if !self.is_numbered_as(other) {
+            return false;
+        }
+        if !self.goes_as(other) {
+            return false;
+        }
+        self.is_as_far_as(other)
+    }
 }
 
 /// Written out, so that it is proved once and not wherever one is dropped.

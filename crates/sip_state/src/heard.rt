@@ -1,6 +1,6 @@
 //! The request of an open request, as it is kept, and what is asked of it again and again, read once: its top Via, its Routes, its dialogs.
 //! From it the packets to targets are written (RFC 3261 16.6).
-ghost use Rattle.std.specs.Prelude.{◌≡◌, ◌++◌, ℕ, IfOk, IfSome, OnOk, List, Some, is_some};
+ghost use Rattle.std.specs.Prelude.{◌≡◌, ◌++◌, true, ℕ, IfOk, IfSome, OnOk, List, Some, is_some};
 ghost use Rattle.std.specs.Option.{option_and_then};
 ghost use Rattle.std.specs.List.{filter_map};
 ghost use Rattle.std.specs.Result.{result_ok};
@@ -24,7 +24,7 @@ ghost use Rattle.sip_context_places.specs.Given.{address_there};
 use crate::names::{Names, dialog_by, dialog_to, names_dialog, names_in};
 use crate::onward::Onward;
 use crate::server::Server;
-use crate::top_via::{TopVia, received_value};
+use crate::top_via::TopVia;
 use sip_base::Shared;
 use sip_context_places::laws::kept_routes_are_left;
 use sip_context_places::{Place, RouteFacts, places_in};
@@ -40,7 +40,8 @@ use sip_uri::Addr;
 use std::alloc::{AllocError, Global};
 use std::marker::Model;
 
-/// A request that is kept beyond its datagram, seen as that message, with what is read of it once.
+/// A request that is kept beyond its datagram, seen as that message and the address that it came from, with what is read of
+/// it once.
 #[derive(Drop)]
 pub struct Heard {
     message: KeptParts,
@@ -50,12 +51,12 @@ pub struct Heard {
 }
 
 impl Model for Heard {
-    ghost use Rattle.sip_message_form.specs.declared.message.Message.{Message};
+    ghost use Rattle.sip_state.specs.KeptRequest.{KeptRequest};
     ghost use Rattle.sip_state.specs.Heard.{IsHeard};
 
-    ghost Value = { Message };
+    ghost Value = { KeptRequest };
 
-    ghost view = { λ h. h.message };
+    ghost view = { λ h. record { message = h.message; source = h.via.source } };
 
     ghost invariant = { λ h. IsHeard h.message h.via h.onward };
 }
@@ -77,15 +78,6 @@ fn unread_names(alloc: Global, message: &KeptParts) -> Result<Option<Names>, All
 {
     let request = message.view(alloc)?;
     names_in(alloc, &request)
-}
-
-/// The value that the top Via of a message gets, which came from an address.
-/// It is there for another source than its own, which no step asks for.
-fn unread_via(alloc: Global, message: &KeptParts, from: Addr) -> Result<Value<'static>, AllocError>
-    ensures { IfOk result (λ value. with_first Name.Via value message.now.fields ≡ received_fields from message.now.fields) }
-{
-    let request = message.view(alloc)?;
-    Value::of_bytes(alloc, received_value(alloc, &request, from)?)
 }
 
 /// Adds the addresses that places have in a table.
@@ -126,7 +118,7 @@ impl Heard {
         from: Addr,
     ) -> Result<Shared<Self>, AllocError>
         requires { top_via request.now ≡ Some via.now }
-        ensures { IfOk result (λ heard. heard ≡ request.now) }
+        ensures { IfOk result (λ heard. heard ≡ record { message = request.now; source = from }) }
     {
         let message = KeptParts::of(alloc, request)?;
         let via = TopVia::of(alloc, request, via, from)?;
@@ -153,7 +145,7 @@ impl Heard {
     ) -> Result<Shared<Self>, AllocError>
         requires names { Spec.AreNames request.now names }
         requires via { top_via request.now ≡ Some via.now }
-        ensures { IfOk result (λ heard. heard ≡ request.now) }
+        ensures { IfOk result (λ heard. heard ≡ record { message = request.now; source = from }) }
     {
         let message = KeptParts::of(alloc, request)?;
         let via = TopVia::of(alloc, request, via, from)?;
@@ -170,21 +162,28 @@ impl Heard {
 
     /// The first line of the message, of which no byte is copied. Takes no memory.
     pub fn start(&self) -> ViewStart<'_>
-        ensures { start_seen result ≡ self.now.start }
+        ensures { start_seen result ≡ self.now.message.start }
     {
         self.message.start()
     }
 
     /// The message as it is kept. Takes no memory.
     pub fn message(&self) -> &KeptParts
-        ensures { result.now ≡ self.now }
+        ensures { result.now ≡ self.now.message }
     {
         &self.message
     }
 
+    /// Where it came from. Takes no memory.
+    pub fn source(&self) -> Addr
+        ensures { result ≡ self.now.source }
+    {
+        self.via.source
+    }
+
     /// A view of the message, of which no byte is copied. `AllocError` is the only refusal.
     pub fn view<'k>(&'k self, alloc: Global) -> Result<View<'k>, AllocError>
-        ensures { IfOk result (λ view. view ≡ self.now) }
+        ensures { IfOk result (λ view. view ≡ self.now.message) }
     {
         self.message.view(alloc)
     }
@@ -196,35 +195,31 @@ impl Heard {
         alloc: Global,
         value: &'k [u8],
     ) -> Result<View<'k>, AllocError>
-        ensures { IfOk result (λ view. view ≡ record self.now { fields = with_first Name.Via value.now self.now.fields }) }
+        ensures { IfOk result (λ view. view ≡ record self.now.message { fields = with_first Name.Via value.now self.now.message.fields }) }
     {
         self.message.view_with_first(alloc, &FieldName::Via, value)
     }
 
-    /// The value that the top Via gets where the request came from an address (RFC 3261 18.2.1); empty where there is no
-    /// Via. `AllocError` is the only refusal.
-    pub fn received_via(&self, alloc: Global, from: Addr) -> Result<Value<'_>, AllocError>
-        ensures { IfOk result (λ value. with_first Name.Via value self.now.fields ≡ received_fields from self.now.fields) }
+    /// The value that its top Via gets (RFC 3261 18.2.1). Takes no memory.
+    pub fn received_via(&self) -> &[u8]
+        ensures { with_first Name.Via result.now self.now.message.fields ≡ received_fields self.now.source self.now.message.fields }
     {
-        if self.via.is_from(from) {
-            return Ok(Value::of_part(self.via.value.as_slice()));
-        }
-        unread_via(alloc, &self.message, from)
+        self.via.value.as_slice()
     }
 
-    /// Where the answers go where the request came from an address (RFC 3261 18.2.2). Takes no memory.
+    /// Where its answers go (RFC 3261 18.2.2). Takes no memory.
     #[tactic(auto, using(crate::proofs::Received::goes_back))]
-    pub fn reply_to(&self, from: Addr) -> Addr
-        ensures { result ≡ response_address self.now from }
+    pub fn reply_to(&self) -> Addr
+        ensures { result ≡ response_address self.now.message self.now.source }
     {
-        self.via.reply_to(from)
+        self.via.reply_to()
     }
 
     /// Which fields are left once a server's own part of the way is taken off (RFC 3261 16.4), whatever value the top Via
     /// has. `AllocError` is the only refusal.
     pub fn routes_kept(&self, alloc: Global, own: &Own) -> Result<RoutesKept, AllocError>
-        ensures { IfOk result (λ kept. (via : List ℕ) → fields_kept kept (with_first Name.Via via self.now.fields)
-            ≡ fields_left own.now (request_uri self.now.start) (with_first Name.Via via self.now.fields)) }
+        ensures { IfOk result (λ kept. (via : List ℕ) → fields_kept kept (with_first Name.Via via self.now.message.fields)
+            ≡ fields_left own.now (request_uri self.now.message.start) (with_first Name.Via via self.now.message.fields)) }
     {
         kept_routes_are_left();
         match &self.onward {
@@ -233,62 +228,49 @@ impl Heard {
         }
     }
 
-    /// What its packets have in common, if that was kept for a server of this realm, with these Routes left of the request as
-    /// it came from an address.
+    /// What its packets have in common, if that was kept for a server of this realm, with these Routes left.
     #[tactic(auto, using(crate::proofs::Tails::is_tail))]
-    fn kept_tail(&self, realm: &[u8], routes: RoutesKept, from: Addr) -> Option<&[u8]>
-        ensures { IfSome result (λ tail. tail.now ≡ tail_of routes realm.now (received self.now from)) }
+    fn kept_tail(&self, realm: &[u8], routes: RoutesKept) -> Option<&[u8]>
+        ensures { IfSome result (λ tail. tail.now ≡ tail_of routes realm.now (received self.now.message self.now.source)) }
     {
         let onward = self.onward.as_ref()?;
         let tail = &onward.get().tail;
-        if !self.via.is_from(from) {
-            return None;
-        }
         if !tail.is_for(realm, routes) {
             return None;
         }
         Some(tail.text.as_slice())
     }
 
-    /// What its packets have in common for a server of this realm, with these Routes left of the request as it came from an
-    /// address: as it was kept, or written anew.
+    /// What its packets have in common for a server of this realm, with these Routes left: as it was kept, or written anew.
     #[tactic(auto, using(crate::proofs::Tails::of_received))]
-    fn tail(
-        &self,
-        alloc: Global,
-        realm: &[u8],
-        routes: RoutesKept,
-        from: Addr,
-    ) -> Result<Value<'_>, AllocError>
-        ensures { IfOk result (λ tail. tail ≡ tail_of routes realm.now (received self.now from)) }
+    fn tail(&self, alloc: Global, realm: &[u8], routes: RoutesKept) -> Result<Value<'_>, AllocError>
+        ensures { IfOk result (λ tail. tail ≡ tail_of routes realm.now (received self.now.message self.now.source)) }
     {
-        if let Some(tail) = self.kept_tail(realm, routes, from) {
+        if let Some(tail) = self.kept_tail(realm, routes) {
             return Ok(Value::of_part(tail));
         }
-        let via = self.received_via(alloc, from)?;
         let request = self.view(alloc)?;
-        let tail = received_tail(alloc, realm, routes, &request, via.as_slice())?;
+        let tail = received_tail(alloc, realm, routes, &request, self.received_via())?;
         Value::of_bytes(alloc, tail)
     }
 
-    /// The text of the request as it goes from a server to a target with this Request-URI, if it came from an address: without
-    /// the server's own part of the way, without the credentials for its realm, with one hop less, the server's Via of this
-    /// branch on top, and its Record-Route where it gets one (RFC 3261 16.4, 16.6). Where it came from the address that it was
-    /// kept with, what all targets have in common is copied, and not written anew. `AllocError` is the only refusal.
+    /// The text of the request as it goes from a server to a target with this Request-URI: without the server's own part of the
+    /// way, without the credentials for its realm, with one hop less, the server's Via of this branch on top, and its
+    /// Record-Route where it gets one (RFC 3261 16.4, 16.6). What all targets have in common is copied, and not written anew.
+    /// `AllocError` is the only refusal.
     pub fn text_to(
         &self,
         alloc: Global,
         server: &Server,
         branch: BranchId,
         records_route: bool,
-        from: Addr,
         uri: &[u8],
     ) -> Result<Bytes, AllocError>
-        ensures { IfOk result (λ text. text ≡ text_of (goes_to server.now branch records_route uri.now (received self.now from))) }
+        ensures { IfOk result (λ text. text ≡ text_of (goes_to server.now branch records_route uri.now (received self.now.message self.now.source))) }
     {
         let own = &server.config.own;
         let routes = self.routes_kept(alloc, own)?;
-        let tail = self.tail(alloc, server.config.realm.as_slice(), routes, from)?;
+        let tail = self.tail(alloc, server.config.realm.as_slice(), routes)?;
         let start = self.start();
         text_to_target(
             alloc,
@@ -305,7 +287,7 @@ impl Heard {
     /// Whether the request names a dialog (RFC 3261 12.2.2). `AllocError` is the only refusal.
     #[tactic(auto, using(crate::proofs::Told::dialog_is))]
     pub fn names_dialog(&self, alloc: Global) -> Result<bool, AllocError>
-        ensures { IfOk result (λ names. names ≡ is_some (option_and_then (λ core. id_of core) (result_ok (core_of self.now)))) }
+        ensures { IfOk result (λ names. names ≡ is_some (option_and_then (λ core. id_of core) (result_ok (core_of self.now.message)))) }
     {
         match &self.onward {
             Some(onward) => Ok(names_dialog(&onward.get().names)),
@@ -320,7 +302,7 @@ impl Heard {
     /// is the only refusal.
     #[tactic(auto, using(crate::proofs::Told::dialog_is))]
     pub fn dialog(&self, alloc: Global) -> Result<Option<DialogId>, AllocError>
-        ensures { IfOk result (λ id. id ≡ option_and_then (λ core. id_of core) (result_ok (core_of self.now))) }
+        ensures { IfOk result (λ id. id ≡ option_and_then (λ core. id_of core) (result_ok (core_of self.now.message))) }
     {
         match &self.onward {
             Some(onward) => dialog_by(alloc, &onward.get().names),
@@ -334,7 +316,7 @@ impl Heard {
     /// The dialog that an answer with a tag of To names, if the core fields of the request are read (RFC 3261 12.1.1).
     /// `AllocError` is the only refusal.
     pub fn dialog_to(&self, alloc: Global, to_tag: &[u8]) -> Result<Option<DialogId>, AllocError>
-        ensures { IfOk result (λ id. id ≡ Spec.dialog_to to_tag.now (Spec.names_in self.now)) }
+        ensures { IfOk result (λ id. id ≡ Spec.dialog_to to_tag.now (Spec.names_in self.now.message)) }
     {
         match &self.onward {
             Some(onward) => dialog_to(alloc, &onward.get().names, to_tag),
@@ -354,7 +336,7 @@ impl Heard {
         hops: &Hops,
         out: &mut Items<Addr>,
     ) -> Result<(), AllocError>
-        ensures { OnOk result (out.new ≡ out.old ++ addresses_in (address_of hops.now.addresses) self.now.fields) }
+        ensures { OnOk result (out.new ≡ out.old ++ addresses_in (address_of hops.now.addresses) self.now.message.fields) }
     {
         if let Some(onward) = &self.onward {
             if let Some(places) = &onward.get().given {
@@ -362,5 +344,16 @@ impl Heard {
             }
         }
         put_unread(alloc, out, hops, &self.message)
+    }
+
+    /// Only where another is the same message from the same address: what is read of it once says the same then. Takes no memory,
+    /// and costs by the bytes.
+    pub(crate) fn is_same(&self, other: &Heard) -> bool
+        ensures { result ≡ true → self.now ≡ other.now }
+    {
+        if !self.via.source.is_same(other.via.source) {
+            return false;
+        }
+        self.message.is_same(&other.message)
     }
 }

@@ -4,17 +4,18 @@ ghost use Rattle.std.specs.Option.{unwrap_or};
 ghost use Rattle.sip_header.specs.Parameters as Tags;
 ghost use Rattle.sip_state.specs.Names as Spec;
 
+use sip_base::Shared;
 use sip_dialog::DialogId;
 use sip_header::{CoreFields, HeaderError, Parameters, core_of, tag_of};
 use sip_message_form::View;
 use sip_text::Bytes;
 use std::alloc::{AllocError, Global};
 
-/// What names the dialogs of a request (RFC 3261 12).
+/// What names the dialogs of a request (RFC 3261 12). Each of them shares its Call-ID and its From tag.
 pub struct Names {
-    pub call_id: Bytes,
+    pub call_id: Shared<Bytes>,
     /// Empty where From has no tag.
-    pub from_tag: Bytes,
+    pub from_tag: Shared<Bytes>,
     pub to_tag: Option<Bytes>,
 }
 
@@ -54,13 +55,28 @@ impl Names {
     pub fn of(alloc: Global, core: &CoreFields<'_>) -> Result<Self, AllocError>
         ensures { IfOk result (λ names. names ≡ Spec.names_of core.now) }
     {
-        let call_id = Bytes::copy(alloc, core.call_id.as_slice())?;
-        let from_tag = from_tag(alloc, core.from.parameters())?;
+        let call_id = Shared::new(alloc, Bytes::copy(alloc, core.call_id.as_slice())?)?;
+        let from_tag = Shared::new(alloc, from_tag(alloc, core.from.parameters())?)?;
         let to_tag = to_tag(alloc, core.to.parameters())?;
         Ok(Names {
             call_id,
             from_tag,
             to_tag,
+        })
+    }
+
+    /// What a request says of its dialogs that names this one: they share its Call-ID and its From tag. `AllocError` is the
+    /// only refusal.
+    pub fn of_dialog(alloc: Global, id: &DialogId) -> Result<Self, AllocError>
+        ensures { IfOk result (λ names. names ≡ Spec.names_within id.now) }
+    {
+        let call_id = id.call_id.clone()?;
+        let from_tag = id.from_tag.clone()?;
+        let to_tag = Bytes::copy(alloc, id.to_tag.as_slice())?;
+        Ok(Names {
+            call_id,
+            from_tag,
+            to_tag: Some(to_tag),
         })
     }
 }

@@ -1,5 +1,7 @@
 //! What is known of an open request (RFC 3261 16: response context; 17.2): its answering side, its answers, its branches.
 //! What changes it is in `sip_context`, its timers are in `sip_request`.
+ghost use Rattle.std.specs.Prelude.{◌≡◌, true};
+
 use crate::Heard;
 use crate::answer_text::AnswerText;
 use crate::branch::Branch;
@@ -7,8 +9,8 @@ use crate::resend::Resend;
 use crate::written::Written;
 use sip_base::Shared;
 use sip_best::Final;
-use sip_text::Items;
-use sip_transaction_table::Key;
+use sip_text::{Items, same_bytes};
+use sip_transaction_table::{Key, same_key};
 use sip_uri::Addr;
 
 /// How far the answering side of a request is, with its deadline in milliseconds: its server transaction (RFC 3261 17.2;
@@ -65,10 +67,8 @@ pub struct LastAnswer {
 #[derive(Clone)]
 pub struct OpenRequest {
     pub key: Shared<Key>,
-    /// The request as it came.
+    /// The request as it came, and where it came from.
     pub request: Shared<Heard>,
-    /// Where it came from.
-    pub source: Addr,
     /// The number of the datagram that brought it.
     pub number: u64,
     /// When it came, in milliseconds.
@@ -83,13 +83,128 @@ pub struct OpenRequest {
     pub branches: Items<Branch>,
 }
 
+impl Side {
+    /// Only where another is the same, with its deadline. Takes no memory.
+    pub fn is_same(self, next: Side) -> bool
+        ensures { result ≡ true → self ≡ next }
+    {
+        match (self, next) {
+            (Side::Answering, Side::Answering) => true,
+            (Side::Closing { until }, Side::Closing { until: other }) => until == other,
+            (Side::Acknowledged { until }, Side::Acknowledged { until: other }) => until == other,
+            (Side::Closed, Side::Closed) => true,
+            _ => false,
+        }
+    }
+}
+
+impl LastAnswer {
+    /// Only where another is the same.
+    fn is_same(&self, other: &LastAnswer) -> bool
+        ensures { result ≡ true → self.now ≡ other.now }
+    {
+        if self.status != other.status {
+            return false;
+        }
+        same_bytes(self.text.as_slice(), other.text.as_slice())
+    }
+}
+
+/// Only where two last answers are the same, or there is neither.
+fn same_answer(left: &Option<LastAnswer>, right: &Option<LastAnswer>) -> bool
+    ensures { result ≡ true → left.now ≡ right.now }
+{
+    match (left, right) {
+        (Some(one), Some(other)) => one.is_same(other),
+        (None, None) => true,
+        _ => false,
+    }
+}
+
+/// Only where two lists have the same final answers, in their order.
+fn same_finals(left: &[Final], right: &[Final]) -> bool
+    ensures { result ≡ true → left.now ≡ right.now }
+{
+    if left.len() != right.len() {
+        return false;
+    }
+    for (at, one) in left.iter().enumerate() {
+        if !one.is_same(&right[at]) {
+            return false;
+        }
+    }
+    true
+}
+
+/// Only where two lists have the same branches, in their order.
+fn same_branches(left: &[Branch], right: &[Branch]) -> bool
+    ensures { result ≡ true → left.now ≡ right.now }
+{
+    if left.len() != right.len() {
+        return false;
+    }
+    for (at, one) in left.iter().enumerate() {
+        if !one.is_same(&right[at]) {
+            return false;
+        }
+    }
+    true
+}
+
+impl OpenRequest {
+    /// Only where another came as it did: its number, its moment and its key.
+    fn came_as(&self, other: &OpenRequest) -> bool
+        ensures { result ≡ true → (self.now.number ≡ other.now.number) × (self.now.arrived_at ≡ other.now.arrived_at)
+            × (self.now.key ≡ other.now.key) }
+    {
+        if self.number != other.number {
+            return false;
+        }
+        if self.arrived_at != other.arrived_at {
+            return false;
+        }
+        same_key(self.key.get(), other.key.get())
+    }
+
+    /// Only where another is answered as it is: its last answer, how far its answering side is, and when that answer goes again.
+    fn is_answered_as(&self, other: &OpenRequest) -> bool
+        ensures { result ≡ true → (self.now.answer ≡ other.now.answer) × (self.now.side ≡ other.now.side)
+            × (self.now.again ≡ other.now.again) }
+    {
+        same_answer(&self.answer, &other.answer)
+            && self.side.is_same(other.side)
+            && self.again.is_same(other.again)
+    }
+
+    /// Only where another is the same, each part as far; so it does where both came of the same events. Takes no memory, and
+    /// costs by its texts.
+    pub fn is_same(&self, other: &OpenRequest) -> bool
+        ensures { result ≡ true → self.now ≡ other.now }
+    {
+        if !self.came_as(other) {
+            return false;
+        }
+        if !self.is_answered_as(other) {
+            return false;
+        }
+        let finals = self.finals.as_slice();
+        if !same_finals(finals, other.finals.as_slice()) {
+            return false;
+        }
+        let branches = self.branches.as_slice();
+        if !same_branches(branches, other.branches.as_slice()) {
+            return false;
+        }
+        self.request.get().is_same(other.request.get())
+    }
+}
+
 /// Written out, so that it is proved once and not wherever one is dropped.
 impl Drop for OpenRequest {
     fn drop(self) {
         let OpenRequest {
             key: _,
             request: _,
-            source: _,
             number: _,
             arrived_at: _,
             answer: _,

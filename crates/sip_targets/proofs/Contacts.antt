@@ -9,7 +9,7 @@ use Rattle.sip_uri.specs.declared.parameters.Parameter.{Parameter}
 use Rattle.sip_uri.specs.declared.uri.Uri.{Uri}
 use Rattle.sip_uri.specs.Port.{port_value, port_number}
 use Rattle.sip_uri.specs.Reading.{reading_of}
-use Rattle.sip_uri.specs.PlainUri.{bare_uri, IsBare}
+use Rattle.sip_uri_ref.specs.PlainUri.{bare_uri, IsBare}
 use Rattle.sip_uri.specs.Uri.{text_of, is_parameter, names_differ, IsValid}
 use Rattle.sip_uri.proofs.Tests.{and_both, and_is, not_is}
 use Rattle.sip_uri.proofs.ReadingLaws.{valid_again}

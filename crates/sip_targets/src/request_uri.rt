@@ -10,7 +10,8 @@ ghost use Rattle.sip_location.specs.Registering as Naming;
 use crate::uri_address::address_in;
 use sip_hops::Hops;
 use sip_text::Bytes;
-use sip_uri::{Addr, Aor, Uri, UriRef};
+use sip_uri::{Addr, Aor, Uri};
+use sip_uri_ref::UriRef;
 use std::alloc::{AllocError, Global};
 use std::marker::Model;
 
@@ -29,7 +30,7 @@ impl<'a> Model for RequestUri<'a> {
     ghost view = { λ r. r.uri };
 }
 
-/// What names nobody.
+/// What names nobody: in the server no step asks it of what is no URI.
 fn nobody(alloc: Global) -> Aor
     ensures { result ≡ Naming.nobody }
 {

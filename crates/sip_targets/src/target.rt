@@ -10,8 +10,9 @@ use crate::target_uri::TargetUri;
 use crate::uri_address::address_in;
 use sip_hops::Hops;
 use sip_text::{Bytes, Items};
-use sip_uri::{Addr, Parameter, Uri, UriError, UriRef, parse_uri, write_uri};
+use sip_uri::{Addr, Parameter, Uri, UriError, parse_uri, write_uri};
 use sip_uri_equality::says_same_no_case;
+use sip_uri_ref::UriRef;
 use std::alloc::{AllocError, Global};
 
 /// A place that a request is sent to (RFC 3261 16.5).

@@ -2,7 +2,8 @@ ghost use Rattle.std.specs.Prelude.{◌≡◌};
 ghost use Rattle.sip_hops.specs.HostAddress.{address_of};
 
 use sip_hops::Hops;
-use sip_uri::{Addr, UriRef};
+use sip_uri::Addr;
+use sip_uri_ref::UriRef;
 
 /// The address to which a request for a URI goes, if it has one. One of the plainest form asks for no other way than UDP.
 #[inline]

@@ -100,7 +100,7 @@ differ_by_places texts =
 
 -- ---- another order
 
-alike : (a b : Bool) → (a ≡ true → b ≡ true) → (b ≡ true → a ≡ true) → a ≡ b
+pub alike : (a b : Bool) → (a ≡ true → b ≡ true) → (b ≡ true → a ≡ true) → a ≡ b
 alike true true f g = refl
 alike true false f g = sym (f refl)
 alike false true f g = g refl

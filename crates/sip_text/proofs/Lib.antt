@@ -9,10 +9,15 @@ pub mod QuotedLaws
 pub mod ListLaws
 pub mod NoneLaws
 pub mod Splitting
+pub mod QuoteEnds
 pub mod CutsOutside
 pub mod PartLaws
+pub mod QuotedFronts
 pub mod PlainDecimals
 pub mod Differing
 pub mod SmallDecimals
 pub mod OneItem
 pub mod LowerCase
+pub mod TextLines
+pub mod Alike
+pub mod Each

@@ -1,9 +1,14 @@
--- A value with no comma, no quote and at most one pair of brackets is one item.
-use Rattle.std.proofs.Common.{◌≡◌, ℕ, zero, suc, ◌+◌, ◌-◌, ◌<◌, ◌≤◌, Bool, true, false, List, [], ◌∷◌, length, drop, get_or, Option, Some, refl, ap, subst, ◌∙◌, arith}
+-- A value with no comma outside quoted text and brackets is one item.
+use Rattle.std.proofs.Common.{◌≡◌, ℕ, zero, suc, ◌+◌, ◌-◌, ◌<◌, ◌≤◌, Bool, true, false, List, [], ◌∷◌, length, drop, get_or, Option, Some, refl, sym, ap, subst, ◌∙◌}
+use Rattle.std.proofs.Common.{arith}
 use Rattle.std.specs.Prelude.{◌||◌, ◌==◌, option_map}
 use Rattle.memchr.specs.Find.{NoneBefore, Nowhere, Passes, is_byte, is_byte3}
-use Rattle.sip_text.specs.declared.lists.Place.TheVariants.{Outside, Bracketed}
+use Rattle.sip_text.specs.declared.lists.Place.TheVariants.{Outside, Quoted, Bracketed}
+use Rattle.sip_text.specs.declared.cuts.Quoting.TheVariants.{Inside}
+use Rattle.sip_text.specs.Cuts.{quote_end}
+use Rattle.sip_text.proofs.QuoteEnds.{where_ended}
 use Rattle.sip_text.specs.Lists.{is_blank, is_nil, trimmed, onto, between_cuts, cut}
+use Rattle.std.proofs.lemmas.List.{length-drop}
 use Rattle.sip_text.proofs.Trims.{IsTight, ends_full, tight_again}
 
 none_of : (b : ℕ) → (is_byte3 44 34 60 b ≡ true → ⊥) → ((b == 44) ≡ false) × ((b == 34) ≡ false) × ((b == 60) ≡ false)
@@ -66,11 +71,45 @@ one_bracket bracket rest end first q behind one =
     let rest_is : rest ≡ drop (suc end) bracket = behind ∙ ap (λ (n : ℕ). drop n bracket) next in
     pair end bracket first q.0.high (λ k lt. q.0.before k (omega arith) lt) q.1 (subst (λ (w : List ℕ). IsOne w) rest_is one)
 
-pub one_front : (value bracket : List ℕ) (start : ℕ) → NoneBefore (Passes (is_byte3 44 34 60) value) 0 (length value) start × Passes (is_byte3 44 34 60) value start
-    → bracket ≡ drop start value
-    → between_cuts Outside bracket ≡ Some (bracket ∷ []) → between_cuts Outside value ≡ Some (value ∷ [])
-one_front value bracket start p is inner =
-    front start value (omega (arith, p.0.high)) (λ k lt. p.0.before k (omega arith) lt) (subst (λ (w : List ℕ). IsOne w) is inner)
+-- quoted text that has begun ends, and nothing behind it cuts
+abbrev IsOneBehind : List ℕ → ℕ → Type 0
+IsOneBehind bytes n = IsOne (drop (suc n) bytes) → between_cuts Quoted bytes ≡ Some (bytes ∷ [])
+
+quoted_plain : (b : ℕ) (bs : List ℕ) (n : ℕ) → (b == 34) ≡ false → (b == 92) ≡ false → IsOneBehind bs n → IsOneBehind (b ∷ bs) (suc n)
+quoted_plain b bs n q p is one = rw (q, p) (ap (put b) (is one))
+
+quoted_pair : (c : ℕ) (bs : List ℕ) (n : ℕ) → IsOneBehind bs n → IsOneBehind (92 ∷ c ∷ bs) (suc (suc n))
+quoted_pair c bs n is one = ap (λ (o : Option (List (List ℕ))). put 92 (put c o)) (is one)
+
+quoted : (n : ℕ) (bytes : List ℕ) → quote_end Inside bytes ≡ Some n → IsOne (drop (suc n) bytes) → between_cuts Quoted bytes ≡ Some (bytes ∷ [])
+quoted n bytes e one = where_ended IsOneBehind (λ bs one. ap (put 34) one) quoted_plain quoted_pair bytes n e one
+
+pub behind_quoted : (text inside rest : List ℕ) (n : ℕ) → text ≡ 34 ∷ inside → Some n ≡ quote_end Inside inside → rest ≡ drop (n + 1) inside
+    → between_cuts Outside rest ≡ Some (rest ∷ []) → between_cuts Outside text ≡ Some (text ∷ [])
+behind_quoted text inside rest n begins e behind one =
+    let next : n + 1 ≡ suc n = omega arith in
+    let rest_is : rest ≡ drop (suc n) inside = behind ∙ ap (λ (k : ℕ). drop k inside) next in
+    subst (λ (w : List ℕ). IsOne w) (sym begins) (ap (put 34) (quoted n inside (sym e) (subst (λ (w : List ℕ). IsOne w) rest_is one)))
+
+pub behind_bracketed : (text inside rest : List ℕ) (end : ℕ) → text ≡ 60 ∷ inside
+    → NoneBefore (Passes (is_byte 62) inside) 0 (length inside) end × Passes (is_byte 62) inside end → rest ≡ drop (end + 1) inside
+    → between_cuts Outside rest ≡ Some (rest ∷ []) → between_cuts Outside text ≡ Some (text ∷ [])
+behind_bracketed text inside rest end begins q behind one =
+    let next : end + 1 ≡ suc end = omega arith in
+    let rest_is : rest ≡ drop (suc end) inside = behind ∙ ap (λ (k : ℕ). drop k inside) next in
+    subst (λ (w : List ℕ). IsOne w) (sym begins)
+    (ap (put 60) (bracketed end inside q.0.high (λ k lt. q.0.before k (omega arith) lt) q.1 (subst (λ (w : List ℕ). IsOne w) rest_is one)))
+
+pub shorter : (text inside rest : List ℕ) (b n : ℕ) → text ≡ b ∷ inside → rest ≡ drop n inside → length rest < length text
+shorter text inside rest b n begins behind = omega (arith, ap length begins, ap length behind, length-drop n inside)
+
+pub goes_on : (text rest enclosed behind : List ℕ) (at : ℕ) → (between_cuts Outside rest ≡ Some (rest ∷ []) → between_cuts Outside text ≡ Some (text ∷ []))
+    → NoneBefore (Passes (is_byte3 44 34 60) rest) 0 (length rest) at × Passes (is_byte3 44 34 60) rest at
+    → enclosed ≡ drop at rest
+    → (between_cuts Outside behind ≡ Some (behind ∷ []) → between_cuts Outside enclosed ≡ Some (enclosed ∷ []))
+    → between_cuts Outside behind ≡ Some (behind ∷ []) → between_cuts Outside text ≡ Some (text ∷ [])
+goes_on text rest enclosed behind at so_far p is inner one =
+    so_far (front at rest (omega (arith, p.0.high)) (λ k lt. p.0.before k (omega arith) lt) (subst (λ (w : List ℕ). IsOne w) is (inner one)))
 
 -- ---- as an item
 

@@ -1,6 +1,6 @@
 -- Text cut at a byte outside quoted text, and at blanks.
 use Rattle.std.specs.Prelude.{◌≡◌, ◌≢◌, ℕ, Bool, true, false, not, ◌==◌, if◌then◌else◌, List, [], ◌∷◌, ◌++◌, length, drop, take_while}
-use Rattle.std.specs.Prelude.{Option, Some, None}
+use Rattle.std.specs.Prelude.{Option, Some, None, suc, option_map}
 use Rattle.std.specs.List.{AllByRecursion, join_with_byte}
 use Rattle.std.specs.Str.{byte}
 use Rattle.sip_text.specs.Lists.{is_blank, front_trimmed, onto}
@@ -13,6 +13,16 @@ abbrev pub quoting_after : Quoting → ℕ → Quoting
 quoting_after Outside b = if b == byte "\"" then Inside else Outside
 quoting_after Inside b = if b == byte "\"" then Outside else if b == byte "\\" then Escaped else Inside
 quoting_after Escaped b = Inside
+
+-- whether this `"` ends the quoted text that it stands in
+abbrev pub ends_quote : Quoting → ℕ → Bool
+ends_quote Inside b = b == byte "\""
+ends_quote quoting b = false
+
+-- how many bytes stand before the `"` that ends quoted text, of a text which goes on in it; none where none does (RFC 3261 25.1)
+abbrev pub quote_end : Quoting → List ℕ → Option ℕ
+quote_end quoting [] = None
+quote_end quoting (b ∷ bs) = if ends_quote quoting b then Some 0 else option_map (λ n. suc n) (quote_end (quoting_after quoting b) bs)
 
 -- whether this is the byte to cut at
 abbrev pub is_mark : Quoting → ℕ → ℕ → Bool

@@ -13,3 +13,4 @@ pub mod Numbers
 pub mod TextError
 pub mod Items
 pub mod Store
+pub mod TextLines

@@ -39,6 +39,12 @@ impl Clone for Bytes {
 }
 
 impl Bytes {
+    /// What hands out its memory.
+    #[inline]
+    pub fn allocator(&self) -> Global {
+        self.store.allocator()
+    }
+
     /// No bytes. Takes no memory.
     #[inline]
     pub fn new(alloc: Global) -> Self

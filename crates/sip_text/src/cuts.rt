@@ -1,73 +1,37 @@
 //! Texts cut at a byte outside quoted text (RFC 3261 25.1: `quoted-string`), or behind their first word. Lists are cut in `lists`.
-ghost use Rattle.std.specs.Prelude.{◌≡◌, ◌<◌, ◌≤◌, ◌∷◌, length, take, drop, take_while, option_map, IfSome};
+ghost use Rattle.std.specs.Prelude.{◌≡◌, ◌<◌, ◌∷◌, length, take_while, option_map, IfSome};
 ghost use Rattle.sip_text.specs.Cuts as Definitions;
-ghost use Rattle.sip_text.specs.Cuts.{quoting_after, is_mark, split_from, parts_at, parts_behind, is_full, word_at, behind_word};
-ghost use Rattle.sip_text.specs.Splits.{in_front};
-ghost use Rattle.sip_text.specs.declared.cuts.Quoting.TheVariants.{Outside};
+ghost use Rattle.sip_text.specs.Cuts.{parts_at, parts_behind, is_full, word_at, behind_word};
 
 use crate::lists::{is_space_or_tab, without_front_blanks};
+use crate::quotes::quote_end;
 
-/// Where a byte stands as to quoted text.
-#[derive(Clone, Copy)]
+/// Where a byte stands as to quoted text, in definitions alone: no code goes byte by byte through it.
 pub enum Quoting {
     Outside,
     Inside,
     Escaped,
 }
 
-impl Quoting {
-    fn after(self, byte: u8) -> Quoting
-        ensures { result ≡ quoting_after self byte }
-    {
-        match (self, byte) {
-            (Quoting::Outside, b'"') => Quoting::Inside,
-            (Quoting::Outside, _) => Quoting::Outside,
-            (Quoting::Inside, b'"') => Quoting::Outside,
-            (Quoting::Inside, b'\\') => Quoting::Escaped,
-            (Quoting::Inside, _) => Quoting::Inside,
-            (Quoting::Escaped, _) => Quoting::Inside,
-        }
-    }
-
-    fn is_mark(self, mark: u8, byte: u8) -> bool
-        ensures { result ≡ is_mark self mark byte }
-    {
-        matches!(self, Quoting::Outside) && byte == mark
-    }
-}
-
 /// What stands before the first of a byte outside quoted text (RFC 3261 25.1, `quoted-string`), and what
-/// follows it. Takes no memory.
+/// follows it. Quoted text is passed over as a whole. Takes no memory.
 #[tactic(auto, using(crate::proofs::CutsOutside::split_ends, crate::proofs::CutsOutside::split_goes_on, crate::proofs::CutsOutside::split_nowhere))]
 pub fn split_outside(bytes: &[u8], mark: u8) -> Option<(&[u8], &[u8])>
     ensures { option_map (λ x. (x.0.now, x.1.now)) result ≡ Definitions.split_outside mark bytes.now }
 {
-    for at in 0..bytes.len() {
+    let mut at = 0;
+    while at < bytes.len() {
         let byte = bytes[at];
         if byte == mark {
             return Some((&bytes[..at], &bytes[at + 1..]));
         }
         if byte == b'"' {
-            return split_behind(bytes, mark, at);
+            let (_, inside) = bytes.split_at(at + 1);
+            let end = quote_end(inside)?;
+            at += end + 2;
+            continue;
         }
-    }
-    None
-}
-
-/// The same from a byte on, before which there is neither quoted text nor that mark.
-#[tactic(auto, using(crate::proofs::CutsOutside::split_ends, crate::proofs::CutsOutside::split_goes_on, crate::proofs::CutsOutside::split_nowhere))]
-fn split_behind(bytes: &[u8], mark: u8, start: usize) -> Option<(&[u8], &[u8])>
-    requires inside { start ≤ length bytes.now }
-    requires so_far { in_front (take start bytes.now) (split_from Outside mark (drop start bytes.now)) ≡ Definitions.split_outside mark bytes.now }
-    ensures { option_map (λ x. (x.0.now, x.1.now)) result ≡ Definitions.split_outside mark bytes.now }
-{
-    let mut quoting = Quoting::Outside;
-    for at in start..bytes.len() {
-        let byte = bytes[at];
-        if quoting.is_mark(mark, byte) {
-            return Some((&bytes[..at], &bytes[at + 1..]));
-        }
-        quoting = quoting.after(byte);
+        at += 1;
     }
     None
 }

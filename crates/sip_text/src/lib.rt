@@ -45,7 +45,7 @@ pub use numbers::{
     has_leading_zero, hex_bytes, hex_text, plain_decimal, plain_decimal_below, plain_port,
 };
 pub use one_item::is_one_item;
-pub use quotes::{is_quoted, plain_quoted, unquote};
+pub use quotes::{is_quoted, plain_quoted, split_quoted, unquote};
 pub use span::Span;
 pub use splits::split_once;
 pub use text::Text;

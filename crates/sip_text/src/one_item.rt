@@ -1,48 +1,47 @@
-ghost use Rattle.std.specs.Prelude.{◌≡◌, ◌<◌, true, Some, [], ◌∷◌, slice_index};
+ghost use Rattle.std.specs.Prelude.{◌≡◌, ◌<◌, true, Some, [], ◌∷◌, length, IfSome};
 ghost use Rattle.sip_text.specs.Lists.{cut, between_cuts};
 ghost use Rattle.sip_text.specs.declared.lists.Place.TheVariants.{Outside};
 
 use crate::lists::is_space_or_tab;
+use crate::quotes::quote_end;
 use memchr::{memchr, memchr3};
 
-/// Whether nothing in bytes cuts a list, or begins a quote or a bracket.
-#[tactic(auto, using(crate::proofs::OneItem::none_cuts))]
-fn is_uncut(bytes: &[u8]) -> bool
-    ensures { result ≡ true → between_cuts Outside bytes.now ≡ Some (bytes.now ∷ []) }
+/// What follows the quoted text, or the bracket, that begins a text. None where neither does, or it isn't ended.
+#[tactic(auto, using(crate::proofs::OneItem::behind_quoted, crate::proofs::OneItem::behind_bracketed, crate::proofs::OneItem::shorter))]
+fn behind_enclosed(text: &[u8]) -> Option<&[u8]>
+    ensures one { IfSome result (λ rest. between_cuts Outside rest.now ≡ Some (rest.now ∷ []) → between_cuts Outside text.now ≡ Some (text.now ∷ [])) }
+    ensures shorter { IfSome result (λ rest. length rest.now < length text.now) }
 {
-    match memchr3(b',', b'"', b'<', bytes) {
-        Some(_) => false,
-        None => true,
+    match text.split_first() {
+        Some((b'"', inside)) => {
+            let end = quote_end(inside)?;
+            let (_, rest) = inside.split_at(end + 1);
+            Some(rest)
+        }
+        Some((b'<', inside)) => {
+            let end = memchr(b'>', inside)?;
+            let (_, rest) = inside.split_at(end + 1);
+            Some(rest)
+        }
+        _ => None,
     }
 }
 
-/// Whether the bracket that begins here ends, and nothing behind it cuts a list.
-#[tactic(auto, using(crate::proofs::OneItem::one_bracket))]
-fn is_one_bracket(bracket: &[u8]) -> bool
-    requires { slice_index bracket.now 0 ≡ 60 }
-    ensures { result ≡ true → between_cuts Outside bracket.now ≡ Some (bracket.now ∷ []) }
-{
-    let Some(end) = memchr(b'>', bracket) else {
-        return false;
-    };
-    let (_, rest) = bracket.split_at(end + 1);
-    is_uncut(rest)
-}
-
-/// Whether a text has no comma and no quote, and at most one pair of brackets, as is seen without going over it byte
-/// by byte.
-#[tactic(auto, using(crate::proofs::OneItem::none_cuts, crate::proofs::OneItem::one_front))]
+/// Whether no comma of a text stands outside quoted text and brackets, each of which is ended: what has none of these bytes is passed
+/// over by a search.
+#[tactic(auto, using(crate::proofs::OneItem::none_cuts, crate::proofs::OneItem::goes_on))]
 fn has_no_cut(text: &[u8]) -> bool
     ensures { result ≡ true → between_cuts Outside text.now ≡ Some (text.now ∷ []) }
 {
-    let Some(start) = memchr3(b',', b'"', b'<', text) else {
-        return true;
-    };
-    let (_, bracket) = text.split_at(start);
-    if bracket[0] != b'<' {
-        return false;
+    let mut rest = text;
+    while let Some(at) = memchr3(b',', b'"', b'<', rest) {
+        let (_, enclosed) = rest.split_at(at);
+        let Some(behind) = behind_enclosed(enclosed) else {
+            return false;
+        };
+        rest = behind;
     }
-    is_one_bracket(bracket)
+    true
 }
 
 /// Whether a text is seen at once to be a list of one item, which is all of it; `false` says nothing. Takes no memory.

@@ -1,9 +1,12 @@
-ghost use Rattle.std.specs.Prelude.{◌≡◌, ◌<◌, [], ◌∷◌, length, is_some, Some, IfSome, MatchOption};
+ghost use Rattle.std.specs.Prelude.{◌≡◌, ◌<◌, [], ◌∷◌, ◌++◌, true, length, is_some, Some, IfSome, MatchOption};
 ghost use Rattle.sip_text.specs.Escapes.{unquoted, inside_quotes, with_front, at_end, plain_front};
 ghost use Rattle.sip_text.specs.Reading.{Reads};
+ghost use Rattle.sip_text.specs.Cuts as Cuts;
+ghost use Rattle.sip_text.specs.declared.cuts.Quoting.TheVariants.{Inside};
 
 use crate::bytes::Bytes;
 use crate::error::TextError;
+use memchr::memchr2;
 use std::alloc::Global;
 
 /// The byte that stands at the front of a quoted text's rest, and what follows it. None at its end.
@@ -44,18 +47,54 @@ pub fn unquote(alloc: Global, text: &[u8]) -> Result<Bytes, TextError>
     }
 }
 
+/// How many bytes stand before the `"` that ends the quoted text which goes on here (RFC 3261 25.1, `quoted-string`): what has
+/// neither `"` nor `\` is passed over by a search. None where it isn't ended. Takes no memory.
+#[tactic(auto, using(crate::proofs::QuoteEnds::begun, crate::proofs::QuoteEnds::ended, crate::proofs::QuoteEnds::pair_open, crate::proofs::QuoteEnds::never_ended))]
+pub(crate) fn quote_end(inside: &[u8]) -> Option<usize>
+    ensures end { result ≡ Cuts.quote_end Inside inside.now }
+    ensures within { IfSome result (λ n. n < length inside.now) }
+{
+    let mut rest = inside;
+    while let Some(at) = memchr2(b'"', b'\\', rest) {
+        let (_, stop) = rest.split_at(at);
+        if stop[0] == b'"' {
+            return Some(inside.len() - stop.len());
+        }
+        if stop.len() < 2 {
+            return None;
+        }
+        let (_, behind) = stop.split_at(2);
+        rest = behind;
+    }
+    None
+}
+
+/// The quoted text that a text begins with (RFC 3261 25.1, `quoted-string`), its quotes among it, and what follows. None where it
+/// begins with none. Takes no memory.
+#[tactic(auto, using(crate::proofs::QuoteEnds::quoted_whole, crate::proofs::QuoteEnds::front_quoted))]
+pub fn split_quoted(text: &[u8]) -> Option<(&[u8], &[u8])>
+    ensures whole { IfSome result (λ x. text.now ≡ x.0.now ++ x.1.now) }
+    ensures quoted { IfSome result (λ x. is_some (unquoted x.0.now) ≡ true) }
+{
+    let Some((b'"', inside)) = text.split_first() else {
+        return None;
+    };
+    let end = quote_end(inside)?;
+    Some(text.split_at(end + 2))
+}
+
 /// Whether a text is quoted text (RFC 3261 25.1, `quoted-string`).
+#[tactic(auto, using(crate::proofs::QuoteEnds::is_whole, crate::proofs::QuoteEnds::is_open))]
 pub fn is_quoted(text: &[u8]) -> bool
     ensures { result ≡ is_some (unquoted text.now) }
 {
     let Some((b'"', inside)) = text.split_first() else {
         return false;
     };
-    let mut rest = inside;
-    while let Some((_, after)) = quoted_byte(rest) {
-        rest = after;
+    match quote_end(inside) {
+        Some(end) => end + 1 == inside.len(),
+        None => false,
     }
-    matches!(rest, [b'"'])
 }
 
 /// How many bytes stand for themselves at the front of a text.

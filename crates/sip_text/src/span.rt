@@ -6,8 +6,16 @@ pub struct Span {
 }
 
 impl Span {
-    ghost use Rattle.std.specs.Prelude.{◌≡◌};
+    ghost use Rattle.std.specs.Prelude.{◌≡◌, true};
     ghost use Rattle.sip_text.specs.Span.{IsWithin, part};
+
+    /// Only where it is another one. Takes no memory.
+    #[inline]
+    pub fn is_same(self, other: Span) -> bool
+        ensures { result ≡ true → self ≡ other }
+    {
+        self.start == other.start && self.end == other.end
+    }
 
     /// The bytes of this part.
     #[inline]

@@ -7,10 +7,10 @@ use Rattle.sip_timers.specs.declared.timer.Timer.{Timer}
 use Rattle.sip_timers.specs.Timers.{placed, without, keys_with, Stands}
 use Rattle.sip_timers.specs.Moves.{IsHeld, IsTied, Moves}
 
-count-one : (p : Timer → Bool) (t : Timer) → count_by p (t ∷ []) ≡ cond (p t) 1 0
+pub count-one : (p : Timer → Bool) (t : Timer) → count_by p (t ∷ []) ≡ cond (p t) 1 0
 count-one p t = let e : count_by p (t ∷ []) ≡ cond (p t) 1 0 + count_by p [] = sum_by-cons (λ (u : Timer). cond (p u) 1 0) t [] in omega arith
 
-count-append : (p : Timer → Bool) (xs ys : List Timer) → count_by p (xs ++ ys) ≡ count_by p xs + count_by p ys
+pub count-append : (p : Timer → Bool) (xs ys : List Timer) → count_by p (xs ++ ys) ≡ count_by p xs + count_by p ys
 count-append p xs ys = sum_by-append (λ (u : Timer). cond (p u) 1 0) xs ys
 
 pub stands : (ts : List Timer) (t : Timer) → IsHeld ts (t ∷ []) → Stands t ts

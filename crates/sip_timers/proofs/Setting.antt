@@ -106,7 +106,7 @@ AreSome-filter q ts us (Takes t ts' us' rest) = by_test (q t) (AreSome-filter q 
   by_test false some = LeavesOut t (filter q ts') us' some
 AreSome-filter q ts us (LeavesOut t ts' us' rest) = LeavesOut t (filter q ts') us' (AreSome-filter q ts' us' rest)
 
-all-append : (P : Timer → Type 0) (ts us : List Timer) → AllByRecursion P ts → AllByRecursion P us → AllByRecursion P (ts ++ us)
+pub all-append : (P : Timer → Type 0) (ts us : List Timer) → AllByRecursion P ts → AllByRecursion P us → AllByRecursion P (ts ++ us)
 all-append P [] us a b = b
 all-append P (t ∷ ts) us a b = (a.0, all-append P ts us a.1 b)
 

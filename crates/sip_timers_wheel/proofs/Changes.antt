@@ -11,7 +11,8 @@ use Rattle.sip_timers_wheel.specs.Places.{slot_of}
 use Rattle.sip_timers_wheel.specs.Order.{due_at}
 use Rattle.sip_timers_wheel.specs.Wheel.{StandInPlace, pending_in}
 use Rattle.sip_timers_wheel.proofs.Order.{StaysOrdered, AreOrdered-in_order, due_at-in_order, due_at-placed, due_at-other, same_by_dues}
-use Rattle.sip_timers_wheel.proofs.Lists.{due_at-concat, list_at-same, list_at-other, filter-swap, without-none, count-filter, count_split, count_le, count-at_le}
+use Rattle.sip_timers_wheel.proofs.Lists.{due_at-concat, list_at-same, list_at-other, filter-swap, without-none, count-at_le}
+use Rattle.sip_timers.proofs.Counting.{count_split, count_le, count-filter}
 
 -- by cases on whether two numbers are the same
 pub by_same : (P : Type 0) (x y : ℕ) → (x ≡ y → P) → (x ≢ y → P) → P

@@ -4,31 +4,17 @@ use Rattle.std.specs.Prelude.{not, ◌&&◌, filter, count_by}
 use Rattle.std.proofs.lemmas.Bool.Decides.{nat_tests}
 use Rattle.std.proofs.lemmas.List.{append-nil, get_or-set_same, get_or-set_other}
 use Rattle.std.proofs.lemmas.List.Elements.{filter-append}
-use Rattle.std.proofs.lemmas.List.Sums.{sum_by-cons, sum_by-append}
+use Rattle.std.proofs.lemmas.List.Sums.{sum_by-append}
 use Rattle.sip_timers.specs.declared.timer.Timer.{Timer}
 use Rattle.sip_timers.specs.Timers.{without, keys_with}
 use Rattle.sip_timers_wheel.specs.Lists.{list_at, concat}
 use Rattle.sip_timers_wheel.specs.Order.{due_at}
+use Rattle.sip_timers.proofs.Counting.{count-cons}
 
 -- ---- counts and filters
 
-pub count-cons : {X : Type 0} (p : X → Bool) (x : X) (xs : List X) → count_by p (x ∷ xs) ≡ cond (p x) 1 0 + count_by p xs
-count-cons p x xs = sum_by-cons (λ x. cond (p x) 1 0) x xs
-
 pub count-append : {X : Type 0} (p : X → Bool) (xs ys : List X) → count_by p (xs ++ ys) ≡ count_by p xs + count_by p ys
 count-append p xs ys = sum_by-append (λ x. cond (p x) 1 0) xs ys
-
-pub count-filter : {X : Type 0} (p q : X → Bool) (xs : List X) → count_by p (filter q xs) ≡ count_by (λ x. q x && p x) xs
-count-filter p q [] = refl
-count-filter p q (x ∷ xs) = grind (arith, count-filter p q xs, count-cons p x (filter q xs), count-cons (λ x. q x && p x) x xs)
-
-pub count_split : {X : Type 0} (p q : X → Bool) (xs : List X) → count_by p xs ≡ count_by (λ x. q x && p x) xs + count_by (λ x. not (q x) && p x) xs
-count_split p q [] = refl
-count_split p q (x ∷ xs) = grind (arith, count_split p q xs, count-cons p x xs, count-cons (λ x. q x && p x) x xs, count-cons (λ x. not (q x) && p x) x xs)
-
-pub count_le : {X : Type 0} (p q : X → Bool) (xs : List X) → ((x : X) → p x ≡ true → q x ≡ true) → count_by p xs ≤ count_by q xs
-count_le p q [] h = omega arith
-count_le p q (x ∷ xs) h = grind (arith, count_le p q xs h, count-cons p x xs, count-cons q x xs, h x)
 
 -- two filters in either order
 pub filter-swap : {X : Type 0} (p q : X → Bool) (xs : List X) → filter p (filter q xs) ≡ filter q (filter p xs)

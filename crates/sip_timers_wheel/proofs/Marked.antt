@@ -59,7 +59,7 @@ module _ (old new : List (List Timer)) (from to : ℕ) (some : 1 ≤ length (lis
 
 -- ---- no timer
 
-by_below : (P : Type 0) (x y : ℕ) → (x < y → P) → (y ≤ x → P) → P
+pub by_below : (P : Type 0) (x y : ℕ) → (x < y → P) → (y ≤ x → P) → P
 by_below P x y lt le =
     elim (ltb x y) as (λ v. (ltb x y ≡ v) → P) [
       | true ↦ (λ e. lt (grind (arith, nat_tests, e)))

@@ -1,20 +1,14 @@
 -- Words of marks.
-use Rattle.std.proofs.Common.{◌≡◌, ℕ, ◌+◌, ◌/◌, ◌%◌, ◌^◌, ◌-◌, ◌≤◌, ◌<◌, ltb, true, false, refl, ap, sym, ◌∙◌, arith, w64}
+use Rattle.std.proofs.Common.{◌≡◌, ℕ, ◌+◌, ◌/◌, ◌%◌, ◌^◌, ◌-◌, ◌≤◌, ◌<◌, ap, sym, ◌∙◌, arith, w64}
 use Rattle.std.specs.Int.{bit_at, trailing_zeros}
 use Rattle.std.proofs.lemmas.Bool.Decides.{nat_tests}
 use Rattle.std.proofs.lemmas.Nat.{shr-shr, shr_le, pow_pos}
 use Rattle.std.proofs.lemmas.Nat.Bits.{bit_at-trailing_zeros, bit_at_above}
 use Rattle.sip_timers_wheel.specs.Marks.{IsNextMark}
+use Rattle.sip_timers_wheel.proofs.Marked.{by_below}
 
 bit-above : (word from i : ℕ) → bit_at (word / 2 ^ from) i ≡ bit_at word (from + i)
 bit-above word from i = ap (λ x. x % 2) (shr-shr word from i)
-
-by_lt : (P : Type 0) (x y : ℕ) → (x < y → P) → (y ≤ x → P) → P
-by_lt P x y lt le =
-    elim (ltb x y) as (λ v. (ltb x y ≡ v) → P) [
-      | true ↦ (λ e. lt (grind (arith, nat_tests, e)))
-      | false ↦ (λ e. le (grind (arith, nat_tests, e)))
-    ] refl
 
 below-by : (x m : ℕ) → x / m ≡ 0 → 0 < m → x < m
 below-by x m e pos = grind (arith, nat_tests, e, pos)
@@ -31,7 +25,7 @@ module _ (word from : ℕ) (fits : word < 2 ^ 64) (within : from < 64) where
     bits-of = bit_at-trailing_zeros w64 (word / 2 ^ from) some (omega (arith, fits, shr_le word from))
 
     in-word : from + at < 64
-    in-word = by_lt (from + at < 64) (from + at) 64 (λ lt. lt)
+    in-word = by_below (from + at < 64) (from + at) 64 (λ lt. lt)
         (λ le. absurd (omega (arith, bits-of.1, bit-above word from at, bit_at_above word 64 (from + at) fits le)))
 
     pub mark-above : IsNextMark word from at
@@ -52,13 +46,13 @@ module _ (word from : ℕ) (fits : word < 2 ^ 64) (within : from < 64) where
     none-above i le = bit_at_above word from i (below-by word (2 ^ from) none (pow_pos from)) le
 
     first-below : first < from
-    first-below = by_lt (first < from) first from (λ lt. lt) (λ le. absurd (omega (arith, bits-of-word.1, none-above first le)))
+    first-below = by_below (first < from) first from (λ lt. lt) (λ le. absurd (omega (arith, bits-of-word.1, none-above first le)))
 
     pub mark-round : IsNextMark word from (64 - from + first)
     mark-round = record {
       within = omega (arith, first-below, within);
       marked = ap (λ p. bit_at word p) (omega (arith, first-below, within)) ∙ bits-of-word.1;
-      before = (λ i lt. by_lt (bit_at word ((from + i) % 64) ≡ 0) (from + i) 64
+      before = (λ i lt. by_below (bit_at word ((from + i) % 64) ≡ 0) (from + i) 64
           (λ low. ap (λ p. bit_at word p) (small (from + i) low) ∙ none-above (from + i) (omega arith))
           (λ high. bits-of-word.2 ((from + i) % 64) (omega (arith, lt, high, within, first-below))));
     }

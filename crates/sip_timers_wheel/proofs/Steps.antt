@@ -15,11 +15,12 @@ use Rattle.sip_timers_wheel.specs.Order.{due_at}
 use Rattle.sip_timers_wheel.specs.Wheel.{IsWheel, pending_in, IsFirstSlot, IsEmptyLevel, AreMoved, AreUnreached, GoesElsewhere}
 use Rattle.sip_timers_wheel.proofs.Order.{AreOrdered-in_order, StaysOrdered, StandsThen, due_at-same, count-in_order}
 use Rattle.sip_timers_wheel.proofs.Moments.{before_end, behind_level, behind_slot, slot_known, slot-late, slot-none, slot-in, same_start, start_le, level_below}
-use Rattle.sip_timers_wheel.proofs.Lists.{count-cons, without-none}
+use Rattle.sip_timers_wheel.proofs.Lists.{without-none}
 use Rattle.sip_timers_wheel.proofs.Changes.{by_same, seen, pushed-in_place, pushed-pending, key-here, gone-in_place, gone-pending}
 use Rattle.sip_timers_wheel.proofs.Moves.{by_moment, near_by_slot, moved-more, new-slot}
 use Rattle.sip_timers_wheel.proofs.First.{least-before, none-least, head-late, head-first, none-pending, some-is}
 use Rattle.sip_timers_wheel.proofs.Dues.{least_rising}
+use Rattle.sip_timers.proofs.Counting.{count-cons}
 
 -- a moment whose slot has a list is near
 pub near-by : (b d : ℕ) → slot_of b d < 321 → d < b + 1073741824

@@ -2,7 +2,7 @@
 use Rattle.std.proofs.Common.{◌≡◌, ◌∙◌, ℕ, Bool, true, false, cond, List, [], ◌∷◌, Option, Result, Some, None, Ok, Err, IfSome, IfOk, refl, sym, ap, subst, unwrap_or}
 use Rattle.std.specs.declared.alloc.AllocError.{AllocError}
 use Rattle.sip_forwarding.specs.declared.arrival.Arrival.{Arrival}
-use Rattle.sip_forwarding.specs.Arrivals.{arrival_of}
+use Rattle.sip_forwarding.specs.Arrivals.{arrival_of, arrived}
 use Rattle.sip_audit.specs.declared.record.Record.{Record}
 use Rattle.sip_core.specs.context_model.Opening.{closing}
 use Rattle.sip_core.specs.context_model.Sending.{answer_packet, made_answer}
@@ -10,9 +10,11 @@ use Rattle.sip_event.specs.declared.packet.Packet.{Packet}
 use Rattle.sip_message_fields.specs.declared.field.Field.{Field}
 use Rattle.sip_message_form.specs.declared.message.Message.{Message}
 use Rattle.sip_message_form.specs.Text.{text_of}
+use Rattle.sip_uri.specs.declared.addr.Addr.{Addr}
 use Rattle.sip_transaction_table.specs.declared.key.Key.{Key}
 use Rattle.sip_transaction_table.specs.Key.{key_of}
 use Rattle.sip_forwarding.specs.steps_model.Effect as Effects
+use Rattle.sip_dialog_lessons.specs.state.KeptRequest.{KeptRequest}
 use Rattle.sip_dialog_lessons.specs.state.declared.open_request.OpenRequest.{OpenRequest}
 use Rattle.sip_dialog_lessons.specs.state.declared.server.Server.{Server}
 use Rattle.sip_dialog_lessons.specs.state.State.{with_one_more}
@@ -97,3 +99,18 @@ replied_opens (Ok draft) a key m status text records full packet r is r_is withi
     subst (λ (o : Option OpenRequest). IfSome o (IsOpenable a key)) (sym (ap (λ (d : Draft). d.opened) drafted))
     (opened_has (IsOpenable a key) r full (subst (IsOpenable a key) (sym r_is) (closing_openable a key m status text is (fits final) within)))
 replied_opens (Err e) a key m status text records full packet r is r_is within drafted Final fits = tt
+
+-- ---- as it is made for the request that is kept, which came from where its datagram did
+
+pub packet_from : (server : Server) (a : Arrival) (k : KeptRequest) (status : ℕ) (extras : List Field) (packet : Packet) → k.source ≡ a.from
+    → packet ≡ answer_packet false a.number k.message k.source (text_of (made_answer server a.number k.message k.source status extras))
+    → packet ≡ answer_packet false a.number k.message a.from (text_by server a k.message status extras)
+packet_from server a k status extras packet same is =
+    is ∙ ap (λ (from : Addr). answer_packet false a.number k.message from (text_of (made_answer server a.number k.message from status extras))) same
+
+pub closing_from : (server : Server) (a : Arrival) (k : KeptRequest) (status : ℕ) (extras : List Field) (r : OpenRequest) → k.source ≡ a.from
+    → r ≡ closing (arrived a k) k.message status (text_of (made_answer server a.number k.message k.source status extras))
+    → r ≡ closing (arrival_of a) k.message status (text_by server a k.message status extras)
+closing_from server a k status extras r same is =
+    is ∙ ap (λ (from : Addr). closing (record (arrival_of a) { from = from }) k.message status (text_of (made_answer server a.number k.message from status extras)))
+    same

@@ -16,9 +16,9 @@ use Rattle.sip_uas.specs.Drafts.{Drafts}
 
 -- the nonces after it: a right credential is used up, whatever was decided (RFC 2617 3.2.2: nonce-count)
 abbrev pub after_use : JudgedRequest → List Nonce → List Nonce
-after_use r nonces = used nonces r.arrival.now r.judged.now.question.proof
+after_use r nonces = used nonces r.request.arrival.now r.judged.now.question.proof
 
 -- A draft has an effect of the request, with what becomes of the nonces, where the minute that was judged is that of the ruling on it.
 abbrev pub DraftsAnswer : JudgedRequest → (List Nonce → List Nonce) → (Server → Arrival → Message → Question → ProxyState → Effect) → Draft → Type 0
 DraftsAnswer r nonces effect draft = r.judged.now.minute ≡ minute_on r.server.now r.judged.now.question
-    → Drafts r.is_full r.arrival.now draft nonces None (effect r.server.now (arrival_of r.arrival) r.request r.judged.now.question)
+    → Drafts r.is_full r.request.arrival.now draft nonces None (effect r.server.now (arrival_of r.request.arrival) r.request.request.message r.judged.now.question)

@@ -1,23 +1,20 @@
 ghost use Rattle.std.specs.Prelude.{◌≡◌, ◌+◌, ◌<◌, ◌^◌, if◌then◌else◌, [], ◌∷◌, Some, None, IfOk, IfSome};
 ghost use Rattle.sip_forwarding.specs.Arrivals.{arrival_of};
-ghost use Rattle.sip_transaction_table.specs.Key.{key_of};
 ghost use Rattle.sip_forwarding.specs.steps_model.Effect as Effects;
 ghost use Rattle.model_transactions.specs.Fits.{IsFinalAnswer};
 ghost use Rattle.sip_uas.specs.Drafts.{Drafts, IsOpenable};
 
 use crate::draft::Draft;
+use crate::keyed_request::KeyedRequest;
 use model_transactions::fitting_events::opens_fitting;
 use model_transactions::openings::answered_at_once;
 use sip_audit::Record;
-use sip_base::Shared;
-use sip_core::state::Heard;
 use sip_dialog_lessons::Lessons;
 use sip_dialog_lessons::state::{OpenRequest, Server};
 use sip_fork::Opening;
-use sip_forwarding::{Arrival, Replied, reply};
+use sip_forwarding::{Replied, reply};
 use sip_message_fields::Fields;
 use sip_text::Items;
-use sip_transaction_table::Key;
 use std::alloc::{AllocError, Global};
 
 /// The request where it is to stand, unless there is no room for it.
@@ -63,28 +60,45 @@ fn drafted(
     })
 }
 
-/// What the final answer of a status does to a request that comes, made here with further fields, and recorded so: the
-/// answer goes, and the request is open from then on, unless 1,024 are (RFC 3261 8.2.6, 17.2). Nonces, bindings and
-/// dialogs stay. `AllocError` is the only refusal.
+/// What a final answer that is made here says: its status, and its further fields.
+#[derive(Drop)]
+pub struct FinalAnswer<'a> {
+    pub status: u16,
+    pub extras: &'a Fields,
+}
+
+/// What a final answer does to a request that comes, made here, and recorded so: the answer goes, and the request is open
+/// from then on, unless 1,024 are (RFC 3261 8.2.6, 17.2). Nonces, bindings and dialogs stay. `AllocError` is the only
+/// refusal.
 pub fn answer(
     alloc: Global,
     server: &Server,
-    arrival: Arrival,
-    key: Shared<Key>,
-    request: Shared<Heard>,
-    status: u16,
-    extras: &Fields,
+    request: KeyedRequest,
+    said: &FinalAnswer<'_>,
     records: Items<Record>,
     is_full: bool,
 ) -> Result<Draft, AllocError>
-    requires key { key_of request ≡ Some key }
-    requires now { arrival.now + 32000 < 2 ^ 64 }
-    ensures does { IfOk result (λ draft. Drafts is_full arrival.now draft (λ nonces. nonces) None
-        (Effects.replied server.now (arrival_of arrival) request status extras.now records)) }
-    ensures opens { IfOk result (λ draft. IsFinalAnswer status → IfSome draft.opened (IsOpenable arrival key)) }
+    requires { request.arrival.now + 32000 < 2 ^ 64 }
+    ensures does { IfOk result (λ draft. Drafts is_full request.arrival.now draft (λ nonces. nonces) None
+        (Effects.replied server.now (arrival_of request.arrival) request.request.message said.now.status said.now.extras.now records)) }
+    ensures opens { IfOk result (λ draft. IsFinalAnswer said.now.status
+        → IfSome draft.opened (IsOpenable request.arrival request.key)) }
 {
     opens_fitting();
     answered_at_once();
-    let replied = reply(alloc, server, arrival, key, request, status, extras)?;
+    let KeyedRequest {
+        arrival,
+        key,
+        request,
+    } = request;
+    let replied = reply(
+        alloc,
+        server,
+        arrival,
+        key,
+        request,
+        said.status,
+        said.extras,
+    )?;
     drafted(alloc, replied, records, is_full)
 }

@@ -1,37 +1,29 @@
 //! What is answered here to a request that policy decided about (RFC 3261 10.3, 16.5, 21.4.4, 22.1), each answer with its record.
 //! All of it is drafted; nothing changes here.
-ghost use Rattle.std.specs.Prelude.{◌≡◌, ◌+◌, ◌<◌, ◌^◌, true, [], ◌∷◌, Some, Ok, IfOk, IfSome, List};
-ghost use Rattle.sip_transaction_table.specs.Key.{key_of};
+ghost use Rattle.std.specs.Prelude.{◌≡◌, ◌+◌, ◌<◌, ◌^◌, true, [], ◌∷◌, Ok, IfOk, IfSome, List};
 
-use crate::answers::answer;
+use crate::answers::{FinalAnswer, answer};
 use crate::asking::nobody_status;
 use crate::draft::Draft;
+use crate::keyed_request::KeyedRequest;
 use crate::policy_records::records_of;
 use crate::{challenge_status, challenges_to, contact_fields, denial_fields};
 use sip_audit::Outcome as Recorded;
-use sip_base::Shared;
-use sip_core::state::Heard;
 use sip_core::{Judged, Registering};
 use sip_dialog_lessons::state::Server;
-use sip_forwarding::Arrival;
 use sip_location::Plan;
 use sip_message_fields::Fields;
 use sip_targets::Targets;
-use sip_transaction_table::Key;
 use std::alloc::{AllocError, Global};
 
 /// A request outside a dialog that was received, with what policy decided about it: all that its answer is made of.
 pub(crate) struct JudgedRequest<'a, 'v> {
     pub(crate) server: &'a Server,
-    /// The datagram that brought it.
-    pub(crate) arrival: Arrival,
-    pub(crate) key: Shared<Key>,
-    pub(crate) request: Shared<Heard>,
+    pub(crate) request: KeyedRequest,
     pub(crate) judged: &'a Judged<'v>,
     /// Whether 1,024 requests are open, so that it isn't kept.
     pub(crate) is_full: bool,
-    ghost key_is: { key_of request ≡ Some key },
-    ghost in_time: { arrival.now + 32000 < 2 ^ 64 },
+    ghost in_time: { request.arrival.now + 32000 < 2 ^ 64 },
 }
 
 /// Written out, so that it is proved once and not wherever one is dropped. One is dropped only for want of memory.
@@ -39,8 +31,6 @@ impl<'a, 'v> Drop for JudgedRequest<'a, 'v> {
     fn drop(self) {
         let JudgedRequest {
             server: _,
-            arrival: _,
-            key: _,
             request: _,
             judged: _,
             is_full: _,
@@ -74,37 +64,35 @@ impl<'a, 'v> JudgedRequest<'a, 'v> {
     ) -> Result<Draft, AllocError>
         ensures does { IfOk result (DraftsAnswer self.entry (λ nonces. nonces)
             (λ s a m q. Effects.replied s a m status extras.now (Effects.record_of s a m q outcome ∷ []))) }
-        ensures opens { IfOk result (λ draft. IsFinalAnswer status → IfSome draft.opened (IsOpenable self.entry.arrival self.entry.key)) }
+        ensures opens { IfOk result (λ draft. IsFinalAnswer status → IfSome draft.opened (IsOpenable self.entry.request.arrival self.entry.request.key)) }
     {
+        let said = FinalAnswer { status, extras };
+        let arrival = self.request.arrival;
         let records = records_of(
             alloc,
-            self.arrival,
-            self.request.get(),
+            arrival,
+            self.request.request.get(),
             self.judged,
             outcome,
         )?;
         let JudgedRequest {
             server,
-            arrival,
-            key,
             request,
             judged: _,
             is_full,
         } = self;
-        answer(
-            alloc, server, arrival, key, request, status, extras, records, is_full,
-        )
+        answer(alloc, server, request, &said, records, is_full)
     }
 
     /// It is challenged (RFC 3261 22.1).
     pub(crate) fn challenged(self, alloc: Global) -> Result<Draft, AllocError>
         ensures does { IfOk result (DraftsAnswer self.entry
-            (λ nonces. issued (after_use self.entry nonces) self.entry.arrival.word self.entry.arrival.now) Effects.challenged) }
-        ensures opens { IfOk result (λ draft. IfSome draft.opened (IsOpenable self.entry.arrival self.entry.key)) }
+            (λ nonces. issued (after_use self.entry nonces) self.entry.request.arrival.word self.entry.request.arrival.now) Effects.challenged) }
+        ensures opens { IfOk result (λ draft. IfSome draft.opened (IsOpenable self.entry.request.arrival self.entry.request.key)) }
     {
         let question = &self.judged.question;
         let status = challenge_status(&question.operation);
-        let extras = challenges_to(alloc, self.server, self.arrival.word, question)?;
+        let extras = challenges_to(alloc, self.server, self.request.arrival.word, question)?;
         let outcome = Recorded::Challenge { status };
         self.replied(alloc, outcome, status, &extras)
     }
@@ -112,7 +100,7 @@ impl<'a, 'v> JudgedRequest<'a, 'v> {
     /// A rule denies it (RFC 3261 21.4.4).
     pub(crate) fn denied(self, alloc: Global, rule: u32) -> Result<Draft, AllocError>
         ensures does { IfOk result (DraftsAnswer self.entry (after_use self.entry) (λ s a m q. Effects.denied s a m q rule)) }
-        ensures opens { IfOk result (λ draft. IfSome draft.opened (IsOpenable self.entry.arrival self.entry.key)) }
+        ensures opens { IfOk result (λ draft. IfSome draft.opened (IsOpenable self.entry.request.arrival self.entry.request.key)) }
     {
         let extras = denial_fields(alloc, self.server, rule)?;
         let outcome = Recorded::Deny { rule };
@@ -129,7 +117,7 @@ impl<'a, 'v> JudgedRequest<'a, 'v> {
     ) -> Result<Draft, AllocError>
         ensures does { IfOk result (DraftsAnswer self.entry (after_use self.entry)
             (λ s a m q. Effects.answered_by_rule s a m q rule status extras.now)) }
-        ensures opens { IfOk result (λ draft. IsFinalAnswer status → IfSome draft.opened (IsOpenable self.entry.arrival self.entry.key)) }
+        ensures opens { IfOk result (λ draft. IsFinalAnswer status → IfSome draft.opened (IsOpenable self.entry.request.arrival self.entry.request.key)) }
     {
         let outcome = Recorded::Answer { rule, status };
         self.replied(alloc, outcome, status, extras)
@@ -145,7 +133,7 @@ impl<'a, 'v> JudgedRequest<'a, 'v> {
         requires { Asking.are_nobody targets.now ≡ true }
         ensures does { IfOk result (DraftsAnswer self.entry (after_use self.entry)
             (λ s a m q. Effects.sending s a m q rule targets.now)) }
-        ensures opens { IfOk result (λ draft. IfSome draft.opened (IsOpenable self.entry.arrival self.entry.key)) }
+        ensures opens { IfOk result (λ draft. IfSome draft.opened (IsOpenable self.entry.request.arrival self.entry.request.key)) }
     {
         let extras = Fields::new(alloc);
         let status = nobody_status(targets);
@@ -155,13 +143,13 @@ impl<'a, 'v> JudgedRequest<'a, 'v> {
     /// It is a REGISTER that is taken, and the 200 lists what is bound after it (RFC 3261 10.3 step 8).
     fn bound(self, alloc: Global, rule: u32, plan: &Plan) -> Result<Draft, AllocError>
         ensures does { IfOk result (λ draft. (rows after : List Binding) (r : Registration)
-            → IsPlan rows r self.entry.arrival.now plan.now → registered rows r self.entry.arrival.now ≡ Ok after
+            → IsPlan rows r self.entry.request.arrival.now plan.now → registered rows r self.entry.request.arrival.now ≡ Ok after
             → plan.now.aor ≡ self.entry.judged.now.question.target
             → DraftsAnswer self.entry (after_use self.entry) (λ s a m q. Effects.answered_by_rule s a m q rule 200
             (Effects.contact_fields a.now q.target after)) draft) }
-        ensures opens { IfOk result (λ draft. IfSome draft.opened (IsOpenable self.entry.arrival self.entry.key)) }
+        ensures opens { IfOk result (λ draft. IfSome draft.opened (IsOpenable self.entry.request.arrival self.entry.request.key)) }
     {
-        let extras = contact_fields(alloc, self.arrival.now, plan)?;
+        let extras = contact_fields(alloc, self.request.arrival.now, plan)?;
         self.answered_by_rule(alloc, rule, 200, &extras)
     }
 
@@ -175,13 +163,13 @@ impl<'a, 'v> JudgedRequest<'a, 'v> {
         ensures does { IfOk result (λ draft.
             self.entry.judged.now.minute ≡ Definition.minute_on self.entry.server.now self.entry.judged.now.question
             → (state : ProxyState) (registered : Definition.Registered) → Definition.is_full state ≡ self.entry.is_full
-            → ComesTo state.bindings self.entry.arrival.now self.entry.judged.now.question.target registered outcome.now
-            → Does self.entry.arrival.now draft (after_use self.entry state.nonces) (plan_in outcome.now) state
-            (Effects.registering self.entry.server.now (arrival_of self.entry.arrival) self.entry.request
+            → ComesTo state.bindings self.entry.request.arrival.now self.entry.judged.now.question.target registered outcome.now
+            → Does self.entry.request.arrival.now draft (after_use self.entry state.nonces) (plan_in outcome.now) state
+            (Effects.registering self.entry.server.now (arrival_of self.entry.request.arrival) self.entry.request.request.message
             self.entry.judged.now.question rule registered state)) }
         ensures opens { IfOk result (λ draft. (rows : List Binding) (registered : Definition.Registered)
-            → ComesTo rows self.entry.arrival.now self.entry.judged.now.question.target registered outcome.now
-            → Asking.RefusesFinally registered → IfSome draft.opened (IsOpenable self.entry.arrival self.entry.key)) }
+            → ComesTo rows self.entry.request.arrival.now self.entry.judged.now.question.target registered outcome.now
+            → Asking.RefusesFinally registered → IfSome draft.opened (IsOpenable self.entry.request.arrival self.entry.request.key)) }
     {
         match outcome {
             Registering::Planned(plan) => self.bound(alloc, rule, plan),

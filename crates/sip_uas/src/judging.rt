@@ -1,6 +1,5 @@
-ghost use Rattle.std.specs.Prelude.{◌≡◌, ◌+◌, ◌<◌, ◌^◌, true, Some, IfOk, IfSome, List, Option};
+ghost use Rattle.std.specs.Prelude.{◌≡◌, ◌+◌, ◌<◌, ◌^◌, true, IfOk, IfSome, List, Option};
 ghost use Rattle.sip_forwarding.specs.Arrivals.{arrival_of};
-ghost use Rattle.sip_transaction_table.specs.Key.{key_of};
 ghost use Rattle.sip_forwarding.specs.steps_model.Effect as Effects;
 ghost use Rattle.sip_dialog_lessons.specs.state.declared.open_request.OpenRequest.{OpenRequest};
 ghost use Rattle.sip_dialog_lessons.specs.state.declared.proxy_state.ProxyState.{ProxyState};
@@ -13,12 +12,9 @@ ghost use Rattle.sip_uas.specs.Drafts.{Does, IsOpenable};
 
 use crate::draft::Draft;
 use crate::judged_request::JudgedRequest;
-use sip_base::Shared;
-use sip_core::state::Heard;
+use crate::keyed_request::KeyedRequest;
 use sip_core::{Judged, Outcome};
 use sip_dialog_lessons::state::Server;
-use sip_forwarding::Arrival;
-use sip_transaction_table::Key;
 use std::alloc::{AllocError, Global};
 
 /// What is done with a request outside a dialog that is answered here, of what policy decided about it: it is
@@ -28,28 +24,23 @@ use std::alloc::{AllocError, Global};
 pub fn judged(
     alloc: Global,
     server: &Server,
-    arrival: Arrival,
-    key: Shared<Key>,
-    request: Shared<Heard>,
+    request: KeyedRequest,
     judged: &Judged<'_>,
     is_full: bool,
 ) -> Result<Draft, AllocError>
-    requires key { key_of request ≡ Some key }
-    requires now { arrival.now + 32000 < 2 ^ 64 }
+    requires now { request.arrival.now + 32000 < 2 ^ 64 }
     requires here { Asking.is_answered_here judged.now.outcome ≡ true }
     ensures does { IfOk result (λ draft. (state : ProxyState) (rows : List Binding) (named : Option OpenRequest)
         (verdict : Definition.Verdict) → state.bindings ≡ rows → Definition.is_full state ≡ is_full
-        → Is server.now rows arrival.now named verdict (Arrived.Judged judged.now)
-        → Does arrival.now draft (Asking.after_asking (arrival_of arrival) judged.now state.nonces) (plan_of judged.now.outcome) state
-        (Effects.effect_of server.now (arrival_of arrival) request verdict state)) }
+        → Is server.now rows request.arrival.now named verdict (Arrived.Judged judged.now)
+        → Does request.arrival.now draft (Asking.after_asking (arrival_of request.arrival) judged.now state.nonces) (plan_of judged.now.outcome) state
+        (Effects.effect_of server.now (arrival_of request.arrival) request.request.message verdict state)) }
     ensures opens { IfOk result (λ draft. (rows : List Binding) (named : Option OpenRequest) (verdict : Definition.Verdict)
-        → Is server.now rows arrival.now named verdict (Arrived.Judged judged.now) → Asking.AnswersFinally verdict
-        → IfSome draft.opened (IsOpenable arrival key)) }
+        → Is server.now rows request.arrival.now named verdict (Arrived.Judged judged.now) → Asking.AnswersFinally verdict
+        → IfSome draft.opened (IsOpenable request.arrival request.key)) }
 {
     let received = JudgedRequest {
         server,
-        arrival,
-        key,
         request,
         judged,
         is_full,

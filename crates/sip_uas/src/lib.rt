@@ -15,23 +15,26 @@ mod contacts;
 mod draft;
 mod judged_request;
 mod judging;
+mod keyed_request;
 pub mod laws;
 mod policy_records;
 mod records;
 mod refusals;
 
-pub use answers::answer;
+pub use answers::{FinalAnswer, answer};
 pub use asking::is_answered_here;
 pub use challenges::{challenge_name, challenge_status, challenges_to};
 pub use contacts::contact_fields;
 pub use draft::Draft;
 pub use judging::judged;
-pub use records::{method_of, record_of, recorded};
+pub use keyed_request::KeyedRequest;
+pub use policy_records::records_of;
+pub use records::{method_of, recorded};
 pub use refusals::denial_fields;
 
 /// Of `sip_forwarding`.
 pub mod forwarding {
-    pub use sip_forwarding::{Arrival, change_packets, reply};
+    pub use sip_forwarding::{Arrival, put_packets, reply};
 }
 
 /// Of `model_transactions`.

@@ -4,7 +4,7 @@ ghost use Rattle.sip_forwarding.specs.steps_model.Effect as Effects;
 ghost use Rattle.sip_dialog_lessons.specs.state.declared.server.Server.{Server};
 ghost use Rattle.sip_core.specs.verdict_model.Verdict.{minute_on};
 
-use crate::record_of;
+use crate::records::record_of;
 use sip_audit::{Outcome, Record};
 use sip_core::Judged;
 use sip_core::state::Heard;
@@ -12,8 +12,8 @@ use sip_forwarding::Arrival;
 use sip_text::Items;
 use std::alloc::{AllocError, Global};
 
-/// What is recorded of a request that policy was asked about, and of which this became.
-pub(crate) fn records_of(
+/// What is recorded of a request that policy was asked about, and of which this became. `AllocError` is the only refusal.
+pub fn records_of(
     alloc: Global,
     arrival: Arrival,
     request: &Heard,
@@ -21,17 +21,8 @@ pub(crate) fn records_of(
     outcome: Outcome,
 ) -> Result<Items<Record>, AllocError>
     ensures { IfOk result (λ records. (server : Server) → judged.now.minute ≡ minute_on server judged.now.question
-        → records ≡ Effects.record_of server (arrival_of arrival) request.now judged.now.question outcome ∷ []) }
+        → records ≡ Effects.record_of server (arrival_of arrival) request.now.message judged.now.question outcome ∷ []) }
 {
-    let question = &judged.question;
-    let records = record_of(
-        alloc,
-        arrival.number,
-        arrival.now,
-        &request.start(),
-        question,
-        judged.minute,
-        outcome,
-    )?;
+    let records = record_of(alloc, arrival, &request.start(), judged, outcome)?;
     Ok(records)
 }

@@ -1,14 +1,15 @@
-ghost use Rattle.std.specs.Prelude.{◌≡◌, [], ◌∷◌, ℕ, IfOk};
+ghost use Rattle.std.specs.Prelude.{◌≡◌, [], ◌∷◌, IfOk};
 ghost use Rattle.std.specs.Option.{option_copied};
 ghost use Rattle.sip_message_form.specs.declared.message.Message.{Message};
 ghost use Rattle.sip_message_form.specs.ViewStart.{start_seen};
-ghost use Rattle.sip_uri.specs.declared.addr.Addr.{Addr};
+ghost use Rattle.sip_forwarding.specs.Arrivals.{arrival_of};
 ghost use Rattle.sip_forwarding.specs.steps_model.Effect as Effects;
 ghost use Rattle.sip_dialog_lessons.specs.state.declared.server.Server.{Server};
 ghost use Rattle.sip_core.specs.verdict_model.Verdict.{minute_on};
 
 use sip_audit::{Outcome, Record};
-use sip_core::verdict_model::Question;
+use sip_core::Judged;
+use sip_forwarding::Arrival;
 use sip_message_form::ViewStart;
 use sip_policy::Operation;
 use sip_text::{Bytes, Items};
@@ -45,34 +46,33 @@ fn copied_name(alloc: Global, name: Option<&[u8]>) -> Result<Option<Bytes>, Allo
     }
 }
 
-/// What is recorded of a request with this first line that policy was asked about, and that came at a moment in the
-/// datagram of a number: its method, the name of the user that it proves to come from, the address of record that it is
-/// for, the minute of the ruling on it, and what became of it. It is made where it stands. `AllocError` is the only refusal.
-pub fn record_of(
+/// What is recorded of a request with this first line that policy was asked about, and that came in a datagram: its method,
+/// the name of the user that it proves to come from, the address of record that it is for, the minute of the ruling on it,
+/// and what became of it. It is made where it stands.
+pub(crate) fn record_of(
     alloc: Global,
-    number: u64,
-    now: u64,
+    arrival: Arrival,
     start: &ViewStart<'_>,
-    question: &Question<'_>,
-    minute: Option<u16>,
+    judged: &Judged<'_>,
     outcome: Outcome,
 ) -> Result<Items<Record>, AllocError>
-    ensures { IfOk result (λ made. (server : Server) (word : ℕ) (from : Addr) (request : Message) → request.start ≡ start_seen start.now
-        → minute ≡ minute_on server question.now → made ≡ Effects.record_of server
-        (record { number = number; now = now; word = word; from = from }) request question.now outcome ∷ []) }
+    ensures { IfOk result (λ made. (server : Server) (request : Message) → request.start ≡ start_seen start.now
+        → judged.now.minute ≡ minute_on server judged.now.question
+        → made ≡ Effects.record_of server (arrival_of arrival) request judged.now.question outcome ∷ []) }
 {
+    let question = &judged.question;
     let mut records = Items::with_room(alloc, 1)?;
     let method = Bytes::copy(alloc, method_of(start))?;
     let who = copied_name(alloc, question.proof.name())?;
     let target = question.target.clone()?;
     records.push(Record {
-        at: now,
-        number,
+        at: arrival.now,
+        number: arrival.number,
         method,
         who,
         target,
         operation: recorded(&question.operation),
-        minute,
+        minute: judged.minute,
         outcome,
     })?;
     Ok(records)

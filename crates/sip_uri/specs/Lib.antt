@@ -6,8 +6,6 @@ pub mod Parts
 pub mod Uri
 pub mod Reading
 pub mod PlainPlace
-pub mod PlainUri
-pub mod UriForm
 pub mod Aor
 pub mod Examples
 pub mod UriError

@@ -2,7 +2,7 @@
 use Rattle.std.specs.Prelude.{◌≡◌, ◌⊎◌, ℕ, Bool, true, ◌||◌, ◌==◌, List, [], ◌∷◌, ◌++◌, codes, Option, Some, None, option_map, Ok}
 use Rattle.std.specs.Str.{byte}
 use Rattle.std.specs.List.{list_all}
-use Rattle.sip_uri.specs.Host.{is_place_byte}
+use Rattle.sip_uri.specs.Host.{is_host_byte, is_place_byte}
 use Rattle.sip_uri.specs.Port.{port_value}
 use Rattle.sip_uri.specs.declared.user.UserInfo.{UserInfo}
 use Rattle.sip_uri.specs.declared.parameters.Parameter.{Parameter}
@@ -50,3 +50,21 @@ pub record IsUriAt (text host : List ℕ) (port : Option ℕ) (rest : List ℕ) 
     parameters = loose_routing;
     headers = [];
   })
+
+-- a user with its `@`, if there is one
+abbrev pub user_front : List ℕ → List ℕ
+user_front [] = []
+user_front (b ∷ bs) = (b ∷ bs) ++ codes "@"
+
+-- the user without a password, if there is one
+abbrev pub info_of : List ℕ → Option UserInfo
+info_of [] = None
+info_of (b ∷ bs) = Some (record { user = b ∷ bs; password = None })
+
+-- A text begins with a `sip` URI that has this user, if it isn't empty, this host and this number of a port, if it has one, and this follows it.
+pub record IsUriOf (text user host : List ℕ) (port : Option ℕ) (rest : List ℕ) : Type 0 where
+  pub at : IsUriAt text host port rest
+  pub plain : list_all is_host_byte user ≡ true
+  pub after : List ℕ
+  pub whole : at.front ≡ codes "sip:" ++ (user_front user ++ (host ++ after))
+  pub named : at.info ≡ info_of user

@@ -1,9 +1,9 @@
 //! IPv4 addresses and UDP ports, and their texts, read and written. What address a host has is said in `sip_hops`.
-ghost use Rattle.std.specs.Prelude.{◌≡◌, Some, IfOk, OnOk, codes, decimal, ◌++◌, option_map};
+ghost use Rattle.std.specs.Prelude.{◌≡◌, true, Some, IfOk, OnOk, codes, decimal, ◌++◌, option_map};
 ghost use Rattle.std.specs.Option.{option_and_then};
 ghost use Rattle.sip_uri.specs.Addresses;
 
-use sip_text::{Bytes, plain_port, split_once};
+use sip_text::{Bytes, plain_port, same_bytes, split_once};
 use std::alloc::{AllocError, Global};
 
 /// Where datagrams come from and go to: an IPv4 address and a UDP port.
@@ -11,6 +11,15 @@ use std::alloc::{AllocError, Global};
 pub struct Addr {
     pub ip: [u8; 4],
     pub port: u16,
+}
+
+impl Addr {
+    /// Only where it is another one. Takes no memory.
+    pub fn is_same(self, other: Addr) -> bool
+        ensures { result ≡ true → self ≡ other }
+    {
+        same_bytes(self.ip.as_slice(), other.ip.as_slice()) && self.port == other.port
+    }
 }
 
 /// The room for the longest text of an IPv4 address.

@@ -3,7 +3,8 @@
 //! dotted text among them.
 //!
 //! - Used: whoever reads an address of a message or of the configuration; the program prints addresses.
-//! - Not here: whether two URIs are equal (`sip_uri_equality`), and where one leads (`sip_hops`).
+//! - Not here: whether two URIs are equal (`sip_uri_equality`), where one leads (`sip_hops`), and URIs that are lent
+//!   (`sip_uri_ref`).
 //! - Tried: worked examples in `src/examples.rt`, as contracts that compute and `host_examples.rt`; `test_parts`.
 //!
 //! ```text
@@ -25,13 +26,10 @@ mod parameters;
 mod parts;
 mod place;
 mod plain;
-mod plain_uri;
 mod port;
 mod reading;
 mod scheme;
 mod uri;
-mod uri_form;
-mod uri_ref;
 mod user;
 mod writing;
 
@@ -41,11 +39,10 @@ pub use error::UriError;
 pub use headers::UriHeader;
 pub use host::{begins_bracket, host_port, is_host, place_at, place_in};
 pub use parameters::Parameter;
-pub use plain::{plain_place, plain_uri_at};
+pub use plain::{plain_parts, plain_place, plain_uri_at};
 pub use port::port_value;
 pub use reading::{parse_uri, uri_in};
 pub use scheme::Scheme;
 pub use uri::Uri;
-pub use uri_ref::UriRef;
 pub use user::UserInfo;
 pub use writing::write_uri;

@@ -1,8 +1,7 @@
 //! URIs of the plainest forms: their user, host and port where they stand, so that no URI is made.
 //! `parse_uri` reads every form.
 ghost use Rattle.std.specs.Prelude.{◌≡◌, ◌⊎◌, true, codes, option_map, IfSome, Some, None};
-ghost use Rattle.sip_uri.specs.PlainPlace.{HasUser, IsPlain, IsUriAt};
-ghost use Rattle.sip_uri.specs.PlainUri.{IsUriOf};
+ghost use Rattle.sip_uri.specs.PlainPlace.{HasUser, IsPlain, IsUriAt, IsUriOf};
 
 use crate::host::{place_at, place_by, split_name};
 use crate::parts::behind_place;
@@ -62,9 +61,9 @@ pub fn plain_place(text: &[u8]) -> Option<(&[u8], Option<u16>)>
 
 /// The user, which is empty where there is none, the host, the number of the port, if one is written, and what follows, of a
 /// `sip` URI at the front of a text that has neither parameters nor headers, and whose user, if it has one, is of bytes of a
-/// host name: so each byte is read once. None says nothing.
+/// host name: so each byte is read once. None says nothing. Takes no memory.
 #[inline]
-pub(crate) fn plain_parts(text: &[u8]) -> Option<(&[u8], &[u8], Option<u16>, &[u8])>
+pub fn plain_parts(text: &[u8]) -> Option<(&[u8], &[u8], Option<u16>, &[u8])>
     ensures { IfSome result (λ x. IsUriOf text.now x.0.now x.1.now x.2 x.3.now) }
 {
     let text = behind_sip(text)?;
@@ -81,8 +80,8 @@ pub(crate) fn plain_parts(text: &[u8]) -> Option<(&[u8], &[u8], Option<u16>, &[u
     Some((name, host, number_of(port), rest))
 }
 
-/// The host, the number of the port, if one is written, and what follows, of such a URI at the front of a text, as
-/// [`crate::UriRef::plain_at`] keeps it. None says nothing. Takes no memory.
+/// The host, the number of the port, if one is written, and what follows, of such a URI at the front of a text. None says
+/// nothing. Takes no memory.
 #[inline]
 pub fn plain_uri_at(text: &[u8]) -> Option<(&[u8], Option<u16>, &[u8])>
     ensures { IfSome result (λ x. IsUriAt text.now x.0.now x.1 x.2.now) }

@@ -16,7 +16,8 @@ use Rattle.sip_uri_equality.specs.Equality.{is_same_header, stands_as_often, are
 use Rattle.sip_uri_equality.specs.Order.{order_of_texts, order_of_headers, AreInOrder}
 use Rattle.sip_uri_equality.proofs.Equal.{all_true}
 use Rattle.sip_uri_equality.proofs.TextLaws.{order_is_total, tie_is_same}
-use Rattle.sip_uri_equality.proofs.OrderLaws.{alike, all_behind, all_behind_other}
+use Rattle.sip_uri_equality.proofs.OrderLaws.{all_behind, all_behind_other}
+use Rattle.sip_text.proofs.Differing.{alike}
 
 -- ---- the order
 

@@ -10,12 +10,6 @@ use Rattle.std.proofs.lemmas.Cmp.{upto, alike_right}
 use Rattle.std.proofs.lemmas.List.Sorted.{list_any-IsPermutation, IsPermutation-map}
 use Rattle.sip_uri_equality.specs.Order.{AreInOrder, those_of}
 
-pub alike : (a b : Bool) → (a ≡ true → b ≡ true) → (b ≡ true → a ≡ true) → a ≡ b
-alike true true f g = refl
-alike true false f g = sym (f refl)
-alike false true f g = g refl
-alike false false f g = refl
-
 -- ---- from neighbours to all
 
 turned : (o p : Ordering) → o ≡ ordering_reverse p → is_lt p ≡ false → is_gt o ≡ false

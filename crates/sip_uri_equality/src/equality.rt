@@ -70,8 +70,8 @@ pub(crate) fn is_same_place(left: &Uri, right: &Uri) -> bool
 
 /// Whether two URIs are equal (RFC 3261 19.1.4): scheme, user, password, host, port, parameters and headers
 /// match, user and password compared with case. A parameter that only one URI has is ignored, unless it is
-/// `user`, `ttl`, `method`, `maddr` or `transport`; headers match in any order. Not transitive. Takes no memory,
-/// and time that grows little faster than the URIs, up to the largest that a datagram brings.
+/// `user`, `ttl`, `method`, `maddr` or `transport`; headers match in any order. Not transitive. Takes time
+/// that grows little faster than the URIs, and memory where one has more than 256 parameters or headers; without memory, more time.
 pub fn same(left: &Uri, right: &Uri) -> bool
     ensures { result ≡ Definitions.same left.now right.now }
 {

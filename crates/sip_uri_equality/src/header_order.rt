@@ -1,13 +1,14 @@
-ghost use Rattle.std.specs.Prelude.{◌≡◌, ◌≤◌, ◌<◌, length};
+ghost use Rattle.std.specs.Prelude.{◌≡◌, ◌≤◌, ◌<◌, length, IfOk};
 ghost use Rattle.std.specs.Cmp.Lexicographic.{pointwise};
 ghost use Rattle.std.specs.List.Sorted.{IsPermutation};
 ghost use Rattle.sip_uri_equality.specs.Equality as Definitions;
-ghost use Rattle.sip_uri_equality.specs.Order.{order_of_headers, AreInOrder, those_of};
+ghost use Rattle.sip_uri_equality.specs.Order.{order_of_headers, AreInOrder, ArePutInOrder, those_of};
 
 use crate::headers::is_same_header;
-use crate::places::{MOST, SOME, refer_to};
+use crate::places::{SOME, refer_to};
 use crate::texts::compare_texts;
 use sip_uri::UriHeader;
+use std::alloc::{AllocError, Global};
 use std::cmp::Ordering;
 
 /// The order of two headers: of their names, then of their values.
@@ -72,7 +73,7 @@ fn are_same_in_places<'a>(
     ordered_are_same(left_places, right_places)
 }
 
-/// The same as [`many_are_same`], in fewer places.
+/// Whether two lists have the same headers, where there are few enough for places on the stack.
 pub(crate) fn some_are_same<'a>(left: &'a [UriHeader], right: &'a [UriHeader]) -> bool
     requires left { (0 < length left.now) × (length left.now ≤ 256) }
     requires right { (0 < length right.now) × (length right.now ≤ 256) }
@@ -83,13 +84,30 @@ pub(crate) fn some_are_same<'a>(left: &'a [UriHeader], right: &'a [UriHeader]) -
     are_same_in_places(left, right, &mut left_places, &mut right_places)
 }
 
-/// Whether two lists have the same headers, compared in order. Takes its places on the stack.
-pub(crate) fn many_are_same<'a>(left: &'a [UriHeader], right: &'a [UriHeader]) -> bool
-    requires left { (0 < length left.now) × (length left.now ≤ 24576) }
-    requires right { (0 < length right.now) × (length right.now ≤ 24576) }
-    ensures { result ≡ Definitions.are_same_headers left.now right.now }
+/// Headers in order, in places of their own. `AllocError` is the only refusal.
+pub(crate) fn in_order<'a>(
+    alloc: Global,
+    headers: &'a [UriHeader],
+) -> Result<Vec<&'a UriHeader>, AllocError>
+    ensures { IfOk result (λ places. ArePutInOrder order_of_headers headers.now places.items) }
 {
-    let mut left_places = [&left[0]; MOST];
-    let mut right_places = [&right[0]; MOST];
-    are_same_in_places(left, right, &mut left_places, &mut right_places)
+    let Some(first) = headers.first() else {
+        return Ok(Vec::new(alloc));
+    };
+    let mut places = Vec::from_elem(alloc, first, headers.len())?;
+    put_in_order(places.as_mut_slice(), headers);
+    Ok(places)
+}
+
+/// Whether two lists have the same headers, however many there are. `AllocError` is the only refusal.
+pub(crate) fn many_are_same(
+    alloc: Global,
+    left: &[UriHeader],
+    right: &[UriHeader],
+) -> Result<bool, AllocError>
+    ensures { IfOk result (λ is_same. is_same ≡ Definitions.are_same_headers left.now right.now) }
+{
+    let left_places = in_order(alloc, left)?;
+    let right_places = in_order(alloc, right)?;
+    Ok(ordered_are_same(left_places.as_slice(), right_places.as_slice()))
 }

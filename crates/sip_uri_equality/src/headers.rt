@@ -3,7 +3,7 @@ ghost use Rattle.std.specs.List.{list_all, count_by};
 ghost use Rattle.sip_uri_equality.specs.Equality as Definitions;
 
 use crate::header_order::{many_are_same, some_are_same};
-use crate::places::{FEW, MOST, SOME};
+use crate::places::{FEW, SOME};
 use crate::texts::says_same_no_case;
 use sip_uri::UriHeader;
 
@@ -53,8 +53,8 @@ pub(crate) fn are_same_headers(left: &[UriHeader], right: &[UriHeader]) -> bool
     if left.len() <= SOME && right.len() <= SOME {
         return some_are_same(left, right);
     }
-    if left.len() <= MOST && right.len() <= MOST {
-        return many_are_same(left, right);
+    match many_are_same(left[0].name.allocator(), left, right) {
+        Ok(is_same) => is_same,
+        Err(_) => few_are_same(left, right),
     }
-    few_are_same(left, right)
 }

@@ -1,6 +1,5 @@
 ghost use Rattle.std.specs.Prelude.{◌≡◌, IfOk};
 ghost use Rattle.sip_uri_equality.specs.Equality as Definitions;
-ghost use Rattle.sip_uri_equality.specs.Order.{order_of_names, order_of_headers, ArePutInOrder};
 
 use crate::equality::is_same_place;
 use crate::{header_order, parameter_order};
@@ -28,43 +27,13 @@ impl<'a> Model for Ordered<'a> {
         × ArePutInOrder order_of_headers o.uri.now.headers o.headers.items };
 }
 
-/// Parameters in order of their names.
-fn parameters_in_order<'a>(
-    alloc: Global,
-    parameters: &'a [Parameter],
-) -> Result<Vec<&'a Parameter>, AllocError>
-    ensures { IfOk result (λ places. ArePutInOrder order_of_names parameters.now places.items) }
-{
-    let Some(first) = parameters.first() else {
-        return Ok(Vec::new(alloc));
-    };
-    let mut places = Vec::from_elem(alloc, first, parameters.len())?;
-    parameter_order::put_in_order(places.as_mut_slice(), parameters);
-    Ok(places)
-}
-
-/// Headers in order.
-fn headers_in_order<'a>(
-    alloc: Global,
-    headers: &'a [UriHeader],
-) -> Result<Vec<&'a UriHeader>, AllocError>
-    ensures { IfOk result (λ places. ArePutInOrder order_of_headers headers.now places.items) }
-{
-    let Some(first) = headers.first() else {
-        return Ok(Vec::new(alloc));
-    };
-    let mut places = Vec::from_elem(alloc, first, headers.len())?;
-    header_order::put_in_order(places.as_mut_slice(), headers);
-    Ok(places)
-}
-
 impl<'a> Ordered<'a> {
     /// A URI, put in order. `AllocError` is the only refusal; without parameters and headers it takes no memory.
     pub fn of(alloc: Global, uri: &'a Uri) -> Result<Self, AllocError>
         ensures { IfOk result (λ ordered. ordered ≡ uri.now) }
     {
-        let parameters = parameters_in_order(alloc, uri.parameters.as_slice())?;
-        let headers = headers_in_order(alloc, uri.headers.as_slice())?;
+        let parameters = parameter_order::in_order(alloc, uri.parameters.as_slice())?;
+        let headers = header_order::in_order(alloc, uri.headers.as_slice())?;
         Ok(Ordered {
             uri,
             parameters,

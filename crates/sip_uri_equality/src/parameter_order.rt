@@ -1,17 +1,18 @@
 //! Parameters of two URIs compared in order of their names, where each with each would cost too much.
-//! Where one list is short, or is longer than there are places for, `parameters` compares each with each.
-ghost use Rattle.std.specs.Prelude.{◌≡◌, ◌≤◌, ◌<◌, ◌+◌, length, not, ◌∷◌, true, false};
+//! Where one list is short, or no memory is left for places, `parameters` compares each with each.
+ghost use Rattle.std.specs.Prelude.{◌≡◌, ◌≤◌, ◌<◌, ◌+◌, length, not, ◌∷◌, true, false, IfOk};
 ghost use Rattle.std.specs.List.{list_all};
 ghost use Rattle.std.specs.List.Sorted.{IsPermutation};
 ghost use Rattle.sip_uri_equality.specs.Equality as Definitions;
-ghost use Rattle.sip_uri_equality.specs.Order.{order_of_names, AreInOrder, begins_with, those_of};
+ghost use Rattle.sip_uri_equality.specs.Order.{order_of_names, AreInOrder, ArePutInOrder, begins_with, those_of};
 ghost use Rattle.sip_uri_equality.specs.Walk.{IsAdvance};
 
 use crate::parameters::{are_same_values, is_never_ignored};
-use crate::places::{MOST, SOME, refer_to};
+use crate::places::{SOME, refer_to};
 use crate::texts::{compare_texts, says_same_no_case};
 use sip_text::same_bytes;
 use sip_uri::Parameter;
+use std::alloc::{AllocError, Global};
 use std::cmp::Ordering;
 
 /// Puts parameters into places, in order of their names.
@@ -191,7 +192,7 @@ fn are_same_in_places<'a>(
     ordered_are_same(left_places, right_places)
 }
 
-/// The same as [`many_are_same`], in fewer places.
+/// Whether the parameters of two lists are the same, where there are few enough for places on the stack.
 pub(crate) fn some_are_same<'a>(left: &'a [Parameter], right: &'a [Parameter]) -> bool
     requires left { (0 < length left.now) × (length left.now ≤ 256) }
     requires right { (0 < length right.now) × (length right.now ≤ 256) }
@@ -202,14 +203,30 @@ pub(crate) fn some_are_same<'a>(left: &'a [Parameter], right: &'a [Parameter]) -
     are_same_in_places(left, right, &mut left_places, &mut right_places)
 }
 
-/// Whether the parameters of two lists are the same, compared in order of their names. Takes its places on the
-/// stack.
-pub(crate) fn many_are_same<'a>(left: &'a [Parameter], right: &'a [Parameter]) -> bool
-    requires left { (0 < length left.now) × (length left.now ≤ 24576) }
-    requires right { (0 < length right.now) × (length right.now ≤ 24576) }
-    ensures { result ≡ Definitions.are_same_parameters left.now right.now }
+/// Parameters in order of their names, in places of their own. `AllocError` is the only refusal.
+pub(crate) fn in_order<'a>(
+    alloc: Global,
+    parameters: &'a [Parameter],
+) -> Result<Vec<&'a Parameter>, AllocError>
+    ensures { IfOk result (λ places. ArePutInOrder order_of_names parameters.now places.items) }
 {
-    let mut left_places = [&left[0]; MOST];
-    let mut right_places = [&right[0]; MOST];
-    are_same_in_places(left, right, &mut left_places, &mut right_places)
+    let Some(first) = parameters.first() else {
+        return Ok(Vec::new(alloc));
+    };
+    let mut places = Vec::from_elem(alloc, first, parameters.len())?;
+    put_in_order(places.as_mut_slice(), parameters);
+    Ok(places)
+}
+
+/// Whether the parameters of two lists are the same, however many there are. `AllocError` is the only refusal.
+pub(crate) fn many_are_same(
+    alloc: Global,
+    left: &[Parameter],
+    right: &[Parameter],
+) -> Result<bool, AllocError>
+    ensures { IfOk result (λ is_same. is_same ≡ Definitions.are_same_parameters left.now right.now) }
+{
+    let left_places = in_order(alloc, left)?;
+    let right_places = in_order(alloc, right)?;
+    Ok(ordered_are_same(left_places.as_slice(), right_places.as_slice()))
 }

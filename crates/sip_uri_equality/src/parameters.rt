@@ -5,7 +5,7 @@ ghost use Rattle.std.specs.List.{list_all, list_any};
 ghost use Rattle.sip_uri_equality.specs.Equality as Definitions;
 
 use crate::parameter_order::{many_are_same, some_are_same};
-use crate::places::{FEW, MOST, SOME};
+use crate::places::{FEW, SOME};
 use crate::texts::says_same_no_case;
 use sip_text::Bytes;
 use sip_uri::Parameter;
@@ -96,8 +96,8 @@ pub(crate) fn are_same_parameters(left: &[Parameter], right: &[Parameter]) -> bo
     if left.len() <= SOME && right.len() <= SOME {
         return some_are_same(left, right);
     }
-    if left.len() <= MOST && right.len() <= MOST {
-        return many_are_same(left, right);
+    match many_are_same(left[0].name.allocator(), left, right) {
+        Ok(is_same) => is_same,
+        Err(_) => few_are_same(left, right),
     }
-    few_are_same(left, right)
 }

@@ -4,11 +4,8 @@ ghost use Rattle.sip_uri_equality.specs.Order.{those_of};
 /// So few parameters or headers are as well compared each with each.
 pub(crate) const FEW: usize = 16;
 
-/// Places for so many are made in little time.
+/// Places for so many are made in little time, and take two kilobytes of the stack.
 pub(crate) const SOME: usize = 256;
-
-/// More than a datagram has room for. More of them, which only a program can make, are compared each with each.
-pub(crate) const MOST: usize = 24_576;
 
 /// Makes each place refer to the item at its index.
 pub(crate) fn refer_to<'a, T>(places: &mut [&'a T], items: &'a [T])

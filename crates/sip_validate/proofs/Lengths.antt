@@ -1,12 +1,11 @@
 -- The text of a Contact's URI isn't longer than the value that it is read from.
-use Rattle.std.proofs.Common.{◌≡◌, ◌≤◌, ◌-◌, ℕ, true, not, ◌==◌, List, [], ◌∷◌, length, take, Some, refl, sym, ap, ◌∙◌, arith, length-append, inl, inr}
-use Rattle.std.specs.Prelude.{◌&&◌, Option, is_some, reverse, take_while, nat_lt}
+use Rattle.std.proofs.Common.{◌≡◌, ◌≤◌, ◌-◌, ℕ, true, false, not, ◌==◌, List, [], ◌∷◌, length, take, Some, None, refl, sym, ap, ◌∙◌, arith, length-append, inl, inr}
+use Rattle.std.specs.Prelude.{◌&&◌, Option, is_some, option_map, codes, reverse, take_while, nat_lt}
+use Rattle.std.specs.Str.{bytes_eq}
 use Rattle.std.specs.Char.{to_ascii_lowercase}
 use Rattle.std.specs.List.{join_with_byte}
 use Rattle.std.proofs.lemmas.Bool.Decides.{nat_tests}
 use Rattle.std.proofs.lemmas.List.{length-drop, length-take}
-use Rattle.sip_uri.proofs.Tests.{and_both}
-use Rattle.sip_text.specs.Words.{is_same_text}
 use Rattle.sip_uri.specs.declared.uri.Uri.{Uri}
 use Rattle.sip_uri.specs.Scheme.{scheme_text}
 use Rattle.sip_uri.specs.Uri.{rest_text, text_of, IsWritten}
@@ -14,21 +13,14 @@ use Rattle.sip_text.specs.Lists.{is_blank, trimmed}
 use Rattle.sip_header.specs.declared.name_addr.AnyUri.{AnyUri}
 use Rattle.sip_header.specs.declared.name_addr.AnyUri.TheVariants.{Sip, Other}
 use Rattle.sip_header.specs.declared.name_addr.NameAddr.{NameAddr}
-use Rattle.sip_header.specs.declared.contact_item.ContactItem.TheVariants.{Address}
-use Rattle.sip_header.specs.NameAddr.{IsAnyUri, IsNameAddr}
+use Rattle.sip_header.specs.declared.contact_item.ContactItem.TheVariants.{Star, Address}
+use Rattle.sip_header.specs.NameAddr.{IsAnyUri, IsNameAddr, name_addr_of}
 use Rattle.sip_header.specs.ContactItem.{contact_of}
 use Rattle.sip_header.specs.Route.{route_of}
 use Rattle.sip_header.proofs.NameAddrLaws.{written_contact}
 use Rattle.sip_header.specs.PlainAddress.{IsBracketedPlace}
 use Rattle.sip_validate.specs.Faults.{is_sip, may_be_bound, is_bindable}
-
-same_length : (left right : List ℕ) → is_same_text left right ≡ true → length left ≡ length right
-same_length [] [] e = refl
-same_length [] (y ∷ ys) e = absurd cc
-same_length (x ∷ xs) [] e = absurd cc
-same_length (x ∷ xs) (y ∷ ys) e =
-    let rest = same_length xs ys (and_both (to_ascii_lowercase x == to_ascii_lowercase y) (is_same_text xs ys) e).1 in
-    omega (arith, rest)
+use Rattle.sip_route.proofs.Front.{same_length}
 
 text_length : (bytes : List ℕ) (u : Uri) → IsWritten bytes u → length (text_of u) ≡ length bytes
 text_length bytes u written =
@@ -75,19 +67,44 @@ by_uri value address (Sip u) is e le =
 by_uri value address (Other text) is e le = refl
 
 -- a value of at most 512 bytes has a URI that isn't too long
-pub short_bound : (value : List ℕ) (address : NameAddr) → contact_of value ≡ Some (Address address) → length value ≤ 512 → may_be_bound address.uri ≡ is_sip address.uri
+short_bound : (value : List ℕ) (address : NameAddr) → contact_of value ≡ Some (Address address) → length value ≤ 512 → may_be_bound address.uri ≡ is_sip address.uri
 short_bound value address is le = by_uri value address address.uri (written_contact value (Address address) is) refl le
 
--- an address in brackets and nothing else, of at most 512 bytes, may be bound
-pub plain_bound : (value host : List ℕ) (port : Option ℕ) → IsBracketedPlace value host port → length value ≤ 512
-    → (is_some (contact_of value) && is_bindable (contact_of value)) ≡ true
-plain_bound value host port place le = ap (λ item. is_some item && is_bindable item) place.is_contact ∙ short_bound value place.address place.is_contact le
-    ∙ ap is_sip place.has_uri
+-- ---- a value by whether it is `*`
+
+is_star : (value : List ℕ) → bytes_eq value (codes "*") ≡ true → contact_of value ≡ Some Star
+is_star value star = rw star refl
+
+is_address : (value : List ℕ) (address : NameAddr) → bytes_eq value (codes "*") ≡ false → Some address ≡ name_addr_of value → contact_of value ≡ Some (Address address)
+is_address value address star named = rw star (ap (option_map (λ a. Address a)) (sym named))
+
+is_none : (value : List ℕ) → bytes_eq value (codes "*") ≡ false → None ≡ name_addr_of value → contact_of value ≡ None
+is_none value star named = rw star (ap (option_map (λ a. Address a)) (sym named))
+
+some_same : (o : Option NameAddr) → is_some o ≡ is_some (option_map (λ a. Address a) o)
+some_same None = refl
+some_same (Some a) = refl
+
+pub star_is : (value : List ℕ) → bytes_eq value (codes "*") ≡ true → true ≡ is_some (contact_of value)
+star_is value star = sym (ap is_some (is_star value star))
+
+pub address_is : (value : List ℕ) (found : Option NameAddr) → bytes_eq value (codes "*") ≡ false → found ≡ name_addr_of value → is_some found ≡ is_some (contact_of value)
+address_is value found star named = rw star (ap is_some named ∙ some_same (name_addr_of value))
+
+pub star_binds : (value : List ℕ) → bytes_eq value (codes "*") ≡ true → true ≡ (is_some (contact_of value) && is_bindable (contact_of value))
+star_binds value star = sym (ap (λ item. is_some item && is_bindable item) (is_star value star))
+
+pub short_binds : (value : List ℕ) (address : NameAddr) → bytes_eq value (codes "*") ≡ false → Some address ≡ name_addr_of value → length value ≤ 512
+    → is_sip address.uri ≡ (is_some (contact_of value) && is_bindable (contact_of value))
+short_binds value address star named le =
+    let contact : contact_of value ≡ Some (Address address) = is_address value address star named in
+    sym (ap (λ item. is_some item && is_bindable item) contact ∙ short_bound value address contact le)
+
+pub none_binds : (value : List ℕ) → bytes_eq value (codes "*") ≡ false → None ≡ name_addr_of value
+    → false ≡ (is_some (contact_of value) && is_bindable (contact_of value))
+none_binds value star named = sym (ap (λ item. is_some item && is_bindable item) (is_none value star named))
 
 -- ---- a value that is an address in brackets
-
-pub plain_contact : (value host : List ℕ) (port : Option ℕ) → IsBracketedPlace value host port → true ≡ is_some (contact_of value)
-plain_contact value host port place = sym (ap is_some place.is_contact)
 
 pub plain_route : (value host : List ℕ) (port : Option ℕ) → IsBracketedPlace value host port → true ≡ is_some (route_of value)
 plain_route value host port place = sym (ap is_some place.is_route)

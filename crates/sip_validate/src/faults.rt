@@ -16,7 +16,7 @@ ghost use Rattle.sip_validate.specs.Refusal.{has_own_via};
 use crate::candidate::Candidate;
 use sip_header::{
     AnyUri, ContactItem, MaxForwards, Via, WrittenAddress, bracketed_place, contact_of, route_of,
-    via_of,
+    via_of, written_address_of,
 };
 use sip_message_fields::{FieldName, ViewField};
 use sip_route::Own;
@@ -71,14 +71,14 @@ fn is_route(alloc: Global, value: &[u8]) -> Result<bool, AllocError>
 }
 
 /// Whether a value is an item of Contact.
-#[tactic(auto, using(crate::proofs::Lengths::plain_contact))]
+#[tactic(auto, using(crate::proofs::Lengths::star_is, crate::proofs::Lengths::address_is))]
 fn is_contact(alloc: Global, value: &[u8]) -> Result<bool, AllocError>
     ensures { IfOk result (λ is_contact. is_contact ≡ is_some (Contacts.contact_of value.now)) }
 {
-    if bracketed_place(value).is_some() {
+    if same_bytes(value, b"*") {
         return Ok(true);
     }
-    Ok(contact_of(alloc, value)?.is_some())
+    Ok(written_address_of(alloc, value)?.is_some())
 }
 
 /// Whether some value of a name is a Via of this server's; None where one can't be read. Each is read once.
@@ -174,16 +174,6 @@ fn are_contacts(
     Ok(true)
 }
 
-/// Whether a URI is a SIP or SIPS URI.
-fn is_sip(uri: &AnyUri<'_>) -> bool
-    ensures { result ≡ Definition.is_sip uri.now }
-{
-    match uri {
-        AnyUri::Sip(_) => true,
-        AnyUri::Other(_) => false,
-    }
-}
-
 /// Whether the URI of an address is a SIP or SIPS URI.
 #[tactic(auto, using(crate::proofs::SipAddresses::kind_is))]
 fn names_sip(address: &WrittenAddress<'_>) -> bool
@@ -192,14 +182,10 @@ fn names_sip(address: &WrittenAddress<'_>) -> bool
     address.is_sip()
 }
 
-/// Whether it is a SIP or SIPS URI of at most 512 bytes. `short` says that it can't be longer.
-fn may_be_bound(alloc: Global, uri: &AnyUri<'_>, short: bool) -> Result<bool, AllocError>
-    requires { short ≡ true → Definition.may_be_bound uri.now ≡ Definition.is_sip uri.now }
+/// Whether it is a SIP or SIPS URI of at most 512 bytes.
+fn may_be_bound(alloc: Global, uri: &AnyUri<'_>) -> Result<bool, AllocError>
     ensures { IfOk result (λ may. may ≡ Definition.may_be_bound uri.now) }
 {
-    if short {
-        return Ok(is_sip(uri));
-    }
     match uri {
         AnyUri::Sip(uri) => {
             let text = write_uri(alloc, uri)?;
@@ -209,30 +195,35 @@ fn may_be_bound(alloc: Global, uri: &AnyUri<'_>, short: bool) -> Result<bool, Al
     }
 }
 
-/// Whether a value is a short address in brackets and nothing else, as most contacts are. `false` says nothing.
-#[tactic(auto, using(crate::proofs::Lengths::plain_bound))]
-fn is_plain_contact(value: &[u8]) -> bool
-    ensures { result ≡ true → (is_some (Contacts.contact_of value.now) && Definition.is_bindable (Contacts.contact_of value.now)) ≡ true }
-{
-    value.len() <= LONGEST_CONTACT && bracketed_place(value).is_some()
-}
-
-/// Whether a value is an item of Contact that is `*` or may be bound. A URI isn't longer than the value that it stands in.
-#[tactic(auto, using(crate::proofs::Lengths::short_bound))]
-fn is_bindable(alloc: Global, value: &[u8]) -> Result<bool, AllocError>
+/// Whether a long value is an item of Contact that is `*` or may be bound. It stands apart, so that no room is made for a URI where
+/// none is made.
+#[inline(never)]
+fn is_long_bindable(alloc: Global, value: &[u8]) -> Result<bool, AllocError>
     ensures { IfOk result (λ may. may ≡ (is_some (Contacts.contact_of value.now) && Definition.is_bindable (Contacts.contact_of value.now))) }
 {
-    if is_plain_contact(value) {
-        return Ok(true);
-    }
     let Some(contact) = contact_of(alloc, value)? else {
         return Ok(false);
     };
     match &contact {
         ContactItem::Star => Ok(true),
-        ContactItem::Address(address) => {
-            may_be_bound(alloc, &address.uri, value.len() <= LONGEST_CONTACT)
-        }
+        ContactItem::Address(address) => may_be_bound(alloc, &address.uri),
+    }
+}
+
+/// Whether a value is an item of Contact that is `*` or may be bound. A URI isn't longer than the value that it stands in.
+#[tactic(auto, using(crate::proofs::Lengths::star_binds, crate::proofs::Lengths::short_binds, crate::proofs::Lengths::none_binds))]
+fn is_bindable(alloc: Global, value: &[u8]) -> Result<bool, AllocError>
+    ensures { IfOk result (λ may. may ≡ (is_some (Contacts.contact_of value.now) && Definition.is_bindable (Contacts.contact_of value.now))) }
+{
+    if LONGEST_CONTACT < value.len() {
+        return is_long_bindable(alloc, value);
+    }
+    if same_bytes(value, b"*") {
+        return Ok(true);
+    }
+    match written_address_of(alloc, value)? {
+        Some(address) => Ok(names_sip(&address)),
+        None => Ok(false),
     }
 }
 

@@ -4,8 +4,8 @@ use Rattle.std.specs.Io.KnownBytes.{Appends, Keeps}
 use Rattle.std.proofs.KnownBytes.{Appends-nil, Appends-trans}
 use Rattle.sip_config_types.specs.declared.config.Config.{Config}
 use Rattle.sipd_report.specs.Entries.{fronts_of}
-use Rattle.sipd_report.specs.Lines.{Reading, pending, IsOver}
-use Rattle.sipd_report.proofs.Fronts.{appends_kept}
+use Rattle.sip_replay_script.specs.Lines.{Reading, pending, IsOver}
+use Rattle.sip_replay_script.proofs.Fronts.{appends_kept}
 use Rattle.sipd_report.proofs.Reported.{GivesFronts, all_given, none_given, one_given}
 use Rattle.sipd_asked_again.specs.Counts.{after_line, counts_of, no_counts}
 use Rattle.sipd_asked_again.specs.Steps.{AsksAgain, TakesLine}
@@ -20,7 +20,7 @@ pub record IsSoFar (config : Config) (a b before after : Option (List ℕ)) (t :
   pub counted : t ≡ counts_of config done
   pub written : Appends before after (lines_text config done)
 
-pub asked_first : (config : Config) (a before : Option (List ℕ)) (r : Reading) (t : Counts) → r ≡ record { unread = []; asks = 4294967295 } → t ≡ no_counts
+pub asked_first : (config : Config) (a before : Option (List ℕ)) (r : Reading) (t : Counts) → r ≡ record { unread = []; asks = 4294967295; number = 0 } → t ≡ no_counts
     → IsSoFar config a (pending r a) before before t
 asked_first config a before r t is none = record {
   done = [];

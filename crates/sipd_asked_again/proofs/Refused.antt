@@ -6,8 +6,10 @@ use Rattle.sip_replay_script.specs.Devices.{WritesFront}
 use Rattle.sipd_report.specs.declared.error.ReportError.{ReportError}
 use Rattle.sipd_report.specs.declared.error.ReportError.TheVariants as errors
 use Rattle.sipd_report.specs.Entries.{fronts_of}
-use Rattle.sipd_report.specs.Lines.{Reading, pending, GivesFront, IsOver}
-use Rattle.sipd_report.proofs.Fronts.{front_none, front_all, front_of_all, front_first, front_second}
+use Rattle.sip_replay_script.specs.Lines.{Reading, pending, IsOver}
+use Rattle.sipd_report.specs.Lines.{GivesFront}
+use Rattle.sip_replay_script.proofs.Fronts.{front_none, front_all, front_second}
+use Rattle.sipd_report.proofs.Fronts.{front_of_all, front_first}
 use Rattle.sipd_report.proofs.Refused.{begins}
 use Rattle.sipd_report.proofs.Reported.{GivesFronts, all_given}
 use Rattle.sipd_asked_again.specs.Steps.{IsRefused, LineStops, StopsAtLine, WritesLines, WritesPart}

@@ -6,7 +6,8 @@ use Rattle.sip_replay_script.specs.Devices.{WritesFront}
 use Rattle.sipd_report.specs.declared.error.ReportError.{ReportError}
 use Rattle.sipd_report.specs.declared.error.ReportError.TheVariants.{NoMemory, Read, Write}
 use Rattle.sipd_report.specs.Entries.{fronts_of}
-use Rattle.sipd_report.specs.Lines.{Reading, GivesLine}
+use Rattle.sip_replay_script.specs.Lines.{Reading}
+use Rattle.sipd_report.specs.Lines.{GivesLine}
 use Rattle.sipd_report.specs.Refusals.{BeginsWith}
 use Rattle.sipd_asked_again.specs.Telling.{line_text, lines_text, log_text}
 use Rattle.sipd_asked_again.specs.Counts.{after_line, counts_of}

@@ -2,11 +2,10 @@
 ghost use Rattle.std.specs.Prelude.{◌≡◌, ◌≤◌, ◌⊎◌, ◌&&◌, true, false, is_none, IfOk, IfErr, OnOk};
 ghost use Rattle.std.specs.Io.KnownBytes.{Appends, Keeps};
 ghost use Rattle.sipd_report.specs.declared.error.ReportError.TheVariants.{Write};
-ghost use Rattle.sip_replay_script.specs.Devices.{later, GaveUp};
-ghost use Rattle.sip_replay_script.specs.Lines.{IsSpent};
+ghost use Rattle.sip_replay_script.specs.Devices.{later, GaveUp, IsAsked};
+ghost use Rattle.sip_replay_script.specs.Lines.{IsOver, IsSpent};
 ghost use Rattle.sipd_report.specs.Entries;
-ghost use Rattle.sipd_report.specs.Lines.{IsOver};
-ghost use Rattle.sipd_report.specs.Refusals.{IsAsked, TextStops};
+ghost use Rattle.sipd_report.specs.Refusals.{TextStops};
 ghost use Rattle.sipd_asked_again.specs.Counts as Counted;
 ghost use Rattle.sipd_asked_again.specs.Telling as Definitions;
 ghost use Rattle.sipd_asked_again.specs.Steps.{AsksAgain, IsRefused, LineStops, TakesLine};
@@ -15,9 +14,9 @@ use crate::counts::Counts;
 use crate::telling::told_by;
 use sip_audit::Record;
 use sip_config_types::Config;
-use sip_replay_script::{TellingReader, TellingWriter, hand_on, put};
+use sip_replay_script::{Lines, TellingReader, TellingWriter, hand_on, put};
 use sip_text::Bytes;
-use sipd_report::{LogLines, ReportError, entry_of};
+use sipd_report::{ReportError, entry_of, next_front};
 use std::alloc::Global;
 
 /// Writes the lines of a log that a configuration would decide otherwise about, each with what it would decide, in their order, and nothing
@@ -41,7 +40,7 @@ pub fn ask_again<I: TellingReader, W: TellingWriter>(
         (I.has_failed input.new ⊎ (I.asked input.new ≡ later 4294967295 (I.asked input.old))) (GaveUp (W.has_failed output.new) (W.called output.new))) }
     ensures asked { IsAsked 4294967295 (I.asked input.old) (I.asked input.new) }
 {
-    let mut lines = LogLines::new(alloc)?;
+    let mut lines = Lines::new(alloc)?;
     let mut line = Vec::new(alloc);
     let mut counts = Counts::new();
     while take_next(
@@ -61,7 +60,7 @@ pub fn ask_again<I: TellingReader, W: TellingWriter>(
 fn take_next<I: TellingReader, W: TellingWriter>(
     alloc: Global,
     config: &Config,
-    lines: &mut LogLines,
+    lines: &mut Lines,
     line: &mut Vec<u8>,
     counts: &mut Counts,
     input: &mut I,
@@ -77,7 +76,7 @@ fn take_next<I: TellingReader, W: TellingWriter>(
     ensures asked { later lines.new.asks (I.asked input.new) ≡ later lines.old.asks (I.asked input.old) }
     ensures less { lines.new.asks ≤ lines.old.asks }
 {
-    if !lines.next(input, line)? {
+    if !next_front(lines, input, line)? {
         return Ok(false);
     }
     take_line(alloc, config, line.as_slice(), counts, output)?;

@@ -1,16 +1,11 @@
 -- The lines of a file of expectations, and what is answered of them together.
-use Rattle.std.specs.Prelude.{ℕ, ◌⊎◌, Bool, true, false, ◌==◌, if◌then◌else◌, List, [], ◌∷◌, Some, None}
+use Rattle.std.specs.Prelude.{ℕ, ◌⊎◌, Bool, true, false, List, [], ◌∷◌, Some, None}
 use Rattle.std.specs.List.{AllByRecursion}
-use Rattle.sip_text.specs.Lists.{onto, trimmed}
+use Rattle.sip_text.specs.Lists.{trimmed}
 use Rattle.sip_config_types.specs.declared.config.Config.{Config}
 use Rattle.sipd_questions.specs.Fronts.{front_before}
 use Rattle.sipd_expect.specs.declared.error.LineError.{LineError}
 use Rattle.sipd_expect.specs.Line.{Answers, IsRefused}
-
--- the lines of a text, the LF between them left out
-abbrev pub lines_of : List ℕ → List (List ℕ)
-lines_of [] = [] ∷ []
-lines_of (b ∷ bs) = if b == 10 then [] ∷ lines_of bs else onto (b ∷ []) (lines_of bs)
 
 -- what stands on a line, up to a CR and without blanks at its ends
 abbrev pub line_text : List ℕ → List ℕ

@@ -1,6 +1,7 @@
 //! The lines of a file of expectations, held against the policy of a configuration one by one.
 ghost use Rattle.std.specs.Prelude.{◌≡◌, ◌&&◌, IfOk, IfErr};
 ghost use Rattle.sipd_questions.specs.Fronts;
+ghost use Rattle.sip_text.specs.TextLines.{lines_of};
 ghost use Rattle.sipd_expect.specs.File as Definitions;
 ghost use Rattle.sipd_expect.specs.Line.{IsRefused};
 
@@ -75,8 +76,8 @@ fn both(one: bool, other: bool) -> bool
 /// to hold or to fail.
 #[tactic(auto, using(crate::proofs::Files::leads_on, crate::proofs::Files::answered, crate::proofs::Files::refused_here, crate::proofs::Files::refused_last))]
 pub fn told_of(alloc: Global, config: &Config, file: &[u8]) -> Result<Told, FileError>
-    ensures answer { IfOk result (λ told. Definitions.FileIs config.now (Definitions.lines_of file.now) told.holds) }
-    ensures refused { IfErr result (λ e. Definitions.SomeRefused config.now (Definitions.lines_of file.now) e.why) }
+    ensures answer { IfOk result (λ told. Definitions.FileIs config.now (lines_of file.now) told.holds) }
+    ensures refused { IfErr result (λ e. Definitions.SomeRefused config.now (lines_of file.now) e.why) }
 {
     let mut text = Bytes::new(alloc);
     let mut holds = true;

@@ -1,26 +1,15 @@
 -- The first line of what a reader has, read byte by byte.
-use Rattle.std.proofs.Common.{◌≡◌, inr, ℕ, List, [], ◌∷◌, length, Option, Some, None, count_by, sym, ◌∙◌}
+use Rattle.std.proofs.Common.{◌≡◌, inr, ℕ, List, [], ◌∷◌, length, Option, Some, None, count_by, ◌∙◌}
 use Rattle.std.specs.declared.io.ErrorKind.{ErrorKind}
 use Rattle.std.specs.declared.io.ErrorKind.TheVariants.{OutOfMemory}
 use Rattle.std.specs.Io.KnownBytes.{Consumes, Keeps}
-use Rattle.std.proofs.KnownBytes.{Keeps-refl, Keeps-trans}
+use Rattle.std.proofs.KnownBytes.{Keeps-trans}
 use Rattle.sip_replay_script.specs.Lines.{is_end}
 use Rattle.sipd_exit.specs.Exits.{exit_of_kind}
 use Rattle.sipd_exit.specs.declared.exit.Exit.{Exit}
 use Rattle.sipd_exit.specs.declared.exit.Exit.TheVariants.{Memory}
 use Rattle.sipd_old_record.specs.OldRecord.{IsFirstLine, IsSystemFault, ReadsByte}
-
-pub keeps_itself : (a : Option (List ℕ)) → Keeps a a
-keeps_itself a = Keeps-refl a
-
-pub kept_on : (a b c : Option (List ℕ)) → Keeps a b → Keeps b c → Keeps a c
-kept_on a b c h1 h2 = Keeps-trans a b c h1 h2
-
-keeps_consumes : (a b c : Option (List ℕ)) (bytes : List ℕ) → Keeps a b → Consumes b c bytes → Consumes a c bytes
-keeps_consumes None b c bytes h1 h2 = tt
-keeps_consumes (Some x) None c bytes h1 h2 = absurd h1
-keeps_consumes (Some x) (Some y) None bytes h1 h2 = h2
-keeps_consumes (Some x) (Some y) (Some z) bytes h1 h2 = sym h1 ∙ h2
+use Rattle.sip_replay_script.proofs.Written.{keeps_consumes}
 
 pub read_behind : (a b c : Option (List ℕ)) (found : Option ℕ) → Keeps a b → ReadsByte b c found → ReadsByte a c found
 read_behind a b c None h r = (Keeps-trans a b c h r.0, r.1)

@@ -40,7 +40,7 @@ fn ask_byte<I: TellingReader>(reader: &mut I) -> io::Result<Option<u8>>
 }
 
 /// The next byte that a reader gives; none at its end.
-#[tactic(auto, using(crate::proofs::FirstLines::kept_on, crate::proofs::FirstLines::read_behind, crate::proofs::FirstLines::keeps_itself))]
+#[tactic(auto, using(sip_replay_script::proofs::Written::keeps_both, crate::proofs::FirstLines::read_behind, sip_replay_script::proofs::Written::keeps_itself))]
 fn next_byte<I: TellingReader>(reader: &mut I) -> io::Result<Option<u8>>
     ensures read { IfOk result (ReadsByte (I.remaining reader.old) (I.remaining reader.new)) }
     ensures asked { WasAsked 0 (I.asked reader.old) (I.asked reader.new) }

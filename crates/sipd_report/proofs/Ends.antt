@@ -1,88 +1,40 @@
 -- Lines that are read in parts.
-use Rattle.std.proofs.Common.{◌≡◌, ℕ, zero, suc, ◌+◌, ◌-◌, ◌<◌, ◌≤◌, List, ◌∷◌, ◌++◌, length, take, drop, get_or, Bool, true, false, cond, map, Option, None, Some}
-use Rattle.std.proofs.Common.{MatchOption, refl, sym, ◌∙◌, ap, subst, arith, append-nil, append_assoc, length-append, [], add-one, take-append-drop, slice_range, min}
+use Rattle.std.proofs.Common.{◌≡◌, ℕ, zero, suc, ◌+◌, ◌-◌, ◌<◌, ◌≤◌, List, ◌∷◌, ◌++◌, length, take, drop, Bool, true, false, cond, map, Option, None, Some}
+use Rattle.std.proofs.Common.{refl, sym, ◌∙◌, ap, subst, arith, append-nil, append_assoc, length-append, [], min}
 use Rattle.std.specs.Prelude.{count_by, if◌then◌else◌, ◌==◌}
-use Rattle.std.specs.Io.KnownBytes.{Consumes, Keeps, IsAtEnd}
-use Rattle.std.proofs.KnownBytes.{Keeps-refl, Keeps-trans}
-use Rattle.std.proofs.lemmas.Bool.Decides.{nat_tests}
-use Rattle.std.proofs.lemmas.List.{take_all, take_min, drop-take, drop-drop, length-take}
-use Rattle.std.proofs.lemmas.List.Sums.{count_by_more_no, sum_by-append}
-use Rattle.std.proofs.Math.Seq.{drop-cons}
-use Rattle.memchr.specs.Find.{IsFirstByte, is_byte}
+use Rattle.std.specs.Io.KnownBytes.{prepend_known, Consumes, Keeps, IsAtEnd}
+use Rattle.std.proofs.lemmas.List.{take_min, length-take, drop_all}
+use Rattle.std.proofs.lemmas.List.Sums.{sum_by-append}
+use Rattle.sip_replay_script.specs.Lines.{Reading, is_end, pending, left, EndsAt}
 use Rattle.sipd_report.specs.Entries.{lines_of, in_first, fronts_of}
-use Rattle.sipd_report.specs.Lines.{Reading, is_end, pending, left, EndsAt, EndsLine, GoesOn, GivesFront}
+use Rattle.sipd_report.specs.Lines.{EndsLine, GoesOn, GivesFront}
 
--- ---- reads
+-- ---- parts
 
--- reads that gave nothing, and one that gave something
-pub keeps_itself : (a : Option (List ℕ)) → Keeps a a
-keeps_itself a = Keeps-refl a
-
-pub keeps_both : (a b c : Option (List ℕ)) → Keeps a b → Keeps b c → Keeps a c
-keeps_both a b c h1 h2 = Keeps-trans a b c h1 h2
-
-pub keeps_consumes : (a b c : Option (List ℕ)) (bytes : List ℕ) → Keeps a b → Consumes b c bytes → Consumes a c bytes
-keeps_consumes None b c bytes h1 h2 = tt
-keeps_consumes (Some x) None c bytes h1 h2 = absurd h1
-keeps_consumes (Some x) (Some y) None bytes h1 h2 = h2
-keeps_consumes (Some x) (Some y) (Some z) bytes h1 h2 = sym h1 ∙ h2
-
--- ---- the first LF
-
-not_true : (b : Bool) → (b ≡ true → ⊥) → b ≡ false
-not_true true h = absurd (h refl)
-not_true false h = refl
-
--- none of the first bytes is LF
-none_before : (text : List ℕ) (i : ℕ) → i ≤ length text → ((k : ℕ) → k < i → is_end (get_or text k 0) ≡ false) → count_by is_end (take i text) ≡ 0
-none_before text zero le h = refl
-none_before text (suc i) le h =
-    let lt : i < length text = omega arith in
-    let rest : count_by is_end (take i text) ≡ 0 = none_before text i (omega arith) (λ k b. h k (omega arith)) in
-    let more : count_by is_end (take (i + 1) text) ≡ count_by is_end (take i text) = count_by_more_no is_end text i 0 lt (h i (omega arith)) in
-    let same : suc i ≡ i + 1 = omega arith in
-    ap (λ n. count_by is_end (take n text)) same ∙ more ∙ rest
-
-ends_at : (text : List ℕ) (place : ℕ) → place < length text → ((k : ℕ) → k < place → is_end (get_or text k 0) ≡ false) → get_or text place 0 ≡ 10 → EndsAt text place
-ends_at text place lt before is = record {
-  inside = lt;
-  single = none_before text place (omega arith) before;
-  cut = sym (take-append-drop place text) ∙ ap (λ l. take place text ++ l) (drop-cons text place 0 lt ∙ ap (λ b. b ∷ drop (suc place) text) is
-      ∙ ap (λ n. 10 ∷ drop n text) (sym (add-one place)));
-}
-
-pub first_end : (text : List ℕ) (place : Option ℕ) → IsFirstByte (is_byte 10) text place → MatchOption place (count_by is_end text ≡ 0) (λ i. EndsAt text i)
-first_end text None h =
-    subst (λ l. count_by is_end l ≡ 0) (take_all (length text) text (omega arith)) (none_before text (length text) (omega arith)
-    (λ k b. not_true (is_end (get_or text k 0)) (h k (omega arith) b)))
-first_end text (Some i) h =
-    let first = h.0 in
-    let is : get_or text i 0 ≡ 10 = grind (arith, nat_tests, h.1) in
-    ends_at text i first.high (λ k b. not_true (is_end (get_or text k 0)) (first.before k (omega arith) b)) is
-
--- what is left of a part behind its front
-range_rest : (xs : List ℕ) (start stop n : ℕ) → start + n ≤ stop → slice_range xs (start + n) stop ≡ drop n (slice_range xs start stop)
-range_rest xs start stop n le =
-    let sizes : n + (stop - (start + n)) ≡ stop - start = omega arith in
-    ap (take (stop - (start + n))) (sym (drop-drop n start xs)) ∙ sym (drop-take n (stop - (start + n)) (drop start xs)) ∙ ap (λ m. drop n (take m (drop start xs))) sizes
+-- one byte more
+pub some_left : (byte : ℕ) (unread : List ℕ) → (rest : List ℕ) × (unread ≡ byte ∷ rest) → 1 ≤ length unread
+some_left byte unread more = subst (λ (l : List ℕ). 1 ≤ length l) (sym more.1) (omega arith)
 
 -- a line ends in a part
-pub part_ends : (xs ys : List ℕ) (start stop asks place : ℕ) (before after : List ℕ) → ys ≡ xs → EndsAt (slice_range ys start stop) place
-    → after ≡ take 200001 (before ++ take place (slice_range ys start stop))
-    → EndsLine (record { unread = slice_range xs start stop; asks = asks }) (record { unread = slice_range xs (start + (place + 1)) stop; asks = asks }) before after
-part_ends xs ys start stop asks place before after same ends grown =
-    let most : length (slice_range ys start stop) ≤ stop - start = omega (arith, length-take (stop - start) (drop start ys)) in
-    let inside : place < length (slice_range ys start stop) = ends.inside in
-    let rest : slice_range xs (start + (place + 1)) stop ≡ drop (place + 1) (slice_range xs start stop) = range_rest xs start stop (place + 1) (omega arith) in
-    let cut : slice_range xs start stop ≡ take place (slice_range ys start stop) ++ 10 ∷ drop (place + 1) (slice_range ys start stop) =
-    ap (λ l. slice_range l start stop) (sym same) ∙ ends.cut in
-    record {
-      part = take place (slice_range ys start stop);
-      grown = grown;
-      single = ends.single;
-      unread = cut ∙ ap (λ l. take place (slice_range ys start stop) ++ 10 ∷ l) (ap (λ l. drop (place + 1) (slice_range l start stop)) same ∙ sym rest);
-      asks = refl;
-    }
+pub part_ends : (r s : Reading) (ys before after : List ℕ) (place : ℕ) → ys ≡ r.unread → EndsAt r.unread place → after ≡ take 200001 (before ++ take place ys)
+    → s.unread ≡ drop (place + 1) r.unread → s.asks ≡ r.asks → EndsLine r s before after
+part_ends r s ys before after place same ends grown unread asks = record {
+  part = take place r.unread;
+  grown = grown ∙ ap (λ (l : List ℕ). take 200001 (before ++ take place l)) same;
+  single = ends.single;
+  unread = ends.cut ∙ ap (λ l. take place r.unread ++ 10 ∷ l) (sym unread);
+  asks = asks;
+}
+
+-- it goes on behind one
+pub part_goes_on : (r s : Reading) (ys before after : List ℕ) → ys ≡ r.unread → count_by is_end r.unread ≡ 0 → after ≡ take 200001 (before ++ ys)
+    → s.unread ≡ drop (length ys) r.unread → s.asks ≡ r.asks → GoesOn r s before after
+part_goes_on r s ys before after same none grown unread asks = record {
+  grown = grown ∙ ap (λ (l : List ℕ). take 200001 (before ++ l)) same;
+  single = none;
+  unread = unread ∙ ap (λ (l : List ℕ). drop (length l) r.unread) same ∙ drop_all (length r.unread) r.unread (omega arith);
+  asks = asks;
+}
 
 -- ---- lines
 
@@ -146,8 +98,8 @@ pub gathers_kept : (a b c : Option (List ℕ)) (line : List ℕ) → Gathers a b
 gathers_kept a b c line g k = record { whole = g.whole; single = g.single; consumes = consumes_keeps a b c g.whole g.consumes k; kept = g.kept }
 
 -- all that was read went to the line
-consumes_more : (a c : Option (List ℕ)) (whole unread rest : List ℕ) → rest ≡ [] → Consumes a (pending (record { unread = unread; asks = 0 }) c) whole
-    → Consumes a (pending (record { unread = rest; asks = 0 }) c) (whole ++ unread)
+consumes_more : (a c : Option (List ℕ)) (whole unread rest : List ℕ) → rest ≡ [] → Consumes a (prepend_known unread c) whole
+    → Consumes a (prepend_known rest c) (whole ++ unread)
 consumes_more None c whole unread rest is h = tt
 consumes_more (Some xs) None whole unread rest is h = absurd h
 consumes_more (Some xs) (Some zs) whole unread rest is h = h ∙ sym (append_assoc whole unread zs) ∙ ap (λ l. (whole ++ unread) ++ (l ++ zs)) (sym is)
@@ -170,9 +122,9 @@ ends_known xs whole part rest zs line is none none_more kept =
     let single : count_by is_end (whole ++ part) ≡ 0 = omega (arith, sum, none, none_more) in
     ap fronts_of cut ∙ ap (map (take 200001)) (front_line (whole ++ part) (rest ++ zs) single) ∙ ap (λ l. l ∷ fronts_of (rest ++ zs)) (sym kept)
 
-gives_by : (a c : Option (List ℕ)) (whole unread part rest line : List ℕ) → Consumes a (pending (record { unread = unread; asks = 0 }) c) whole
+gives_by : (a c : Option (List ℕ)) (whole unread part rest line : List ℕ) → Consumes a (prepend_known unread c) whole
     → unread ≡ part ++ 10 ∷ rest
-    → count_by is_end whole ≡ 0 → count_by is_end part ≡ 0 → line ≡ take 200001 (whole ++ part) → GivesFront a (pending (record { unread = rest; asks = 0 }) c) line
+    → count_by is_end whole ≡ 0 → count_by is_end part ≡ 0 → line ≡ take 200001 (whole ++ part) → GivesFront a (prepend_known rest c) line
 gives_by None c whole unread part rest line h is none none_more kept = tt
 gives_by (Some xs) None whole unread part rest line h is none none_more kept = absurd h
 gives_by (Some xs) (Some zs) whole unread part rest line h is none none_more kept = ends_known xs whole part rest zs line (h ∙ ap (λ l. whole ++ (l ++ zs)) is) none

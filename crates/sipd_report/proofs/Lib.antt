@@ -6,6 +6,5 @@ pub mod Reported
 pub mod DayNumbers
 pub mod Totaling
 pub mod Fields
-pub mod Asking
 pub mod Fronts
 pub mod Refused

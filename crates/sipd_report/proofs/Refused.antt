@@ -11,13 +11,15 @@ use Rattle.sipd_report.specs.declared.tally.Tally.{Tally}
 use Rattle.sipd_report.specs.Cells.{row_text, column_names}
 use Rattle.sipd_report.specs.Entries.{fronts_of, asked_of, entry_of, is_asked}
 use Rattle.sipd_report.specs.Rows.{cells_of}
-use Rattle.sipd_report.specs.Lines.{Reading, pending, GivesFront, IsOver}
+use Rattle.sip_replay_script.specs.Lines.{Reading, pending, IsOver}
+use Rattle.sipd_report.specs.Lines.{GivesFront}
 use Rattle.sipd_report.specs.Report.{tally_of, rows_text, ending_text, report_text}
 use Rattle.sipd_report.specs.Refusals.{BeginsWith, WritesRows, WritesPart, IsRefused, TextStops, StopsAtLine, LineStops}
 use Rattle.sipd_report.specs.Steps.{line_text}
 use Rattle.sipd_report.proofs.Counting.{rows_more}
-use Rattle.sipd_report.proofs.Fronts.{front_none, front_all, front_first, front_second}
+use Rattle.sipd_report.proofs.Fronts.{front_first}
 use Rattle.sipd_report.proofs.Reported.{GivesFronts, IsReported, all_given}
+use Rattle.sip_replay_script.proofs.Fronts.{front_second, front_all, front_none}
 
 -- ---- a report, cut behind some of its rows
 

@@ -1,12 +1,13 @@
 -- How far a report came.
 use Rattle.std.proofs.Common.{◌≡◌, ℕ, List, [], ◌∷◌, ◌++◌, Option, None, Some, sym, ◌∙◌, ap, subst, append-nil, append_assoc}
-use Rattle.std.specs.Io.KnownBytes.{Appends, Keeps, IsAtEnd}
+use Rattle.std.specs.Io.KnownBytes.{prepend_known, Appends, Keeps, IsAtEnd}
 use Rattle.std.proofs.KnownBytes.{Appends-trans}
 use Rattle.sipd_report.specs.declared.query.Query.{Query}
 use Rattle.sipd_report.specs.declared.tally.Tally.{Tally}
 use Rattle.sipd_report.specs.Cells.{row_text, column_names}
 use Rattle.sipd_report.specs.Entries.{fronts_of, asked_of}
-use Rattle.sipd_report.specs.Lines.{Reading, pending, GivesFront, IsOver}
+use Rattle.sip_replay_script.specs.Lines.{Reading, pending, IsOver}
+use Rattle.sipd_report.specs.Lines.{GivesFront}
 use Rattle.sipd_report.specs.Report.{tally_of, rows_text, ending_text, Reports}
 use Rattle.sipd_report.specs.Steps.{no_tally, after_line, line_text, TakesLine}
 use Rattle.sipd_report.proofs.Counting.{tally_more, rows_more}
@@ -24,11 +25,11 @@ pub record IsReported (q : Query) (a b before after : Option (List ℕ)) (t : Ta
   pub counted : t ≡ tally_of q done
   pub written : Appends before after (row_text q.form column_names ++ rows_text q (asked_of q done))
 
-pub none_given : (a : Option (List ℕ)) (unread : List ℕ) → unread ≡ [] → GivesFronts a (pending (record { unread = unread; asks = 0 }) a) []
+pub none_given : (a : Option (List ℕ)) (unread : List ℕ) → unread ≡ [] → GivesFronts a (prepend_known unread a) []
 none_given None unread is = tt
 none_given (Some xs) unread is = ap (λ l. fronts_of (l ++ xs)) (sym is)
 
-pub reported_first : (q : Query) (a before after : Option (List ℕ)) (r : Reading) (t : Tally) → r ≡ record { unread = []; asks = 4294967295 } → t ≡ no_tally
+pub reported_first : (q : Query) (a before after : Option (List ℕ)) (r : Reading) (t : Tally) → r ≡ record { unread = []; asks = 4294967295; number = 0 } → t ≡ no_tally
     → Appends before after (row_text q.form column_names) → IsReported q a (pending r a) before after t
 reported_first q a before after r t is none h = record {
   done = [];

@@ -1,30 +1,7 @@
--- An input that is read line by line.
-use Rattle.std.specs.Prelude.{◌≡◌, ◌<◌, ◌+◌, ◌*◌, ◌==◌, ⊤, ℕ, Bool, List, [], ◌∷◌, ◌++◌, length, take, drop, count_by, Option, Some, None}
-use Rattle.std.specs.Io.KnownBytes.{prepend_known, Keeps, IsAtEnd}
+-- An input that is read line by line: what the reader of a script's lines holds (sip_replay_script `specs/Lines`), of lines of any length.
+use Rattle.std.specs.Prelude.{◌≡◌, ◌<◌, ⊤, ℕ, List, [], ◌∷◌, ◌++◌, take, count_by, Option, Some, None}
+use Rattle.sip_replay_script.specs.Lines.{Reading, is_end, pending, left}
 use Rattle.sipd_report.specs.Entries.{fronts_of}
-
--- LF
-abbrev pub is_end : ℕ → Bool
-is_end b = b == 10
-
--- the first LF stands at that place
-pub record EndsAt (text : List ℕ) (place : ℕ) : Type 0 where
-  pub inside : place < length text
-  pub single : count_by is_end (take place text) ≡ 0
-  pub cut : text ≡ take place text ++ 10 ∷ drop (place + 1) text
-
--- what was read and not given yet, and how often the reader may still be asked
-pub record Reading : Type 0 where
-  pub unread : List ℕ
-  pub asks : ℕ
-
--- what is still to come of an input whose reader has some bytes left, where those are known
-abbrev pub pending : Reading → Option (List ℕ) → Option (List ℕ)
-pending r remaining = prepend_known r.unread remaining
-
--- at most how many bytes are still to come
-abbrev pub left : Reading → ℕ
-left r = length r.unread + 8192 * r.asks
 
 -- the front of the first line was given, and the other lines are still to come
 abbrev pub GivesFront : Option (List ℕ) → Option (List ℕ) → List ℕ → Type 0
@@ -36,11 +13,6 @@ GivesFront (Some bytes) (Some rest) line = fronts_of bytes ≡ line ∷ fronts_o
 pub record GivesLine (old new : Reading) (before after : Option (List ℕ)) (line : List ℕ) : Type 0 where
   pub gives : GivesFront (pending old before) (pending new after) line
   pub fewer : left new < left old
-
--- no line is still to come
-pub record IsOver (old new : Reading) (before after : Option (List ℕ)) : Type 0 where
-  pub kept : Keeps (pending old before) (pending new after)
-  pub at_end : IsAtEnd (pending new after)
 
 -- ---- inside
 

@@ -1,21 +1,16 @@
 -- Why a report was refused, and what was written then.
-use Rattle.std.specs.Prelude.{◌≡◌, ◌≤◌, ⊤, ℕ, List, ◌++◌, Option, None, Some}
+use Rattle.std.specs.Prelude.{◌≡◌, ⊤, ℕ, List, ◌++◌, Option, None, Some}
 use Rattle.std.specs.Io.KnownBytes.{Appends}
-use Rattle.sip_replay_script.specs.Devices.{later, WritesFront}
+use Rattle.sip_replay_script.specs.Devices.{WritesFront}
 use Rattle.sipd_report.specs.declared.error.ReportError.{ReportError}
 use Rattle.sipd_report.specs.declared.error.ReportError.TheVariants.{NoMemory, Read, Write}
 use Rattle.sipd_report.specs.declared.query.Query.{Query}
 use Rattle.sipd_report.specs.Cells.{row_text, column_names}
 use Rattle.sipd_report.specs.Entries.{fronts_of, asked_of}
-use Rattle.sipd_report.specs.Lines.{Reading, GivesLine}
+use Rattle.sip_replay_script.specs.Lines.{Reading}
+use Rattle.sipd_report.specs.Lines.{GivesLine}
 use Rattle.sipd_report.specs.Report.{rows_text, report_text}
 use Rattle.sipd_report.specs.Steps.{line_text}
-
--- the reader was asked at most that often
-pub record IsAsked (most : ℕ) (old new : Option ℕ) : Type 0 where
-  pub times : ℕ
-  pub within : times ≤ most
-  pub counted : new ≡ later times old
 
 -- an input begins with these lines, where its bytes are known
 abbrev pub BeginsWith : List (List ℕ) → Option (List ℕ) → Type 0

@@ -10,7 +10,8 @@ use Rattle.sipd_report.specs.Entries.{entry_of, is_asked, is_filled, ruling_of}
 use Rattle.sipd_report.specs.Rows.{cells_of, ruling_text, outcome_kind}
 use Rattle.sipd_report.specs.Totals.{capped, one_more}
 use Rattle.sipd_report.specs.Report.{numbered_text}
-use Rattle.sipd_report.specs.Lines.{Reading, GivesLine}
+use Rattle.sip_replay_script.specs.Lines.{Reading}
+use Rattle.sipd_report.specs.Lines.{GivesLine}
 
 -- nothing counted yet
 abbrev pub no_tally : Tally

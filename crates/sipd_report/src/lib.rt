@@ -30,6 +30,6 @@ mod totals;
 pub use cells::push_field;
 pub use entry::entry_of;
 pub use error::ReportError;
-pub use lines::LogLines;
+pub use lines::next_front;
 pub use query::{Form, Query};
 pub use reporting::report;

@@ -1,11 +1,10 @@
 //! What the command `report` writes: a row for each record that is asked for and, in a table, what is counted of them.
 ghost use Rattle.std.specs.Prelude.{◌≡◌, ◌≤◌, ◌⊎◌, true, false, IfOk, IfErr, OnOk};
 ghost use Rattle.std.specs.Io.KnownBytes.{Appends};
-ghost use Rattle.sip_replay_script.specs.Devices.{later, GaveUp};
-ghost use Rattle.sip_replay_script.specs.Lines.{IsSpent};
+ghost use Rattle.sip_replay_script.specs.Devices.{later, GaveUp, IsAsked};
+ghost use Rattle.sip_replay_script.specs.Lines.{IsOver, IsSpent};
 ghost use Rattle.sipd_report.specs.Cells;
-ghost use Rattle.sipd_report.specs.Lines.{IsOver};
-ghost use Rattle.sipd_report.specs.Refusals.{IsAsked, IsRefused, LineStops, TextStops};
+ghost use Rattle.sipd_report.specs.Refusals.{IsRefused, LineStops, TextStops};
 ghost use Rattle.sipd_report.specs.Report.{Reports, ending_text as ending_text_of};
 ghost use Rattle.sipd_report.specs.Rows.{cells_of};
 ghost use Rattle.sipd_report.specs.Steps as Definitions;
@@ -15,12 +14,12 @@ use crate::cells::{heading, row_text};
 use crate::ending::ending_text;
 use crate::entry::entry_of;
 use crate::error::ReportError;
-use crate::lines::LogLines;
+use crate::lines::next_front;
 use crate::query::{Form, Query};
 use crate::row::cells_of;
 use crate::tally::Tally;
 use sip_audit::Record;
-use sip_replay_script::{TellingReader, TellingWriter, hand_on, put};
+use sip_replay_script::{Lines, TellingReader, TellingWriter, hand_on, put};
 use sip_text::Bytes;
 use std::alloc::{AllocError, Global};
 
@@ -47,7 +46,7 @@ pub fn report<I: TellingReader, W: TellingWriter>(
         (I.has_failed input.new ⊎ (I.asked input.new ≡ later 4294967295 (I.asked input.old))) (GaveUp (W.has_failed output.new) (W.called output.new))) }
     ensures asked { IsAsked 4294967295 (I.asked input.old) (I.asked input.new) }
 {
-    let mut lines = LogLines::new(alloc)?;
+    let mut lines = Lines::new(alloc)?;
     let mut line = Vec::new(alloc);
     let mut tally = Tally::new(alloc);
     begin(alloc, query.form, output)?;
@@ -71,7 +70,7 @@ fn begin<W: TellingWriter>(alloc: Global, form: Form, output: &mut W) -> Result<
 fn take_next<I: TellingReader, W: TellingWriter>(
     alloc: Global,
     query: &Query<'_>,
-    lines: &mut LogLines,
+    lines: &mut Lines,
     line: &mut Vec<u8>,
     tally: &mut Tally,
     input: &mut I,
@@ -87,7 +86,7 @@ fn take_next<I: TellingReader, W: TellingWriter>(
     ensures asked { later lines.new.asks (I.asked input.new) ≡ later lines.old.asks (I.asked input.old) }
     ensures less { lines.new.asks ≤ lines.old.asks }
 {
-    if !lines.next(input, line)? {
+    if !next_front(lines, input, line)? {
         return Ok(false);
     }
     take_line(alloc, query, line.as_slice(), tally, output)?;

@@ -1,3 +1,5 @@
+//! The cells of an audit line as a row of the report: when, who asked and how, for what, what became of it, and by which rule: `-`
+//! where none did.
 ghost use Rattle.std.specs.Prelude.{◌≡◌, ◌++◌, decimal, IfOk, OnOk};
 ghost use Rattle.sipd_report.specs.Rows as Definitions;
 

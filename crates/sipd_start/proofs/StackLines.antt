@@ -1,44 +1,10 @@
--- The lines of a text, cut off one by one.
-use Rattle.std.proofs.Common.{ℕ, ◌≡◌, ◌<◌, ◌==◌, Bool, true, false, List, [], ◌∷◌, length, Option, Some, None, refl, sym, ap, subst, ◌∙◌, arith}
+-- The limits of a process, line by line.
+use Rattle.std.proofs.Common.{ℕ, ◌≡◌, List, [], ◌∷◌, Option, Some, None, refl, sym, ap, ◌∙◌}
 use Rattle.std.specs.Option.{option_or}
-use Rattle.sip_text.specs.Lists.{onto}
-use Rattle.sip_text.specs.Splits.{in_front, split_at_byte}
-use Rattle.sipd_start.specs.StackLimit.{too_small, lines_of, first_small, small_stack}
-
--- a text is cut so: a line, what stands behind its LF; or the last line
-abbrev CutSo : List ℕ → Option (List ℕ × List ℕ) → Type 0
-CutSo bytes None = lines_of bytes ≡ bytes ∷ []
-CutSo bytes (Some parts) = (lines_of bytes ≡ parts.0 ∷ lines_of parts.1) × (length parts.1 < length bytes)
-
-lines_here : (b : ℕ) (bs : List ℕ) → (b == 10) ≡ true → lines_of (b ∷ bs) ≡ [] ∷ lines_of bs
-lines_here b bs e = rw e refl
-
-lines_on : (b : ℕ) (bs : List ℕ) → (b == 10) ≡ false → lines_of (b ∷ bs) ≡ onto (b ∷ []) (lines_of bs)
-lines_on b bs e = rw e refl
-
-split_here : (b : ℕ) (bs : List ℕ) → (b == 10) ≡ true → split_at_byte 10 (b ∷ bs) ≡ Some ([], bs)
-split_here b bs e = rw e refl
-
-split_on : (b : ℕ) (bs : List ℕ) → (b == 10) ≡ false → split_at_byte 10 (b ∷ bs) ≡ in_front (b ∷ []) (split_at_byte 10 bs)
-split_on b bs e = rw e refl
-
-cut_on : (b : ℕ) (bs : List ℕ) (cut : Option (List ℕ × List ℕ)) → (b == 10) ≡ false → CutSo bs cut → CutSo (b ∷ bs) (in_front (b ∷ []) cut)
-cut_on b bs None e so = lines_on b bs e ∙ ap (onto (b ∷ [])) so
-cut_on b bs (Some parts) e so = (lines_on b bs e ∙ ap (onto (b ∷ [])) so.0, omega (arith, so.1))
-
-cut_here : (b : ℕ) (bs : List ℕ) → (b == 10) ≡ true → CutSo (b ∷ bs) (Some ([], bs))
-cut_here b bs e = (lines_here b bs e, omega arith)
-
-cut_either : (b : ℕ) (bs : List ℕ) (is : Bool) → (b == 10) ≡ is → CutSo bs (split_at_byte 10 bs) → CutSo (b ∷ bs) (split_at_byte 10 (b ∷ bs))
-cut_either b bs true e so = subst (λ cut. CutSo (b ∷ bs) cut) (sym (split_here b bs e)) (cut_here b bs e)
-cut_either b bs false e so = subst (λ cut. CutSo (b ∷ bs) cut) (sym (split_on b bs e)) (cut_on b bs (split_at_byte 10 bs) e so)
-
-cut_so : (bytes : List ℕ) → CutSo bytes (split_at_byte 10 bytes)
-cut_so [] = refl
-cut_so (b ∷ bs) = cut_either b bs (b == 10) refl (cut_so bs)
-
-line_cut : (bytes line rest : List ℕ) → Some (line, rest) ≡ split_at_byte 10 bytes → CutSo bytes (Some (line, rest))
-line_cut bytes line rest e = subst (λ cut. CutSo bytes cut) (sym e) (cut_so bytes)
+use Rattle.sip_text.specs.Splits.{split_at_byte}
+use Rattle.sip_text.specs.TextLines.{lines_of}
+use Rattle.sip_text.proofs.TextLines.{line_cut, last_cut}
+use Rattle.sipd_start.specs.StackLimit.{too_small, first_small, small_stack}
 
 -- a line that says too small a limit is the answer
 pub small_found : (bytes line rest : List ℕ) (n : ℕ) → Some (line, rest) ≡ split_at_byte 10 bytes → Some n ≡ too_small line → Some n ≡ small_stack bytes
@@ -48,9 +14,6 @@ small_found bytes line rest n e is = sym (ap first_small (line_cut bytes line re
 pub small_behind : (bytes line rest : List ℕ) → Some (line, rest) ≡ split_at_byte 10 bytes → None ≡ too_small line → small_stack rest ≡ small_stack bytes
 small_behind bytes line rest e is = sym (ap first_small (line_cut bytes line rest e).0 ∙ ap (λ found. option_or found (first_small (lines_of rest))) (sym is))
 
-pub less_behind : (bytes line rest : List ℕ) → Some (line, rest) ≡ split_at_byte 10 bytes → length rest < length bytes
-less_behind bytes line rest e = (line_cut bytes line rest e).1
-
 option_or-none : (o : Option ℕ) → option_or o None ≡ o
 option_or-none None = refl
 option_or-none (Some n) = refl
@@ -58,5 +21,5 @@ option_or-none (Some n) = refl
 -- the last line
 pub small_at_end : (bytes : List ℕ) → None ≡ split_at_byte 10 bytes → too_small bytes ≡ small_stack bytes
 small_at_end bytes e =
-    let whole : lines_of bytes ≡ bytes ∷ [] = subst (λ cut. CutSo bytes cut) (sym e) (cut_so bytes) in
+    let whole : lines_of bytes ≡ bytes ∷ [] = last_cut bytes e in
     sym (ap first_small whole ∙ option_or-none (too_small bytes))

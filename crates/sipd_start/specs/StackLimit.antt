@@ -1,11 +1,12 @@
 -- What a line of the limits of a process says (`/proc/self/limits`, proc(5)): the name of a limit, blanks, the soft limit, blanks, and
 -- more.
-use Rattle.std.specs.Prelude.{ℕ, ◌==◌, List, [], ◌∷◌, length, drop, nat_eq, nat_lt, codes, if◌then◌else◌, Option, Some, None, option_and_then, Result, Ok, Err}
+use Rattle.std.specs.Prelude.{ℕ, List, [], ◌∷◌, length, drop, nat_eq, nat_lt, codes, if◌then◌else◌, Option, Some, None, option_and_then, Result, Ok, Err}
 use Rattle.std.specs.Option.{option_or}
 use Rattle.std.specs.List.{starts_with}
-use Rattle.sip_text.specs.Lists.{front_trimmed, onto}
+use Rattle.sip_text.specs.Lists.{front_trimmed}
 use Rattle.sip_text.specs.Numbers.{plain_decimal_of}
 use Rattle.sip_text.specs.Splits.{split_at_byte}
+use Rattle.sip_text.specs.TextLines.{lines_of}
 use Rattle.sipd_exit.specs.declared.exit.Exit.{Exit}
 use Rattle.sipd_exit.specs.declared.exit.Exit.TheVariants.{Stack}
 
@@ -32,11 +33,6 @@ if_small bytes = if nat_lt bytes 524288 then Some bytes else None
 -- the soft limit of the stack, where the line says one that is too small
 abbrev pub too_small : List ℕ → Option ℕ
 too_small line = option_and_then if_small (soft_limit line)
-
--- the lines of a text, the LF between them left out
-abbrev pub lines_of : List ℕ → List (List ℕ)
-lines_of [] = [] ∷ []
-lines_of (b ∷ bs) = if b == 10 then [] ∷ lines_of bs else onto (b ∷ []) (lines_of bs)
 
 -- what the first of some lines says that says too small a limit
 abbrev pub first_small : List (List ℕ) → Option ℕ

@@ -4,7 +4,8 @@ use Rattle.std.specs.Io.KnownBytes.{Appends}
 use Rattle.std.specs.Str.{IsUtf8}
 use Rattle.sip_config.specs.values.declared.error.ConfigError.{ConfigError}
 use Rattle.sip_config_types.specs.declared.config.Config.{Config}
-use Rattle.sipd_expect.specs.File.{FileIs, lines_of}
+use Rattle.sipd_expect.specs.File.{FileIs}
+use Rattle.sip_text.specs.TextLines.{lines_of}
 use Rattle.sipd_mistakes.specs.Mistakes.{IsReadingOf}
 use Rattle.sipd_mistakes.specs.declared.telling.Reading.{Reading}
 use Rattle.sipd_mistakes.specs.declared.telling.Reading.TheVariants.{Refused, Stated}

@@ -11,7 +11,8 @@ use Rattle.sipd_arguments.specs.declared.call.CheckCall.{CheckCall}
 use Rattle.sipd_exit.specs.Exits.{IsPrintFault, exit_of_config}
 use Rattle.sipd_exit.specs.declared.exit.Exit.{Exit}
 use Rattle.sipd_exit.specs.declared.exit.Exit.TheVariants.{OtherFrame, Unexpected}
-use Rattle.sipd_expect.specs.File.{FileIs, SomeRefused, lines_of}
+use Rattle.sipd_expect.specs.File.{FileIs, SomeRefused}
+use Rattle.sip_text.specs.TextLines.{lines_of}
 use Rattle.sipd_expect.specs.declared.error.LineError.{LineError}
 use Rattle.sipd_mistakes.specs.Encoding.{encoding_text}
 use Rattle.sipd_mistakes.specs.Mistakes.{IsReadingOf}

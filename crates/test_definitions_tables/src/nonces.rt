@@ -2,7 +2,7 @@ ghost use Rattle.std.specs.Prelude.{◌≡◌, [], codes, Some, None};
 ghost use Rattle.sip_digest.specs.declared.algorithm.Algorithm.TheVariants.{Md5, Sha256};
 ghost use Rattle.sip_digest.specs.declared.nonces.Worth.TheVariants.{Right, Stale, Wrong};
 ghost use Rattle.sip_digest.specs.Algorithm.{name_of};
-ghost use Rattle.sip_digest.specs.Credential.{count_in};
+ghost use Rattle.sip_digest.specs.Protection.{count_in};
 ghost use Rattle.sip_digest.specs.Nonces.{worth_of};
 ghost use Rattle.test_definitions_tables.specs.Nonces.{mufasas_a1, used_often, by_rfc_2069, counting};
 

@@ -1,10 +1,9 @@
 //! Calls of an engine with the sample configuration.
 
-use crate::datagrams::Datagram;
 use crate::driving::{PHONE, begins, hear};
 use crate::kinds::{TestServer, opened};
 use crate::refusals::aor_of;
-use crate::registers::REGISTER;
+use crate::registers::{Datagram, REGISTER};
 use sip_config_change::FrameKey;
 use sip_config_types::{Config, sample};
 use sip_event::Ticket;
@@ -155,7 +154,8 @@ impl Call {
     }
 }
 
-fn all_hold(alloc: Global, engine: &mut TestServer, calls: &[Call]) -> bool {
+/// Whether calls come to what is wanted on an engine.
+pub(crate) fn all_hold(alloc: Global, engine: &mut TestServer, calls: &[Call]) -> bool {
     for call in calls {
         if !call.holds(alloc, engine) {
             return false;

@@ -8,9 +8,11 @@ mod standing;
 mod take;
 
 use crate::fault::Fault;
+pub(crate) use script::event_of;
 pub use script::play;
 pub(crate) use standing::aor_of;
 use std::alloc::Global;
+pub(crate) use take::step;
 
 /// What is printed of the steps of a script, none of which is refused.
 fn printed(alloc: Global, script: &[u8]) -> Result<Vec<u8>, Fault> {

@@ -1,5 +1,29 @@
 //! The datagrams of the stored run `registered`, and its script with its print.
 
+/// A datagram that comes from Mufasa's phone. Tables have its name, and not its bytes, of which a constant may have few.
+#[derive(Clone, Copy)]
+pub enum Datagram {
+    /// He registers without credentials.
+    Registers,
+    /// He does with the right credential.
+    RegistersAgain,
+    /// He does once more without credentials.
+    RegistersLater,
+    /// No bytes.
+    Nothing,
+}
+
+impl Datagram {
+    pub fn bytes(self) -> &'static [u8] {
+        match self {
+            Datagram::Registers => REGISTER,
+            Datagram::RegistersAgain => REGISTER_AGAIN,
+            Datagram::RegistersLater => REGISTER_LATER,
+            Datagram::Nothing => b"",
+        }
+    }
+}
+
 /// A REGISTER without credentials.
 pub const REGISTER: &[u8] = b"\
 REGISTER sip:host.com SIP/2.0\r\n\
@@ -30,7 +54,7 @@ Content-Length: 0\r\n\
 ";
 
 /// Another one without credentials.
-pub const REGISTER_LATER: &[u8] = b"\
+const REGISTER_LATER: &[u8] = b"\
 REGISTER sip:host.com SIP/2.0\r\n\
 Via: SIP/2.0/UDP 127.0.0.1:5062;branch=z9hG4bKreg3\r\n\
 Max-Forwards: 70\r\n\

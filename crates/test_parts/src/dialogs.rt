@@ -1,5 +1,5 @@
 use sip_dialog::{DialogError, DialogId, Dialogs, InviteAnswer};
-use sip_text::{Bytes, Items};
+use sip_text::Items;
 use sip_uri::Addr;
 use std::alloc::{AllocError, Global};
 
@@ -10,11 +10,7 @@ const CALLED: Addr = Addr {
 
 /// The name of a dialog: one Call-ID and one From tag, and a To tag of this number.
 fn name(alloc: Global, number: u16) -> Result<DialogId, AllocError> {
-    Ok(DialogId {
-        call_id: Bytes::copy(alloc, b"k1")?,
-        from_tag: Bytes::copy(alloc, b"f1")?,
-        to_tag: Bytes::copy(alloc, number.to_be_bytes().as_slice())?,
-    })
+    DialogId::of(alloc, b"k1", b"f1", number.to_be_bytes().as_slice())
 }
 
 /// Learns a dialog from a 200 to an INVITE that came at the same moment.

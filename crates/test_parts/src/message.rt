@@ -1,3 +1,5 @@
+//! Cases of a message's bytes: what it is read as, which of its values are parts of the datagram, and by which number each refusal is
+//! told (RFC 3261 7).
 use crate::bytes::gives_bytes;
 use crate::cases::Row;
 use sip_message::{read, view};

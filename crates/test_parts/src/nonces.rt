@@ -1,4 +1,6 @@
-use sip_digest::{Algorithm, Credential, Nonces, Protection, Worth, answer, nonce_text};
+use sip_digest::{
+    Algorithm, Credential, Nonces, Protection, Worth, answer, nonce_count, nonce_text,
+};
 use std::alloc::{AllocError, Global};
 
 /// The digest of the user, the realm and the password of the example of RFC 2617 3.5.
@@ -26,6 +28,7 @@ fn register<'a>(
         nonce,
         protection,
         response,
+        count: nonce_count(protection),
     }
 }
 
@@ -34,7 +37,7 @@ fn is_worth(nonces: &Nonces, word: u128, now: u64, wanted: Worth) -> bool {
     let nonce = nonce_text(word);
     let response = answer(MUFASA, b"REGISTER", b"sip:host.com", &nonce, None);
     let credential = register(nonce.as_slice(), response.as_slice(), None);
-    nonces.check(MUFASA, &credential, now) == wanted
+    nonces.check(MUFASA, &credential, now).worth == wanted
 }
 
 /// Words, moments, and what an answer to the word's nonce is worth then. The oldest of the nonces is forgotten, and

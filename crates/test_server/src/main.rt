@@ -51,6 +51,7 @@ fn number(word: &str) -> u32 {
 /// The cases that have a name.
 fn try_cases(rt: &HostRuntime) -> io::Result<()> {
     cases::tell_all(rt)?;
+    test_serve::tell_all(rt)?;
     test_kinds::tell_all(rt)?;
     test_parts::tell_all(rt)
 }

@@ -1,3 +1,4 @@
+//! Which calls on tables are counted, by the word of each, and how often each is made: `bench/measure_tables.py` asks for them by it.
 use crate::tables::choices::choices;
 use crate::tables::comparisons::{Compared, comparisons};
 use crate::tables::decisions::{Others, decisions};

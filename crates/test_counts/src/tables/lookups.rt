@@ -1,6 +1,6 @@
 use crate::tables::names::name_of;
 use sip_dialog::{DialogError, DialogId, Dialogs, InviteAnswer};
-use sip_text::{Bytes, Items};
+use sip_text::Items;
 use sip_uri::Addr;
 use std::alloc::{AllocError, Global};
 
@@ -11,11 +11,7 @@ const PHONE: Addr = Addr {
 
 /// The name of the dialog of a number.
 fn id(alloc: Global, number: u32) -> Result<DialogId, AllocError> {
-    Ok(DialogId {
-        call_id: name_of(alloc, number)?,
-        from_tag: Bytes::copy(alloc, b"f1")?,
-        to_tag: Bytes::copy(alloc, b"t1")?,
-    })
+    DialogId::of(alloc, name_of(alloc, number)?.as_slice(), b"f1", b"t1")
 }
 
 fn push_ids(alloc: Global, ids: &mut Vec<DialogId>, count: u32) -> Result<(), AllocError> {

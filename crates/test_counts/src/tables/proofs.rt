@@ -1,3 +1,4 @@
+//! What it costs to prove who a request comes from (RFC 2617): a REGISTER with the right answer of the last of so many users.
 use crate::tables::names::name_of;
 use sip_auth::proof_of;
 use sip_digest::{Nonces, Protection, a1, answer, nonce_text};

@@ -1,3 +1,4 @@
+//! What timers cost, of whichever kind, where so many stand: one set and cancelled, the first that is due taken, in three orders.
 use sip_timers::laws::timer_stands;
 use sip_timers::{Letter, Name, Owner, Timers};
 use std::alloc::Global;

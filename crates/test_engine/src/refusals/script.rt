@@ -31,7 +31,7 @@ fn take_event<W: Write, M: Write>(
 }
 
 /// The event that a line begins, a datagram with a copy of these bytes.
-fn event_of(alloc: Global, line: Line, bytes: &Gathered) -> Result<Event, AllocError> {
+pub(crate) fn event_of(alloc: Global, line: Line, bytes: &Gathered) -> Result<Event, AllocError> {
     match line {
         Line::Whole(event) => Ok(event),
         Line::Head(head) => Ok(Event::Datagram {

@@ -18,7 +18,7 @@ pub struct ProbeTaken {
 }
 
 /// The step of what is due first by an event's moment, or the event's own.
-fn step(engine: &mut TestServer, event: &Event) -> Result<ProbeTaken, StepError>
+pub(crate) fn step(engine: &mut TestServer, event: &Event) -> Result<ProbeTaken, StepError>
     ensures { OnErr result (engine.new ≡ engine.old) }
 {
     if let Some(out) = fire_next(engine, event_moment(event))? {

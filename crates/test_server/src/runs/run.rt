@@ -1,4 +1,5 @@
-//! One stored run, held against its files: what the program writes, complains and exits with, and what plain lists give.
+//! One stored run, held against its files: what the program writes, complains and exits with, and what plain lists give; and
+//! whether two servers that took its script go on alike.
 use sip_policy::ListRules;
 use sip_policy_index::IndexedRules;
 use sip_timers::ListTimers;
@@ -10,6 +11,7 @@ use std::io::Write;
 use std::net::Net;
 use std::random::RandomSource;
 use std::rt::{Clock, Files};
+use test_engine::alike::leaves_alike;
 use test_engine::refusals::prints;
 use test_forms::stored::{agrees, file_of, input_of, script_of, words_of};
 
@@ -70,11 +72,32 @@ fn gives_on_lists<R: Files + AllocGlobal>(
     agrees(rt, name, output.as_slice(), complaints.as_slice(), status)
 }
 
-/// Whether a run agrees with its files, by the program, and, where it has a script, on plain lists of timers and rules.
+/// Whether the run of a script agrees with its files on plain lists of timers and rules, and whether two servers with the
+/// sample's configuration that took the script go on alike.
+#[derive(Clone, Copy)]
+pub struct ScriptAgreement {
+    pub on_lists: bool,
+    pub alike: bool,
+}
+
+/// Whether a run agrees with its files, by the program, and, where it has a script, by that.
 #[derive(Clone, Copy)]
 pub struct Agreement {
     pub by_program: bool,
-    pub on_lists: Option<bool>,
+    pub by_script: Option<ScriptAgreement>,
+}
+
+/// What the script of a run comes to.
+fn script_agreement<R: Files + AllocGlobal>(
+    rt: &R,
+    name: &str,
+    words: &[String],
+    script: &[u8],
+) -> ScriptAgreement {
+    ScriptAgreement {
+        on_lists: gives_on_lists(rt, name, words, script),
+        alike: leaves_alike(rt.alloc(), script),
+    }
 }
 
 /// Whether a run agrees with its files.
@@ -85,17 +108,17 @@ pub fn agreement_of<R: Files + Net + Clock + RandomSource + Eprint + AllocGlobal
     let Some(words) = words_of(rt, name) else {
         return Agreement {
             by_program: false,
-            on_lists: None,
+            by_script: None,
         };
     };
     match script_of(rt, name) {
         Some(script) => Agreement {
             by_program: gives(rt, name, words.as_slice(), script.as_slice()),
-            on_lists: Some(gives_on_lists(rt, name, words.as_slice(), script.as_slice())),
+            by_script: Some(script_agreement(rt, name, words.as_slice(), script.as_slice())),
         },
         None => Agreement {
             by_program: gives(rt, name, words.as_slice(), input_of(rt, name).as_slice()),
-            on_lists: None,
+            by_script: None,
         },
     }
 }

@@ -1,6 +1,6 @@
 use Rattle.std.proofs.Common.{arith}
 use Rattle.model_context.specs.Retransmission.{resent_branch}
-use Rattle.sip_context_branches.proofs.ResentLists.{one_more}
+use Rattle.sip_context_branches.proofs.Lists.{one_more}
 use Rattle.sip_context_branches.proofs.resent.set_resends.Goals as goal
 
 pub loop-place-preserved : goal.loop-place-preserved

@@ -1,5 +1,5 @@
 use Rattle.std.proofs.Common.{sym, ap, ◌∙◌}
-use Rattle.sip_message_form.specs.declared.message.Message.{Message}
+use Rattle.sip_state.specs.KeptRequest.{KeptRequest}
 use Rattle.sip_state.specs.Dialogs.{dialog_of}
 use Rattle.sip_dialog_lessons.specs.Lessons.{after_lessons}
 use Rattle.sip_dialog_lessons.proofs.Told.{within_told}
@@ -8,5 +8,5 @@ use Rattle.sip_dialog_lessons.proofs.answers.put_named.Goals as goal
 pub returns-clause-told : goal.returns-clause-told
 returns-clause-told c = λ server now dialogs e.
     within_told server now c.args.request.now c.args.up.now c.in-Some.id _ (after_lessons now c.args.list.now.items dialogs) c.requires
-    (sym c.in-Some.is ∙ c.in_ok-id.ensures ∙ ap (λ (m : Message). dialog_of m) c.get.ensures)
+    (sym c.in-Some.is ∙ c.in_ok-id.ensures ∙ ap (λ (k : KeptRequest). dialog_of k.message) c.get.ensures)
     (c.in_ok-put_within.ensures.told server now dialogs e)

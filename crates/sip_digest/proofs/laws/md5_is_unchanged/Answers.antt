@@ -1,5 +1,5 @@
 use Rattle.std.proofs.Common.{Some}
-use Rattle.sip_digest.specs.Credential.{count_in}
+use Rattle.sip_digest.specs.Protection.{count_in}
 use Rattle.sip_digest.specs.Nonces.{row_of}
 use Rattle.sip_digest.proofs.Formulas.{right_text}
 use Rattle.sip_digest.proofs.laws.md5_is_unchanged.Goals as goal

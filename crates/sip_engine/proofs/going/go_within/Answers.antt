@@ -1,9 +1,12 @@
+use Rattle.std.proofs.Common.{ap}
+use Rattle.sip_core.specs.state.KeptRequest.{KeptRequest}
 use Rattle.sip_core.specs.verdict_model.Verdict as Definition
 use Rattle.sip_engine.proofs.Taken.{message_is}
 use Rattle.sip_engine.proofs.going.go_within.Goals as goal
 
 pub returns-clause-does : goal.returns-clause-does
 returns-clause-does g c =
-    message_is c.args.configured.now.server.now c.args.request.now.arrival c.args.proxy.now.state c.send_within.new.proxy.state c.args.request.now.message.now
-    c.in_ok-message.message (Definition.InDialog c.args.address c.args.id)
-    c.send_within.result c.in_ok-message.ensures c.send_within.ensures.does
+    message_is c.args.configured.now.server.now c.args.request.received.now.arrival c.args.proxy.now.state c.send_within.new.proxy.state
+    c.args.request.received.now.message.now
+    c.in_ok-message.message.message (Definition.InDialog c.args.way.0 c.args.way.1)
+    c.send_within.result (ap (λ (k : KeptRequest). k.message) c.in_ok-message.ensures) c.send_within.ensures.does

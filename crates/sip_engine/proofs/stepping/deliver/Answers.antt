@@ -8,8 +8,8 @@ use Rattle.sip_engine.proofs.stepping.deliver.Goals as goal
 pub take_datagram-requires : goal.take_datagram-requires
 take_datagram-requires g c =
     let old = c.args.proxy.now.state in
-    let now = moment_of old c.args.at in
-    let early : c.args.at < 2 ^ 62 = c.is_too_large.ensures.small c.if-is_too_large.false in
+    let now = moment_of old c.args.coming.now.at in
+    let early : c.args.coming.now.at < 2 ^ 62 = c.is_too_large.ensures.small c.if-is_too_large.false in
     let few : old.next < 2 ^ 62 = omega (arith, c.is_too_large-2.ensures.small c.if-is_too_large-2.false, c.next.ensures) in
     let none : NoneBy now old.requests × NoneAgainBy now old.requests = c.requires.none_due early in
     record {

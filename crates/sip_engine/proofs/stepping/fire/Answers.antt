@@ -15,8 +15,8 @@ pub returns-clause-step : goal.returns-clause-step
 returns-clause-step g c =
     let old = c.args.proxy.now.state in
     passes_for c.args.judge.now old c.fire.new.proxy.state c.args.at c.in_ok-out.out
-    (subst (λ (s : Server). IsStep s old (Passing (moment_of old c.args.at)) c.in_ok-out.out c.fire.new.proxy.state) c.server.ensures
-    (subst (λ (n : ℕ). IsStep c.server.result.now old (Passing n) c.in_ok-out.out c.fire.new.proxy.state) c.moment_of-now.ensures.value c.in_ok-out.ensures.step))
+    (subst (λ (s : Server). IsStep s old (Passing (moment_of old c.args.at)) c.in_ok-out.out c.fire.new.proxy.state) c.server-server.ensures
+    (subst (λ (n : ℕ). IsStep c.server-server.result.now old (Passing n) c.in_ok-out.out c.fire.new.proxy.state) c.moment_of-now.ensures.value c.in_ok-out.ensures.step))
 
 pub returns-clause-at_first : goal.returns-clause-at_first
 returns-clause-at_first g c = λ due next le. c.in_ok-out.ensures.fired due next (subst (λ (n : ℕ). due ≤ n) (sym c.moment_of-now.ensures.value) le)
@@ -26,15 +26,15 @@ returns-clause-happens g c = λ due next le.
     let old = c.args.proxy.now.state in
     happens_for c.args.judge.now old c.fire.new.proxy.state c.args.at c.in_ok-out.out
     (subst (λ (s : Server). IsDeadline s old (moment_of old c.args.at) c.in_ok-out.out c.fire.new.proxy.state
-    ⊎ IsResend s old (moment_of old c.args.at) c.in_ok-out.out c.fire.new.proxy.state) c.server.ensures
-    (subst (λ (n : ℕ). IsDeadline c.server.result.now old n c.in_ok-out.out c.fire.new.proxy.state
-    ⊎ IsResend c.server.result.now old n c.in_ok-out.out c.fire.new.proxy.state) c.moment_of-now.ensures.value
+    ⊎ IsResend s old (moment_of old c.args.at) c.in_ok-out.out c.fire.new.proxy.state) c.server-server.ensures
+    (subst (λ (n : ℕ). IsDeadline c.server-server.result.now old n c.in_ok-out.out c.fire.new.proxy.state
+    ⊎ IsResend c.server-server.result.now old n c.in_ok-out.out c.fire.new.proxy.state) c.moment_of-now.ensures.value
     (c.in_ok-out.ensures.happens due next (subst (λ (n : ℕ). due ≤ n) (sym c.moment_of-now.ensures.value) le))))
 
 pub returns-clause-in_order : goal.returns-clause-in_order
 returns-clause-in_order g c = λ due next le.
     let old = c.args.proxy.now.state in
     first_for c.args.judge.now old c.fire.new.proxy.state c.args.at c.in_ok-out.out c.args.proxy.now.timers
-    (subst (λ (s : Server). IsFiredFirst s c.args.proxy.now.timers old (moment_of old c.args.at) c.in_ok-out.out c.fire.new.proxy.state) c.server.ensures
-    (subst (λ (n : ℕ). IsFiredFirst c.server.result.now c.args.proxy.now.timers old n c.in_ok-out.out c.fire.new.proxy.state) c.moment_of-now.ensures.value
+    (subst (λ (s : Server). IsFiredFirst s c.args.proxy.now.timers old (moment_of old c.args.at) c.in_ok-out.out c.fire.new.proxy.state) c.server-server.ensures
+    (subst (λ (n : ℕ). IsFiredFirst c.server-server.result.now c.args.proxy.now.timers old n c.in_ok-out.out c.fire.new.proxy.state) c.moment_of-now.ensures.value
     (c.in_ok-out.ensures.in_order due next (subst (λ (n : ℕ). due ≤ n) (sym c.moment_of-now.ensures.value) le))))

@@ -7,17 +7,20 @@ draft_input-requires-clause-about g c =
 
 pub returns-clause-fired : goal.returns-clause-fired
 returns-clause-fired g c =
-    draft_fired c.args.hops.now.addresses c.args.server.now c.args.first.due c.args.first.what c.args.proxy.now.state.requests c.args.first.place c.get.result.now
+    draft_fired c.args.configured.now.hops.now.addresses c.args.configured.now.server.now c.args.first.due c.args.first.what c.args.proxy.now.state.requests
+    c.args.first.place c.get.result.now
     c.input_of-input.result c.draft_input.result
     c.get.ensures c.input_of-input.ensures.due c.input_of-input.ensures.part c.input_of-input.ensures.last c.draft_input.ensures
 
 pub returns-clause-kept : goal.returns-clause-kept
 returns-clause-kept g c =
-    draft_kept c.args.hops.now.addresses c.args.server.now c.args.first.due c.args.proxy.now.state.requests c.args.first.place c.input_of-input.result
+    draft_kept c.args.configured.now.hops.now.addresses c.args.configured.now.server.now c.args.first.due c.args.proxy.now.state.requests c.args.first.place
+    c.input_of-input.result
     c.draft_input.result c.draft_input.ensures
 
 pub returns-clause-few : goal.returns-clause-few
 returns-clause-few g c =
-    draft_few c.args.hops.now.addresses c.args.server.now c.args.first.due c.args.proxy.now.state.requests c.args.first.place c.get.result.now c.input_of-input.result
+    draft_few c.args.configured.now.hops.now.addresses c.args.configured.now.server.now c.args.first.due c.args.proxy.now.state.requests c.args.first.place
+    c.get.result.now c.input_of-input.result
     c.draft_input.result
     c.get.ensures c.draft_input.ensures

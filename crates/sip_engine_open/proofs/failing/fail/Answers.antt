@@ -5,8 +5,9 @@ use Rattle.sip_engine_open.proofs.failing.fail.Goals as goal
 
 pub returns-clause-does : goal.returns-clause-does
 returns-clause-does g c =
-    failed_done c.args.server.now c.args.now c.args.proxy.now.state c.change.new.proxy.state c.args.hops.now.addresses c.args.place c.args.branch c.in_ok-draft.draft
-    c.change.result c.requires.rows
+    failed_done c.args.configured.now.server.now c.args.now c.args.proxy.now.state c.change.new.proxy.state c.args.configured.now.hops.now.addresses c.args.place
+    c.args.branch c.in_ok-draft.draft
+    c.change.result c.args.configured.now.rows
     c.in_ok-draft.ensures.draft c.change.ensures.leaves
 
 pub returns-clause-at_moment : goal.returns-clause-at_moment

@@ -5,7 +5,8 @@ use Rattle.sip_engine_open.proofs.failing.fault.Goals as goal
 
 pub returns-in-Some-clause-step : goal.returns-in-Some-clause-step
 returns-in-Some-clause-step g c =
-    branch_fails c.args.server.now c.args.now c.args.proxy.now.state c.fail.new.proxy.state c.args.ticket c.in-Some.place c.in-Some.branch c.fail.result c.requires.moment
+    branch_fails c.args.configured.now.server.now c.args.now c.args.proxy.now.state c.fail.new.proxy.state c.args.ticket c.in-Some.place c.in-Some.branch c.fail.result
+    c.requires.moment
     c.in-Some.ensures.some
     c.in-Some.ensures.is c.fail.ensures.does
 
@@ -18,5 +19,6 @@ returns-in-Some-clause-never_refused g c = λ none.
 
 pub returns-clause-step : goal.returns-clause-step
 returns-clause-step g c =
-    no_branch_fails c.args.server.now c.args.now c.args.proxy.now.state c.pass.new.proxy.state c.args.ticket c.pass.result c.requires.moment c.in_default.ensures.none
+    no_branch_fails c.args.configured.now.server.now c.args.now c.args.proxy.now.state c.pass.new.proxy.state c.args.ticket c.pass.result c.requires.moment
+    c.in_default.ensures.none
     c.pass.ensures.leaves

@@ -1,4 +1,4 @@
-use Rattle.sip_engine_open.proofs.Failed.{branch_within, place_within}
+use Rattle.sip_engine_open.proofs.Found.{branch_within, place_within}
 use Rattle.sip_engine_open.proofs.failing.found_places_are_within.Goals as goal
 
 pub returns-clause-request : goal.returns-clause-request

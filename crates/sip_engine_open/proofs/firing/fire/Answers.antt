@@ -13,7 +13,8 @@ fire_first-requires-clause-later g c =
 
 pub returns-in-Some-clause-step : goal.returns-in-Some-clause-step
 returns-in-Some-clause-step g c =
-    first_step c.args.server.now c.args.proxy.now.state c.fire_first.new.proxy.state c.args.proxy.now.timers c.in-Some.first.due c.args.now c.fire_first.result
+    first_step c.args.configured.now.server.now c.args.proxy.now.state c.fire_first.new.proxy.state c.args.proxy.now.timers c.in-Some.first.due c.args.now
+    c.fire_first.result
     c.in-Some.ensures.due c.fire_first.ensures.step
 
 pub returns-in-Some-clause-waited : goal.returns-in-Some-clause-waited
@@ -30,13 +31,15 @@ returns-in-Some-clause-never_refused g c = λ none again.
 
 pub returns-in-Some-clause-happens : goal.returns-in-Some-clause-happens
 returns-in-Some-clause-happens g c = λ due next le.
-    first_happens c.args.server.now c.args.proxy.now.state c.fire_first.new.proxy.state c.args.proxy.now.timers c.in-Some.first.due c.args.now c.fire_first.result
+    first_happens c.args.configured.now.server.now c.args.proxy.now.state c.fire_first.new.proxy.state c.args.proxy.now.timers c.in-Some.first.due c.args.now
+    c.fire_first.result
     c.in-Some.ensures.due
     c.fire_first.ensures.step
 
 pub returns-in-Some-clause-in_order : goal.returns-in-Some-clause-in_order
 returns-in-Some-clause-in_order g c = λ due next le.
-    first_in_order c.args.server.now c.args.proxy.now.state c.fire_first.new.proxy.state c.args.proxy.now.timers c.in-Some.first.due c.args.now c.fire_first.result
+    first_in_order c.args.configured.now.server.now c.args.proxy.now.state c.fire_first.new.proxy.state c.args.proxy.now.timers c.in-Some.first.due c.args.now
+    c.fire_first.result
     c.in-Some.ensures.due
     c.fire_first.ensures.step
 
@@ -65,13 +68,14 @@ pub returns-clause-step : goal.returns-clause-step
 returns-clause-step g c =
     let by : c.args.now ≤ moment_of c.args.proxy.now.state c.args.now = omega arith in
     inl
-    (quiet_done c.args.server.now c.args.now c.args.now c.args.proxy.now.state c.pass.result c.pass.new.proxy.state c.pass.ensures.leaves c.requires.later by
+    (quiet_done c.args.configured.now.server.now c.args.now c.args.now c.args.proxy.now.state c.pass.result c.pass.new.proxy.state c.pass.ensures.leaves c.requires.later
+    by
     (none_before c.args.proxy.now.state.requests c.args.now c.in_default.ensures.none)
     (none_again_before c.args.proxy.now.state.requests c.args.now c.in_default.ensures.none_again))
 
 pub returns-clause-waited : goal.returns-clause-waited
 returns-clause-waited g c = λ none again.
-    time_done c.args.server.now c.args.now c.args.proxy.now.state c.pass.result c.pass.new.proxy.state c.pass.ensures.leaves c.requires.later none again
+    time_done c.args.configured.now.server.now c.args.now c.args.proxy.now.state c.pass.result c.pass.new.proxy.state c.pass.ensures.leaves c.requires.later none again
     (none_before c.args.proxy.now.state.requests c.args.now none) (none_again_before c.args.proxy.now.state.requests c.args.now again)
 
 pub returns-clause-fired : goal.returns-clause-fired

@@ -5,8 +5,9 @@ use Rattle.sip_engine_open.proofs.firing.fire_first.Goals as goal
 
 pub returns-clause-step : goal.returns-clause-step
 returns-clause-step g c =
-    first_done c.args.server.now c.args.proxy.now.state c.change.new.proxy.state c.args.proxy.now.timers c.args.hops.now.addresses c.args.first c.in_ok-draft.draft
-    c.change.result c.requires.rows c.requires.first
+    first_done c.args.configured.now.server.now c.args.proxy.now.state c.change.new.proxy.state c.args.proxy.now.timers c.args.configured.now.hops.now.addresses
+    c.args.first c.in_ok-draft.draft
+    c.change.result c.args.configured.now.rows c.requires.first
     c.requires.in_order c.in_ok-draft.ensures.fired c.change.ensures.leaves
 
 pub returns-clause-at_first : goal.returns-clause-at_first
@@ -28,25 +29,27 @@ returns-clause-next_stays g c =
     c.change.new.proxy.state c.change.result c.change.ensures.leaves
 
 pub end-requires-clause-kept : goal.end-requires-clause-kept
-end-requires-clause-kept g c = c.in-Some.ensures.kept c.args.server.now
+end-requires-clause-kept g c = c.in-Some.ensures.kept c.args.configured.now.server.now
 
 pub returns-in-Some-clause-step : goal.returns-in-Some-clause-step
 returns-in-Some-clause-step g c =
-    quiet_done c.args.server.now c.args.proxy.now.state c.end.new.proxy.state c.args.proxy.now.timers c.args.first c.in-Some.transaction c.end.result
-    c.args.hops.now.addresses c.requires.rows c.requires.first
+    quiet_done c.args.configured.now.server.now c.args.proxy.now.state c.end.new.proxy.state c.args.proxy.now.timers c.args.first c.in-Some.transaction c.end.result
+    c.args.configured.now.hops.now.addresses c.args.configured.now.rows c.requires.first
     c.requires.in_order c.in-Some.ensures.quiet c.in-Some.ensures.kept c.end.ensures.leaves
 
 pub returns-in-Some-clause-at_first : goal.returns-in-Some-clause-at_first
 returns-in-Some-clause-at_first g c =
-    quiet_at c.args.server.now c.args.proxy.now.state c.end.new.proxy.state c.args.proxy.now.timers c.args.first c.in-Some.transaction c.end.result c.requires.first
+    quiet_at c.args.configured.now.server.now c.args.proxy.now.state c.end.new.proxy.state c.args.proxy.now.timers c.args.first c.in-Some.transaction c.end.result
+    c.requires.first
     c.end.ensures.leaves
 
 pub returns-in-Some-clause-at_moment : goal.returns-in-Some-clause-at_moment
 returns-in-Some-clause-at_moment g c =
-    quiet_at_moment c.args.server.now c.args.proxy.now.state c.end.new.proxy.state c.args.proxy.now.timers c.args.first c.in-Some.transaction c.end.result
+    quiet_at_moment c.args.configured.now.server.now c.args.proxy.now.state c.end.new.proxy.state c.args.proxy.now.timers c.args.first c.in-Some.transaction c.end.result
     c.requires.first c.end.ensures.leaves
 
 pub returns-in-Some-clause-next_stays : goal.returns-in-Some-clause-next_stays
 returns-in-Some-clause-next_stays g c =
-    quiet_next c.args.server.now c.args.proxy.now.state c.end.new.proxy.state c.args.proxy.now.timers c.args.first c.in-Some.transaction c.end.result c.requires.first
+    quiet_next c.args.configured.now.server.now c.args.proxy.now.state c.end.new.proxy.state c.args.proxy.now.timers c.args.first c.in-Some.transaction c.end.result
+    c.requires.first
     c.end.ensures.leaves

@@ -11,11 +11,12 @@ pub take_draft-requires-clause-opens : goal.take_draft-requires-clause-opens
 take_draft-requires-clause-opens g c =
     let old : ProxyState = c.args.proxy.now.state in
     let before : ProxyState = counted (arrival_of c.args.request.arrival) old in
-    let effect : Effect = replied c.args.server.now (arrival_of c.args.request.arrival) c.args.request.request c.args.status c.args.extras.now c.new-records.result before
+    let effect : Effect = replied c.args.server.now (arrival_of c.args.request.arrival) c.args.request.request.message c.args.status c.args.extras.now
+    c.new-records.result before
     in
     opened_in c.args.request.arrival c.args.request.key old c.in_ok-draft.draft old.nonces None effect c.requires.new.alone
     (c.in_ok-draft.ensures.does before (sym c.is_full-is_full.ensures))
-    (reply_replies c.args.server.now c.args.request.arrival c.args.request.request c.args.status c.args.extras.now c.new-records.result before)
+    (reply_replies c.args.server.now c.args.request.arrival c.args.request.request.message c.args.status c.args.extras.now c.new-records.result before)
     (c.in_ok-draft.ensures.opens c.requires.final_status)
 
 pub returns-clause-does : goal.returns-clause-does
@@ -23,14 +24,16 @@ returns-clause-does g c =
     let old : ProxyState = c.args.proxy.now.state in
     let before : ProxyState = counted (arrival_of c.args.request.arrival) old in
     let new : ProxyState = c.take_draft.new.proxy.state in
-    let effect : Effect = replied c.args.server.now (arrival_of c.args.request.arrival) c.args.request.request c.args.status c.args.extras.now c.new-records.result before
+    let effect : Effect = replied c.args.server.now (arrival_of c.args.request.arrival) c.args.request.request.message c.args.status c.args.extras.now
+    c.new-records.result before
     in
     subst
     (λ (records : List Record).
     IfOk c.take_draft.result (λ out. Does c.args.server.now old c.args.request.arrival.now
-    (replied c.args.server.now (arrival_of c.args.request.arrival) c.args.request.request c.args.status c.args.extras.now records before) out new))
+    (replied c.args.server.now (arrival_of c.args.request.arrival) c.args.request.request.message c.args.status c.args.extras.now records before) out new))
     c.new-records.ensures
     (answer_done c.args.server.now c.args.request.arrival old new c.in_ok-draft.draft effect c.take_draft.result
     (c.in_ok-draft.ensures.does before (sym c.is_full-is_full.ensures))
-    (reply_replies c.args.server.now c.args.request.arrival c.args.request.request c.args.status c.args.extras.now c.new-records.result before) c.take_draft.ensures.out
+    (reply_replies c.args.server.now c.args.request.arrival c.args.request.request.message c.args.status c.args.extras.now c.new-records.result before)
+    c.take_draft.ensures.out
     c.take_draft.ensures.becomes)

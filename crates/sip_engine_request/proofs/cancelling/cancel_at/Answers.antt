@@ -29,9 +29,9 @@ returns-clause-does g c =
     subst
     (λ (o : Option OpenRequest).
     Does c.args.configured.now.server.now old c.args.cancel.arrival.now (cancelling c.args.configured.now.server.now (arrival_of c.args.cancel.arrival)
-    c.args.cancel.request o (counted (arrival_of c.args.cancel.arrival) old)) out new)
+    c.args.cancel.request.message o (counted (arrival_of c.args.cancel.arrival) old)) out new)
     (sym there.1)
-    (cancel_done c.args.configured.now.server.now c.args.cancel.arrival c.args.cancel.request c.args.configured.now.hops.now.addresses old
+    (cancel_done c.args.configured.now.server.now c.args.cancel.arrival c.args.cancel.request.message c.args.configured.now.hops.now.addresses old
     c.open_and_change.new.self.state new named c.in_ok-agreed.agreed.opened c.in_ok-agreed.agreed.packet
     c.in_ok-draft.draft c.in_ok-both.both c.in_ok-packets.packets c.new.result c.requires.space c.args.configured.now.rows c.requires.new.coming.number_is
     c.in_ok-agreed.ensures.packet c.in_ok-agreed.ensures.opened

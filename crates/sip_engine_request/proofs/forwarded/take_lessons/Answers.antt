@@ -1,4 +1,4 @@
-use Rattle.sip_engine_request.proofs.ForwardCounted.{counted_is}
+use Rattle.sip_engine_request.proofs.Counted.{counted_is}
 use Rattle.sip_engine_request.proofs.forwarded.take_lessons.Goals as goal
 
 pub returns-clause-becomes : goal.returns-clause-becomes

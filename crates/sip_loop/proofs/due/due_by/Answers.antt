@@ -1,6 +1,6 @@
 use Rattle.std.proofs.Common.{◌≡◌, arith}
 use Rattle.model_bounds.specs.steps_model.Step.{moment_of}
-use Rattle.sip_loop.proofs.WhatIsDue.{none_some, not_yet}
+use Rattle.sip_run.proofs.Waiting.{not_yet, none_some}
 use Rattle.sip_loop.proofs.due.due_by.Goals as goal
 
 pub returns-in_default-clause-none : goal.returns-in_default-clause-none

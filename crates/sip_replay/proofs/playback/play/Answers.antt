@@ -7,9 +7,10 @@ use Rattle.sip_resume.specs.run.Due.{standing_of}
 use Rattle.sip_replay_script.specs.Devices.{later, GaveUp}
 use Rattle.sip_replay_script.specs.Lines.{Reading, IsSpent}
 use Rattle.sip_replay.specs.Replays.{server_with, IsReplay}
-use Rattle.sip_replay.proofs.Calls.{asked_so_far, spent_at_last, faulted_spent}
+use Rattle.sip_replay.proofs.Calls.{faulted_spent}
 use Rattle.sip_replay.proofs.Refusing.{play_refused, refuses_at_once}
 use Rattle.sip_replay.proofs.Replaying.{Replays, replays_nothing, replays_next, replays_over}
+use Rattle.sip_replay_script.proofs.Calls.{asked_so_far, spent_at_last}
 use Rattle.sip_replay.proofs.playback.play.Goals as goal
 
 pub loop-bytes-init : goal.loop-bytes-init

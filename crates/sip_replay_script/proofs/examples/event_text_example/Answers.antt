@@ -2,10 +2,11 @@ use Rattle.std.proofs.Common.{refl}
 use Rattle.std.specs.Fmt.{digits}
 use Rattle.hex.specs.Hex.{encode_with}
 use Rattle.sip_digest.specs.NonceText.{nonce_text}
+use Rattle.sip_replay_script.specs.Escaped.{byte_text, escaped}
 use Rattle.sip_replay_script.proofs.examples.event_text_example.Goals as goal
 
 pub returns-clause-bytes : goal.returns-clause-bytes
-unfolding digits encode_with nonce_text
+unfolding digits encode_with nonce_text byte_text escaped
 returns-clause-bytes c = refl
 
 pub returns-clause-none : goal.returns-clause-none

@@ -2,7 +2,8 @@ use Rattle.std.proofs.Common.{refl, ◌∙◌}
 use Rattle.sip_run.specs.Due.{standing_of}
 use Rattle.sip_replay_script.specs.Lines.{left, pending}
 use Rattle.sip_resume.specs.Outputs.{outputs_of}
-use Rattle.sip_resume.proofs.Eventwise.{events_begun, events_next, fewer_asks, less_left, next_fewer, still_left}
+use Rattle.sip_resume.proofs.Eventwise.{events_begun, events_next, less_left, next_fewer, still_left}
+use Rattle.sip_segment_config.proofs.SoFar.{fewer_asks}
 use Rattle.sip_resume.proofs.events.take_events.Goals as goal
 
 pub events-init : goal.events-init

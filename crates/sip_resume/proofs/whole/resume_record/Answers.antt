@@ -5,8 +5,8 @@ use Rattle.sip_replay_script.specs.Lines.{IsSpent, pending}
 use Rattle.sip_resume.specs.RecordErrors.{record_error_of}
 use Rattle.sip_resume.specs.Outputs.{outputs_of}
 use Rattle.sip_resume.proofs.Calls.{is_not, is_so}
-use Rattle.sip_resume.proofs.Eventwise.{fewer_asks}
 use Rattle.sip_resume.proofs.Wholly.{front_reached, front_unresumed, further_reached, resumed_so, unresumed_further}
+use Rattle.sip_segment_config.proofs.SoFar.{fewer_asks}
 use Rattle.sip_resume.proofs.whole.resume_record.Goals as goal
 
 pub returns-in_err-reached-clause-refused : goal.returns-in_err-reached-clause-refused

@@ -1,9 +1,8 @@
 use Rattle.std.proofs.Common.{◌≡◌, ◌⊎◌, ◌∙◌, ℕ, List, Option, sym, subst, arith}
 use Rattle.std.proofs.lemmas.Result.{err_from_is_err_and}
 use Rattle.sip_replay_script.specs.Devices.{later, GaveUp}
-use Rattle.sip_replay_script.specs.Lines.{IsSpent}
-use Rattle.sipd_report.specs.Lines.{pending}
-use Rattle.sipd_report.proofs.Asking.{asked_so_far, spent_at_last}
+use Rattle.sip_replay_script.specs.Lines.{pending, IsSpent}
+use Rattle.sip_replay_script.proofs.Calls.{asked_so_far, spent_at_last}
 use Rattle.sipd_asked_again.specs.declared.counts.Counts.{Counts}
 use Rattle.sipd_asked_again.proofs.Refused.{refused_at_once, refused_line, refused_ending}
 use Rattle.sipd_asked_again.proofs.AskedAgain.{IsSoFar, asked_more, asked_last}

@@ -1,6 +1,6 @@
 use Rattle.std.proofs.Common.{◌≡◌, ◌≤◌}
 use Rattle.sip_replay_script.specs.Devices.{later}
-use Rattle.sipd_report.specs.Lines.{pending, left}
+use Rattle.sip_replay_script.specs.Lines.{pending, left}
 use Rattle.sipd_asked_again.proofs.AskedAgain.{IsSoFar}
 use Rattle.sipd_asked_again.proofs.lines.ask_again.Given as goal
 

@@ -1,4 +1,5 @@
-use Rattle.sipd_expect.proofs.Files.{leads_first, less_behind, refused_here}
+use Rattle.sip_text.proofs.TextLines.{less_behind}
+use Rattle.sipd_expect.proofs.Files.{leads_first, refused_here}
 use Rattle.sipd_expect.proofs.file.told_of.Goals as goal
 
 pub loop-line-init : goal.loop-line-init

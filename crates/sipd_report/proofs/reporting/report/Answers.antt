@@ -1,10 +1,9 @@
 use Rattle.std.proofs.Common.{◌≡◌, ◌⊎◌, ◌∙◌, ℕ, List, Option, sym, subst, arith}
 use Rattle.std.proofs.lemmas.Result.{err_from_is_err_and}
 use Rattle.sip_replay_script.specs.Devices.{later, GaveUp}
-use Rattle.sip_replay_script.specs.Lines.{IsSpent}
+use Rattle.sip_replay_script.specs.Lines.{pending, IsSpent}
 use Rattle.sipd_report.specs.declared.tally.Tally.{Tally}
-use Rattle.sipd_report.specs.Lines.{pending}
-use Rattle.sipd_report.proofs.Asking.{asked_so_far, spent_at_last}
+use Rattle.sip_replay_script.proofs.Calls.{asked_so_far, spent_at_last}
 use Rattle.sipd_report.proofs.Refused.{refused_at_once, refused_heading, refused_line, refused_ending}
 use Rattle.sipd_report.proofs.Reported.{IsReported, reported_more, reported_last}
 use Rattle.sipd_report.proofs.reporting.report.Goals as goal

@@ -1,6 +1,6 @@
 use Rattle.std.proofs.Common.{◌≡◌, ◌≤◌}
 use Rattle.sip_replay_script.specs.Devices.{later}
-use Rattle.sipd_report.specs.Lines.{pending, left}
+use Rattle.sip_replay_script.specs.Lines.{pending, left}
 use Rattle.sipd_report.proofs.Reported.{IsReported}
 use Rattle.sipd_report.proofs.reporting.report.Given as goal
 

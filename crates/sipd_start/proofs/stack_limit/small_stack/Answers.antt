@@ -1,5 +1,6 @@
 use Rattle.std.proofs.Common.{◌∙◌}
-use Rattle.sipd_start.proofs.StackLines.{less_behind, small_behind, small_found}
+use Rattle.sip_text.proofs.TextLines.{less_behind}
+use Rattle.sipd_start.proofs.StackLines.{small_behind, small_found}
 use Rattle.sipd_start.proofs.stack_limit.small_stack.Goals as goal
 
 pub returns-in-Some-too_small : goal.returns-in-Some-too_small

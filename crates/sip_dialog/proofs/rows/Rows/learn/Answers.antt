@@ -3,6 +3,7 @@ use Rattle.sip_dialog.specs.declared.dialog.Dialog.{Dialog}
 use Rattle.sip_dialog.specs.Dialogs.{answered_again, learnt}
 use Rattle.sip_dialog.specs.Rows.{Entries, dialogs_in}
 use Rattle.sip_dialog.specs.Sameness.{SameDialogs}
+use Rattle.sip_dialog.proofs.Ending.{known_kept}
 use Rattle.sip_dialog.proofs.Named.{named_set}
 use Rattle.sip_dialog.proofs.Places.{front_set}
 use Rattle.sip_dialog.proofs.Sameness.{dialogs_joined}
@@ -23,6 +24,9 @@ invariant_of-self c =
           there
           (λ e. ap (λ (d : Dialog). d.has_success) (c.answer_again.ensures c.args.answer.id)
           ∙ either_true c.index_mut.result.now.1.has_success c.args.answer.is_success e),
+      known_kept c.self.inside.until c.self.inside.rows.items c.self.invariant.2 c.in-Some.at c.index_mut.result.now
+          (c.index_mut.result.now.0, c.answer_again.new.self) there
+          (ap (λ (d : Dialog). d.since) (c.answer_again.ensures c.args.answer.id)),
     )
 
 pub returns-in-Some-clause-ok : goal.returns-in-Some-clause-ok

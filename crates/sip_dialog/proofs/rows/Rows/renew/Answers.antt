@@ -3,6 +3,7 @@ use Rattle.sip_dialog.specs.Dialogs.{told, renewed}
 use Rattle.sip_dialog.specs.Rows.{Entries, dialogs_in}
 use Rattle.sip_dialog.specs.Sameness.{SameDialogs}
 use Rattle.sip_dialog.specs.declared.dialog.Dialog.{Dialog}
+use Rattle.sip_dialog.proofs.Ending.{known_set}
 use Rattle.sip_dialog.proofs.Named.{named_set}
 use Rattle.sip_dialog.proofs.Places.{front_set}
 use Rattle.sip_dialog.proofs.Tables.{edit_met, edit_missed, read_at}
@@ -16,6 +17,9 @@ invariant_of-self c =
           (c.index_mut.result.now.0, c.renew.new.self) there refl,
       front_set c.self.inside.early c.self.inside.rows.items c.in-Some.at c.index_mut.result.now (c.index_mut.result.now.0, c.renew.new.self) c.self.invariant.1 there
           (λ e. ap (λ (d : Dialog). d.has_success) (c.renew.ensures c.args.id.now) ∙ e),
+      known_set c.self.inside.until c.self.inside.rows.items c.self.invariant.2 c.in-Some.at c.index_mut.result.now (c.index_mut.result.now.0, c.renew.new.self)
+          c.earlier_end-until.result there c.earlier_end-until.ensures.until
+          (omega (arith, c.earlier_end-until.ensures.since, ap (λ (d : Dialog). d.since) (c.renew.ensures c.args.id.now))),
     )
 
 pub returns-in-Some-clause-renewed : goal.returns-in-Some-clause-renewed

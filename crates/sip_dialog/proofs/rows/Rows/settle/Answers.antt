@@ -1,6 +1,7 @@
 use Rattle.std.proofs.Common.{◌-◌, ◌<◌, List, ap, refl, arith, length, count_by, ◌∙◌}
 use Rattle.sip_dialog.specs.Rows.{Entries, dialogs_in}
 use Rattle.sip_dialog.proofs.Alone.{Row}
+use Rattle.sip_dialog.proofs.Ending.{known_swapped}
 use Rattle.sip_dialog.proofs.Named.{named_swapped}
 use Rattle.sip_dialog.proofs.Places.{front_settled}
 use Rattle.sip_dialog.proofs.Tables.{swapped_same, read_at}
@@ -15,6 +16,7 @@ invariant_of-self c =
       front_settled c.self.inside.early c.self.inside.rows.items c.self.invariant.1 c.args.at (c.self.inside.early - 1) c.index.result.now c.if-at-self.true
           (omega (arith, c.if-at-self.true))
           (read_at c.self.inside.rows.items _ c.args.at c.index.result.now refl inside c.index.ensures) c.if-index.true,
+      known_swapped c.self.inside.until c.self.inside.rows.items c.self.invariant.2 c.args.at (c.self.inside.early - 1) inside last_inside,
     )
 
 pub returns-then-index-clause-same : goal.returns-then-index-clause-same

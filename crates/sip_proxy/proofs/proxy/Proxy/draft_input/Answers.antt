@@ -8,7 +8,7 @@ pub returns : goal.returns
 returns g c = λ r at.
     let seen : slice_get c.self.inside.contexts.requests c.args.place ≡ Some r = subst (λ (p : Proxy). slice_get p.state.requests c.args.place ≡ Some r)
     (sym c.self.view_is) at in
-    drafted_is c.args.hops.now.addresses c.args.server.now c.args.now r c.args.input (record {
+    drafted_is c.args.configured.now.hops.now.addresses c.args.configured.now.server.now c.args.now r c.args.input (record {
       change = c.in_ok-change.field-0.change;
       drafted = c.in_ok-drafted.drafted;
     }) c.in_ok-change.field-0.sent

@@ -5,7 +5,8 @@ use Rattle.sip_proxy.proofs.proxy.Proxy.verdict.Goals as goal
 
 pub returns-clause-verdict : goal.returns-clause-verdict
 returns-clause-verdict g c =
-    whole c.args.judge.now c.args.now c.args.request.now c.args.short c.args.method.now c.args.self.now.state c.self.inside.locations.rows c.self.inside.nonces
+    whole c.args.judge.now c.args.request.now.arrival.now c.args.request.now.message.now c.args.request.now.short c.args.request.now.method.now
+    c.args.self.now.state c.self.inside.locations.rows c.self.inside.nonces
     c.self.inside.dialogs.dialogs c.is_full-is_full.result c.new_verdict.result
     (ap (λ (p : Proxy). p.state.bindings) c.self.view_is)
     (ap (λ (p : Proxy). p.state.nonces) c.self.view_is)

@@ -4,12 +4,13 @@ use Rattle.sip_uas.proofs.judged_request.JudgedRequest.challenged.Goals as goal
 pub returns-clause-does : goal.returns-clause-does
 returns-clause-does c =
     let r = c.args.self in
-    challenged_with r.server.now r.arrival r.request r.judged.now.question r.judged.now.minute r.is_full c.replied.result c.challenge_status-status.result
+    challenged_with r.server.now r.request.arrival r.request.request.message r.judged.now.question r.judged.now.minute r.is_full c.replied.result
+    c.challenge_status-status.result
     c.in_ok-extras.extras
-    c.challenge_status-status.ensures (c.in_ok-extras.ensures r.arrival.number r.arrival.now r.arrival.from) c.replied.ensures.does
+    c.challenge_status-status.ensures (c.in_ok-extras.ensures r.request.arrival.number r.request.arrival.now r.request.arrival.from) c.replied.ensures.does
 
 pub returns-clause-opens : goal.returns-clause-opens
 returns-clause-opens c =
     let r = c.args.self in
-    opens_final c.replied.result r.arrival r.key c.challenge_status-status.result
+    opens_final c.replied.result r.request.arrival r.request.key c.challenge_status-status.result
     (challenge_final r.judged.now.question.operation c.challenge_status-status.result c.challenge_status-status.ensures) c.replied.ensures.opens

@@ -1,5 +1,0 @@
-use Rattle.std.proofs.Common.{sym}
-use Rattle.sip_engine_request.proofs.records.recorded.Goals as goal
-
-pub returns : goal.returns
-returns c = λ server is. c.in_ok-records.ensures server c.args.arrival.word c.args.arrival.from c.args.request.now (sym c.start.ensures) is

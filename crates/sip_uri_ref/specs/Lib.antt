@@ -1,0 +1,2 @@
+pub mod PlainUri
+pub mod UriForm
