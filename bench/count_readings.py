@@ -22,7 +22,7 @@ from map_runs import programs  # noqa: E402
 from ran import Counted  # noqa: E402
 
 # The readers of a URI, none of which calls another. Each begins with BEGIN, which nothing else calls.
-URI_READERS, BEGIN = ("parse_uri", "plain_at", "plain_of", "plain_place", "plain_uri_at"), "behind_sip"
+URI_READERS, BEGIN = ("parse_uri", "plain_at", "plain_of", "plain_host_port", "plain_uri_at"), "behind_sip"
 READERS = {"`via_of`": ("via_of",), "`core_of`": ("core_of",), "a URI: " + ", ".join(f"`{name}`" for name in URI_READERS): URI_READERS}
 # How many of these a message has to be read.
 MESSAGES = {

@@ -35,22 +35,22 @@ REASONS = {
     # no run makes two keys whose hashes of 64 bits are equal
     "only where two have one digest": [
         "sip_dialog::rows::search",
-        "sip_location::filing::join",
-        "sip_transaction_table::numbered::Numbered::scan",
+        "sip_location::binding_table::join",
+        "sip_transaction_table::numbered_rows::NumberedRows::scan",
     ],
     # bench/full_tables.py fills the table of dialogs
-    "only where as many rows stand as may be known": ["sip_dialog::rows::Rows::forget"],
-    "only where half the table is full of sources": ["sip_guard::sources::Sources::turn"],
+    "only where as many rows stand as may be known": ["sip_dialog::rows::DialogRows::forget"],
+    "only where half the table is full of sources": ["sip_guard::sources::Sources::forget_earlier"],
     # a value that is made is taken apart, but where memory is wanting in between
     "dropped only for want of memory": [
-        "sip_core::registering::Registering::drop",
-        "sip_dialog_lessons::lesson::Lesson::drop",
+        "sip_verdict::registering::Registering::drop",
+        "sip_dialog_updates::dialog_update::DialogUpdate::drop",
         "sip_uas::judged_request::JudgedRequest::drop",
     ],
     "of a request that is answered here, of which no step asks it": [
-        "sip_state::heard::put_unread",
-        "sip_state::heard::unread_names",
-        "sip_state::heard::unread_routes",
+        "sip_state::kept_request::put_unread",
+        "sip_state::kept_request::unread_names",
+        "sip_state::kept_request::unread_routes",
         "sip_state::names::names_in",
     ],
     "no deadline comes to it: the room above ends the side where it stands": [
@@ -71,7 +71,7 @@ REASONS = {
         "sip_location::binding::BindingRef::call_id",
     ],
     # tests/serve.py has it
-    "only where a packet can't be sent, over a socket and without a record": ["sip_record::no_journal::NoJournalJournal::failed"],
+    "only where a packet can't be sent, over a socket and without a record": ["sip_journal::no_journal::NoJournalJournal::failed"],
 }
 WITHOUT = {symbol: reason for reason, some in REASONS.items() for symbol in some}
 

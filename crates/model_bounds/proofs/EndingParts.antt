@@ -4,7 +4,7 @@ use Rattle.std.proofs.Common.{◌∙◌, arith, is_some, codes}
 use Rattle.std.specs.List.{AllByRecursion, list_all}
 use Rattle.std.specs.Str.{bytes_eq}
 use Rattle.std.proofs.Math.Nat.{le-max_left, le-max_right, max-le}
-use Rattle.sip_transaction_table.specs.declared.key.Key.{Key}
+use Rattle.sip_transaction_table.specs.declared.key.TransactionKey.{TransactionKey}
 use Rattle.sip_message_form.specs.declared.message.Start.TheVariants.{Status}
 use Rattle.sip_message_form.specs.declared.message.Message.{Message}
 use Rattle.sip_event.specs.declared.packet.Packet.{Packet}
@@ -63,7 +63,7 @@ IsEnding server history r = IsInTime (is_invite r) (origin_of server history r) 
 -- a request that changed is, counted from the same moment
 changed_ending : (server : Server) (history : List Link) (r x : OpenRequest) → HasChanged (origin_of server history r) r x → IsEnding server history x
 changed_ending server history r x h =
-    let invite : is_invite x ≡ is_invite r = ap (λ (k : Key). bytes_eq k.method (codes "INVITE")) h.key_is in
+    let invite : is_invite x ≡ is_invite r = ap (λ (k : TransactionKey). bytes_eq k.method (codes "INVITE")) h.key_is in
     subst (λ (i : Bool). IsInTime i (origin_by server history i x.arrived_at x.number) x) (sym invite)
     (subst (λ (n : ℕ). IsInTime (is_invite r) (origin_by server history (is_invite r) x.arrived_at n) x) (sym h.number_is)
     (subst (λ (n : ℕ). IsInTime (is_invite r) (origin_by server history (is_invite r) n r.number) x) (sym h.arrival_is) h.in_time))

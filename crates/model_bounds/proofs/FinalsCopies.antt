@@ -7,7 +7,7 @@ use Rattle.std.proofs.lemmas.Bool.Decides.{nat_tests}
 use Rattle.sip_uri.specs.declared.addr.Addr.{Addr}
 use Rattle.sip_message_form.specs.declared.message.Message.{Message}
 use Rattle.sip_message_form.specs.Text.{text_of}
-use Rattle.sip_transaction_table.specs.declared.key.Key.{Key}
+use Rattle.sip_transaction_table.specs.declared.key.TransactionKey.{TransactionKey}
 use Rattle.sip_transaction_table.specs.Key.{key_of}
 use Rattle.sip_edit.specs.OwnRequests.{ack_with, cancel_of}
 use Rattle.sip_event.specs.declared.packet.Packet.{Packet}
@@ -131,14 +131,14 @@ change_silent server state act now n r _ _ (ByCancel a bytes m short key said is
 -- ---- copies
 
 -- a copy of an open request is one of its number
-pub copy_counts : (state : ProxyState) (act : Act) (a : Arrival) (bytes : List ℕ) (m : Message) (short : Bool) (key : Key) (r : OpenRequest)
+pub copy_counts : (state : ProxyState) (act : Act) (a : Arrival) (bytes : List ℕ) (m : Message) (short : Bool) (key : TransactionKey) (r : OpenRequest)
     → IsSaidAt state act a bytes m short → bytes_eq (method_of m.start) (codes "ACK") ≡ false
     → key_of m ≡ Some key → find (has_key key) state.requests ≡ Some r → is_copy_at r.number state act ≡ true
 copy_counts state act a bytes m short key r said no_ack key_is at_key =
     ap (is_copy_at r.number state) said.is_act
     ∙ ap (λ (o : Option (Message × Bool)). option_map_or (is_numbered r.number) (option_and_then (λ said. copied_by state.requests said.0) o) false) said.says
     ∙ ap (λ (t : Bool). option_map_or (is_numbered r.number) (cond t None (option_and_then (λ k. find (has_key k) state.requests) (key_of m))) false) no_ack
-    ∙ ap (λ (o : Option Key). option_map_or (is_numbered r.number) (option_and_then (λ k. find (has_key k) state.requests) o) false) key_is
+    ∙ ap (λ (o : Option TransactionKey). option_map_or (is_numbered r.number) (option_and_then (λ k. find (has_key k) state.requests) o) false) key_is
     ∙ ap (λ (o : Option OpenRequest). option_map_or (is_numbered r.number) o false) at_key
     ∙ same_number r.number r.number refl
 
@@ -193,7 +193,7 @@ spent_no_more Invite went came r x no_more h = record {
   timed = no_more.timed;
 } where
   same : is_invite x ≡ is_invite r
-  same = ap (λ (k : Key). bytes_eq k.method (codes "INVITE")) no_more.key_is
+  same = ap (λ (k : TransactionKey). bytes_eq k.method (codes "INVITE")) no_more.key_is
 
 -- ---- all open requests
 

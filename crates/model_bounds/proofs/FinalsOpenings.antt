@@ -16,7 +16,7 @@ use Rattle.sip_text.specs.Words.{without_case}
 use Rattle.sip_header.specs.declared.via.Via.{Via}
 use Rattle.sip_header.specs.Via.{via_of}
 use Rattle.sip_header.specs.Parameters.{branch_of}
-use Rattle.sip_transaction_table.specs.declared.key.Key.{Key}
+use Rattle.sip_transaction_table.specs.declared.key.TransactionKey.{TransactionKey}
 use Rattle.sip_transaction_table.specs.Key.{has_cookie, key_method, key_from, via_key, start_key, key_of}
 use Rattle.sip_edit_response.specs.Reasons.{reason_of}
 use Rattle.sip_event.specs.declared.packet.Packet.{Packet}
@@ -47,18 +47,18 @@ use Rattle.sip_model.proofs.Apart.{at_most_one}
 -- ---- an INVITE
 
 -- the key that a choice gives
-chosen_key : (t : Bool) (x y : Key) → cond t (Some x) None ≡ Some y → y ≡ x
+chosen_key : (t : Bool) (x y : TransactionKey) → cond t (Some x) None ≡ Some y → y ≡ x
 chosen_key true x y e = cc
 chosen_key false x y e = absurd (cc)
 
 -- the method of a key
-from_method : (method : List ℕ) (via : Via) (branch : List ℕ) (key : Key) → key_from method via branch ≡ Some key → key.method ≡ key_method method
+from_method : (method : List ℕ) (via : Via) (branch : List ℕ) (key : TransactionKey) → key_from method via branch ≡ Some key → key.method ≡ key_method method
 from_method method via branch key e =
-    ap (λ (k : Key). k.method)
+    ap (λ (k : TransactionKey). k.method)
     (chosen_key (has_cookie branch) (record { branch = branch; host = without_case via.host; port = unwrap_or via.port 5060; method = key_method method }) key e)
 
 -- that of a message
-start_method : (fields : List Field) (start : Start) (key : Key) → start_key fields start ≡ Some key → key.method ≡ key_method (method_of start)
+start_method : (fields : List Field) (start : Start) (key : TransactionKey) → start_key fields start ≡ Some key → key.method ≡ key_method (method_of start)
 start_method fields (Request method uri version) key e =
     let value = followed (first_value Name.Via fields) (λ value. option_and_then (via_key method) (via_of value)) key e in
     let via = followed (via_of value.0) (via_key method) key value.2 in
@@ -67,12 +67,12 @@ start_method fields (Request method uri version) key e =
 start_method fields (Status code reason) key e = absurd (cc)
 
 -- what is opened as an INVITE is one, if it is no ACK
-pub opened_invite : (m : Message) (key : Key) → key_of m ≡ Some key → bytes_eq (method_of m.start) (codes "ACK") ≡ false
+pub opened_invite : (m : Message) (key : TransactionKey) → key_of m ≡ Some key → bytes_eq (method_of m.start) (codes "ACK") ≡ false
     → bytes_eq (request_key m).method (codes "INVITE") ≡ true → bytes_eq (method_of m.start) (codes "INVITE") ≡ true
 opened_invite m key e no_ack invite =
-    let is_key : request_key m ≡ key = ap (λ (o : Option Key). unwrap_or o (record { branch = []; host = []; port = 0; method = [] })) e in
+    let is_key : request_key m ≡ key = ap (λ (o : Option TransactionKey). unwrap_or o (record { branch = []; host = []; port = 0; method = [] })) e in
     let own : key_method (method_of m.start) ≡ method_of m.start = ap (λ (t : Bool). cond t (codes "INVITE") (method_of m.start)) no_ack in
-    sym (ap (λ (method : List ℕ). bytes_eq method (codes "INVITE")) (ap (λ (k : Key). k.method) is_key ∙ start_method m.fields m.start key e ∙ own)) ∙ invite
+    sym (ap (λ (method : List ℕ). bytes_eq method (codes "INVITE")) (ap (λ (k : TransactionKey). k.method) is_key ∙ start_method m.fields m.start key e ∙ own)) ∙ invite
 
 -- ---- what goes up at once
 

@@ -2,7 +2,7 @@
 use Rattle.std.proofs.Common.{◌≡◌, ◌⊎◌, inl, inr, ℕ, ◌+◌, ◌≤◌, Bool, true, false, not, ◌&&◌, ◌||◌, ◌==◌, cond, List, [], ◌∷◌, ◌++◌, map, Option, Some, None, refl, sym}
 use Rattle.std.proofs.Common.{ap, subst, ◌∙◌, arith, count_by}
 use Rattle.std.specs.List.{AllByRecursion, flat_map}
-use Rattle.sip_transaction_table.specs.declared.key.Key.{Key}
+use Rattle.sip_transaction_table.specs.declared.key.TransactionKey.{TransactionKey}
 use Rattle.sip_model.specs.state.declared.branch.Phase.{Phase}
 use Rattle.sip_model.specs.state.declared.branch.Phase.TheVariants.{Unheard, Heard, Cancelled, Done, Ended}
 use Rattle.sip_model.specs.state.declared.branch.Branch.{Branch}
@@ -146,7 +146,7 @@ succeeds_alike r later number key same = record {
 
 -- both are INVITEs or neither is
 pub same_invite : (r later : OpenRequest) → later.key ≡ r.key → is_invite later ≡ is_invite r
-same_invite r later e = ap (λ (key : Key). is_invite (record r { key = key })) e
+same_invite r later e = ap (λ (key : TransactionKey). is_invite (record r { key = key })) e
 
 -- one behind another
 pub succeeds_both : (first second third : OpenRequest) → Succeeds first second → Succeeds second third → Succeeds first third

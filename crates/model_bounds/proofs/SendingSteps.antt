@@ -14,7 +14,7 @@ use Rattle.sip_header.specs.declared.via.Via.{Via}
 use Rattle.sip_header.specs.Parameters.{branch_of}
 use Rattle.sip_header.specs.Via.{via_of}
 use Rattle.sip_text.specs.Words.{without_case}
-use Rattle.sip_transaction_table.specs.declared.key.Key.{Key}
+use Rattle.sip_transaction_table.specs.declared.key.TransactionKey.{TransactionKey}
 use Rattle.sip_transaction_table.specs.Key.{has_cookie, key_method, key_from, via_key, start_key, key_of}
 use Rattle.sip_event.specs.declared.packet.Packet.{Packet}
 use Rattle.sip_model.specs.state.declared.server.Server.{Server}
@@ -46,16 +46,16 @@ use Rattle.sip_model.proofs.Rising.{number_is}
 -- ---- an INVITE has the key of one
 
 -- the method of a key
-key_from_method : (method branch : List ℕ) (via : Via) (key : Key) → key_from method via branch ≡ Some key → key.method ≡ key_method method
+key_from_method : (method branch : List ℕ) (via : Via) (key : TransactionKey) → key_from method via branch ≡ Some key → key.method ≡ key_method method
 key_from_method method branch via key e = by_test (has_cookie branch) e where
   by_test : (t : Bool) → cond t (Some (record { branch = branch; host = without_case via.host; port = unwrap_or via.port 5060; method = key_method method })) None
       ≡ Some key → key.method ≡ key_method method
   by_test true e = let same : record { branch = branch; host = without_case via.host; port = unwrap_or via.port 5060; method = key_method method } ≡ key = cc in
-      ap (λ (k : Key). k.method) (sym same)
+      ap (λ (k : TransactionKey). k.method) (sym same)
   by_test false e = absurd (cc)
 
 -- of the key of a request
-request_key_method : (method : List ℕ) (fields : List Field) (uri version : List ℕ) (key : Key) → start_key fields (Request method uri version) ≡ Some key
+request_key_method : (method : List ℕ) (fields : List Field) (uri version : List ℕ) (key : TransactionKey) → start_key fields (Request method uri version) ≡ Some key
     → key.method ≡ key_method method
 request_key_method method fields uri version key e = by_value (first_value Name.Via fields) e where
   by_branch : (via : Via) (o : Option (List ℕ)) → option_and_then (key_from method via) o ≡ Some key → key.method ≡ key_method method
@@ -71,7 +71,8 @@ request_key_method method fields uri version key e = by_value (first_value Name.
   by_value (Some value) e = by_via (via_of value) e
 
 -- a request that a datagram says as an INVITE is one by its key
-pub invite_key : (m : Message) (key : Key) → key_of m ≡ Some key → bytes_eq (method_of m.start) (codes "INVITE") ≡ true → bytes_eq key.method (codes "INVITE") ≡ true
+pub invite_key : (m : Message) (key : TransactionKey) → key_of m ≡ Some key → bytes_eq (method_of m.start) (codes "INVITE") ≡ true
+    → bytes_eq key.method (codes "INVITE") ≡ true
 invite_key m key is said = by_start m.start is said where
   by_start : (start : Start) → start_key m.fields start ≡ Some key → bytes_eq (method_of start) (codes "INVITE") ≡ true → bytes_eq key.method (codes "INVITE") ≡ true
   by_start (Request method uri version) is said =

@@ -6,7 +6,7 @@ use Rattle.sip_timers.specs.Intervals.{T1}
 use Rattle.sip_uri.specs.declared.addr.Addr.{Addr}
 use Rattle.sip_uri.specs.Uri as UriText
 use Rattle.sip_message_form.specs.declared.message.Message.{Message}
-use Rattle.sip_state.specs.transaction_table.declared.key.Key.{Key}
+use Rattle.sip_state.specs.transaction_table.declared.key.TransactionKey.{TransactionKey}
 use Rattle.sip_state.specs.transaction_table.Key.{key_of}
 use Rattle.sip_edit.specs.Onward.{onward_uri}
 use Rattle.sip_targets.specs.declared.target.Target.{Target}
@@ -25,7 +25,7 @@ use Rattle.model_context.specs.Branches.{Change, settled, answered}
 -- ---- a request is answered at once
 
 -- the key of a request; each one that is opened has one
-abbrev pub request_key : Message → Key
+abbrev pub request_key : Message → TransactionKey
 request_key m = unwrap_or (key_of m) (record { branch = []; host = []; port = 0; method = [] })
 
 -- a request that comes, before anything was sent for it

@@ -14,8 +14,8 @@ pub mod laws;
 /// Of `sip_state`.
 pub mod state {
     pub use sip_state::{
-        AnswerText, Branch, Heard, LastAnswer, Names, OpenRequest, Phase, Resend, Server, Side,
-        Upward, Written, first_resend, is_decline, is_failure, is_invite, is_provisional,
-        is_success,
+        AnswerText, Branch, DialogNames, KeptAnswer, KeptRequest, LastAnswer, OpenRequest, Phase,
+        Resend, Server, Side, Upward, first_resend, is_decline, is_failure, is_invite,
+        is_provisional, is_success,
     };
 }

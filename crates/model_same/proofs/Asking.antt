@@ -5,7 +5,7 @@ use Rattle.sip_digest.specs.Nonces.{is_live, worth_of}
 use Rattle.sip_dialog.specs.declared.dialog.DialogId.{DialogId}
 use Rattle.sip_dialog.specs.Dialogs.{is_in_dialog}
 use Rattle.sip_location.specs.Binding.{live}
-use Rattle.sip_transaction_table.specs.declared.key.Key.{Key}
+use Rattle.sip_transaction_table.specs.declared.key.TransactionKey.{TransactionKey}
 use Rattle.sip_uri.specs.declared.addr.Addr.{Addr}
 use Rattle.sip_uri.specs.declared.aor.Aor.{Aor}
 use Rattle.sip_model.specs.state.declared.proxy_state.ProxyState.{ProxyState}
@@ -25,7 +25,7 @@ pub credentials_asked : (left right : ProxyState) (a1 : List ℕ) (c : Credentia
 credentials_asked left right a1 c h =
     worth_same a1 c left.moment left.nonces right.nonces h.nonces ∙ ap (λ (moment : ℕ). worth_of right.nonces a1 c moment) h.moment
 
-pub requests_asked : (left right : ProxyState) (key : Key) → SameAhead left right → find (has_key key) left.requests ≡ find (has_key key) right.requests
+pub requests_asked : (left right : ProxyState) (key : TransactionKey) → SameAhead left right → find (has_key key) left.requests ≡ find (has_key key) right.requests
 requests_asked left right key h = ap (find (has_key key)) h.requests
 
 pub dialogs_asked : InDialogSame → (left right : ProxyState) (id : DialogId) (address : Addr) → SameAhead left right

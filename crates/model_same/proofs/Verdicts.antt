@@ -8,7 +8,7 @@ use Rattle.sip_message_form.specs.declared.message.Start.{Start}
 use Rattle.sip_message_form.specs.declared.message.Start.TheVariants.{Request, Status}
 use Rattle.sip_message_form.specs.declared.message.Message.{Message}
 use Rattle.sip_message.specs.Reading.{reading_of}
-use Rattle.sip_transaction_table.specs.declared.key.Key.{Key}
+use Rattle.sip_transaction_table.specs.declared.key.TransactionKey.{TransactionKey}
 use Rattle.sip_transaction_table.specs.Key.{key_of}
 use Rattle.sip_header.specs.declared.core_fields.CoreFields.{CoreFields}
 use Rattle.sip_header.specs.CoreFields.{core_of}
@@ -105,16 +105,16 @@ module _ (asked : InDialogSame) (server : Server) (s : ProxyState) (nonces : Lis
     ack : ack_verdict server s a.now m short ≡ ack_verdict server another a.now m short
     ack = ack_same asked server s nonces dialogs a.now alike known m short
 
-    new_same : (method : List ℕ) (key : Key) → new_verdict server s a m short method key ≡ new_verdict server another a m short method key
+    new_same : (method : List ℕ) (key : TransactionKey) → new_verdict server s a m short method key ≡ new_verdict server another a m short method key
     new_same method key =
         ap₂ (λ (v w : Verdict). cond (bytes_eq method (codes "ACK")) v (cond (bytes_eq method (codes "CANCEL")) (cancel_verdict server s a m short key) w))
         ack (checked_same asked server s nonces dialogs a.now alike known m method (refusal_of server.config.own m short))
 
-    by_found : (method : List ℕ) (key : Key) (o : Option OpenRequest) → by_open server s a m short method key o ≡ by_open server another a m short method key o
+    by_found : (method : List ℕ) (key : TransactionKey) (o : Option OpenRequest) → by_open server s a m short method key o ≡ by_open server another a m short method key o
     by_found method key None = new_same method key
     by_found method key (Some r) = ap (λ (v : Verdict). cond (bytes_eq method (codes "ACK") && is_accepted r) v (Copy r)) ack
 
-    by_name : (method : List ℕ) (o : Option Key) → by_key server s a m short method o ≡ by_key server another a m short method o
+    by_name : (method : List ℕ) (o : Option TransactionKey) → by_key server s a m short method o ≡ by_key server another a m short method o
     by_name method None = refl
     by_name method (Some key) = by_found method key (find (has_key key) s.requests)
 

@@ -14,7 +14,7 @@ ghost use Rattle.sip_model.specs.state.State.{first_state, has_key};
 ghost use Rattle.sip_model.specs.state.declared.proxy_state.ProxyState.{ProxyState};
 ghost use Rattle.sip_model.specs.state.declared.server.Server.{Server};
 ghost use Rattle.sip_model.specs.steps_model.Step.{Act, IsStep};
-ghost use Rattle.sip_transaction_table.specs.declared.key.Key.{Key};
+ghost use Rattle.sip_transaction_table.specs.declared.key.TransactionKey.{TransactionKey};
 ghost use Rattle.sip_uri.specs.declared.addr.Addr.{Addr};
 ghost use Rattle.sip_uri.specs.declared.aor.Aor.{Aor};
 ghost use Rattle.model_same.specs.SameAhead.{SameAhead};
@@ -47,7 +47,7 @@ pub fn what_is_asked_is_the_same()
         → worth_of left.nonces a1 c left.moment ≡ worth_of right.nonces a1 c right.moment }
     ensures dialogs { (left right : ProxyState) (id : DialogId) (address : Addr) → SameAhead left right
         → is_in_dialog left.moment left.dialogs id address ≡ is_in_dialog right.moment right.dialogs id address }
-    ensures requests { (left right : ProxyState) (key : Key) → SameAhead left right → find (has_key key) left.requests
+    ensures requests { (left right : ProxyState) (key : TransactionKey) → SameAhead left right → find (has_key key) left.requests
         ≡ find (has_key key) right.requests }
     ensures next { (left right : ProxyState) → SameAhead left right → left.next ≡ right.next }
 {

@@ -29,9 +29,9 @@ use Rattle.sip_targets.specs.Targets.{target_list}
 use Rattle.sip_dialog.specs.declared.dialog.DialogId.{DialogId}
 use Rattle.sip_dialog.specs.declared.dialog.Dialog.{Dialog}
 use Rattle.sip_audit.specs.declared.record.Record.{Record}
-use Rattle.sip_audit.specs.declared.record.Operation.TheVariants as RecordedAs
-use Rattle.sip_audit.specs.declared.record.Operation as AuditOperation
-use Rattle.sip_audit.specs.declared.record.Outcome.{Outcome}
+use Rattle.sip_audit.specs.declared.record.AuditOperation.TheVariants as RecordedAs
+use Rattle.sip_audit.specs.declared.record.AuditOperation.{AuditOperation}
+use Rattle.sip_audit.specs.declared.record.AuditOutcome.{AuditOutcome}
 use Rattle.sip_event.specs.declared.packet.Packet.{Packet}
 use Rattle.model_verdict.specs.state.declared.server.Server.{Server}
 use Rattle.model_verdict.specs.auth.Proof.{proven, is_stale, used}
@@ -118,14 +118,14 @@ method_of (Request method uri version) = method
 method_of (Status code reason) = []
 
 -- an operation as it is recorded
-abbrev pub recorded : Operation → AuditOperation.Operation
+abbrev pub recorded : Operation → AuditOperation
 recorded Operation.Register = RecordedAs.Register
 recorded Operation.List = RecordedAs.List
 recorded (Operation.Send method) = RecordedAs.Send
 
 -- what is recorded of a request: when and as which datagram it came, its method, who proved to ask, for which address of record, the
 -- minute of a rule with a window, and what became of it
-abbrev pub record_of : Server → Arrival → Message → Question → Outcome → Record
+abbrev pub record_of : Server → Arrival → Message → Question → AuditOutcome → Record
 record_of server a m q outcome =
     record {
       at = a.now;
@@ -171,17 +171,17 @@ issuing a state = record state { nonces = issued state.nonces a.word a.now }
 abbrev pub challenged : Server → Arrival → Message → Question → ProxyState → Effect
 challenged server a m q state =
     replied server a m (challenge_status q.operation) (challenges_to server a q)
-    (record_of server a m q (Outcome.Challenge (challenge_status q.operation)) ∷ []) (issuing a (asked a q state))
+    (record_of server a m q (AuditOutcome.Challenge (challenge_status q.operation)) ∷ []) (issuing a (asked a q state))
 
 -- a denial names its rule (this project's profile)
 abbrev pub denied : Server → Arrival → Message → Question → ℕ → ProxyState → Effect
 denied server a m q id state = replied server a m 403 (denial_warning server.config.own id ∷ [])
-    (record_of server a m q (Outcome.Deny id) ∷ []) (asked a q state)
+    (record_of server a m q (AuditOutcome.Deny id) ∷ []) (asked a q state)
 
 -- an answer to a request that was let through
 abbrev pub answered_by_rule : Server → Arrival → Message → Question → ℕ → ℕ → List Field → ProxyState → Effect
 answered_by_rule server a m q id status extras state = replied server a m status extras
-    (record_of server a m q (Outcome.Answer id status) ∷ []) (asked a q state)
+    (record_of server a m q (AuditOutcome.Answer id status) ∷ []) (asked a q state)
 
 -- ---- registration
 
@@ -222,7 +222,7 @@ forked server now r records state =
 -- a request that was let through gets one branch for each of its targets, in their order
 abbrev pub sent_to : Server → Arrival → Message → Question → ℕ → List Target → ProxyState → Effect
 sent_to server a m q id targets state =
-    forked server a.now (forking a m (branches_from a.now 1 targets)) (record_of server a m q (Outcome.Sent id (length targets)) ∷ [])
+    forked server a.now (forking a m (branches_from a.now 1 targets)) (record_of server a m q (AuditOutcome.Sent id (length targets)) ∷ [])
     (asked a q state)
 
 -- a request that was let through goes to its targets; without a user 404, without a live binding 480 (RFC 3261 16.5)

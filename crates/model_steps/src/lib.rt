@@ -21,6 +21,6 @@ pub mod context_model {
 /// Of `sip_state`.
 pub mod state {
     pub use model_verdict::state::{
-        AnswerText, Branch, Heard, LastAnswer, OpenRequest, Phase, Server, Side, Upward,
+        AnswerText, Branch, KeptRequest, LastAnswer, OpenRequest, Phase, Server, Side, Upward,
     };
 }

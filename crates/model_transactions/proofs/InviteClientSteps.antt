@@ -2,7 +2,7 @@
 use Rattle.std.proofs.Common.{◌≡◌, ℕ, ◌+◌, ◌<◌, ◌≤◌, ◌==◌, Bool, true, false, cond, [], ◌∷◌, refl, sym, subst}
 use Rattle.sip_timers.specs.declared.letter.Letter.TheVariants as By
 use Rattle.sip_client.specs.ClientInvite.{client_invite, invite_machine, row, runs, Heard, provisional, success, failure}
-use Rattle.sip_client.specs.declared.actions.Action.TheVariants.{SendAgain, Up, Start}
+use Rattle.sip_client.specs.declared.actions.ClientAction.TheVariants.{SendAgain, Up, Start}
 use Rattle.sip_client.specs.declared.actions.Report.TheVariants.{Timeout, Unavailable}
 use Rattle.sip_client.specs.declared.client_invite.ClientInvite.{ClientInvite}
 use Rattle.sip_client.specs.declared.client_invite.ClientInvite.TheVariants.{Calling, Proceeding}

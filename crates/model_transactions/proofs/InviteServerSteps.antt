@@ -3,9 +3,9 @@ use Rattle.std.proofs.Common.{◌≡◌, ℕ, ◌+◌, ◌<◌, ◌≤◌, Bool,
 use Rattle.std.specs.Prelude.{◌&&◌, not}
 use Rattle.sip_message_form.specs.Text.{text_of}
 use Rattle.sip_timers.specs.declared.letter.Letter.TheVariants as By
-use Rattle.sip_server.specs.Action.{copy_actions}
+use Rattle.sip_server.specs.ServerAction.{copy_actions}
 use Rattle.sip_server.specs.ServerInvite.{server_invite, invite_machine, answers_copy}
-use Rattle.sip_server.specs.declared.actions.Action.TheVariants.{Send, SendAgain, Start}
+use Rattle.sip_server.specs.declared.actions.ServerAction.TheVariants.{Send, SendAgain, Start}
 use Rattle.sip_server.specs.declared.server_invite.ServerInvite.{ServerInvite}
 use Rattle.sip_server.specs.declared.server_invite.ServerInvite.TheVariants.{Proceeding, Completed, Confirmed, Accepted, Terminated}
 use Rattle.sip_server.specs.declared.server_invite.ServerInviteInput.TheVariants.{Invite, Ack, Answer, Fired}

@@ -2,7 +2,7 @@
 use Rattle.std.proofs.Common.{◌≡◌, ℕ, ◌+◌, ◌<◌, ◌≤◌, true, false, [], ◌∷◌, refl}
 use Rattle.sip_timers.specs.declared.letter.Letter.TheVariants as By
 use Rattle.sip_client.specs.ClientOther.{client_other, other_machine, row, provisional, final}
-use Rattle.sip_client.specs.declared.actions.Action.TheVariants.{SendAgain, Up, Start}
+use Rattle.sip_client.specs.declared.actions.ClientAction.TheVariants.{SendAgain, Up, Start}
 use Rattle.sip_client.specs.declared.actions.Report.TheVariants.{Response, Timeout, Unavailable}
 use Rattle.sip_client.specs.declared.client_other.ClientOther.{ClientOther}
 use Rattle.sip_client.specs.declared.client_other.ClientOtherInput.TheVariants.{Received, Fired, Fault}

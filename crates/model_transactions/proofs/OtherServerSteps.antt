@@ -3,7 +3,7 @@ use Rattle.std.proofs.Common.{◌≡◌, ℕ, ◌+◌, ◌<◌, ◌≤◌, Bool,
 use Rattle.std.specs.Prelude.{◌&&◌, not}
 use Rattle.sip_message_form.specs.Text.{text_of}
 use Rattle.sip_timers.specs.declared.letter.Letter.TheVariants as By
-use Rattle.sip_server.specs.Action.{copy_actions}
+use Rattle.sip_server.specs.ServerAction.{copy_actions}
 use Rattle.sip_server.specs.ServerOther.{server_other, other_machine, answers_copy}
 use Rattle.sip_server.specs.declared.server_other.ServerOther.{ServerOther}
 use Rattle.sip_server.specs.declared.server_other.ServerOther.TheVariants.{Trying, Proceeding}

@@ -3,8 +3,8 @@
 use Rattle.std.specs.Prelude.{ℕ, ◌≡◌, ◌+◌, Bool, true, false, if◌then◌else◌, List, [], ◌∷◌}
 use Rattle.sip_timers.specs.declared.letter.Letter.{Letter}
 use Rattle.sip_timers.specs.declared.letter.Letter.TheVariants as By
-use Rattle.sip_client.specs.declared.actions.Action.{Action}
-use Rattle.sip_client.specs.declared.actions.Action.TheVariants.{Ack, AckAgain, Up, Start}
+use Rattle.sip_client.specs.declared.actions.ClientAction.{ClientAction}
+use Rattle.sip_client.specs.declared.actions.ClientAction.TheVariants.{Ack, AckAgain, Up, Start}
 use Rattle.sip_client.specs.declared.actions.Report.TheVariants.{Response}
 use Rattle.sip_client.specs.declared.client_invite.ClientInvite.{ClientInvite}
 use Rattle.sip_client.specs.declared.client_invite.ClientInvite.TheVariants.{Calling, Proceeding, Completed, Accepted, Terminated}
@@ -44,15 +44,15 @@ call_timers Ended = []
 -- ---- what is done
 
 -- at a provisional response: it goes to the core while there is no final one
-abbrev pub heard_actions : Phase → List Action
+abbrev pub heard_actions : Phase → List ClientAction
 heard_actions phase = if is_final phase then [] else Up Response ∷ []
 
 -- at the first final response: a 300 to 699 is acknowledged, and Timer D or M set
-abbrev pub final_actions : ℕ → List Action
+abbrev pub final_actions : ℕ → List ClientAction
 final_actions status = if is_failure status then Ack ∷ Up Response ∷ Start By.D 32000 ∷ [] else Up Response ∷ Start By.M 32000 ∷ []
 
 -- at a further final response: a 2xx after a 2xx goes to the core, and a 300 to 699 after one gets its ACK again
-abbrev pub further_actions : Phase → ℕ → List Action
+abbrev pub further_actions : Phase → ℕ → List ClientAction
 further_actions (Done until first) status =
     if is_success first then (if is_success status then Up Response ∷ [] else [])
     else if is_failure status then AckAgain ∷ [] else []
@@ -62,11 +62,11 @@ further_actions (Cancelled until) status = []
 further_actions Ended status = []
 
 -- an action that hands something up to the core
-abbrev pub hands_up : Action → Bool
+abbrev pub hands_up : ClientAction → Bool
 hands_up (Up report) = true
 hands_up _ = false
 
 -- an action that sends an ACK for the first time
-abbrev pub acknowledges : Action → Bool
+abbrev pub acknowledges : ClientAction → Bool
 acknowledges Ack = true
 acknowledges _ = false

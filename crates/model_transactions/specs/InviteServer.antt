@@ -5,8 +5,8 @@ use Rattle.std.specs.Option.{option_map_or}
 use Rattle.sip_event.specs.declared.packet.Packet.{Packet}
 use Rattle.sip_timers.specs.declared.letter.Letter.{Letter}
 use Rattle.sip_timers.specs.declared.letter.Letter.TheVariants as By
-use Rattle.sip_server.specs.declared.actions.Action.{Action}
-use Rattle.sip_server.specs.declared.actions.Action.TheVariants.{Send, Up, Start}
+use Rattle.sip_server.specs.declared.actions.ServerAction.{ServerAction}
+use Rattle.sip_server.specs.declared.actions.ServerAction.TheVariants.{Send, Up, Start}
 use Rattle.sip_server.specs.declared.server_invite.ServerInvite.{ServerInvite}
 use Rattle.sip_server.specs.declared.server_invite.ServerInvite.TheVariants.{Proceeding, Completed, Confirmed, Accepted, Terminated}
 use Rattle.sip_context_branches.specs.state.declared.open_request.LastAnswer.{LastAnswer}
@@ -38,14 +38,14 @@ invite_side_timers (Acknowledged until) answer again = (By.I, until) ∷ []
 invite_side_timers Closed answer again = []
 
 -- what is done at an answer of the core: it is sent; the first final one sets Timers G and H, or L
-abbrev pub answer_actions : Side → ℕ → List Action
+abbrev pub answer_actions : Side → ℕ → List ServerAction
 answer_actions side status =
     if is_answering side && is_success status then Send ∷ Start By.L 32000 ∷ []
     else if is_answering side && is_failure status then Send ∷ Start By.G 500 ∷ Start By.H 32000 ∷ []
     else Send ∷ []
 
 -- what is done at an ACK: that of a 300 to 699 sets Timer I, and that of a 2xx goes to the core
-abbrev pub ack_actions : Side → Option LastAnswer → List Action
+abbrev pub ack_actions : Side → Option LastAnswer → List ServerAction
 ack_actions Answering answer = []
 ack_actions (Closing until) answer = if was_refused answer then Start By.I 5000 ∷ [] else Up ∷ []
 ack_actions (Acknowledged until) answer = []

@@ -3,8 +3,8 @@
 use Rattle.std.specs.Prelude.{ℕ, ◌+◌, if◌then◌else◌, List, [], ◌∷◌}
 use Rattle.sip_timers.specs.declared.letter.Letter.{Letter}
 use Rattle.sip_timers.specs.declared.letter.Letter.TheVariants as By
-use Rattle.sip_client.specs.declared.actions.Action.{Action}
-use Rattle.sip_client.specs.declared.actions.Action.TheVariants.{Up}
+use Rattle.sip_client.specs.declared.actions.ClientAction.{ClientAction}
+use Rattle.sip_client.specs.declared.actions.ClientAction.TheVariants.{Up}
 use Rattle.sip_client.specs.declared.actions.Report.TheVariants.{Response}
 use Rattle.sip_client.specs.declared.client_other.ClientOther.{ClientOther}
 use Rattle.sip_client.specs.declared.client_other.ClientOther.TheVariants.{Trying, Proceeding, Completed, Terminated}
@@ -30,7 +30,7 @@ other_timers (Done until status) again = (By.K, until) ∷ []
 other_timers Ended again = []
 
 -- what is done at a provisional response: it goes to the core while there is no final one
-abbrev pub heard_actions : Phase → List Action
+abbrev pub heard_actions : Phase → List ClientAction
 heard_actions phase = if is_final phase then [] else Up Response ∷ []
 
 -- once a response came, what was sent goes again after 4,000 ms (RFC 3261 17.1.2.2)

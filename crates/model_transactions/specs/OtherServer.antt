@@ -3,8 +3,8 @@
 use Rattle.std.specs.Prelude.{ℕ, ◌≡◌, true, false, if◌then◌else◌, List, [], ◌∷◌, Option, Some, None}
 use Rattle.sip_timers.specs.declared.letter.Letter.{Letter}
 use Rattle.sip_timers.specs.declared.letter.Letter.TheVariants as By
-use Rattle.sip_server.specs.declared.actions.Action.{Action}
-use Rattle.sip_server.specs.declared.actions.Action.TheVariants.{Send, Start}
+use Rattle.sip_server.specs.declared.actions.ServerAction.{ServerAction}
+use Rattle.sip_server.specs.declared.actions.ServerAction.TheVariants.{Send, Start}
 use Rattle.sip_server.specs.declared.server_other.ServerOther.{ServerOther}
 use Rattle.sip_server.specs.declared.server_other.ServerOther.TheVariants.{Trying, Proceeding, Completed, Terminated}
 use Rattle.sip_context_branches.specs.state.declared.open_request.LastAnswer.{LastAnswer}
@@ -28,5 +28,5 @@ other_side_timers (Acknowledged until) = []
 other_side_timers Closed = []
 
 -- what is done at an answer of the core: it is sent, and a final one sets Timer J
-abbrev pub answer_actions : ℕ → List Action
+abbrev pub answer_actions : ℕ → List ServerAction
 answer_actions status = if is_provisional status then Send ∷ [] else Send ∷ Start By.J 32000 ∷ []

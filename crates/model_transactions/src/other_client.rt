@@ -4,7 +4,7 @@ ghost use Rattle.sip_timers.specs.Machine.{IsOneOf};
 ghost use Rattle.sip_timers.specs.declared.letter.Letter.{Letter};
 ghost use Rattle.sip_timers.specs.declared.letter.Letter.TheVariants as By;
 ghost use Rattle.sip_client.specs.ClientOther.{client_other, start, other_machine, runs};
-ghost use Rattle.sip_client.specs.declared.actions.Action.TheVariants.{Send, SendAgain, Up, Start};
+ghost use Rattle.sip_client.specs.declared.actions.ClientAction.TheVariants.{Send, SendAgain, Up, Start};
 ghost use Rattle.sip_client.specs.declared.actions.Report.TheVariants.{Response, Timeout, Unavailable};
 ghost use Rattle.sip_client.specs.declared.client_other.ClientOther.{ClientOther};
 ghost use Rattle.sip_client.specs.declared.client_other.ClientOtherInput.TheVariants.{Received, Fired, Fault};

@@ -3,7 +3,7 @@ ghost use Rattle.std.specs.List.{list_all};
 ghost use Rattle.sip_timers.specs.Machine.{IsOneOf};
 ghost use Rattle.sip_timers.specs.declared.letter.Letter.{Letter};
 ghost use Rattle.sip_timers.specs.declared.letter.Letter.TheVariants as By;
-ghost use Rattle.sip_server.specs.Action.{copy_actions};
+ghost use Rattle.sip_server.specs.ServerAction.{copy_actions};
 ghost use Rattle.sip_server.specs.ServerOther.{server_other, other_machine, runs, answers_copy};
 ghost use Rattle.sip_server.specs.declared.server_other.ServerOther.{ServerOther};
 ghost use Rattle.sip_server.specs.declared.server_other.ServerOther.TheVariants.{Trying};

@@ -8,7 +8,7 @@ use Rattle.sip_message_form.specs.declared.message.Start.{Start}
 use Rattle.sip_message_form.specs.declared.message.Start.TheVariants.{Request, Status}
 use Rattle.sip_message_form.specs.declared.message.Message.{Message}
 use Rattle.sip_message.specs.Reading.{reading_of}
-use Rattle.sip_transaction_table.specs.declared.key.Key.{Key}
+use Rattle.sip_transaction_table.specs.declared.key.TransactionKey.{TransactionKey}
 use Rattle.sip_header.specs.declared.core_fields.CoreFields.{CoreFields}
 use Rattle.sip_transaction_table.specs.Key.{key_of}
 use Rattle.sip_header.specs.CoreFields.{core_of}
@@ -123,18 +123,18 @@ message_alike server state rows dialogs a m short bound known = by_kind m.start 
   ack : SameVerdict a.now (ack_verdict server state a.now m short) (ack_verdict server other a.now m short)
   ack = alike a.now _ _ (ack_alike server state rows dialogs a.now bound known m short)
 
-  new_alike : (method : List ℕ) (key : Key) → SameVerdict a.now (new_verdict server state a m short method key) (new_verdict server other a m short method key)
+  new_alike : (method : List ℕ) (key : TransactionKey) → SameVerdict a.now (new_verdict server state a m short method key) (new_verdict server other a m short method key)
   new_alike method key =
       either_alike a.now (bytes_eq method (codes "ACK")) _ _ _ _ ack
       (either_alike a.now (bytes_eq method (codes "CANCEL")) _ _ _ _ (Alike (cancel_verdict server state a m short key))
       (checked_alike server state rows dialogs a.now bound known m method (refusal_of server.config.own m short)))
 
-  by_found : (method : List ℕ) (key : Key) (o : Option OpenRequest) → SameVerdict a.now (by_open server state a m short method key o)
+  by_found : (method : List ℕ) (key : TransactionKey) (o : Option OpenRequest) → SameVerdict a.now (by_open server state a m short method key o)
       (by_open server other a m short method key o)
   by_found method key None = new_alike method key
   by_found method key (Some r) = either_alike a.now (bytes_eq method (codes "ACK") && is_accepted r) _ _ _ _ ack (Alike (Copy r))
 
-  by_name : (method : List ℕ) (o : Option Key) → SameVerdict a.now (by_key server state a m short method o) (by_key server other a m short method o)
+  by_name : (method : List ℕ) (o : Option TransactionKey) → SameVerdict a.now (by_key server state a m short method o) (by_key server other a m short method o)
   by_name method None = Alike Drop
   by_name method (Some key) = by_found method key (find (has_key key) state.requests)
 

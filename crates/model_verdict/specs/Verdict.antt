@@ -14,7 +14,7 @@ use Rattle.sip_message_form.specs.declared.message.Message.{Message}
 use Rattle.sip_message_form.specs.declared.error.ReadError.{ReadError}
 use Rattle.sip_message_form.specs.declared.error.ReadError.TheVariants as Refusal
 use Rattle.sip_message.specs.Reading.{reading_of}
-use Rattle.sip_transaction_table.specs.declared.key.Key.{Key}
+use Rattle.sip_transaction_table.specs.declared.key.TransactionKey.{TransactionKey}
 use Rattle.sip_header.specs.declared.core_fields.CoreFields.{CoreFields}
 use Rattle.sip_header.specs.declared.via.Via.{Via}
 use Rattle.sip_transaction_table.specs.Key.{key_of}
@@ -129,18 +129,18 @@ abbrev pub is_full : ProxyState → Bool
 is_full state = nat_le 1024 (length state.requests)
 
 -- an open request that a CANCEL may name: neither ACK nor CANCEL, with the same branch and sent-by (RFC 3261 9.2)
-abbrev pub is_cancelled_by : Key → OpenRequest → Bool
+abbrev pub is_cancelled_by : TransactionKey → OpenRequest → Bool
 is_cancelled_by key r =
     bytes_eq r.key.branch key.branch && bytes_eq r.key.host key.host && r.key.port == key.port && not
     (bytes_eq r.key.method (codes "CANCEL")) && not (bytes_eq r.key.method (codes "ACK"))
 
 -- the earliest such request, if the CANCEL comes from its IP address (this project's profile)
-abbrev pub found_for_cancel : ProxyState → Key → Addr → Option OpenRequest
+abbrev pub found_for_cancel : ProxyState → TransactionKey → Addr → Option OpenRequest
 found_for_cancel state key from = option_and_then (λ r. if bytes_eq r.request.source.ip from.ip then Some r else None) (find (is_cancelled_by key)
     state.requests)
 
 -- a CANCEL: 400 if it is a bad request, 503 without room, else by what it names (RFC 3261 9.2, 16.10)
-abbrev pub cancel_verdict : Server → ProxyState → Arrival → Message → Bool → Key → Verdict
+abbrev pub cancel_verdict : Server → ProxyState → Arrival → Message → Bool → TransactionKey → Verdict
 cancel_verdict server state a m short key =
     if is_bad_request server.config.own m short then Answer 400 []
     else if is_full state then Answer 503 []
@@ -262,20 +262,20 @@ checked_verdict server state now m method None =
     if is_full state then Answer 503 [] else core_verdict server state now m method (result_ok (core_of m))
 
 -- a request whose key isn't open
-abbrev pub new_verdict : Server → ProxyState → Arrival → Message → Bool → List ℕ → Key → Verdict
+abbrev pub new_verdict : Server → ProxyState → Arrival → Message → Bool → List ℕ → TransactionKey → Verdict
 new_verdict server state a m short method key =
     if bytes_eq method (codes "ACK") then ack_verdict server state a.now m short
     else if bytes_eq method (codes "CANCEL") then cancel_verdict server state a m short key
     else checked_verdict server state a.now m method (refusal_of server.config.own m short)
 
 -- A request whose key is open belongs to that request, but for an ACK of a 2xx, which is an own transaction (RFC 3261 13.2.2.4, 17.2.3)
-abbrev pub by_open : Server → ProxyState → Arrival → Message → Bool → List ℕ → Key → Option OpenRequest → Verdict
+abbrev pub by_open : Server → ProxyState → Arrival → Message → Bool → List ℕ → TransactionKey → Option OpenRequest → Verdict
 by_open server state a m short method key (Some r) =
     if bytes_eq method (codes "ACK") && is_accepted r then ack_verdict server state a.now m short else Copy r
 by_open server state a m short method key None = new_verdict server state a m short method key
 
 -- without a readable top Via whose branch has the magic cookie nothing is sent (RFC 3261 8.1.1.7, in this project's profile)
-abbrev pub by_key : Server → ProxyState → Arrival → Message → Bool → List ℕ → Option Key → Verdict
+abbrev pub by_key : Server → ProxyState → Arrival → Message → Bool → List ℕ → Option TransactionKey → Verdict
 by_key server state a m short method None = Drop
 by_key server state a m short method (Some key) = by_open server state a m short method key (find (has_key key) state.requests)
 

@@ -1,7 +1,7 @@
 //! What is to be done with a datagram, of all that a proxy knows: the first case that applies (RFC 3261 9.2,
 //! 10.3, 16.3 to 16.5, 17.1.3, 17.2.3). Nothing runs here.
 //!
-//! - Used: contracts of `sip_core`, and `model_steps`.
+//! - Used: contracts of `sip_verdict`, and `model_steps`.
 //! - Not here: a body.
 //! - Tried: worked examples in `src/examples.rt`, as contracts that compute.
 #![tactic(auto)]
@@ -20,6 +20,7 @@ pub mod context_model {
 /// Of `sip_state`.
 pub mod state {
     pub use model_context::state::{
-        AnswerText, Branch, Heard, LastAnswer, Names, OpenRequest, Phase, Server, Side, Upward,
+        AnswerText, Branch, DialogNames, KeptRequest, LastAnswer, OpenRequest, Phase, Server, Side,
+        Upward,
     };
 }

@@ -9,8 +9,8 @@ use Rattle.sip_uri.specs.Host.{is_host, is_not}
 use Rattle.sip_uri.specs.declared.aor.Aor.{Aor}
 use Rattle.sip_uri.proofs.Tests.{some_is}
 use Rattle.sip_audit.specs.declared.error.AuditError.{AuditError}
-use Rattle.sip_audit.specs.declared.record.Operation.{Operation}
-use Rattle.sip_audit.specs.declared.record.Outcome.{Outcome}
+use Rattle.sip_audit.specs.declared.record.AuditOperation.{AuditOperation}
+use Rattle.sip_audit.specs.declared.record.AuditOutcome.{AuditOutcome}
 use Rattle.sip_audit.specs.declared.record.Record.{Record}
 use Rattle.sip_audit.specs.Names.{is_name_or_none}
 use Rattle.sip_audit.specs.Lines.{user_byte_text, target_text, who_text, operation_text, outcome_text, line_of, is_minute_of, IsOfRequest, IsLineOf, IsInRange}
@@ -46,7 +46,8 @@ written_words r = words_text (decimal r.at) (decimal r.number) r.method (who_tex
 
 -- ---- reading, step by step
 
-abbrev record_with : ℕ × List ℕ → ℕ × List ℕ → List ℕ × List ℕ → Option (List ℕ) × List ℕ → (List ℕ × List ℕ) × List ℕ → Operation × List ℕ → Option ℕ × Outcome → Record
+abbrev record_with : ℕ × List ℕ → ℕ × List ℕ → List ℕ × List ℕ → Option (List ℕ) × List ℕ → (List ℕ × List ℕ) × List ℕ → AuditOperation × List ℕ → Option ℕ × AuditOutcome
+    → Record
 record_with at number method who target operation end = record {
   at = at.0;
   number = number.0;
@@ -58,7 +59,7 @@ record_with at number method who target operation end = record {
   outcome = end.1;
 }
 
-abbrev after_operation : ℕ × List ℕ → ℕ × List ℕ → List ℕ × List ℕ → Option (List ℕ) × List ℕ → (List ℕ × List ℕ) × List ℕ → Operation × List ℕ → Option Record
+abbrev after_operation : ℕ × List ℕ → ℕ × List ℕ → List ℕ × List ℕ → Option (List ℕ) × List ℕ → (List ℕ × List ℕ) × List ℕ → AuditOperation × List ℕ → Option Record
 after_operation at number method who target operation = outcome_of operation.1 >>= λ end. Some (record_with at number method who target operation end)
 
 abbrev after_target : ℕ × List ℕ → ℕ × List ℕ → List ℕ × List ℕ → Option (List ℕ) × List ℕ → (List ℕ × List ℕ) × List ℕ → Option Record

@@ -9,8 +9,8 @@ use Rattle.std.proofs.lemmas.Bool.Decides.{nat_tests}
 use Rattle.sip_text.specs.Splits.{split_at_byte}
 use Rattle.sip_uri.specs.Host.{is_not}
 use Rattle.sip_uri.proofs.Tests.{some_is, and_both, and_is, all_join, split_again, never_split, split_is}
-use Rattle.sip_audit.specs.declared.record.Outcome.{Outcome}
-use Rattle.sip_audit.specs.declared.record.Outcome.TheVariants.{Challenge, Deny, Sent, Answer}
+use Rattle.sip_audit.specs.declared.record.AuditOutcome.{AuditOutcome}
+use Rattle.sip_audit.specs.declared.record.AuditOutcome.TheVariants.{Challenge, Deny, Sent, Answer}
 use Rattle.sip_audit.specs.Lines.{rule_text, outcome_text, rule_of, is_minute_of, IsOutcomeInRange}
 use Rattle.sip_audit.specs.Reading.{◌>>=◌, number_of, status_of, minute_of, rule_within, rule_from, rule_in, counted, decided, challenged, outcome_from, outcome_of}
 use Rattle.sip_audit.proofs.Words.{bind_some, same_text, differs_from, below_is, below_again, number_others}
@@ -101,20 +101,20 @@ rule_no_dash rule minute lt e same =
 
 -- ---- the outcome behind the rule
 
-abbrev behind_rule : Outcome → List ℕ
+abbrev behind_rule : AuditOutcome → List ℕ
 behind_rule (Challenge status) = codes "challenge " ++ decimal status
 behind_rule (Deny rule) = codes "deny"
 behind_rule (Sent rule targets) = codes "sent " ++ decimal targets
 behind_rule (Answer rule status) = codes "answer " ++ decimal status
 
-record IsDecided (rule : ℕ) (text : List ℕ) (o : Outcome) : Type 0 where
+record IsDecided (rule : ℕ) (text : List ℕ) (o : AuditOutcome) : Type 0 where
   pub written : (minute : Option ℕ) → rule_text rule minute ++ 32 ∷ text ≡ outcome_text minute o
   pub by_rule : rule_of o ≡ rule
 
 parted : (front middle back : List ℕ) → front ++ 32 ∷ (middle ++ 32 ∷ back) ≡ (front ++ 32 ∷ (middle ++ 32 ∷ [])) ++ back
 parted front middle back = simp append_assoc
 
-sent_is : (rule : ℕ) (word number : List ℕ) (o : Outcome) → word ≡ codes "sent" → option_map (λ targets. Sent rule targets) (number_of number) ≡ Some o
+sent_is : (rule : ℕ) (word number : List ℕ) (o : AuditOutcome) → word ≡ codes "sent" → option_map (λ targets. Sent rule targets) (number_of number) ≡ Some o
     → IsDecided rule (word ++ 32 ∷ number) o
 sent_is rule word number o is e =
     let n = map_some (λ targets. Sent rule targets) (number_of number) o e in
@@ -124,7 +124,7 @@ sent_is rule word number o is e =
       by_rule = refl;
     })
 
-answer_is : (rule : ℕ) (word number : List ℕ) (o : Outcome) → word ≡ codes "answer" → option_map (λ status. Answer rule status) (status_of number) ≡ Some o
+answer_is : (rule : ℕ) (word number : List ℕ) (o : AuditOutcome) → word ≡ codes "answer" → option_map (λ status. Answer rule status) (status_of number) ≡ Some o
     → IsDecided rule (word ++ 32 ∷ number) o
 answer_is rule word number o is e =
     let n = map_some (λ status. Answer rule status) (status_of number) o e in
@@ -134,28 +134,29 @@ answer_is rule word number o is e =
       by_rule = refl;
     })
 
-counted_by : (rule : ℕ) (word number : List ℕ) (o : Outcome) (s t : Bool) → bytes_eq word (codes "sent") ≡ s → bytes_eq word (codes "answer") ≡ t
+counted_by : (rule : ℕ) (word number : List ℕ) (o : AuditOutcome) (s t : Bool) → bytes_eq word (codes "sent") ≡ s → bytes_eq word (codes "answer") ≡ t
     → cond s (option_map (λ targets. Sent rule targets) (number_of number)) (cond t (option_map (λ status. Answer rule status) (status_of number)) None) ≡ Some o
     → IsDecided rule (word ++ 32 ∷ number) o
 counted_by rule word number o true t p q e = sent_is rule word number o (same_text word (codes "sent") p) e
 counted_by rule word number o false true p q e = answer_is rule word number o (same_text word (codes "answer") q) e
 counted_by rule word number o false false p q e = absurd cc
 
-count_by_cut : (rule : ℕ) (text : List ℕ) (o : Outcome) (cut : Option (List ℕ × List ℕ)) → split_at_byte 32 text ≡ cut → counted rule cut ≡ Some o → IsDecided rule text o
+count_by_cut : (rule : ℕ) (text : List ℕ) (o : AuditOutcome) (cut : Option (List ℕ × List ℕ)) → split_at_byte 32 text ≡ cut → counted rule cut ≡ Some o
+    → IsDecided rule text o
 count_by_cut rule text o None is e = absurd cc
 count_by_cut rule text o (Some cut) is e =
     rw (split_is 32 text cut.0 cut.1 is) (counted_by rule cut.0 cut.1 o (bytes_eq cut.0 (codes "sent")) (bytes_eq cut.0 (codes "answer")) refl refl e)
 
-decided_by : (rule : ℕ) (text : List ℕ) (o : Outcome) (t : Bool) → bytes_eq text (codes "deny") ≡ t
+decided_by : (rule : ℕ) (text : List ℕ) (o : AuditOutcome) (t : Bool) → bytes_eq text (codes "deny") ≡ t
     → cond t (Some (Deny rule)) (counted rule (split_at_byte 32 text)) ≡ Some o → IsDecided rule text o
 decided_by rule text o true is e =
     rw (← some_is (Deny rule) o e) (record { written = λ minute. rw (same_text text (codes "deny") is) refl; by_rule = refl })
 decided_by rule text o false is e = count_by_cut rule text o (split_at_byte 32 text) refl e
 
-decided_is : (rule : ℕ) (text : List ℕ) (o : Outcome) → decided rule text ≡ Some o → IsDecided rule text o
+decided_is : (rule : ℕ) (text : List ℕ) (o : AuditOutcome) → decided rule text ≡ Some o → IsDecided rule text o
 decided_is rule text o e = decided_by rule text o (bytes_eq text (codes "deny")) refl e
 
-challenge_by : (word status : List ℕ) (o : Outcome) (t : Bool) → bytes_eq word (codes "challenge") ≡ t
+challenge_by : (word status : List ℕ) (o : AuditOutcome) (t : Bool) → bytes_eq word (codes "challenge") ≡ t
     → cond t (option_map (λ status. Challenge status) (status_of status)) None ≡ Some o
     → codes "-" ++ 32 ∷ (word ++ 32 ∷ status) ≡ outcome_text None o
 challenge_by word status o true is e =
@@ -163,32 +164,32 @@ challenge_by word status o true is e =
     rw (← n.2, same_text word (codes "challenge") is) (ap (λ (w : List ℕ). codes "- challenge " ++ w) (below_is (2 ^ 16) n.0 status n.1).0)
 challenge_by word status o false is e = absurd cc
 
-abbrev if_challenge : List ℕ × List ℕ → Option Outcome
+abbrev if_challenge : List ℕ × List ℕ → Option AuditOutcome
 if_challenge cut = cond (bytes_eq cut.0 (codes "challenge")) (option_map (λ status. Challenge status) (status_of cut.1)) None
 
-challenged_is : (text : List ℕ) (o : Outcome) → challenged text ≡ Some o → codes "-" ++ 32 ∷ text ≡ outcome_text None o
+challenged_is : (text : List ℕ) (o : AuditOutcome) → challenged text ≡ Some o → codes "-" ++ 32 ∷ text ≡ outcome_text None o
 challenged_is text o e =
     let cut = bind_some (split_at_byte 32 text) if_challenge o e in
     rw (split_is 32 text cut.0.0 cut.0.1 cut.1) (challenge_by cut.0.0 cut.0.1 o (bytes_eq cut.0.0 (codes "challenge")) refl cut.2)
 
 -- ---- the end of a line
 
-pub record IsOutcome (text : List ℕ) (x : Option ℕ × Outcome) : Type 0 where
+pub record IsOutcome (text : List ℕ) (x : Option ℕ × AuditOutcome) : Type 0 where
   pub written : text ≡ outcome_text x.0 x.1
   pub minute : is_minute_of x.1 x.0 ≡ true
 
-minute_goes : (rule : ℕ) (minute : Option ℕ) (o : Outcome) → rule_of o ≡ rule → is_minute_with rule minute ≡ true → is_minute_of o minute ≡ true
+minute_goes : (rule : ℕ) (minute : Option ℕ) (o : AuditOutcome) → rule_of o ≡ rule → is_minute_with rule minute ≡ true → is_minute_of o minute ≡ true
 minute_goes rule None o is e = refl
 minute_goes rule (Some minute) o is e = ap (λ (r : ℕ). nat_lt 0 r && nat_lt minute 1440) is ∙ e
 
-minute_comes : (minute : Option ℕ) (o : Outcome) → is_minute_of o minute ≡ true → is_minute_with (rule_of o) minute ≡ true
+minute_comes : (minute : Option ℕ) (o : AuditOutcome) → is_minute_of o minute ≡ true → is_minute_with (rule_of o) minute ≡ true
 minute_comes None o e = refl
 minute_comes (Some minute) o e = e
 
-abbrev with_outcome : List ℕ → ℕ × Option ℕ → Option (Option ℕ × Outcome)
+abbrev with_outcome : List ℕ → ℕ × Option ℕ → Option (Option ℕ × AuditOutcome)
 with_outcome text rule = decided rule.0 text >>= λ outcome. Some (rule.1, outcome)
 
-by_rule : (word rest : List ℕ) (x : Option ℕ × Outcome) → (rule_in word >>= with_outcome rest) ≡ Some x → IsOutcome (word ++ 32 ∷ rest) x
+by_rule : (word rest : List ℕ) (x : Option ℕ × AuditOutcome) → (rule_in word >>= with_outcome rest) ≡ Some x → IsOutcome (word ++ 32 ∷ rest) x
 by_rule word rest x e =
     let r = bind_some (rule_in word) (with_outcome rest) x e in
     let o = bind_some (decided r.0.0 rest) (λ outcome. Some (r.0.1, outcome)) x r.2 in
@@ -199,7 +200,7 @@ by_rule word rest x e =
       minute = minute_goes r.0.0 r.0.1 o.0 d.by_rule rule.minute;
     })
 
-by_dash : (word rest : List ℕ) (x : Option ℕ × Outcome) (t : Bool) → bytes_eq word (codes "-") ≡ t
+by_dash : (word rest : List ℕ) (x : Option ℕ × AuditOutcome) (t : Bool) → bytes_eq word (codes "-") ≡ t
     → cond t (option_map (λ outcome. (None, outcome)) (challenged rest)) (rule_in word >>= with_outcome rest) ≡ Some x → IsOutcome (word ++ 32 ∷ rest) x
 by_dash word rest x true is e =
     let o = map_some (λ outcome. (None, outcome)) (challenged rest) x e in
@@ -209,7 +210,7 @@ by_dash word rest x true is e =
     })
 by_dash word rest x false is e = by_rule word rest x e
 
-pub outcome_is : (text : List ℕ) (x : Option ℕ × Outcome) → outcome_of text ≡ Some x → IsOutcome text x
+pub outcome_is : (text : List ℕ) (x : Option ℕ × AuditOutcome) → outcome_of text ≡ Some x → IsOutcome text x
 outcome_is text x e =
     let cut = bind_some (split_at_byte 32 text) outcome_from x e in
     rw (split_is 32 text cut.0.0 cut.0.1 cut.1) (by_dash cut.0.0 cut.0.1 x (bytes_eq cut.0.0 (codes "-")) refl cut.2)
@@ -219,7 +220,7 @@ outcome_is text x e =
 count_again : (word : List ℕ) (number : ℕ) → list_all (is_not 32) word ≡ true → split_at_byte 32 ((word ++ 32 ∷ []) ++ decimal number) ≡ Some (word, decimal number)
 count_again word number none = ap (split_at_byte 32) (append_assoc word (32 ∷ []) (decimal number)) ∙ split_again 32 word (decimal number) none refl
 
-ruled_again : (rule : ℕ) (minute : Option ℕ) (rest : List ℕ) (o : Outcome) → rule < 2 ^ 32 → is_minute_with rule minute ≡ true → decided rule rest ≡ Some o
+ruled_again : (rule : ℕ) (minute : Option ℕ) (rest : List ℕ) (o : AuditOutcome) → rule < 2 ^ 32 → is_minute_with rule minute ≡ true → decided rule rest ≡ Some o
     → outcome_of (rule_text rule minute ++ 32 ∷ rest) ≡ Some (minute, o)
 ruled_again rule minute rest o lt e d =
     let other : bytes_eq (rule_text rule minute) (codes "-") ≡ false =
@@ -242,7 +243,7 @@ challenge_again status lt =
     ap (λ o. option_map (λ outcome. (None, outcome)) (o >>= if_challenge)) (count_again (codes "challenge") status refl)
     ∙ ap (λ s. option_map (λ outcome. (None, outcome)) (option_map (λ status. Challenge status) s)) (below_again (2 ^ 16) status lt (omega arith))
 
-pub outcome_again : (minute : Option ℕ) (o : Outcome) → IsOutcomeInRange o → is_minute_of o minute ≡ true → outcome_of (outcome_text minute o) ≡ Some (minute, o)
+pub outcome_again : (minute : Option ℕ) (o : AuditOutcome) → IsOutcomeInRange o → is_minute_of o minute ≡ true → outcome_of (outcome_text minute o) ≡ Some (minute, o)
 outcome_again None (Challenge status) fits e = challenge_again status fits
 outcome_again (Some minute) (Challenge status) fits e = absurd cc
 outcome_again minute (Deny rule) fits e = ruled_again rule minute (codes "deny") (Deny rule) fits (minute_comes minute (Deny rule) e) refl

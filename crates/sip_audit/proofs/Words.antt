@@ -14,7 +14,7 @@ use Rattle.sip_text.proofs.PlainDecimals.{plain_read, plain_written, digits_alon
 use Rattle.sip_uri.specs.Host.{is_host, is_not}
 use Rattle.sip_uri.proofs.Tests.{some_is, pair_is, and_both, and_is, is_other, others, all_join, split_again, split_is}
 use Rattle.sip_uri.proofs.PartLaws.{IsNoPlaceByte, place_others}
-use Rattle.sip_audit.specs.declared.record.Operation.{Operation}
+use Rattle.sip_audit.specs.declared.record.AuditOperation.{AuditOperation}
 use Rattle.sip_audit.specs.Names.{is_name_byte, is_name, is_name_or_none}
 use Rattle.sip_audit.specs.Lines.{who_text, operation_text}
 use Rattle.sip_audit.specs.Reading.{◌>>=◌, word_before, method_of, who_of, target_of, operation_of}
@@ -162,22 +162,23 @@ target_others user host none e =
 
 -- ---- operations
 
-operation_by : (word : List ℕ) (o : Operation) (a b c : Bool) → bytes_eq word (codes "register") ≡ a → bytes_eq word (codes "list") ≡ b → bytes_eq word (codes "send") ≡ c
-    → cond a (Some Operation.Register) (cond b (Some Operation.List) (cond c (Some Operation.Send) None)) ≡ Some o → word ≡ operation_text o
-operation_by word o true b c p q r e = rw (← some_is Operation.Register o e) (same_text word (codes "register") p)
-operation_by word o false true c p q r e = rw (← some_is Operation.List o e) (same_text word (codes "list") q)
-operation_by word o false false true p q r e = rw (← some_is Operation.Send o e) (same_text word (codes "send") r)
+operation_by : (word : List ℕ) (o : AuditOperation) (a b c : Bool) → bytes_eq word (codes "register") ≡ a → bytes_eq word (codes "list") ≡ b
+    → bytes_eq word (codes "send") ≡ c
+    → cond a (Some AuditOperation.Register) (cond b (Some AuditOperation.List) (cond c (Some AuditOperation.Send) None)) ≡ Some o → word ≡ operation_text o
+operation_by word o true b c p q r e = rw (← some_is AuditOperation.Register o e) (same_text word (codes "register") p)
+operation_by word o false true c p q r e = rw (← some_is AuditOperation.List o e) (same_text word (codes "list") q)
+operation_by word o false false true p q r e = rw (← some_is AuditOperation.Send o e) (same_text word (codes "send") r)
 operation_by word o false false false p q r e = absurd cc
 
-pub operation_is : (word : List ℕ) (o : Operation) → operation_of word ≡ Some o → word ≡ operation_text o
+pub operation_is : (word : List ℕ) (o : AuditOperation) → operation_of word ≡ Some o → word ≡ operation_text o
 operation_is word o e = operation_by word o (bytes_eq word (codes "register")) (bytes_eq word (codes "list")) (bytes_eq word (codes "send")) refl refl refl e
 
-pub operation_again : (o : Operation) → operation_of (operation_text o) ≡ Some o
-operation_again Operation.Register = refl
-operation_again Operation.List = refl
-operation_again Operation.Send = refl
+pub operation_again : (o : AuditOperation) → operation_of (operation_text o) ≡ Some o
+operation_again AuditOperation.Register = refl
+operation_again AuditOperation.List = refl
+operation_again AuditOperation.Send = refl
 
-pub operation_others : (o : Operation) → list_all (is_not 32) (operation_text o) ≡ true
-operation_others Operation.Register = refl
-operation_others Operation.List = refl
-operation_others Operation.Send = refl
+pub operation_others : (o : AuditOperation) → list_all (is_not 32) (operation_text o) ≡ true
+operation_others AuditOperation.Register = refl
+operation_others AuditOperation.List = refl
+operation_others AuditOperation.Send = refl

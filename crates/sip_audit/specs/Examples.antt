@@ -1,8 +1,8 @@
 -- Records of the worked examples.
 use Rattle.std.specs.Prelude.{codes, Some, None}
 use Rattle.sip_uri.specs.declared.aor.Aor.{Aor}
-use Rattle.sip_audit.specs.declared.record.Operation.TheVariants as Operation
-use Rattle.sip_audit.specs.declared.record.Outcome.TheVariants.{Challenge, Deny, Sent, Answer}
+use Rattle.sip_audit.specs.declared.record.AuditOperation.TheVariants as AuditOperation
+use Rattle.sip_audit.specs.declared.record.AuditOutcome.TheVariants.{Challenge, Deny, Sent, Answer}
 use Rattle.sip_audit.specs.declared.record.Record.{Record}
 
 -- the user Mufasa of host.com
@@ -21,7 +21,7 @@ challenged = record {
   method = codes "REGISTER";
   who = None;
   target = mufasa;
-  operation = Operation.Register;
+  operation = AuditOperation.Register;
   minute = None;
   outcome = Challenge 401;
 }
@@ -42,14 +42,14 @@ sent = record {
   method = codes "INVITE";
   who = None;
   target = help;
-  operation = Operation.Send;
+  operation = AuditOperation.Send;
   minute = None;
   outcome = Sent 4 1;
 }
 
 -- a REGISTER of Mufasa's without Contact
 abbrev pub listed : Record
-listed = record answered { operation = Operation.List }
+listed = record answered { operation = AuditOperation.List }
 
 -- an INVITE of nobody's that rule 4, which has a window, lets through at 8:00, to a user without a live binding
 abbrev pub within_a_window : Record
@@ -59,7 +59,7 @@ within_a_window = record {
   method = codes "INVITE";
   who = None;
   target = help;
-  operation = Operation.Send;
+  operation = AuditOperation.Send;
   minute = Some 480;
   outcome = Answer 4 480;
 }

@@ -6,9 +6,9 @@ use Rattle.std.specs.Str.{byte}
 use Rattle.sip_text.specs.Words.{is_token_text}
 use Rattle.sip_uri.specs.Host.{is_host}
 use Rattle.sip_uri.specs.declared.aor.Aor.{Aor}
-use Rattle.sip_audit.specs.declared.record.Operation.{Operation}
-use Rattle.sip_audit.specs.declared.record.Outcome.{Outcome}
-use Rattle.sip_audit.specs.declared.record.Outcome.TheVariants.{Challenge, Deny, Sent, Answer}
+use Rattle.sip_audit.specs.declared.record.AuditOperation.{AuditOperation}
+use Rattle.sip_audit.specs.declared.record.AuditOutcome.{AuditOutcome}
+use Rattle.sip_audit.specs.declared.record.AuditOutcome.TheVariants.{Challenge, Deny, Sent, Answer}
 use Rattle.sip_audit.specs.declared.record.Record.{Record}
 use Rattle.sip_audit.specs.Names.{is_name_byte, is_name_or_none}
 
@@ -30,10 +30,10 @@ who_text None = codes "-"
 who_text (Some name) = name
 
 -- the word for an operation
-abbrev pub operation_text : Operation → List ℕ
-operation_text Operation.Register = codes "register"
-operation_text Operation.List = codes "list"
-operation_text Operation.Send = codes "send"
+abbrev pub operation_text : AuditOperation → List ℕ
+operation_text AuditOperation.Register = codes "register"
+operation_text AuditOperation.List = codes "list"
+operation_text AuditOperation.Send = codes "send"
 
 -- a rule that decided: its number, and behind it the minute of the day, if it has a window
 abbrev pub rule_text : ℕ → Option ℕ → List ℕ
@@ -41,7 +41,7 @@ rule_text rule None = decimal rule
 rule_text rule (Some minute) = decimal rule ++ codes "@" ++ decimal minute
 
 -- the rule that decided, `-` for a challenge, and what became of the request
-abbrev pub outcome_text : Option ℕ → Outcome → List ℕ
+abbrev pub outcome_text : Option ℕ → AuditOutcome → List ℕ
 outcome_text minute (Challenge status) = codes "- challenge " ++ decimal status
 outcome_text minute (Deny rule) = rule_text rule minute ++ codes " deny"
 outcome_text minute (Sent rule targets) = rule_text rule minute ++ codes " sent " ++ decimal targets
@@ -55,14 +55,14 @@ line_of r =
     ++ operation_text r.operation ++ codes " " ++ outcome_text r.minute r.outcome
 
 -- the rule that decided; 0 is none, and none decided at a challenge
-abbrev pub rule_of : Outcome → ℕ
+abbrev pub rule_of : AuditOutcome → ℕ
 rule_of (Challenge status) = 0
 rule_of (Deny rule) = rule
 rule_of (Sent rule targets) = rule
 rule_of (Answer rule status) = rule
 
 -- whether a minute goes with an outcome: none does; one of the day, where a rule decided
-abbrev pub is_minute_of : Outcome → Option ℕ → Bool
+abbrev pub is_minute_of : AuditOutcome → Option ℕ → Bool
 is_minute_of outcome None = true
 is_minute_of outcome (Some minute) = nat_lt 0 (rule_of outcome) && nat_lt minute 1440
 
@@ -84,7 +84,7 @@ abbrev pub is_byte : ℕ → Bool
 is_byte b = nat_lt b 256
 
 -- the numbers of an outcome are of their types
-abbrev pub IsOutcomeInRange : Outcome → Type 0
+abbrev pub IsOutcomeInRange : AuditOutcome → Type 0
 IsOutcomeInRange (Challenge status) = status < 2 ^ 16
 IsOutcomeInRange (Deny rule) = rule < 2 ^ 32
 IsOutcomeInRange (Sent rule targets) = (rule < 2 ^ 32) × (targets < 2 ^ 32)

@@ -1,10 +1,10 @@
 -- What a line says, in texts of that line.
 use Rattle.std.specs.Prelude.{option_map}
-use Rattle.sip_audit.specs.declared.parts.Parts.{Parts}
+use Rattle.sip_audit.specs.declared.parts.AuditLineParts.{AuditLineParts}
 use Rattle.sip_audit.specs.declared.record.Record.{Record}
 
 -- the record that it says, its user as it is written
-abbrev pub seen : Parts → Record
+abbrev pub seen : AuditLineParts → Record
 seen p = record {
   at = p.at;
   number = p.number;

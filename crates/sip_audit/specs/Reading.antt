@@ -9,9 +9,9 @@ use Rattle.sip_text.specs.Escapes.{unescaped}
 use Rattle.sip_uri.specs.Host.{is_host}
 use Rattle.sip_audit.specs.declared.error.AuditError.{AuditError}
 use Rattle.sip_audit.specs.declared.error.AuditError.TheVariants.{NoMemory, BadLine}
-use Rattle.sip_audit.specs.declared.record.Operation.{Operation}
-use Rattle.sip_audit.specs.declared.record.Outcome.{Outcome}
-use Rattle.sip_audit.specs.declared.record.Outcome.TheVariants.{Challenge, Deny, Sent, Answer}
+use Rattle.sip_audit.specs.declared.record.AuditOperation.{AuditOperation}
+use Rattle.sip_audit.specs.declared.record.AuditOutcome.{AuditOutcome}
+use Rattle.sip_audit.specs.declared.record.AuditOutcome.TheVariants.{Challenge, Deny, Sent, Answer}
 use Rattle.sip_audit.specs.declared.record.Record.{Record}
 use Rattle.sip_audit.specs.Names.{is_name}
 use Rattle.sip_audit.specs.Lines.{user_byte_text}
@@ -48,11 +48,11 @@ target_of word = do
   if is_host cut.1 then Some cut else None
 
 -- an operation
-abbrev pub operation_of : List ℕ → Option Operation
+abbrev pub operation_of : List ℕ → Option AuditOperation
 operation_of word =
-    if bytes_eq word (codes "register") then Some Operation.Register
-    else if bytes_eq word (codes "list") then Some Operation.List
-    else if bytes_eq word (codes "send") then Some Operation.Send
+    if bytes_eq word (codes "register") then Some AuditOperation.Register
+    else if bytes_eq word (codes "list") then Some AuditOperation.List
+    else if bytes_eq word (codes "send") then Some AuditOperation.Send
     else None
 
 -- ---- the rule and the outcome
@@ -87,7 +87,7 @@ abbrev pub rule_in : List ℕ → Option (ℕ × Option ℕ)
 rule_in word = rule_from word (split_at_byte (byte "@") word)
 
 -- what a rule let through, by a word and the number behind it
-abbrev pub counted : ℕ → Option (List ℕ × List ℕ) → Option Outcome
+abbrev pub counted : ℕ → Option (List ℕ × List ℕ) → Option AuditOutcome
 counted rule None = None
 counted rule (Some cut) =
     if bytes_eq cut.0 (codes "sent") then option_map (λ targets. Sent rule targets) (number_of cut.1)
@@ -95,17 +95,17 @@ counted rule (Some cut) =
     else None
 
 -- what became of a request by a rule
-abbrev pub decided : ℕ → List ℕ → Option Outcome
+abbrev pub decided : ℕ → List ℕ → Option AuditOutcome
 decided rule text = if bytes_eq text (codes "deny") then Some (Deny rule) else counted rule (split_at_byte (byte " ") text)
 
 -- that a request was challenged
-abbrev pub challenged : List ℕ → Option Outcome
+abbrev pub challenged : List ℕ → Option AuditOutcome
 challenged text = do
   cut ← split_at_byte (byte " ") text
   if bytes_eq cut.0 (codes "challenge") then option_map (λ status. Challenge status) (status_of cut.1) else None
 
 -- the minute and the outcome that the word of a rule and what follows it say
-abbrev pub outcome_from : List ℕ × List ℕ → Option (Option ℕ × Outcome)
+abbrev pub outcome_from : List ℕ × List ℕ → Option (Option ℕ × AuditOutcome)
 outcome_from cut =
     if bytes_eq cut.0 (codes "-") then option_map (λ outcome. (None, outcome)) (challenged cut.1)
     else (do
@@ -113,7 +113,7 @@ outcome_from cut =
       outcome ← decided rule.0 cut.1
       Some (rule.1, outcome))
 
-abbrev pub outcome_of : List ℕ → Option (Option ℕ × Outcome)
+abbrev pub outcome_of : List ℕ → Option (Option ℕ × AuditOutcome)
 outcome_of text = do
   cut ← split_at_byte (byte " ") text
   outcome_from cut

@@ -4,7 +4,7 @@ ghost use Rattle.sip_audit.specs.Lines.{rule_text, outcome_text};
 ghost use Rattle.sip_audit.specs.Reading as Readings;
 ghost use Rattle.sip_text.specs.Splits.{split_at_byte};
 
-use crate::record::Outcome;
+use crate::record::AuditOutcome;
 use sip_text::{Buffer, plain_decimal_below, split_once};
 use std::alloc::AllocError;
 
@@ -35,21 +35,21 @@ fn push_count(line: &mut Buffer, word: &[u8], number: u64) -> Result<(), AllocEr
 pub(crate) fn push_outcome(
     line: &mut Buffer,
     minute: Option<u16>,
-    outcome: Outcome,
+    outcome: AuditOutcome,
 ) -> Result<(), AllocError>
     ensures { OnOk result (line.new ≡ line.old ++ outcome_text minute outcome) }
 {
     match outcome {
-        Outcome::Challenge { status } => push_count(line, b"- challenge ", u64::from(status)),
-        Outcome::Deny { rule } => {
+        AuditOutcome::Challenge { status } => push_count(line, b"- challenge ", u64::from(status)),
+        AuditOutcome::Deny { rule } => {
             push_rule(line, rule, minute)?;
             line.extend(b" deny")
         }
-        Outcome::Sent { rule, targets } => {
+        AuditOutcome::Sent { rule, targets } => {
             push_rule(line, rule, minute)?;
             push_count(line, b" sent ", u64::from(targets))
         }
-        Outcome::Answer { rule, status } => {
+        AuditOutcome::Answer { rule, status } => {
             push_rule(line, rule, minute)?;
             push_count(line, b" answer ", u64::from(status))
         }
@@ -101,46 +101,46 @@ fn rule_in(word: &[u8]) -> Option<(u32, Option<u16>)>
 }
 
 /// What a rule let through: a word, and the number behind it.
-fn counted(rule: u32, text: &[u8]) -> Option<Outcome>
+fn counted(rule: u32, text: &[u8]) -> Option<AuditOutcome>
     ensures { result ≡ Readings.counted rule (split_at_byte 32 text.now) }
 {
     let (word, number) = split_once(text, b' ')?;
     if word == b"sent".as_slice() {
         let targets = number_of(number)?;
-        return Some(Outcome::Sent { rule, targets });
+        return Some(AuditOutcome::Sent { rule, targets });
     }
     if word == b"answer".as_slice() {
         let status = status_of(number)?;
-        return Some(Outcome::Answer { rule, status });
+        return Some(AuditOutcome::Answer { rule, status });
     }
     None
 }
 
 /// What became of a request by a rule.
-fn decided(rule: u32, text: &[u8]) -> Option<Outcome>
+fn decided(rule: u32, text: &[u8]) -> Option<AuditOutcome>
     ensures { result ≡ Readings.decided rule text.now }
 {
     if text == b"deny".as_slice() {
-        return Some(Outcome::Deny { rule });
+        return Some(AuditOutcome::Deny { rule });
     }
     counted(rule, text)
 }
 
 /// That a request was challenged.
-fn challenged(text: &[u8]) -> Option<Outcome>
+fn challenged(text: &[u8]) -> Option<AuditOutcome>
     ensures { result ≡ Readings.challenged text.now }
 {
     let (word, status) = split_once(text, b' ')?;
     if word == b"challenge".as_slice() {
         let status = status_of(status)?;
-        return Some(Outcome::Challenge { status });
+        return Some(AuditOutcome::Challenge { status });
     }
     None
 }
 
 /// The minute and the outcome that the end of a line writes: a rule, or `-` for a challenge, and what became of
 /// the request.
-pub(crate) fn outcome_of(text: &[u8]) -> Option<(Option<u16>, Outcome)>
+pub(crate) fn outcome_of(text: &[u8]) -> Option<(Option<u16>, AuditOutcome)>
     ensures { result ≡ Readings.outcome_of text.now }
 {
     let (word, rest) = split_once(text, b' ')?;

@@ -1,5 +1,5 @@
 ghost use Rattle.std.specs.Prelude.{◌≡◌, true, false, codes, Some, None};
-ghost use Rattle.sip_audit.specs.declared.record.Outcome.TheVariants.{Challenge, Deny};
+ghost use Rattle.sip_audit.specs.declared.record.AuditOutcome.TheVariants.{Challenge, Deny};
 ghost use Rattle.sip_audit.specs.Lines.{target_text, rule_text, is_minute_of, line_of};
 ghost use Rattle.sip_audit.specs.Examples as Records;
 

@@ -22,5 +22,5 @@ mod writing;
 
 pub use error::AuditError;
 pub use reading::read_line;
-pub use record::{Operation, Outcome, Record};
+pub use record::{AuditOperation, AuditOutcome, Record};
 pub use writing::{line_of, operation_word, who_word};

@@ -7,22 +7,22 @@ ghost use Rattle.sip_audit.specs.Parts.{seen};
 
 use crate::decision::outcome_of;
 use crate::name::is_name;
-use crate::record::{Operation, Outcome};
+use crate::record::{AuditOperation, AuditOutcome};
 use crate::target::target_of;
 use sip_text::{is_token, plain_decimal, split_once};
 
 /// What a line says, in texts of that line, its user as it is written.
 #[derive(Drop)]
-pub(crate) struct Parts<'l> {
+pub(crate) struct AuditLineParts<'l> {
     pub at: u64,
     pub number: u64,
     pub method: &'l [u8],
     pub who: Option<&'l [u8]>,
     pub user: &'l [u8],
     pub host: &'l [u8],
-    pub operation: Operation,
+    pub operation: AuditOperation,
     pub minute: Option<u16>,
-    pub outcome: Outcome,
+    pub outcome: AuditOutcome,
 }
 
 fn number_before(text: &[u8]) -> Option<(u64, &[u8])>
@@ -74,22 +74,22 @@ fn target_before(text: &[u8]) -> Option<((&[u8], &[u8]), &[u8])>
     Some((target, rest))
 }
 
-fn operation_of(word: &[u8]) -> Option<Operation>
+fn operation_of(word: &[u8]) -> Option<AuditOperation>
     ensures { result ≡ Readings.operation_of word.now }
 {
     if word == b"register".as_slice() {
-        return Some(Operation::Register);
+        return Some(AuditOperation::Register);
     }
     if word == b"list".as_slice() {
-        return Some(Operation::List);
+        return Some(AuditOperation::List);
     }
     if word == b"send".as_slice() {
-        return Some(Operation::Send);
+        return Some(AuditOperation::Send);
     }
     None
 }
 
-fn operation_before(text: &[u8]) -> Option<(Operation, &[u8])>
+fn operation_before(text: &[u8]) -> Option<(AuditOperation, &[u8])>
     ensures { option_map (λ x. (x.0, x.1.now)) result ≡ word_before Readings.operation_of text.now }
 {
     let (word, rest) = split_once(text, b' ')?;
@@ -99,7 +99,7 @@ fn operation_before(text: &[u8]) -> Option<(Operation, &[u8])>
 
 /// What a line says. Takes no memory.
 #[tactic(auto, unfolding(crate::specs::Reading::parts_of))]
-pub(crate) fn parts_of(line: &[u8]) -> Option<Parts<'_>>
+pub(crate) fn parts_of(line: &[u8]) -> Option<AuditLineParts<'_>>
     ensures { option_map seen result ≡ Readings.parts_of line.now }
 {
     let (at, rest) = number_before(line)?;
@@ -109,7 +109,7 @@ pub(crate) fn parts_of(line: &[u8]) -> Option<Parts<'_>>
     let ((user, host), rest) = target_before(rest)?;
     let (operation, rest) = operation_before(rest)?;
     let (minute, outcome) = outcome_of(rest)?;
-    Some(Parts {
+    Some(AuditLineParts {
         at,
         number,
         method,

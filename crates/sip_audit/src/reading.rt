@@ -5,7 +5,7 @@ ghost use Rattle.sip_audit.specs.Reading as Readings;
 ghost use Rattle.sip_audit.specs.Reading.{Gives, with_user};
 
 use crate::error::AuditError;
-use crate::parts::{Parts, parts_of};
+use crate::parts::{AuditLineParts, parts_of};
 use crate::record::Record;
 use crate::target::user_of;
 use sip_text::Bytes;
@@ -23,7 +23,7 @@ fn copy_name(alloc: Global, name: Option<&[u8]>) -> Result<Option<Bytes>, AllocE
 }
 
 /// The record of what a line says.
-fn record_from(alloc: Global, parts: Parts<'_>) -> Result<Record, AuditError>
+fn record_from(alloc: Global, parts: AuditLineParts<'_>) -> Result<Record, AuditError>
     ensures { Gives (λ r. r) result (with_user (seen parts.entry)) }
 {
     let user = user_of(alloc, parts.user)?;

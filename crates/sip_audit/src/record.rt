@@ -3,7 +3,7 @@ use sip_uri::Aor;
 
 /// What a request asks for.
 #[derive(Clone, Copy)]
-pub enum Operation {
+pub enum AuditOperation {
     /// A REGISTER with a Contact.
     Register,
     /// A REGISTER without Contact.
@@ -14,7 +14,7 @@ pub enum Operation {
 
 /// What became of a request, and by which rule of the policy; rule 0 says that none matched.
 #[derive(Clone, Copy, PartialEq, Eq)]
-pub enum Outcome {
+pub enum AuditOutcome {
     /// It was challenged with this status; no rule decided.
     Challenge { status: u16 },
     /// The rule denied it.
@@ -35,9 +35,9 @@ pub struct Record {
     pub method: Bytes,
     pub who: Option<Bytes>,
     pub target: Aor,
-    pub operation: Operation,
+    pub operation: AuditOperation,
     pub minute: Option<u16>,
-    pub outcome: Outcome,
+    pub outcome: AuditOutcome,
 }
 
 /// Written out, so that it is proved once and not wherever one is dropped.

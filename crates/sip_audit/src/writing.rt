@@ -5,7 +5,7 @@ ghost use Rattle.sip_audit.specs.declared.error.AuditError.TheVariants.{NoMemory
 
 use crate::decision::push_outcome;
 use crate::error::AuditError;
-use crate::record::{Operation, Record};
+use crate::record::{AuditOperation, Record};
 use crate::target::push_target;
 use sip_text::{Buffer, Bytes};
 use std::alloc::{AllocError, Global};
@@ -41,13 +41,13 @@ pub fn who_word(who: &Option<Bytes>) -> &[u8]
 }
 
 /// The word of an operation.
-pub fn operation_word(operation: Operation) -> &'static [u8]
+pub fn operation_word(operation: AuditOperation) -> &'static [u8]
     ensures { result.now ≡ operation_text operation }
 {
     match operation {
-        Operation::Register => b"register",
-        Operation::List => b"list",
-        Operation::Send => b"send",
+        AuditOperation::Register => b"register",
+        AuditOperation::List => b"list",
+        AuditOperation::Send => b"send",
     }
 }
 

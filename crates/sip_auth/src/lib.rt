@@ -1,7 +1,7 @@
 //! Whom a request proves to come from: its credentials for this server's realm, the configured user whom they
 //! name, and the nonces that were issued (RFC 2617 3.2.2; RFC 3261 22; RFC 8760 2).
 //!
-//! - Used: `sip_core`, for each request outside a dialog.
+//! - Used: `sip_verdict`, for each request outside a dialog.
 //! - Not here: whether that user may do it (`sip_policy`), and the challenge (`sip_uas`).
 //! - Tried: worked examples in `src/examples.rt`, as contracts that compute; `test_parts`.
 //!

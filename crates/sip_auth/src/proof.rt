@@ -7,7 +7,7 @@ use crate::claim::Claim;
 use crate::finding::Finding;
 use crate::right_claim::RightClaim;
 use sip_base::Shared;
-use sip_digest::{Checked, Nonces, Worth};
+use sip_digest::{NonceCheck, Nonces, Worth};
 use std::alloc::{AllocError, Global};
 use std::marker::Model;
 
@@ -43,12 +43,12 @@ impl<'v> Proof<'v> {
     pub(crate) fn judged(
         alloc: Global,
         claim: Claim<'v>,
-        checked: Checked,
+        checked: NonceCheck,
     ) -> Result<Self, AllocError>
         requires { checked.worth ≡ Right → checked.word ≡ word_of claim.credential.nonce }
         ensures { IfOk result (λ proof. proof ≡ judged claim.entry checked.worth) }
     {
-        let Checked { worth, word } = checked;
+        let NonceCheck { worth, word } = checked;
         let finding = match worth {
             Worth::Right => Finding::Right(Shared::new(alloc, RightClaim { claim, word })?),
             Worth::Stale => Finding::Stale,

@@ -1,3 +1,3 @@
 pub mod Code
-pub mod Keyed
+pub mod KeyedHasher
 pub mod WordHasher

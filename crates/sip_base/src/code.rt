@@ -7,7 +7,7 @@ const PRIME: u64 = 0x0000_0100_0000_01b3;
 pub const BASIS: u64 = 0xcbf2_9ce4_8422_2325;
 
 /// A code with one part more, a byte or a number: a step of FNV-1a. It is mixed with no secret, so it is for names that are
-/// configured; where peers choose the names, [`Keyed`](crate::Keyed) hashes them.
+/// configured; where peers choose the names, [`KeyedHasher`](crate::KeyedHasher) hashes them.
 #[tactic(auto, unfolding(crate::specs::Code::mixed))]
 pub fn mixed(code: u64, part: u64) -> u64
     ensures { result ≡ Definitions.mixed code part }

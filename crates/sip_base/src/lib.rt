@@ -1,18 +1,18 @@
 //! What isn't SIP: values with several owners, which a copy of a state has in common with the state (`Shared`); hashing under
-//! a secret, for maps whose keys peers choose (`Keyed`); and codes of names that are configured (`mixed`).
+//! a secret, for maps whose keys peers choose (`KeyedHasher`); and codes of names that are configured (`mixed`).
 //!
-//! - Used: the tables of dialogs and of open requests hash under a secret (`Keyed`); open requests share the kept message
+//! - Used: the tables of dialogs and of open requests hash under a secret (`KeyedHasher`); open requests share the kept message
 //!   (`Shared`); hosts, bindings and rules are found by codes (`mixed`).
 //! - Not here: anything of SIP.
 //! - Tried: `test_counts`.
 #![tactic(auto)]
 
 mod code;
-mod keyed;
+mod keyed_hasher;
 mod shared;
 mod word_hasher;
 
 pub use code::{BASIS, mixed};
-pub use keyed::Keyed;
+pub use keyed_hasher::KeyedHasher;
 pub use shared::Shared;
 pub use word_hasher::WordHasher;

@@ -1,4 +1,4 @@
-//! The hash under a secret for maps whose keys peers choose: `Keyed` begins it with its secret.
+//! The hash under a secret for maps whose keys peers choose: `KeyedHasher` begins it with its secret.
 ghost use Rattle.std.specs.Prelude.{◌≡◌, fold};
 ghost use Rattle.sip_base.specs.WordHasher as sip;
 

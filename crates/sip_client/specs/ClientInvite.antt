@@ -4,9 +4,9 @@ use Rattle.std.specs.Prelude.{ℕ, ◌≤◌, ◌*◌, min, Bool, true, false, �
 use Rattle.sip_timers.specs.Intervals.{T1}
 use Rattle.sip_timers.specs.Machine.{Machine}
 use Rattle.sip_timers.specs.declared.letter.Letter.{Letter}
-use Rattle.sip_client.specs.Action.{start_of, sends_request}
-use Rattle.sip_client.specs.declared.actions.Action.{Action}
-use Rattle.sip_client.specs.declared.actions.Action.TheVariants.{Send, SendAgain, Ack, AckAgain, Up, Start}
+use Rattle.sip_client.specs.ClientAction.{start_of, sends_request}
+use Rattle.sip_client.specs.declared.actions.ClientAction.{ClientAction}
+use Rattle.sip_client.specs.declared.actions.ClientAction.TheVariants.{Send, SendAgain, Ack, AckAgain, Up, Start}
 use Rattle.sip_client.specs.declared.actions.Report.TheVariants.{Response, Timeout, Unavailable}
 use Rattle.sip_timers.specs.declared.letter.Letter.TheVariants.{A, B, D, M}
 use Rattle.sip_client.specs.declared.client_invite.ClientInvite.{ClientInvite}
@@ -36,14 +36,14 @@ heard Fault = fault
 heard GivenUp = given_up
 
 -- an INVITE that is sent for the first time
-abbrev pub start : ClientInvite × List Action
+abbrev pub start : ClientInvite × List ClientAction
 start = (Calling T1, Send ∷ Start A T1 ∷ Start B (64 * T1) ∷ [])
 
 -- the rows of the figures; what has no row changes nothing
 -- `Calling a`: A was last set to a. `given_up`: the core ends the wait for a final response to an INVITE that
 -- it has cancelled (RFC 3261 9.1). In this project's profile A is at most 32,000, and a fault of a sending
 -- counts only while no response came.
-abbrev pub row : ClientInvite → Heard → ClientInvite × List Action
+abbrev pub row : ClientInvite → Heard → ClientInvite × List ClientAction
 row (Calling a) (fired A) = let next = min (2 * a) (64 * T1) in (Calling next, SendAgain ∷ Start A next ∷ [])
 row (Calling a) (fired B) = (Terminated, Up Timeout ∷ [])
 row (Calling a) fault = (Terminated, Up Unavailable ∷ [])
@@ -61,7 +61,7 @@ row Accepted (fired M) = (Terminated, [])
 row state _ = (state, [])
 
 -- the next state, and what is to be done
-abbrev pub client_invite : ClientInvite → ClientInviteInput → ClientInvite × List Action
+abbrev pub client_invite : ClientInvite → ClientInviteInput → ClientInvite × List ClientAction
 client_invite state input = row state (heard input)
 
 -- the timers that run in a state; another is stopped when the state is entered
@@ -73,7 +73,7 @@ runs Accepted M = true
 runs _ _ = false
 
 -- the machine of these
-abbrev pub invite_machine : Machine ClientInvite ClientInviteInput Action
+abbrev pub invite_machine : Machine ClientInvite ClientInviteInput ClientAction
 invite_machine = record { on = client_invite; fired = Fired; runs = runs; start_of = start_of; sends = sends_request }
 
 -- what Timer A was last set to, which a state without a response holds (RFC 3261 17.1.1.2)

@@ -4,9 +4,9 @@ use Rattle.std.specs.Prelude.{ℕ, ◌*◌, min, Bool, true, false, ◌&&◌, na
 use Rattle.sip_timers.specs.Intervals.{T1, T2, T4}
 use Rattle.sip_timers.specs.Machine.{Machine}
 use Rattle.sip_timers.specs.declared.letter.Letter.{Letter}
-use Rattle.sip_client.specs.Action.{start_of, sends_request}
-use Rattle.sip_client.specs.declared.actions.Action.{Action}
-use Rattle.sip_client.specs.declared.actions.Action.TheVariants.{Send, SendAgain, Up, Start}
+use Rattle.sip_client.specs.ClientAction.{start_of, sends_request}
+use Rattle.sip_client.specs.declared.actions.ClientAction.{ClientAction}
+use Rattle.sip_client.specs.declared.actions.ClientAction.TheVariants.{Send, SendAgain, Up, Start}
 use Rattle.sip_client.specs.declared.actions.Report.TheVariants.{Response, Timeout, Unavailable}
 use Rattle.sip_timers.specs.declared.letter.Letter.TheVariants.{E, F, K}
 use Rattle.sip_client.specs.declared.client_other.ClientOther.{ClientOther}
@@ -32,13 +32,13 @@ heard (Fired letter) = fired letter
 heard Fault = fault
 
 -- a request that is sent for the first time
-abbrev pub start : ClientOther × List Action
+abbrev pub start : ClientOther × List ClientAction
 start = (Trying T1, Send ∷ Start E T1 ∷ Start F (64 * T1) ∷ [])
 
 -- the rows of the figure; what has no row changes nothing
 -- `Trying e`: E was last set to e. In this project's profile a fault of a sending counts only while no
 -- response came.
-abbrev pub row : ClientOther → Heard → ClientOther × List Action
+abbrev pub row : ClientOther → Heard → ClientOther × List ClientAction
 row (Trying e) (fired E) = let next = min (2 * e) T2 in (Trying next, SendAgain ∷ Start E next ∷ [])
 row (Trying e) fault = (Terminated, Up Unavailable ∷ [])
 row (Trying e) provisional = (Proceeding, Up Response ∷ [])
@@ -52,7 +52,7 @@ row Completed (fired K) = (Terminated, [])
 row state _ = (state, [])
 
 -- the next state, and what is to be done
-abbrev pub client_other : ClientOther → ClientOtherInput → ClientOther × List Action
+abbrev pub client_other : ClientOther → ClientOtherInput → ClientOther × List ClientAction
 client_other state input = row state (heard input)
 
 -- the timers that run in a state; another is stopped when the state is entered
@@ -65,7 +65,7 @@ runs Completed K = true
 runs _ _ = false
 
 -- the machine of these
-abbrev pub other_machine : Machine ClientOther ClientOtherInput Action
+abbrev pub other_machine : Machine ClientOther ClientOtherInput ClientAction
 other_machine = record { on = client_other; fired = Fired; runs = runs; start_of = start_of; sends = sends_request }
 
 -- what Timer E was last set to, which a state without a response holds; once one came, the wait is the

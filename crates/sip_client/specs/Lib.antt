@@ -1,3 +1,3 @@
-pub mod Action
+pub mod ClientAction
 pub mod ClientInvite
 pub mod ClientOther

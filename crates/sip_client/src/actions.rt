@@ -13,7 +13,7 @@ pub enum Report {
 
 /// What is to be done for a client transaction.
 #[derive(Clone, Copy, Default)]
-pub enum Action {
+pub enum ClientAction {
     /// Send the request.
     #[default]
     Send,

@@ -2,7 +2,7 @@
 ghost use Rattle.std.specs.Prelude.{◌≡◌};
 ghost use Rattle.sip_client.specs.ClientInvite.{client_invite, start, runs};
 
-use crate::actions::{Action, Report};
+use crate::actions::{ClientAction, Report};
 use sip_timers::{Actions, Letter, T1, doubled};
 
 /// A client transaction of an INVITE (RFC 3261 17.1.1, with the Accepted state of RFC 6026 7.2).
@@ -72,10 +72,10 @@ pub enum ClientInviteInput {
 
 impl ClientInvite {
     /// The transaction of an INVITE that is to be sent now.
-    pub fn start() -> (ClientInvite, Actions<Action>)
+    pub fn start() -> (ClientInvite, Actions<ClientAction>)
         ensures { result ≡ start }
     {
-        use Action::{Send, Start};
+        use ClientAction::{Send, Start};
         (
             ClientInvite::Calling { interval: T1 },
             Actions::of(&[Send, Start(Letter::A, T1), Start(Letter::B, 64 * T1)]),
@@ -83,10 +83,10 @@ impl ClientInvite {
     }
 
     /// The next state, and what is to be done. What the figures don't name changes nothing.
-    pub fn on(self, input: ClientInviteInput) -> (ClientInvite, Actions<Action>)
+    pub fn on(self, input: ClientInviteInput) -> (ClientInvite, Actions<ClientAction>)
         ensures { result ≡ client_invite self input }
     {
-        use Action::{Ack, AckAgain, SendAgain, Start, Up};
+        use ClientAction::{Ack, AckAgain, SendAgain, Start, Up};
         use ClientInvite::{Accepted, Calling, Completed, Proceeding, Terminated};
         use ClientInviteInput::{Fault, Fired, GivenUp, Received};
         use Report::{Response, Timeout, Unavailable};

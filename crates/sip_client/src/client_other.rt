@@ -2,7 +2,7 @@
 ghost use Rattle.std.specs.Prelude.{◌≡◌};
 ghost use Rattle.sip_client.specs.ClientOther.{client_other, start, runs};
 
-use crate::actions::{Action, Report};
+use crate::actions::{ClientAction, Report};
 use sip_timers::{Actions, Letter, T1, T2, T4, doubled};
 
 /// A client transaction of a request that isn't an INVITE (RFC 3261 17.1.2).
@@ -65,10 +65,10 @@ pub enum ClientOtherInput {
 
 impl ClientOther {
     /// The transaction of a request that is to be sent now.
-    pub fn start() -> (ClientOther, Actions<Action>)
+    pub fn start() -> (ClientOther, Actions<ClientAction>)
         ensures { result ≡ start }
     {
-        use Action::{Send, Start};
+        use ClientAction::{Send, Start};
         (
             ClientOther::Trying { interval: T1 },
             Actions::of(&[Send, Start(Letter::E, T1), Start(Letter::F, 64 * T1)]),
@@ -76,10 +76,10 @@ impl ClientOther {
     }
 
     /// The next state, and what is to be done. What the figure doesn't name changes nothing.
-    pub fn on(self, input: ClientOtherInput) -> (ClientOther, Actions<Action>)
+    pub fn on(self, input: ClientOtherInput) -> (ClientOther, Actions<ClientAction>)
         ensures { result ≡ client_other self input }
     {
-        use Action::{SendAgain, Start, Up};
+        use ClientAction::{SendAgain, Start, Up};
         use ClientOther::{Completed, Proceeding, Terminated, Trying};
         use ClientOtherInput::{Fault, Fired, Received};
         use Report::{Response, Timeout, Unavailable};

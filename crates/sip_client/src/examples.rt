@@ -2,7 +2,7 @@ ghost use Rattle.std.specs.Prelude.{◌≡◌, [], ◌∷◌, drop};
 ghost use Rattle.sip_timers.specs.Lives.{left_alone, sends};
 ghost use Rattle.sip_client.specs.ClientInvite.{start, invite_machine};
 ghost use Rattle.sip_client.specs.ClientOther.{start as start_other, other_machine};
-ghost use Rattle.sip_client.specs.declared.actions.Action.TheVariants.{Up};
+ghost use Rattle.sip_client.specs.declared.actions.ClientAction.TheVariants.{Up};
 ghost use Rattle.sip_client.specs.declared.actions.Report.TheVariants.{Timeout};
 ghost use Rattle.sip_client.specs.declared.client_invite.ClientInvite.TheVariants.{Terminated};
 ghost use Rattle.sip_client.specs.declared.client_other.ClientOther.TheVariants.{Terminated as Over};

@@ -3,10 +3,10 @@ ghost use Rattle.std.specs.List.{list_any};
 ghost use Rattle.sip_timers.specs.declared.letter.Letter.TheVariants.{A, B, D, E, F, K, M};
 ghost use Rattle.sip_timers.specs.Machine.{IsOneOf, KeepsTimers};
 ghost use Rattle.sip_timers.specs.Resends.{Begins, SendsAgainBy, SendsOnlyBy};
-ghost use Rattle.sip_client.specs.Action.{acks_again};
+ghost use Rattle.sip_client.specs.ClientAction.{acks_again};
 ghost use Rattle.sip_client.specs.ClientInvite.{start, invite_machine, wait_a, IsFailure};
 ghost use Rattle.sip_client.specs.ClientOther.{start as start_other, other_machine, wait_e};
-ghost use Rattle.sip_client.specs.declared.actions.Action.TheVariants.{AckAgain};
+ghost use Rattle.sip_client.specs.declared.actions.ClientAction.TheVariants.{AckAgain};
 ghost use Rattle.sip_client.specs.declared.client_invite.ClientInvite.TheVariants.{Completed};
 ghost use Rattle.sip_client.specs.declared.client_other.ClientOther.TheVariants.{Proceeding, Completed as Answered, Terminated};
 

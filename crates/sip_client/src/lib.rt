@@ -13,6 +13,6 @@ mod client_other;
 pub mod examples;
 pub mod laws;
 
-pub use actions::{Action, Report};
+pub use actions::{ClientAction, Report};
 pub use client_invite::{ClientInvite, ClientInviteInput};
 pub use client_other::{ClientOther, ClientOtherInput};

@@ -18,8 +18,8 @@ use Rattle.sip_policy.specs.Users.{have_own_names}
 use Rattle.sip_config_types.specs.declared.config.Config.{Config}
 use Rattle.sip_config_values.specs.declared.error.ConfigError.{ConfigError}
 use Rattle.sip_config_values.specs.declared.error.ConfigError.TheVariants.{BadValue, DuplicateRule, UnknownGroup}
-use Rattle.sip_config_values.specs.declared.key.Key.{Key}
-use Rattle.sip_config_values.specs.declared.key.Key.TheVariants as keys
+use Rattle.sip_config_values.specs.declared.key.ConfigKey.{ConfigKey}
+use Rattle.sip_config_values.specs.declared.key.ConfigKey.TheVariants as keys
 use Rattle.sip_config_values.specs.declared.table_kind.TableKind.{TableKind}
 use Rattle.sip_config_values.specs.declared.table_kind.TableKind.TheVariants as kinds
 use Rattle.sip_config_values.specs.declared.refusal.Refusal.{Refusal}
@@ -29,7 +29,7 @@ use Rattle.sip_config_values.specs.Values.{needed, number_of, between, number_be
 use Rattle.sip_config_values.specs.Rows.{table_in, rows_after, all_pass}
 use Rattle.sip_config_values.specs.Words.{is_hop, hop_named, via_of, via_place, verdict_of}
 use Rattle.sip_config.specs.Rules.{id_at, verdict_text, verdict_at, window_at, who_at, operation_at, target_at, rule_lines, new_id, rule_at, names_known_group, rules_of}
-use Rattle.sip_config.specs.declared.head.Head.{Head}
+use Rattle.sip_config.specs.declared.head.TopLevelKeys.{TopLevelKeys}
 use Rattle.sip_config.specs.declared.users.UserLine.TheVariants.{A1, A1Sha256, Groups}
 use Rattle.sip_config.specs.Head.{head_of}
 use Rattle.sip_config.specs.Users.{new_name, user_line, user_at, users_of, users_at}
@@ -51,7 +51,7 @@ came (Ok value) next b e = record { value = value; is = refl; rest = e }
 came (Err refusal) next b e = absurd cc
 
 -- the same of a key that was read
-pub came_at : {A B : Type 0} (kind : TableKind) (before : ℕ) (key : Key) (r : Result A ConfigError) (next : A → Result B Refusal) (b : B)
+pub came_at : {A B : Type 0} (kind : TableKind) (before : ℕ) (key : ConfigKey) (r : Result A ConfigError) (next : A → Result B Refusal) (b : B)
     → (placed kind before key r >>= next) ≡ Ok b → Came r next b
 came_at kind before key (Ok value) next b e = record { value = value; is = refl; rest = e }
 came_at kind before key (Err error) next b e = absurd cc
@@ -74,7 +74,7 @@ kept_passes true a b e = refl
 kept_passes false a b e = absurd cc
 
 -- what every next row keeps, all rows keep
-pub rows_keep : {A : Type 0} (Keeps : List A → Type 0) (list : Key) (read : List A → Members → Result A Refusal)
+pub rows_keep : {A : Type 0} (Keeps : List A → Type 0) (list : ConfigKey) (read : List A → Members → Result A Refusal)
     → ((before : List A) (members : Members) (row : A) → Keeps before → read before members ≡ Ok row → Keeps (before ++ row ∷ []))
     → (items : Items) (before rows : List A) → Keeps before → rows_after list read before items ≡ Ok rows → Keeps rows
 rows_keep Keeps list read step no_items before rows kept e = let same : before ≡ rows = cc in subst Keeps same kept
@@ -244,7 +244,7 @@ none_fails p (x ∷ xs) e = by (p x) e (none_fails p xs)
     by true e rest = rest (omega (arith, e))
     by false e rest = absurd (omega (arith, e))
 
-not_found : (error : ConfigError) (kind : TableKind) (key : Key) (at count : ℕ) (within : Bool) (u : Unit {0}) → nat_lt at count ≡ within
+not_found : (error : ConfigError) (kind : TableKind) (key : ConfigKey) (at count : ℕ) (within : Bool) (u : Unit {0}) → nat_lt at count ≡ within
     → none_found error kind key (cond within (Some at) None) ≡ Ok u → count ≤ at
 not_found error kind key at count true u lt e = absurd cc
 not_found error kind key at count false u lt e = ltb-false at count lt
@@ -342,7 +342,7 @@ are_users list users e =
 -- the parts that a configuration comes of
 pub record Parts (members : Members) (config : Config) : Type 0 where
   pub few : all_few members ≡ Ok tt
-  pub head : Head
+  pub head : TopLevelKeys
   pub head_is : head_of members ≡ Ok head
   pub user_list : Items
   pub user_list_is : some_items_at (codes "user") members ≡ Ok user_list

@@ -12,7 +12,7 @@ use Rattle.sip_policy.specs.declared.who.Who.{Who}
 use Rattle.toml.specs.Data.{Items}
 use Rattle.sip_hops.specs.declared.hop.Hop.{Hop}
 use Rattle.sip_config_values.specs.declared.error.ConfigError.TheVariants.{UnknownGroup}
-use Rattle.sip_config_values.specs.declared.key.Key.TheVariants as keys
+use Rattle.sip_config_values.specs.declared.key.ConfigKey.TheVariants as keys
 use Rattle.sip_config_values.specs.declared.table_kind.TableKind.TheVariants as kinds
 use Rattle.sip_config_values.specs.declared.refusal.Refusal.{Refusal}
 use Rattle.sip_config_values.specs.Refusals.{◌>>=◌, none_found}

@@ -15,7 +15,7 @@ use Rattle.toml.proofs.Views.{items_view-drop}
 use Rattle.sip_text.specs.Words.{without_case}
 use Rattle.sip_hops.specs.declared.host_address.HostAddress.{HostAddress}
 use Rattle.sip_hops.specs.HostAddress.{is_row_for}
-use Rattle.sip_config_values.specs.declared.key.Key.TheVariants as keys
+use Rattle.sip_config_values.specs.declared.key.ConfigKey.TheVariants as keys
 use Rattle.sip_config_values.specs.declared.table_kind.TableKind.TheVariants as kinds
 use Rattle.sip_config_values.specs.declared.refusal.Refusal.{Refusal}
 use Rattle.sip_config_values.specs.declared.refusal.Refusal.TheVariants.{Twice}
@@ -26,7 +26,7 @@ use Rattle.sip_config_values.specs.Rows.{table_in, rows_after}
 use Rattle.sip_config.specs.HostAddresses.{port_in, new_row}
 use Rattle.sip_config_values.specs.InOrder.{in_order, places_in_order, ArePlaced}
 use Rattle.sip_config_values.proofs.InOrder.{found_in_order, new_last}
-use Rattle.sip_config.specs.Places.{place_of, is_place, row_besides, rows_besides}
+use Rattle.sip_config.specs.HostPorts.{place_of, is_place, row_besides, rows_besides}
 
 -- ---- hosts and ports in the order of their places
 

@@ -5,7 +5,7 @@ use Rattle.toml.specs.Data.{Members, as_table}
 use Rattle.toml.specs.View.{view, items_view}
 use Rattle.toml.specs.declared.value.Value.{Value}
 use Rattle.toml.proofs.Views.{items_view-drop}
-use Rattle.sip_config_values.specs.declared.key.Key.{Key}
+use Rattle.sip_config_values.specs.declared.key.ConfigKey.{ConfigKey}
 use Rattle.sip_config_values.specs.declared.refusal.Refusal.{Refusal}
 use Rattle.sip_config_values.specs.declared.refusal.Refusal.TheVariants.{NoMemory, At, Twice}
 use Rattle.sip_config_values.specs.Refusals.{◌>>=◌, ReadsAt}
@@ -13,7 +13,7 @@ use Rattle.sip_config_values.specs.Rows.{table_in, rows_after, all_pass}
 use Rattle.sip_config.specs.Limits.{count_items, has_many_groups, many_groups_after}
 
 -- one more row
-pub rows_step : {A : Type 0} (list : Key) (read : List A → Members → Result A Refusal) (values : List Value) (i : ℕ) (other : Value) (before : List A)
+pub rows_step : {A : Type 0} (list : ConfigKey) (read : List A → Members → Result A Refusal) (values : List Value) (i : ℕ) (other : Value) (before : List A)
     → i < length values
     → rows_after list read before (items_view (drop i values)) ≡ (table_in list (view (get_or values i other)) >>= read before >>=
     λ row. rows_after list read (before ++ row ∷ []) (items_view (drop (i + 1) values)))
@@ -30,7 +30,7 @@ grow_by read before next (Ok members) = gathered before next (read before member
 grow_by read before next (Err refusal) = refl
 
 -- one more row goes behind those before
-pub grow_step : {A : Type 0} (list : Key) (read : List A → Members → Result A Refusal) (values : List Value) (i : ℕ) (other : Value) (before : List A)
+pub grow_step : {A : Type 0} (list : ConfigKey) (read : List A → Members → Result A Refusal) (values : List Value) (i : ℕ) (other : Value) (before : List A)
     → i < length values
     → rows_after list read before (items_view (drop i values))
     ≡ ((table_in list (view (get_or values i other)) >>= λ members. (read before members >>= λ row. Ok (before ++ row ∷ []))) >>=
@@ -40,16 +40,16 @@ grow_step list read values i other before within =
     (table_in list (view (get_or values i other)))
 
 -- no value is left
-pub rows_end : {A : Type 0} (list : Key) (read : List A → Members → Result A Refusal) (values : List Value) (i : ℕ) (before : List A) → length values ≤ i
+pub rows_end : {A : Type 0} (list : ConfigKey) (read : List A → Members → Result A Refusal) (values : List Value) (i : ℕ) (before : List A) → length values ≤ i
     → rows_after list read before (items_view (drop i values)) ≡ Ok before
 rows_end list read values i before past = ap (λ (vs : List Value). rows_after list read before (items_view vs)) (drop_all i values past)
 
-pub pass_step : (list : Key) (line : ℕ → Members → Result (Unit {0}) Refusal) (at : ℕ) (values : List Value) (i : ℕ) (other : Value) → i < length values
+pub pass_step : (list : ConfigKey) (line : ℕ → Members → Result (Unit {0}) Refusal) (at : ℕ) (values : List Value) (i : ℕ) (other : Value) → i < length values
     → all_pass list line at (items_view (drop i values)) ≡ (table_in list (view (get_or values i other)) >>= line at >>=
     λ _. all_pass list line (at + 1) (items_view (drop (i + 1) values)))
 pass_step list line at values i other within = ap (all_pass list line at) (items_view-drop values i other within)
 
-pub pass_end : (list : Key) (line : ℕ → Members → Result (Unit {0}) Refusal) (at : ℕ) (values : List Value) (i : ℕ) → length values ≤ i
+pub pass_end : (list : ConfigKey) (line : ℕ → Members → Result (Unit {0}) Refusal) (at : ℕ) (values : List Value) (i : ℕ) → length values ≤ i
     → all_pass list line at (items_view (drop i values)) ≡ Ok tt
 pass_end list line at values i past = ap (λ (vs : List Value). all_pass list line at (items_view vs)) (drop_all i values past)
 
@@ -78,12 +78,13 @@ pub stopped : {A B C D : Type 0} (view : C → A) (other : D → B) (e : Refusal
 stopped {A} view other e first next start wanted step so read =
     refused_so view other e first wanted (λ is. sym so ∙ step ∙ ap (λ (r : Result A Refusal). r >>= next) is) read
 
-its_table : (list : Key) (values : List Value) (i : ℕ) (value : Value) (table : Members) → value ≡ get_or values i value → table_in list (view value) ≡ Ok table
+its_table : (list : ConfigKey) (values : List Value) (i : ℕ) (value : Value) (table : Members) → value ≡ get_or values i value → table_in list (view value) ≡ Ok table
     → table_in list (view (get_or values i value)) ≡ Ok table
 its_table list values i value table is read = ap (λ (v : Value). table_in list (view v)) (sym is) ∙ read
 
 -- a row is read from the table of its item
-pub row_at : {A : Type 0} (list : Key) (read : List A → Members → Result A Refusal) (values : List Value) (i : ℕ) (value : Value) (before : List A) (table : Members)
+pub row_at : {A : Type 0} (list : ConfigKey) (read : List A → Members → Result A Refusal) (values : List Value) (i : ℕ) (value : Value) (before : List A)
+    (table : Members)
     → i < length values → value ≡ get_or values i value → table_in list (view value) ≡ Ok table
     → rows_after list read before (items_view (drop i values)) ≡ (read before table >>=
     λ row. rows_after list read (before ++ row ∷ []) (items_view (drop (i + 1) values)))
@@ -93,7 +94,8 @@ row_at {A} list read values i value before table within is it =
     (its_table list values i value table is it)
 
 -- the same of rows that a table's goes behind
-pub rows_at : {A : Type 0} (list : Key) (read : List A → Members → Result A Refusal) (values : List Value) (i : ℕ) (value : Value) (before : List A) (table : Members)
+pub rows_at : {A : Type 0} (list : ConfigKey) (read : List A → Members → Result A Refusal) (values : List Value) (i : ℕ) (value : Value) (before : List A)
+    (table : Members)
     → i < length values → value ≡ get_or values i value → table_in list (view value) ≡ Ok table
     → rows_after list read before (items_view (drop i values))
     ≡ ((read before table >>= λ row. Ok (before ++ row ∷ [])) >>= λ rows. rows_after list read rows (items_view (drop (i + 1) values)))
@@ -101,7 +103,7 @@ rows_at list read values i value before table within is it =
     row_at list read values i value before table within is it ∙ gathered before (λ rows. rows_after list read rows (items_view (drop (i + 1) values))) (read before table)
 
 -- a table passes a line
-pub pass_at : (list : Key) (line : ℕ → Members → Result (Unit {0}) Refusal) (at : ℕ) (values : List Value) (i : ℕ) (value : Value) (table : Members)
+pub pass_at : (list : ConfigKey) (line : ℕ → Members → Result (Unit {0}) Refusal) (at : ℕ) (values : List Value) (i : ℕ) (value : Value) (table : Members)
     → i < length values → value ≡ get_or values i value → table_in list (view value) ≡ Ok table
     → all_pass list line at (items_view (drop i values)) ≡ (line at table >>= λ _. all_pass list line (at + 1) (items_view (drop (i + 1) values)))
 pass_at list line at values i value table within is it =

@@ -13,8 +13,8 @@ use Rattle.sip_policy.specs.declared.user.User.{User}
 use Rattle.sip_config_types.specs.declared.config.Config.{Config}
 use Rattle.sip_config_values.specs.declared.error.ConfigError.{ConfigError}
 use Rattle.sip_config_values.specs.declared.error.ConfigError.TheVariants.{TooMany}
-use Rattle.sip_config_values.specs.declared.key.Key.{Key}
-use Rattle.sip_config_values.specs.declared.key.Key.TheVariants as keys
+use Rattle.sip_config_values.specs.declared.key.ConfigKey.{ConfigKey}
+use Rattle.sip_config_values.specs.declared.key.ConfigKey.TheVariants as keys
 use Rattle.sip_config_values.specs.declared.table_kind.TableKind.{TableKind}
 use Rattle.sip_config_values.specs.declared.table_kind.TableKind.TheVariants as kinds
 use Rattle.sip_config_values.specs.declared.refusal.Refusal.{Refusal}
@@ -27,7 +27,7 @@ use Rattle.sip_config_values.specs.Values.{required, needed, text_of, text_as, t
 use Rattle.sip_config_values.specs.Rows.{table_in, rows_after, texts_after, texts_of}
 use Rattle.sip_config_values.specs.Words.{is_hop}
 use Rattle.sip_config.specs.Rules.{rule_at}
-use Rattle.sip_config.specs.declared.head.Head.{Head}
+use Rattle.sip_config.specs.declared.head.TopLevelKeys.{TopLevelKeys}
 use Rattle.sip_config.specs.Head.{version_at, offset_at, port_at, address_at, domains_at, head_of}
 use Rattle.sip_config.specs.Users.{a1_at, a1_sha256_at, groups_in, groups_at, user_at}
 use Rattle.sip_config.specs.Hops.{new_hop}
@@ -66,7 +66,8 @@ texts_count grammar (item first items) before texts e =
     let text = came (text_as grammar first) (λ t. texts_after grammar (before ++ t ∷ []) items) texts e in
     omega (arith, texts_count grammar items (before ++ text.value ∷ []) texts text.rest, length-append before (text.value ∷ []))
 
-rows_count : {A : Type 0} (list : Key) (read : List A → Members → Result A Refusal) (items : Items) (before rows : List A) → rows_after list read before items ≡ Ok rows
+rows_count : {A : Type 0} (list : ConfigKey) (read : List A → Members → Result A Refusal) (items : Items) (before rows : List A)
+    → rows_after list read before items ≡ Ok rows
     → length rows ≡ length before + count_items items
 rows_count list read no_items before rows e = let same : before ≡ rows = cc in omega (arith, ap length same)
 rows_count list read (item first items) before rows e =
@@ -82,7 +83,7 @@ few_in : (most : ℕ) (found : Option Data) (items : Items) → is_over most fou
 few_in most None items f e = let same : no_items ≡ items = cc in subst (λ (is : Items). count_items is ≤ most) same (omega arith)
 few_in most (Some value) items f e = few_by most (as_array value) items f e
 
-few_rows : {A : Type 0} (list : Key) (read : List A → Members → Result A Refusal) (key : List ℕ) (most : ℕ) (members : Members) (items : Items) (rows : List A)
+few_rows : {A : Type 0} (list : ConfigKey) (read : List A → Members → Result A Refusal) (key : List ℕ) (most : ℕ) (members : Members) (items : Items) (rows : List A)
     → is_over_at key most members ≡ false → items_at key members ≡ Ok items
     → rows_after list read [] items ≡ Ok rows → length rows ≤ most
 few_rows list read key most members items rows f is e = omega (arith, few_in most (get_member key members) items f is, rows_count list read items [] rows e)
@@ -121,13 +122,13 @@ record AreFew (members : Members) : Type 0 where
 is_few : (many : Bool) (refusal : Refusal) (u : Unit {0}) → confirmed (not many) refusal ≡ Ok u → many ≡ false
 is_few many refusal u e = not_is many (confirmed_ok (not many) refusal u e)
 
-none_is : (error : ConfigError) (kind : TableKind) (key : Key) (found : Option ℕ) (u : Unit {0}) → none_found error kind key found ≡ Ok u → found ≡ None
+none_is : (error : ConfigError) (kind : TableKind) (key : ConfigKey) (found : Option ℕ) (u : Unit {0}) → none_found error kind key found ≡ Ok u → found ≡ None
 none_is error kind key None u e = refl
 none_is error kind key (Some before) u e = absurd cc
 
 are_few : (members : Members) (u : Unit {0}) → all_few members ≡ Ok u → AreFew members
 are_few members u e =
-    let many = λ (key : Key). At TooMany (place kinds.Whole 0 key) in
+    let many = λ (key : ConfigKey). At TooMany (place kinds.Whole 0 key) in
     let groups = none_found TooMany kinds.User keys.Groups (many_groups_in (get_member (codes "user") members)) in
     let d = came (few_at keys.Domains 16 members) (λ _. few_at keys.Users 4096 members >>= λ _. groups >>= λ _. few_at keys.Hops 256 members >>=
     λ _. few_at keys.HostAddresses 1024 members >>= λ _. few_at keys.Rules 1024 members) u e in
@@ -280,12 +281,12 @@ row_has_host before members row e =
 
 -- ---- the keys before all tables
 
-record IsHead (members : Members) (head : Head) : Type 0 where
+record IsHead (members : Members) (head : TopLevelKeys) : Type 0 where
   realm_is : text_at (codes "realm") Realm members ≡ Ok head.realm
   host_is : text_at (codes "host") OwnHost members ≡ Ok head.host
   domains_are : domains_at members ≡ Ok head.domains
 
-is_head : (members : Members) (head : Head) → head_of members ≡ Ok head → IsHead members head
+is_head : (members : Members) (head : TopLevelKeys) → head_of members ≡ Ok head → IsHead members head
 is_head members head e =
     let version = came_at kinds.Whole 0 keys.Version (version_at members)
     (λ version. placed kinds.Whole 0 keys.Offset (offset_at version members) >>= λ offset. placed kinds.Whole 0 keys.Realm (text_at (codes "realm") Realm members) >>=
@@ -332,7 +333,7 @@ is_head members head e =
       address = address.value;
       domains = domains;
     })) head address.rest in
-    let made : Head = record {
+    let made : TopLevelKeys = record {
       version = version.value;
       offset = offset.value;
       realm = realm.value;
@@ -343,9 +344,9 @@ is_head members head e =
     } in
     let same : made ≡ head = cc in
     record {
-      realm_is = realm.is ∙ ap (λ (h : Head). Ok h.realm) same;
-      host_is = host.is ∙ ap (λ (h : Head). Ok h.host) same;
-      domains_are = domains.is ∙ ap (λ (h : Head). Ok h.domains) same;
+      realm_is = realm.is ∙ ap (λ (h : TopLevelKeys). Ok h.realm) same;
+      host_is = host.is ∙ ap (λ (h : TopLevelKeys). Ok h.host) same;
+      domains_are = domains.is ∙ ap (λ (h : TopLevelKeys). Ok h.domains) same;
     }
 
 -- ---- the whole

@@ -8,10 +8,10 @@ use Rattle.sip_hops.specs.declared.hop.Hop.{Hop}
 use Rattle.sip_hops.specs.declared.host_address.HostAddress.{HostAddress}
 use Rattle.sip_config_types.specs.declared.config.Config.{Config}
 use Rattle.sip_config_values.specs.declared.error.ConfigError.{ConfigError}
-use Rattle.sip_config_values.specs.declared.key.Key.TheVariants.{Rules}
+use Rattle.sip_config_values.specs.declared.key.ConfigKey.TheVariants.{Rules}
 use Rattle.sip_config_values.specs.declared.refusal.Refusal.{Refusal}
 use Rattle.sip_config_values.specs.declared.error.ConfigError.TheVariants.{BadToml}
-use Rattle.sip_config.specs.declared.head.Head.{Head}
+use Rattle.sip_config.specs.declared.head.TopLevelKeys.{TopLevelKeys}
 use Rattle.sip_config_values.specs.Refusals.{◌>>=◌, error_alone}
 use Rattle.sip_config_values.specs.Rows.{list_at}
 use Rattle.sip_config.specs.Head.{head_of}
@@ -23,7 +23,7 @@ use Rattle.sip_config.specs.Keys.{all_known}
 use Rattle.sip_config.specs.Limits.{all_few}
 
 -- what a server is told, of the parts of a file
-abbrev pub config_of : Head → List User → List Hop → List HostAddress → List Rule → Config
+abbrev pub config_of : TopLevelKeys → List User → List Hop → List HostAddress → List Rule → Config
 config_of head users hops addresses rules =
     record {
       own = record { host = head.host; port = head.port; domains = head.domains; ip = head.address.ip };

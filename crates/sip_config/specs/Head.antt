@@ -3,12 +3,12 @@ use Rattle.std.specs.Prelude.{ℕ, ℤ, pos, negsuc, ◌==◌, nat_le, nat_lt, i
 use Rattle.toml.specs.Data.{Data, Members, get_member}
 use Rattle.sip_uri.specs.declared.addr.Addr.{Addr}
 use Rattle.sip_config_values.specs.declared.error.ConfigError.{ConfigError}
-use Rattle.sip_config_values.specs.declared.key.Key.TheVariants.{Version, Offset, Host, Port, Address, Domains}
-use Rattle.sip_config_values.specs.declared.key.Key.TheVariants as keys
+use Rattle.sip_config_values.specs.declared.key.ConfigKey.TheVariants.{Version, Offset, Host, Port, Address, Domains}
+use Rattle.sip_config_values.specs.declared.key.ConfigKey.TheVariants as keys
 use Rattle.sip_config_values.specs.declared.table_kind.TableKind.TheVariants.{Whole}
 use Rattle.sip_config_values.specs.declared.refusal.Refusal.{Refusal}
 use Rattle.sip_config_values.specs.declared.grammar.Grammar.TheVariants.{Realm, OwnHost, HostName}
-use Rattle.sip_config.specs.declared.head.Head.{Head}
+use Rattle.sip_config.specs.declared.head.TopLevelKeys.{TopLevelKeys}
 use Rattle.sip_config_values.specs.Refusals.{◌>>=◌, kept_if, placed}
 use Rattle.sip_config_values.specs.Values.{needed, number_of, number_between, port_of, address_of, text_at, some_items_at}
 use Rattle.sip_config_values.specs.Rows.{texts_of}
@@ -39,7 +39,7 @@ abbrev pub address_at : Members → Result Addr ConfigError
 address_at members = needed (codes "address") members >>= address_of
 
 -- the keys before all tables, in this order
-abbrev pub head_of : Members → Result Head Refusal
+abbrev pub head_of : Members → Result TopLevelKeys Refusal
 head_of members = do
   version ← placed Whole 0 Version (version_at members)
   offset ← placed Whole 0 Offset (offset_at version members)

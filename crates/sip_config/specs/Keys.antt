@@ -4,8 +4,8 @@ use Rattle.std.specs.List.{list_any}
 use Rattle.std.specs.Str.{bytes_eq}
 use Rattle.toml.specs.Data.{Members, no_members, member}
 use Rattle.sip_config_values.specs.declared.error.ConfigError.TheVariants.{BadValue}
-use Rattle.sip_config_values.specs.declared.key.Key.{Key}
-use Rattle.sip_config_values.specs.declared.key.Key.TheVariants.{Users, Hops, HostAddresses, Rules, Unknown}
+use Rattle.sip_config_values.specs.declared.key.ConfigKey.{ConfigKey}
+use Rattle.sip_config_values.specs.declared.key.ConfigKey.TheVariants.{Users, Hops, HostAddresses, Rules, Unknown}
 use Rattle.sip_config_values.specs.declared.table_kind.TableKind.{TableKind}
 use Rattle.sip_config_values.specs.declared.table_kind.TableKind.TheVariants.{Whole, User, Hop, HostAddress, Rule}
 use Rattle.sip_config_values.specs.declared.refusal.Refusal.{Refusal}
@@ -56,7 +56,7 @@ abbrev pub known : ℕ → TableKind → ℕ → Members → Result (Unit {0}) R
 known version kind before members = confirmed (not (is_some (unknown_key version kind members))) (At BadValue (place kind before Unknown))
 
 -- nor has a table of a list
-abbrev pub list_known : ℕ → TableKind → Key → Members → Result (Unit {0}) Refusal
+abbrev pub list_known : ℕ → TableKind → ConfigKey → Members → Result (Unit {0}) Refusal
 list_known version kind list members = list_at list members >>= all_pass list (known version kind) 0
 
 -- no table of a file has one

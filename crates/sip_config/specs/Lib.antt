@@ -2,7 +2,7 @@ pub mod Head
 pub mod Users
 pub mod Hops
 pub mod HostAddresses
-pub mod Places
+pub mod HostPorts
 pub mod Keys
 pub mod Limits
 pub mod Configuration

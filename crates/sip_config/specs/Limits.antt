@@ -2,8 +2,8 @@
 use Rattle.std.specs.Prelude.{ℕ, ◌+◌, Bool, false, not, nat_lt, if◌then◌else◌, List, codes, Option, None, Some, Result}
 use Rattle.toml.specs.Data.{Data, Items, no_items, item, Members, get_member, as_table, as_array}
 use Rattle.sip_config_values.specs.declared.error.ConfigError.TheVariants.{TooMany}
-use Rattle.sip_config_values.specs.declared.key.Key.{Key}
-use Rattle.sip_config_values.specs.declared.key.Key.TheVariants.{Domains, Users, Groups, Hops, HostAddresses, Rules}
+use Rattle.sip_config_values.specs.declared.key.ConfigKey.{ConfigKey}
+use Rattle.sip_config_values.specs.declared.key.ConfigKey.TheVariants.{Domains, Users, Groups, Hops, HostAddresses, Rules}
 use Rattle.sip_config_values.specs.declared.table_kind.TableKind.TheVariants.{Whole, User}
 use Rattle.sip_config_values.specs.declared.refusal.Refusal.{Refusal}
 use Rattle.sip_config_values.specs.declared.refusal.Refusal.TheVariants.{At}
@@ -46,7 +46,7 @@ many_groups_in None = None
 many_groups_in (Some value) = many_groups_of (as_array value)
 
 -- a list that stands before all tables, or of tables, isn't longer
-abbrev pub few_at : Key → ℕ → Members → Result (Unit {0}) Refusal
+abbrev pub few_at : ConfigKey → ℕ → Members → Result (Unit {0}) Refusal
 few_at list most members = confirmed (not (is_over_at (name_of list) most members)) (At TooMany (place Whole 0 list))
 
 -- no list is too long: domains, users, the groups of a user, hops, rows of the address table, rules

@@ -14,8 +14,8 @@ use Rattle.sip_policy.specs.declared.window.Window.{Window}
 use Rattle.sip_policy.specs.declared.rule.Rule.{Rule}
 use Rattle.sip_config_values.specs.declared.error.ConfigError.{ConfigError}
 use Rattle.sip_config_values.specs.declared.error.ConfigError.TheVariants.{BadValue, DuplicateRule, UnknownGroup}
-use Rattle.sip_config_values.specs.declared.key.Key.{Key}
-use Rattle.sip_config_values.specs.declared.key.Key.TheVariants as keys
+use Rattle.sip_config_values.specs.declared.key.ConfigKey.{ConfigKey}
+use Rattle.sip_config_values.specs.declared.key.ConfigKey.TheVariants as keys
 use Rattle.sip_config_values.specs.declared.table_kind.TableKind.TheVariants as kinds
 use Rattle.sip_config_values.specs.declared.refusal.Refusal.{Refusal}
 use Rattle.sip_config_values.specs.declared.refusal.Refusal.TheVariants.{At}
@@ -51,7 +51,7 @@ abbrev pub minute_of : Data → Result ℕ ConfigError
 minute_of value = number_between 0 1439 value
 
 -- a bad value of a key of a rule, before which so many stand
-abbrev pub bad : ℕ → Key → Refusal
+abbrev pub bad : ℕ → ConfigKey → Refusal
 bad before key = At BadValue (place kinds.Rule before key)
 
 -- two minutes that differ

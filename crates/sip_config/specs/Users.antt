@@ -7,7 +7,7 @@ use Rattle.sip_policy.specs.declared.user.User.{User}
 use Rattle.sip_policy.specs.Users.{have_own_names}
 use Rattle.sip_config_values.specs.declared.error.ConfigError.{ConfigError}
 use Rattle.sip_config_values.specs.declared.error.ConfigError.TheVariants.{BadValue}
-use Rattle.sip_config_values.specs.declared.key.Key.TheVariants as keys
+use Rattle.sip_config_values.specs.declared.key.ConfigKey.TheVariants as keys
 use Rattle.sip_config_values.specs.declared.table_kind.TableKind.TheVariants as kinds
 use Rattle.sip_config_values.specs.declared.refusal.Refusal.{Refusal}
 use Rattle.sip_config_values.specs.declared.refusal.Refusal.TheVariants.{At, Twice}

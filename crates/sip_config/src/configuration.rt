@@ -13,7 +13,7 @@ use crate::limits::all_few;
 use crate::rules::{check_rules, rules_of};
 use crate::users::users_at;
 use sip_config_types::Config;
-use sip_config_values::{ConfigError, Key, Refusal, list_at};
+use sip_config_values::{ConfigError, ConfigKey, Refusal, list_at};
 use sip_hops::Hop;
 use sip_policy::{Rule, Users};
 use sip_text::Items;
@@ -31,7 +31,7 @@ fn rules_at(
 ) -> Result<Items<Rule>, Refusal>
     ensures { ReadsAt (λ rules. rules) result (Definitions.rules_at version users.now hops.now (table_view table.now)) }
 {
-    let items = list_at(Key::Rules, table)?;
+    let items = list_at(ConfigKey::Rules, table)?;
     check_rules(alloc, version, users, items)?;
     all_known(version, table)?;
     rules_of(alloc, version, users, hops, items)

@@ -3,7 +3,7 @@ ghost use Rattle.std.specs.Prelude.{◌≡◌, ◌++◌, [], codes, pos, Some, O
 ghost use Rattle.sip_policy.specs.Examples.{rules_with, by_day};
 ghost use Rattle.sip_config_types.specs.Sample.{sample};
 ghost use Rattle.sip_config_values.specs.declared.error.ConfigError.TheVariants as Refusal;
-ghost use Rattle.sip_config_values.specs.declared.key.Key.TheVariants as keys;
+ghost use Rattle.sip_config_values.specs.declared.key.ConfigKey.TheVariants as keys;
 ghost use Rattle.sip_config_values.specs.declared.table_kind.TableKind.TheVariants as kinds;
 ghost use Rattle.sip_config_values.specs.declared.refusal.Refusal.TheVariants.{At, Twice};
 ghost use Rattle.sip_config_values.specs.Refusals.{place};

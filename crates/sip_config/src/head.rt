@@ -9,7 +9,7 @@ ghost use Rattle.sip_config.specs.Configuration.{config_of};
 
 use sip_config_types::Config;
 use sip_config_values::{
-    ConfigError, Grammar, Key, Refusal, TableKind, address_of, find, needed, number_between,
+    ConfigError, ConfigKey, Grammar, Refusal, TableKind, address_of, find, needed, number_between,
     number_of, placed, port_of, some_items_at, text_at, texts_of,
 };
 use sip_hops::{Hop, HostAddress};
@@ -21,7 +21,7 @@ use std::alloc::Global;
 use toml::{Table, Value};
 
 /// What the keys before all tables say.
-pub(crate) struct Head {
+pub(crate) struct TopLevelKeys {
     pub(crate) version: u32,
     pub(crate) offset: i16,
     pub(crate) realm: Bytes,
@@ -32,9 +32,9 @@ pub(crate) struct Head {
 }
 
 /// Written out, so that it is proved once and not wherever one is dropped.
-impl Drop for Head {
+impl Drop for TopLevelKeys {
     fn drop(self) {
-        let Head {
+        let TopLevelKeys {
             version: _,
             offset: _,
             realm: _,
@@ -46,7 +46,7 @@ impl Drop for Head {
     }
 }
 
-impl Head {
+impl TopLevelKeys {
     /// What a server is told, with the other parts of a file.
     pub(crate) fn into_config(
         self,
@@ -57,7 +57,7 @@ impl Head {
     ) -> Config
         ensures { result ≡ config_of self users hops addresses rules }
     {
-        let Head {
+        let TopLevelKeys {
             version: _,
             offset,
             realm,
@@ -137,26 +137,26 @@ fn address_at(table: &Table) -> Result<Addr, ConfigError>
 }
 
 /// What a key before all tables is read as, refused at its place.
-fn at_head<T: Drop>(key: Key, read: Result<T, ConfigError>) -> Result<T, Refusal>
+fn at_head<T: Drop>(key: ConfigKey, read: Result<T, ConfigError>) -> Result<T, Refusal>
     ensures { result ≡ placed Whole 0 key read }
 {
     placed(TableKind::Whole, 0, key, read)
 }
 
 /// What the keys before all tables say, refused in this order.
-pub(crate) fn head_of(alloc: Global, table: &Table) -> Result<Head, Refusal>
+pub(crate) fn head_of(alloc: Global, table: &Table) -> Result<TopLevelKeys, Refusal>
     ensures { ReadsAt (λ head. head) result (Definitions.head_of (table_view table.now)) }
 {
-    let version = at_head(Key::Version, version_at(table))?;
-    let offset = at_head(Key::Offset, offset_at(version, table))?;
-    let realm = at_head(Key::Realm, text_at(table, "realm", Grammar::Realm))?;
-    let host = at_head(Key::Host, text_at(table, "host", Grammar::OwnHost))?;
-    let port = at_head(Key::Port, port_at(table))?;
-    let address = at_head(Key::Address, address_at(table))?;
-    let domains = at_head(Key::Domains, domains_at(alloc, table))?;
+    let version = at_head(ConfigKey::Version, version_at(table))?;
+    let offset = at_head(ConfigKey::Offset, offset_at(version, table))?;
+    let realm = at_head(ConfigKey::Realm, text_at(table, "realm", Grammar::Realm))?;
+    let host = at_head(ConfigKey::Host, text_at(table, "host", Grammar::OwnHost))?;
+    let port = at_head(ConfigKey::Port, port_at(table))?;
+    let address = at_head(ConfigKey::Address, address_at(table))?;
+    let domains = at_head(ConfigKey::Domains, domains_at(alloc, table))?;
     let realm = Bytes::copy(alloc, realm)?;
     let host = Bytes::copy(alloc, host)?;
-    Ok(Head {
+    Ok(TopLevelKeys {
         version,
         offset,
         realm,

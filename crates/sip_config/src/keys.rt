@@ -8,7 +8,7 @@ ghost use Rattle.sip_config_values.specs.Rows.{all_pass};
 ghost use Rattle.sip_config.specs.Keys as Definitions;
 
 use sip_config_values::{
-    ConfigError, Key, Refusal, TableKind, confirm, list_at, place_at, table_in,
+    ConfigError, ConfigKey, Refusal, TableKind, confirm, list_at, place_at, table_in,
 };
 use toml::{Table, Value};
 
@@ -81,13 +81,21 @@ fn known(version: u32, kind: TableKind, before: usize, table: &Table) -> Result<
     ensures { result ≡ Definitions.known version kind before (table_view table.now) }
 {
     let unknown = unknown_key(version, kind, table).is_some();
-    let refusal = Refusal::At(ConfigError::BadValue, place_at(kind, before, Key::Unknown));
+    let refusal = Refusal::At(
+        ConfigError::BadValue,
+        place_at(kind, before, ConfigKey::Unknown),
+    );
     confirm(!unknown, refusal)
 }
 
 /// Whether no table of a list has one.
 #[tactic(auto, using(crate::proofs::Rows::pass_step, crate::proofs::Rows::pass_end))]
-fn each_known(version: u32, kind: TableKind, list: Key, items: &[Value]) -> Result<(), Refusal>
+fn each_known(
+    version: u32,
+    kind: TableKind,
+    list: ConfigKey,
+    items: &[Value],
+) -> Result<(), Refusal>
     ensures { Tells (λ done. done) result (all_pass list (Definitions.known version kind) 0 (items_view items.now)) }
 {
     for (at, item) in items.iter().enumerate() {
@@ -96,7 +104,7 @@ fn each_known(version: u32, kind: TableKind, list: Key, items: &[Value]) -> Resu
     Ok(())
 }
 
-fn list_known(version: u32, kind: TableKind, list: Key, table: &Table) -> Result<(), Refusal>
+fn list_known(version: u32, kind: TableKind, list: ConfigKey, table: &Table) -> Result<(), Refusal>
     ensures { Tells (λ done. done) result (Definitions.list_known version kind list (table_view table.now)) }
 {
     each_known(version, kind, list, list_at(list, table)?)
@@ -107,8 +115,13 @@ pub(crate) fn all_known(version: u32, table: &Table) -> Result<(), Refusal>
     ensures { Tells (λ done. done) result (Definitions.all_known version (table_view table.now)) }
 {
     known(version, TableKind::Whole, 0, table)?;
-    list_known(version, TableKind::User, Key::Users, table)?;
-    list_known(version, TableKind::Hop, Key::Hops, table)?;
-    list_known(version, TableKind::HostAddress, Key::HostAddresses, table)?;
-    list_known(version, TableKind::Rule, Key::Rules, table)
+    list_known(version, TableKind::User, ConfigKey::Users, table)?;
+    list_known(version, TableKind::Hop, ConfigKey::Hops, table)?;
+    list_known(
+        version,
+        TableKind::HostAddress,
+        ConfigKey::HostAddresses,
+        table,
+    )?;
+    list_known(version, TableKind::Rule, ConfigKey::Rules, table)
 }

@@ -18,10 +18,10 @@ pub mod examples;
 mod head;
 mod hops;
 mod host_addresses;
+mod host_ports;
 mod keys;
 pub mod laws;
 mod limits;
-mod places;
 mod rules;
 mod users;
 

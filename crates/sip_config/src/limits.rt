@@ -5,7 +5,7 @@ ghost use Rattle.sip_config_values.specs.Refusals.{Tells};
 ghost use Rattle.sip_config.specs.Limits as Definitions;
 
 use sip_config_values::{
-    ConfigError, Key, Refusal, TableKind, confirm, find, none_found, place_at,
+    ConfigError, ConfigKey, Refusal, TableKind, confirm, find, none_found, place_at,
 };
 use toml::{Table, Value};
 
@@ -59,7 +59,7 @@ fn many_groups_in(table: &Table) -> Option<usize>
 }
 
 /// Whether a list isn't longer.
-fn few_at(list: Key, most: usize, table: &Table) -> Result<(), Refusal>
+fn few_at(list: ConfigKey, most: usize, table: &Table) -> Result<(), Refusal>
     ensures { result ≡ Definitions.few_at list most (table_view table.now) }
 {
     let many = is_over_at(table, list.name(), most);
@@ -71,11 +71,16 @@ fn few_at(list: Key, most: usize, table: &Table) -> Result<(), Refusal>
 pub(crate) fn all_few(table: &Table) -> Result<(), Refusal>
     ensures { Tells (λ done. done) result (Definitions.all_few (table_view table.now)) }
 {
-    few_at(Key::Domains, 16, table)?;
-    few_at(Key::Users, 4096, table)?;
+    few_at(ConfigKey::Domains, 16, table)?;
+    few_at(ConfigKey::Users, 4096, table)?;
     let many = many_groups_in(table);
-    none_found(ConfigError::TooMany, TableKind::User, Key::Groups, many)?;
-    few_at(Key::Hops, 256, table)?;
-    few_at(Key::HostAddresses, 1024, table)?;
-    few_at(Key::Rules, 1024, table)
+    none_found(
+        ConfigError::TooMany,
+        TableKind::User,
+        ConfigKey::Groups,
+        many,
+    )?;
+    few_at(ConfigKey::Hops, 256, table)?;
+    few_at(ConfigKey::HostAddresses, 1024, table)?;
+    few_at(ConfigKey::Rules, 1024, table)
 }

@@ -4,7 +4,7 @@ ghost use Rattle.std.specs.Prelude.{◌≡◌, ℕ, ◌==◌, ◌||◌, not, pos
 ghost use Rattle.std.specs.List.{list_any};
 ghost use Rattle.std.specs.Str.{bytes_eq};
 ghost use Rattle.toml.specs.View.{view, table_view, items_view};
-ghost use Rattle.sip_config_values.specs.declared.key.Key.TheVariants as keys;
+ghost use Rattle.sip_config_values.specs.declared.key.ConfigKey.TheVariants as keys;
 ghost use Rattle.sip_config_values.specs.declared.table_kind.TableKind.TheVariants as kinds;
 ghost use Rattle.sip_config_values.specs.declared.refusal.Refusal.TheVariants.{NoMemory};
 ghost use Rattle.sip_config_values.specs.Refusals.{Reads, ReadsAt, placed};
@@ -12,9 +12,9 @@ ghost use Rattle.sip_config_values.specs.Rows.{rows_after, all_pass};
 ghost use Rattle.sip_config.specs.Rules as Definitions;
 
 use sip_config_values::{
-    ConfigError, Key, Names, Refusal, TableKind, confirm, find, is_verdict, needed, none_found,
-    number_between, operation_of, passed, place_at, placed, table_in, target_of, text_of,
-    verdict_of, who_of,
+    ConfigError, ConfigKey, DistinctNames, Refusal, TableKind, confirm, find, is_verdict, needed,
+    none_found, number_between, operation_of, passed, place_at, placed, table_in, target_of,
+    text_of, verdict_of, who_of,
 };
 use sip_hops::Hop;
 use sip_policy::{OperationPattern, Rule, RuleVerdict, TargetPattern, User, Users, Who, Window};
@@ -34,14 +34,18 @@ pub(crate) enum RuleLine {
 }
 
 /// What a key of a rule is read as, refused at its place.
-fn of_rule<T: Drop>(before: usize, key: Key, read: Result<T, ConfigError>) -> Result<T, Refusal>
+fn of_rule<T: Drop>(
+    before: usize,
+    key: ConfigKey,
+    read: Result<T, ConfigError>,
+) -> Result<T, Refusal>
     ensures { result ≡ placed kinds.Rule before key read }
 {
     placed(TableKind::Rule, before, key, read)
 }
 
 /// A bad value of a key of a rule.
-fn bad(before: usize, key: Key) -> Refusal
+fn bad(before: usize, key: ConfigKey) -> Refusal
     ensures { result ≡ Definitions.bad before key }
 {
     Refusal::At(
@@ -65,7 +69,7 @@ fn who_at(alloc: Global, users: &Users, table: &Table) -> Result<Who, ConfigErro
 fn placed_who(alloc: Global, users: &Users, before: usize, table: &Table) -> Result<Who, Refusal>
     ensures { ReadsAt (λ who. who) result (placed kinds.Rule before keys.WhoAsks (Definitions.who_at users.now (table_view table.now))) }
 {
-    of_rule(before, Key::WhoAsks, who_at(alloc, users, table))
+    of_rule(before, ConfigKey::WhoAsks, who_at(alloc, users, table))
 }
 
 fn operation_at(alloc: Global, table: &Table) -> Result<OperationPattern, ConfigError>
@@ -81,7 +85,7 @@ fn placed_operation(
 ) -> Result<OperationPattern, Refusal>
     ensures { ReadsAt (λ operation. operation) result (placed kinds.Rule before keys.Operation (Definitions.operation_at (table_view table.now))) }
 {
-    of_rule(before, Key::Operation, operation_at(alloc, table))
+    of_rule(before, ConfigKey::Operation, operation_at(alloc, table))
 }
 
 fn target_at(alloc: Global, table: &Table) -> Result<TargetPattern, ConfigError>
@@ -93,7 +97,7 @@ fn target_at(alloc: Global, table: &Table) -> Result<TargetPattern, ConfigError>
 fn placed_target(alloc: Global, before: usize, table: &Table) -> Result<TargetPattern, Refusal>
     ensures { ReadsAt (λ target. target) result (placed kinds.Rule before keys.Target (Definitions.target_at (table_view table.now))) }
 {
-    of_rule(before, Key::Target, target_at(alloc, table))
+    of_rule(before, ConfigKey::Target, target_at(alloc, table))
 }
 
 fn verdict_text(table: &Table) -> Result<&[u8], ConfigError>
@@ -116,7 +120,7 @@ fn minute_of(value: &Value) -> Result<u16, ConfigError>
     Ok(minute as u16)
 }
 
-fn minute_at(before: usize, key: Key, value: &Value) -> Result<u16, Refusal>
+fn minute_at(before: usize, key: ConfigKey, value: &Value) -> Result<u16, Refusal>
     ensures { result ≡ placed kinds.Rule before key (Definitions.minute_of (view value.now)) }
 {
     of_rule(before, key, minute_of(value))
@@ -126,9 +130,9 @@ fn minute_at(before: usize, key: Key, value: &Value) -> Result<u16, Refusal>
 fn window_between(before: usize, first: &Value, last: &Value) -> Result<Option<Window>, Refusal>
     ensures { ReadsAt (λ window. window) result (Definitions.window_between before (view first.now) (view last.now)) }
 {
-    let from = minute_at(before, Key::From, first)?;
-    let until = minute_at(before, Key::Until, last)?;
-    confirm(from != until, bad(before, Key::From))?;
+    let from = minute_at(before, ConfigKey::From, first)?;
+    let until = minute_at(before, ConfigKey::Until, last)?;
+    confirm(from != until, bad(before, ConfigKey::From))?;
     Ok(Some(Window { from, until }))
 }
 
@@ -142,8 +146,8 @@ fn window_at(version: u32, before: usize, table: &Table) -> Result<Option<Window
     match (find(table, "from"), find(table, "until")) {
         (None, None) => Ok(None),
         (Some(first), Some(last)) => window_between(before, first, last),
-        (Some(_), None) => Err(bad(before, Key::From)),
-        (None, Some(_)) => Err(bad(before, Key::Until)),
+        (Some(_), None) => Err(bad(before, ConfigKey::From)),
+        (None, Some(_)) => Err(bad(before, ConfigKey::Until)),
     }
 }
 
@@ -151,9 +155,12 @@ fn window_at(version: u32, before: usize, table: &Table) -> Result<Option<Window
 fn check_verdict(alloc: Global, before: usize, table: &Table) -> Result<(), Refusal>
     ensures { ReadsAt (λ done. done) result (Definitions.verdict_line before (table_view table.now)) }
 {
-    let text = of_rule(before, Key::Verdict, verdict_text(table))?;
+    let text = of_rule(before, ConfigKey::Verdict, verdict_text(table))?;
     let operation = placed_operation(alloc, before, table)?;
-    confirm(is_verdict(&operation, text), bad(before, Key::Verdict))
+    confirm(
+        is_verdict(&operation, text),
+        bad(before, ConfigKey::Verdict),
+    )
 }
 
 fn check_window(version: u32, before: usize, table: &Table) -> Result<(), Refusal>
@@ -175,23 +182,23 @@ fn check_rule(
     ensures { ReadsAt (λ done. done) result (Definitions.rule_line version users.now line before (table_view table.now)) }
 {
     match line {
-        RuleLine::Id => passed(TableKind::Rule, before, Key::Id, id_at(table)),
+        RuleLine::Id => passed(TableKind::Rule, before, ConfigKey::Id, id_at(table)),
         RuleLine::WhoAsks => passed(
             TableKind::Rule,
             before,
-            Key::WhoAsks,
+            ConfigKey::WhoAsks,
             who_at(alloc, users, table),
         ),
         RuleLine::Operation => passed(
             TableKind::Rule,
             before,
-            Key::Operation,
+            ConfigKey::Operation,
             operation_at(alloc, table),
         ),
         RuleLine::Target => passed(
             TableKind::Rule,
             before,
-            Key::Target,
+            ConfigKey::Target,
             target_at(alloc, table),
         ),
         RuleLine::Verdict => check_verdict(alloc, before, table),
@@ -211,7 +218,14 @@ fn check_each(
     ensures { ReadsAt (λ done. done) result (all_pass keys.Rules (Definitions.rule_line version users.now line) 0 (items_view items.now)) }
 {
     for (at, item) in items.iter().enumerate() {
-        check_rule(alloc, version, users, line, at, table_in(Key::Rules, item)?)?;
+        check_rule(
+            alloc,
+            version,
+            users,
+            line,
+            at,
+            table_in(ConfigKey::Rules, item)?,
+        )?;
     }
     Ok(())
 }
@@ -244,10 +258,10 @@ fn new_id(before: &[u32], table: &Table) -> Result<u32, Refusal>
     ensures { ReadsAt (λ id. id) result (Definitions.new_id before.now (table_view table.now)) }
 {
     let at = before.len();
-    let id = of_rule(at, Key::Id, id_at(table))?;
+    let id = of_rule(at, ConfigKey::Id, id_at(table))?;
     let twice = Refusal::At(
         ConfigError::DuplicateRule,
-        place_at(TableKind::Rule, at, Key::Id),
+        place_at(TableKind::Rule, at, ConfigKey::Id),
     );
     confirm(!has_id(before, id), twice)?;
     Ok(id)
@@ -260,7 +274,7 @@ fn ids_of(alloc: Global, items: &[Value]) -> Result<Items<u32>, Refusal>
 {
     let mut ids = Items::new(alloc);
     for item in items {
-        let id = new_id(ids.as_slice(), table_in(Key::Rules, item)?)?;
+        let id = new_id(ids.as_slice(), table_in(ConfigKey::Rules, item)?)?;
         ids.push(id)?;
     }
     Ok(ids)
@@ -277,8 +291,8 @@ fn rule_at(
     ensures { ReadsAt (λ rule. rule) result (Definitions.rule_at version users.now hops.now before.now (table_view table.now)) }
 {
     let at = before.len();
-    let id = of_rule(at, Key::Id, id_at(table))?;
-    let verdict = of_rule(at, Key::Verdict, verdict_at(hops, table))?;
+    let id = of_rule(at, ConfigKey::Id, id_at(table))?;
+    let verdict = of_rule(at, ConfigKey::Verdict, verdict_at(hops, table))?;
     let window = window_at(version, at, table)?;
     let who = placed_who(alloc, users, at, table)?;
     let operation = placed_operation(alloc, at, table)?;
@@ -305,7 +319,7 @@ fn rule_rows(
 {
     let mut rules = Items::new(alloc);
     for item in items {
-        let table = table_in(Key::Rules, item)?;
+        let table = table_in(ConfigKey::Rules, item)?;
         let rule = rule_at(alloc, version, users, hops, rules.as_slice(), table)?;
         rules.push(rule)?;
     }
@@ -314,7 +328,7 @@ fn rule_rows(
 
 /// Adds the names of groups to those that are there.
 #[tactic(auto, using(crate::proofs::Groups::none_added, crate::proofs::Groups::added_more, crate::proofs::Groups::all_added))]
-fn add_groups(alloc: Global, names: &mut Names, groups: &[Bytes]) -> Result<(), Refusal>
+fn add_groups(alloc: Global, names: &mut DistinctNames, groups: &[Bytes]) -> Result<(), Refusal>
     ensures added { OnOk result ((group : List ℕ) → list_any (bytes_eq group) names.new
         ≡ (list_any (bytes_eq group) names.old || list_any (bytes_eq group) groups.now)) }
     ensures refused { IfErr result (λ e. e ≡ NoMemory) }
@@ -327,11 +341,11 @@ fn add_groups(alloc: Global, names: &mut Names, groups: &[Bytes]) -> Result<(), 
 
 /// The names of the groups that have a member.
 #[tactic(auto, using(crate::proofs::Groups::no_members, crate::proofs::Groups::members_more, crate::proofs::Groups::all_members))]
-fn groups_of(alloc: Global, users: &[User]) -> Result<Names, Refusal>
+fn groups_of(alloc: Global, users: &[User]) -> Result<DistinctNames, Refusal>
     ensures names { IfOk result (λ names. (group : List ℕ) → list_any (bytes_eq group) names ≡ Definitions.has_member users.now group) }
     ensures refused { IfErr result (λ e. e ≡ NoMemory) }
 {
-    let mut names = Names::new(alloc);
+    let mut names = DistinctNames::new(alloc);
     for user in users {
         add_groups(alloc, &mut names, user.groups.as_slice())?;
     }
@@ -339,7 +353,7 @@ fn groups_of(alloc: Global, users: &[User]) -> Result<Names, Refusal>
 }
 
 /// Whether the group that a rule names, if it names one, is among some.
-fn is_listed(groups: &Names, rule: &Rule) -> bool
+fn is_listed(groups: &DistinctNames, rule: &Rule) -> bool
     ensures { result ≡ Definitions.is_listed groups.now rule.now.who }
 {
     match &rule.who {
@@ -349,7 +363,7 @@ fn is_listed(groups: &Names, rule: &Rule) -> bool
 }
 
 /// The place of the first rule whose group isn't among some.
-fn unlisted(groups: &Names, rules: &[Rule]) -> Option<usize>
+fn unlisted(groups: &DistinctNames, rules: &[Rule]) -> Option<usize>
     ensures { result ≡ position (λ rule. not (Definitions.is_listed groups.now rule.who)) rules.now }
 {
     rules.iter().position(|rule| !is_listed(groups, rule))
@@ -382,7 +396,7 @@ pub(crate) fn rules_of(
     none_found(
         ConfigError::UnknownGroup,
         TableKind::Rule,
-        Key::WhoAsks,
+        ConfigKey::WhoAsks,
         unknown,
     )?;
     Ok(rules)

@@ -1,15 +1,15 @@
 //! The tables `[[user]]`: their names first, then their digests and groups, refused at the first fault in this order.
 ghost use Rattle.std.specs.Prelude.{◌≡◌, []};
 ghost use Rattle.toml.specs.View.{table_view, items_view};
-ghost use Rattle.sip_config_values.specs.declared.key.Key.TheVariants as keys;
+ghost use Rattle.sip_config_values.specs.declared.key.ConfigKey.TheVariants as keys;
 ghost use Rattle.sip_config_values.specs.declared.table_kind.TableKind.TheVariants as kinds;
 ghost use Rattle.sip_config_values.specs.Refusals.{Reads, ReadsAt, placed};
 ghost use Rattle.sip_config_values.specs.Rows.{rows_after, all_pass};
 ghost use Rattle.sip_config.specs.Users as Definitions;
 
 use sip_config_values::{
-    ConfigError, Grammar, Key, Names, Refusal, TableKind, digest_of, find, list_of, needed, passed,
-    place_at, placed, some_items_at, table_in, text_at, texts_of,
+    ConfigError, ConfigKey, DistinctNames, Grammar, Refusal, TableKind, digest_of, find, list_of,
+    needed, passed, place_at, placed, some_items_at, table_in, text_at, texts_of,
 };
 use sip_policy::{PolicyError, User, Users};
 use sip_text::{Bytes, Items};
@@ -25,32 +25,36 @@ pub(crate) enum UserLine {
 }
 
 /// What a key of a user is read as, refused at its place.
-fn of_user<T: Drop>(before: usize, key: Key, read: Result<T, ConfigError>) -> Result<T, Refusal>
+fn of_user<T: Drop>(
+    before: usize,
+    key: ConfigKey,
+    read: Result<T, ConfigError>,
+) -> Result<T, Refusal>
     ensures { result ≡ placed kinds.User before key read }
 {
     placed(TableKind::User, before, key, read)
 }
 
 /// Adds a user's name, which none before it has.
-fn add_name(alloc: Global, names: &mut Names, table: &Table) -> Result<(), Refusal>
+fn add_name(alloc: Global, names: &mut DistinctNames, table: &Table) -> Result<(), Refusal>
     ensures { ReadsAt (λ done. names.new) result (Definitions.name_behind names.old (table_view table.now)) }
 {
     let at = names.len();
-    let name = of_user(at, Key::Name, text_at(table, "name", Grammar::Name))?;
+    let name = of_user(at, ConfigKey::Name, text_at(table, "name", Grammar::Name))?;
     if !names.add(alloc, name)? {
-        return Err(Refusal::Twice(place_at(TableKind::User, at, Key::Name)));
+        return Err(Refusal::Twice(place_at(TableKind::User, at, ConfigKey::Name)));
     }
     Ok(())
 }
 
 /// The names of users, no two the same.
 #[tactic(auto, using(crate::proofs::Rows::grow_step, crate::proofs::Rows::rows_end))]
-fn names_of(alloc: Global, items: &[Value]) -> Result<Names, Refusal>
+fn names_of(alloc: Global, items: &[Value]) -> Result<DistinctNames, Refusal>
     ensures { ReadsAt (λ names. names) result (rows_after keys.Users Definitions.new_name [] (items_view items.now)) }
 {
-    let mut names = Names::new(alloc);
+    let mut names = DistinctNames::new(alloc);
     for item in items {
-        add_name(alloc, &mut names, table_in(Key::Users, item)?)?;
+        add_name(alloc, &mut names, table_in(ConfigKey::Users, item)?)?;
     }
     Ok(names)
 }
@@ -84,12 +88,17 @@ fn check_user(alloc: Global, line: UserLine, before: usize, table: &Table) -> Re
     ensures { ReadsAt (λ done. done) result (Definitions.user_line line before (table_view table.now)) }
 {
     match line {
-        UserLine::A1 => passed(TableKind::User, before, Key::A1, a1_at(table)),
-        UserLine::A1Sha256 => passed(TableKind::User, before, Key::A1Sha256, a1_sha256_at(table)),
+        UserLine::A1 => passed(TableKind::User, before, ConfigKey::A1, a1_at(table)),
+        UserLine::A1Sha256 => passed(
+            TableKind::User,
+            before,
+            ConfigKey::A1Sha256,
+            a1_sha256_at(table),
+        ),
         UserLine::Groups => passed(
             TableKind::User,
             before,
-            Key::Groups,
+            ConfigKey::Groups,
             groups_at(alloc, table),
         ),
     }
@@ -101,7 +110,7 @@ fn check_users(alloc: Global, line: UserLine, items: &[Value]) -> Result<(), Ref
     ensures { ReadsAt (λ done. done) result (all_pass keys.Users (Definitions.user_line line) 0 (items_view items.now)) }
 {
     for (at, item) in items.iter().enumerate() {
-        check_user(alloc, line, at, table_in(Key::Users, item)?)?;
+        check_user(alloc, line, at, table_in(ConfigKey::Users, item)?)?;
     }
     Ok(())
 }
@@ -110,10 +119,10 @@ fn user_at(alloc: Global, before: &[User], table: &Table) -> Result<User, Refusa
     ensures { ReadsAt (λ user. user) result (Definitions.user_at before.now (table_view table.now)) }
 {
     let at = before.len();
-    let a1 = of_user(at, Key::A1, a1_at(table))?;
-    let a1_sha256 = of_user(at, Key::A1Sha256, a1_sha256_at(table))?;
-    let name = of_user(at, Key::Name, text_at(table, "name", Grammar::Name))?;
-    let groups = of_user(at, Key::Groups, groups_at(alloc, table))?;
+    let a1 = of_user(at, ConfigKey::A1, a1_at(table))?;
+    let a1_sha256 = of_user(at, ConfigKey::A1Sha256, a1_sha256_at(table))?;
+    let name = of_user(at, ConfigKey::Name, text_at(table, "name", Grammar::Name))?;
+    let groups = of_user(at, ConfigKey::Groups, groups_at(alloc, table))?;
     let name = Bytes::copy(alloc, name)?;
     Ok(User {
         name,
@@ -129,7 +138,7 @@ fn user_rows(alloc: Global, items: &[Value]) -> Result<Items<User>, Refusal>
 {
     let mut users = Items::new(alloc);
     for item in items {
-        let user = user_at(alloc, users.as_slice(), table_in(Key::Users, item)?)?;
+        let user = user_at(alloc, users.as_slice(), table_in(ConfigKey::Users, item)?)?;
         users.push(user)?;
     }
     Ok(users)
@@ -149,7 +158,7 @@ fn users_of(alloc: Global, items: &[Value]) -> Result<Users, Refusal>
         Err(PolicyError::NoMemory) => Err(Refusal::NoMemory),
         Err(PolicyError::NameTwice) => Err(Refusal::At(
             ConfigError::BadValue,
-            place_at(TableKind::Whole, 0, Key::Users),
+            place_at(TableKind::Whole, 0, ConfigKey::Users),
         )),
     }
 }
@@ -161,7 +170,7 @@ pub(crate) fn users_at(alloc: Global, table: &Table) -> Result<Users, Refusal>
     let items = placed(
         TableKind::Whole,
         0,
-        Key::Users,
+        ConfigKey::Users,
         some_items_at(table, "user"),
     )?;
     users_of(alloc, items)

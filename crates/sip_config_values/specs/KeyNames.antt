@@ -1,9 +1,9 @@
 -- What the keys of a file are called.
 use Rattle.std.specs.Prelude.{ℕ, List, codes}
-use Rattle.sip_config_values.specs.declared.key.Key.{Key}
-use Rattle.sip_config_values.specs.declared.key.Key.TheVariants as keys
+use Rattle.sip_config_values.specs.declared.key.ConfigKey.{ConfigKey}
+use Rattle.sip_config_values.specs.declared.key.ConfigKey.TheVariants as keys
 
-abbrev pub name_of : Key → List ℕ
+abbrev pub name_of : ConfigKey → List ℕ
 name_of keys.Version = codes "version"
 name_of keys.Offset = codes "offset"
 name_of keys.Realm = codes "realm"

@@ -2,9 +2,9 @@
 use Rattle.std.specs.Prelude.{◌≡◌, ℕ, Bool, true, false, Option, None, Some, Result, Ok, Err}
 use Rattle.sip_config_values.specs.declared.error.ConfigError.{ConfigError}
 use Rattle.sip_config_values.specs.declared.error.ConfigError.TheVariants.{NoMemory, BadValue}
-use Rattle.sip_config_values.specs.declared.key.Key.{Key}
+use Rattle.sip_config_values.specs.declared.key.ConfigKey.{ConfigKey}
 use Rattle.sip_config_values.specs.declared.table_kind.TableKind.{TableKind}
-use Rattle.sip_config_values.specs.declared.refusal.Place.{Place}
+use Rattle.sip_config_values.specs.declared.refusal.KeyPlace.{KeyPlace}
 use Rattle.sip_config_values.specs.declared.refusal.Refusal.{Refusal}
 use Rattle.sip_config_values.specs.declared.refusal.Refusal.TheVariants as refusals
 
@@ -45,21 +45,21 @@ kept_if false value = Err BadValue
 
 -- ---- with the place: the key of a table of a kind, before which so many of the kind stand
 
-abbrev pub place : TableKind → ℕ → Key → Place
+abbrev pub place : TableKind → ℕ → ConfigKey → KeyPlace
 place kind before key = record { kind = kind; before = before; key = key }
 
 -- want of memory has no place
-abbrev pub refused_at : Place → ConfigError → Refusal
+abbrev pub refused_at : KeyPlace → ConfigError → Refusal
 refused_at at NoMemory = refusals.NoMemory
 refused_at at error = refusals.At error at
 
 -- what a key is read as, refused at its place
-abbrev pub placed : {A : Type 0} → TableKind → ℕ → Key → Result A ConfigError → Result A Refusal
+abbrev pub placed : {A : Type 0} → TableKind → ℕ → ConfigKey → Result A ConfigError → Result A Refusal
 placed kind before key (Ok value) = Ok value
 placed kind before key (Err error) = Err (refused_at (place kind before key) error)
 
 -- whether a key is read, and not as what
-abbrev pub passed : {A : Type 0} → TableKind → ℕ → Key → Result A ConfigError → Result (Unit {0}) Refusal
+abbrev pub passed : {A : Type 0} → TableKind → ℕ → ConfigKey → Result A ConfigError → Result (Unit {0}) Refusal
 passed kind before key (Ok value) = Ok tt
 passed kind before key (Err error) = Err (refused_at (place kind before key) error)
 
@@ -69,7 +69,7 @@ confirmed true refusal = Ok tt
 confirmed false refusal = Err refusal
 
 -- refused is a key of the table that was found, if one was
-abbrev pub none_found : ConfigError → TableKind → Key → Option ℕ → Result (Unit {0}) Refusal
+abbrev pub none_found : ConfigError → TableKind → ConfigKey → Option ℕ → Result (Unit {0}) Refusal
 none_found error kind key None = Ok tt
 none_found error kind key (Some before) = Err (refusals.At error (place kind before key))
 

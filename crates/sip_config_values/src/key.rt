@@ -2,7 +2,7 @@ ghost use Rattle.std.specs.Prelude.{◌≡◌};
 
 /// The keys of a file.
 #[derive(Clone, Copy)]
-pub enum Key {
+pub enum ConfigKey {
     Version,
     Offset,
     Realm,
@@ -30,7 +30,7 @@ pub enum Key {
     Unknown,
 }
 
-impl Key {
+impl ConfigKey {
     ghost use Rattle.sip_config_values.specs.KeyNames.{name_of};
 
     /// What a key is called; nothing where it isn't known.
@@ -38,29 +38,29 @@ impl Key {
         ensures { result.now ≡ name_of self }
     {
         match self {
-            Key::Version => "version",
-            Key::Offset => "offset",
-            Key::Realm => "realm",
-            Key::Host => "host",
-            Key::Port => "port",
-            Key::Address => "address",
-            Key::Domains => "domains",
-            Key::Users => "user",
-            Key::Hops => "hop",
-            Key::HostAddresses => "host_address",
-            Key::Rules => "rule",
-            Key::Name => "name",
-            Key::A1 => "a1",
-            Key::A1Sha256 => "a1_sha256",
-            Key::Groups => "groups",
-            Key::Id => "id",
-            Key::WhoAsks => "who",
-            Key::Operation => "op",
-            Key::Target => "target",
-            Key::Verdict => "verdict",
-            Key::From => "from",
-            Key::Until => "until",
-            Key::Unknown => "",
+            ConfigKey::Version => "version",
+            ConfigKey::Offset => "offset",
+            ConfigKey::Realm => "realm",
+            ConfigKey::Host => "host",
+            ConfigKey::Port => "port",
+            ConfigKey::Address => "address",
+            ConfigKey::Domains => "domains",
+            ConfigKey::Users => "user",
+            ConfigKey::Hops => "hop",
+            ConfigKey::HostAddresses => "host_address",
+            ConfigKey::Rules => "rule",
+            ConfigKey::Name => "name",
+            ConfigKey::A1 => "a1",
+            ConfigKey::A1Sha256 => "a1_sha256",
+            ConfigKey::Groups => "groups",
+            ConfigKey::Id => "id",
+            ConfigKey::WhoAsks => "who",
+            ConfigKey::Operation => "op",
+            ConfigKey::Target => "target",
+            ConfigKey::Verdict => "verdict",
+            ConfigKey::From => "from",
+            ConfigKey::Until => "until",
+            ConfigKey::Unknown => "",
         }
     }
 }

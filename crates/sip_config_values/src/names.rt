@@ -13,12 +13,12 @@ use std::marker::Model;
 /// Names in the order in which they came, no two of them the same. A name is found in constant time: names are
 /// configured, so nobody who sends requests chooses where they fall.
 #[derive(Drop)]
-pub struct Names {
+pub struct DistinctNames {
     /// Each name with its place in their order.
     places: HashMap<Vec<u8>, usize>,
 }
 
-impl Model for Names {
+impl Model for DistinctNames {
     ghost use Rattle.std.specs.Prelude.{ℕ, List};
     ghost use Rattle.sip_config_values.specs.InOrder.{texts_in_order, ArePlaced};
 
@@ -64,12 +64,12 @@ fn add_to(alloc: Global, places: &mut HashMap<Vec<u8>, usize>, name: &[u8]) -> R
     Ok(true)
 }
 
-impl Names {
+impl DistinctNames {
     /// No names.
-    pub fn new(alloc: Global) -> Names
+    pub fn new(alloc: Global) -> DistinctNames
         ensures { result ≡ [] }
     {
-        Names {
+        DistinctNames {
             places: HashMap::new(alloc),
         }
     }

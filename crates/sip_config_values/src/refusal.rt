@@ -4,17 +4,17 @@ ghost use Rattle.sip_config_values.specs.declared.refusal.Refusal.TheVariants.{N
 ghost use Rattle.sip_config_values.specs.Refusals as Definitions;
 
 use crate::error::ConfigError;
-use crate::key::Key;
+use crate::key::ConfigKey;
 use crate::table_kind::TableKind;
 use std::alloc::{AllocError, AllocFailed};
 
 /// A key of a table of a file.
 #[derive(Clone, Copy)]
-pub struct Place {
+pub struct KeyPlace {
     pub kind: TableKind,
     /// How many tables of the kind stand before that table.
     pub before: usize,
-    pub key: Key,
+    pub key: ConfigKey,
 }
 
 /// Why a configuration is refused, and where: at the first place in reading order.
@@ -23,9 +23,9 @@ pub enum Refusal {
     /// Memory ran out.
     NoMemory,
     /// A key is refused with this error.
-    At(ConfigError, Place),
+    At(ConfigError, KeyPlace),
     /// A key that only one table may have so has what that of one before has.
-    Twice(Place),
+    Twice(KeyPlace),
 }
 
 impl Refusal {
@@ -58,14 +58,14 @@ impl<T: Drop> From<AllocFailed<T>> for Refusal {
 }
 
 /// A key of a table of a kind, before which so many of the kind stand.
-pub fn place_at(kind: TableKind, before: usize, key: Key) -> Place
+pub fn place_at(kind: TableKind, before: usize, key: ConfigKey) -> KeyPlace
     ensures { result ≡ Definitions.place kind before key }
 {
-    Place { kind, before, key }
+    KeyPlace { kind, before, key }
 }
 
 /// What is refused at a place; want of memory has none.
-fn refused_at(place: Place, error: ConfigError) -> Refusal
+fn refused_at(place: KeyPlace, error: ConfigError) -> Refusal
     ensures { result ≡ Definitions.refused_at place error }
 {
     match error {
@@ -78,7 +78,7 @@ fn refused_at(place: Place, error: ConfigError) -> Refusal
 pub fn placed<T: Drop>(
     kind: TableKind,
     before: usize,
-    key: Key,
+    key: ConfigKey,
     read: Result<T, ConfigError>,
 ) -> Result<T, Refusal>
     ensures { result ≡ Definitions.placed kind before key read }
@@ -93,7 +93,7 @@ pub fn placed<T: Drop>(
 pub fn passed<T: Drop>(
     kind: TableKind,
     before: usize,
-    key: Key,
+    key: ConfigKey,
     read: Result<T, ConfigError>,
 ) -> Result<(), Refusal>
     ensures { result ≡ Definitions.passed kind before key read }
@@ -115,7 +115,7 @@ pub fn confirm(holds: bool, refusal: Refusal) -> Result<(), Refusal>
 pub fn none_found(
     error: ConfigError,
     kind: TableKind,
-    key: Key,
+    key: ConfigKey,
     found: Option<usize>,
 ) -> Result<(), Refusal>
     ensures { result ≡ Definitions.none_found error kind key found }

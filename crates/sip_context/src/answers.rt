@@ -10,7 +10,7 @@ use crate::side::{is_answering, side_after};
 use sip_best::{Final, best};
 use sip_context_branches::all_final;
 use sip_context_branches::state::{
-    AnswerText, LastAnswer, OpenRequest, Server, Upward, Written, first_resend, is_invite,
+    AnswerText, KeptAnswer, LastAnswer, OpenRequest, Server, Upward, first_resend, is_invite,
     is_provisional, is_success,
 };
 use sip_context_packets::written_answer;
@@ -23,11 +23,11 @@ fn message_of(
     server: &Server,
     request: &OpenRequest,
     answer: Final,
-) -> Result<Written, AllocError>
+) -> Result<KeptAnswer, AllocError>
     ensures { IfOk result (λ message. message ≡ (Contexts.upward_of server.now request.now answer).message) }
 {
     match answer.message {
-        Some(message) => Ok(Written::of(message)),
+        Some(message) => Ok(KeptAnswer::of(message)),
         None => written_answer(alloc, server, request, answer.status),
     }
 }

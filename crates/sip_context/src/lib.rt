@@ -20,7 +20,7 @@ mod events;
 mod faults;
 mod finals;
 mod input;
-mod relayed;
+mod relays;
 mod responses;
 mod sent;
 mod settling;

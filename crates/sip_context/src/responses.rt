@@ -1,5 +1,5 @@
 //! Responses that came to a branch (RFC 3261 16.7, 17.1; RFC 6026 7): what becomes of the branch, and whether the search ends.
-//! Which of them go to the caller is said in `relayed`.
+//! Which of them go to the caller is said in `relays`.
 ghost use Rattle.std.specs.Prelude.{◌≡◌, ◌<◌, ◌+◌, ◌^◌, ◌&&◌, ◌||◌, [], IfOk, OnOk};
 ghost use Rattle.sip_message_form.specs.declared.message.Message.{Message};
 ghost use Rattle.sip_context_branches.specs.state.State as States;
@@ -9,7 +9,7 @@ ghost use Rattle.sip_context_branches.specs.Early.{IsEarly};
 ghost use Rattle.sip_context.specs.Sent.{change_of};
 
 use crate::finals::keep_final;
-use crate::relayed::{further, kept_final, relayed_provisional, relayed_success};
+use crate::relays::{further, kept_final, relayed_provisional, relayed_success};
 use crate::sent::Sent;
 use crate::settling::{settle, settle_alone};
 use crate::side::is_answering;

@@ -17,7 +17,7 @@ pub fn is_same_branch(left: &Branch, right: &Branch) -> bool
 }
 
 /// Gives a branch a phase, To of its final answer, and what another one says of when it goes again.
-fn turn(
+fn give_phase(
     place: &mut Branch,
     branch: &Branch,
     final_to: &Option<Shared<Bytes>>,
@@ -32,7 +32,7 @@ fn turn(
 }
 
 /// Does so if both are one branch.
-pub(crate) fn turn_same(
+pub(crate) fn give_phase_if_same(
     place: &mut Branch,
     branch: &Branch,
     final_to: &Option<Shared<Bytes>>,
@@ -41,7 +41,7 @@ pub(crate) fn turn_same(
     ensures { OnOk result (place.new ≡ Contexts.phased (record branch.now { final_to = final_to.now }) phase place.old) }
 {
     if is_same_branch(place, branch) {
-        turn(place, branch, final_to, phase)
+        give_phase(place, branch, final_to, phase)
     } else {
         Ok(())
     }

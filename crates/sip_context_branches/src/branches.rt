@@ -4,7 +4,7 @@ ghost use Rattle.model_context.specs.state.declared.branch.Branch.{Branch};
 ghost use Rattle.model_context.specs.state.State as States;
 ghost use Rattle.model_context.specs.Branches as Contexts;
 
-use crate::branch::{mark_branch, turn_same, want_same};
+use crate::branch::{give_phase_if_same, mark_branch, want_same};
 use crate::phase::is_final;
 use model_context::state::{Branch, Phase};
 use sip_base::Shared;
@@ -12,7 +12,7 @@ use sip_text::{Bytes, Items};
 use std::alloc::AllocError;
 
 /// Gives one of some branches another phase, and To of its final answer.
-fn turn_among(
+fn give_phase_among(
     branches: &mut [Branch],
     branch: &Branch,
     final_to: &Option<Shared<Bytes>>,
@@ -21,7 +21,7 @@ fn turn_among(
     ensures { OnOk result (branches.new ≡ map (Contexts.phased (record branch.now { final_to = final_to.now }) phase) branches.old) }
 {
     for place in branches.iter_mut() {
-        turn_same(place, branch, final_to, phase)?;
+        give_phase_if_same(place, branch, final_to, phase)?;
     }
     Ok(())
 }
@@ -35,7 +35,7 @@ pub fn set_phase(
 ) -> Result<(), AllocError>
     ensures { OnOk result (branches.new ≡ map (Contexts.phased branch.now phase) branches.old) }
 {
-    turn_among(branches.as_mut_slice(), branch, &branch.final_to, phase)
+    give_phase_among(branches.as_mut_slice(), branch, &branch.final_to, phase)
 }
 
 /// Gives a branch another phase, To of its final answer, with which its ACK is made, and what it says here of when it goes
@@ -48,7 +48,7 @@ pub fn set_final(
 ) -> Result<(), AllocError>
     ensures { OnOk result (branches.new ≡ map (Contexts.phased (record branch.now { final_to = final_to.now }) phase) branches.old) }
 {
-    turn_among(branches.as_mut_slice(), branch, final_to, phase)
+    give_phase_among(branches.as_mut_slice(), branch, final_to, phase)
 }
 
 /// One of some branches is to be cancelled.

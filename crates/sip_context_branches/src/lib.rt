@@ -14,7 +14,7 @@ mod branches;
 mod cancels;
 mod hearing;
 mod phase;
-mod resent;
+mod resends;
 mod retransmission;
 mod wait;
 
@@ -24,13 +24,13 @@ pub use branches::{all_final, mark, set_final, set_phase, want_cancel};
 pub use cancels::{add_cancels, new_cancels};
 pub use hearing::{invite_heard, other_heard};
 pub use phase::is_final;
-pub use resent::{answer_went, branch_went};
+pub use resends::{answer_went, branch_went};
 pub use retransmission::{branch_due, is_acked_again};
 
 /// Of `sip_state`.
 pub mod state {
     pub use model_context::state::{
-        AnswerText, Branch, LastAnswer, OpenRequest, Phase, Resend, Server, Side, Upward, Written,
-        first_resend, is_decline, is_failure, is_invite, is_provisional, is_success,
+        AnswerText, Branch, KeptAnswer, LastAnswer, OpenRequest, Phase, Resend, Server, Side,
+        Upward, first_resend, is_decline, is_failure, is_invite, is_provisional, is_success,
     };
 }

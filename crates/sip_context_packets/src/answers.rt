@@ -4,7 +4,7 @@ ghost use Rattle.sip_message_form.specs.Text.{text_of};
 ghost use Rattle.sip_edit_response.specs.Reply.{reply_of};
 ghost use Rattle.model_context.specs.Sending as Spec;
 
-use model_context::state::{Heard, OpenRequest, Server, Written};
+use model_context::state::{KeptAnswer, KeptRequest, OpenRequest, Server};
 use sip_edit_response::{ToTag, reply_view, respond, to_tag};
 use sip_event::{Packet, Ticket};
 use sip_message_fields::Fields;
@@ -14,7 +14,7 @@ use std::alloc::{AllocError, Global};
 
 /// The packet of an answer, of which this is the text, to a request that came in the datagram of a number (RFC 3261 18.2.2).
 /// Takes no memory.
-pub fn answer_packet(again: bool, number: u64, request: &Heard, text: Bytes) -> Packet
+pub fn answer_packet(again: bool, number: u64, request: &KeptRequest, text: Bytes) -> Packet
     ensures { result ≡ Spec.answer_packet again number request.now.message request.now.source text }
 {
     Packet {
@@ -42,7 +42,7 @@ pub fn made_answer(
     alloc: Global,
     server: &Server,
     number: u64,
-    request: &Heard,
+    request: &KeptRequest,
     status: u16,
     extras: &Fields,
 ) -> Result<Bytes, AllocError>
@@ -68,12 +68,12 @@ fn written_reply(
     request: &View<'_>,
     status: u16,
     to_tag: &[u8],
-) -> Result<Written, AllocError>
+) -> Result<KeptAnswer, AllocError>
     ensures { IfOk result (λ written. written ≡ reply_of request.now status to_tag.now []) }
 {
     let extras = Fields::new(alloc);
     let answer = reply_view(alloc, request, status, to_tag, &extras)?;
-    Written::of_view(alloc, &answer)
+    KeptAnswer::of_view(alloc, &answer)
 }
 
 /// The answer of a status that is made here to an open request, as a message that is kept with its text. `AllocError` is
@@ -83,7 +83,7 @@ pub fn written_answer(
     server: &Server,
     open_request: &OpenRequest,
     status: u16,
-) -> Result<Written, AllocError>
+) -> Result<KeptAnswer, AllocError>
     ensures { IfOk result (λ written. written ≡ Spec.made_answer server.now open_request.now.number
         open_request.now.request.message open_request.now.request.source status []) }
 {

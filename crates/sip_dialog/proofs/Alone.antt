@@ -11,7 +11,7 @@ use Rattle.std.proofs.lemmas.Option.{slice_get_within, slice_get-map, slice_get-
 use Rattle.sip_base.specs.WordHasher as sip
 use Rattle.sip_base.specs.declared.word_hasher.WordHasher.{WordHasher}
 use Rattle.sip_dialog.specs.declared.dialog.DialogId.{DialogId}
-use Rattle.sip_dialog.specs.declared.standing.Standing.{Standing}
+use Rattle.sip_dialog.specs.declared.dialog_state.DialogState.{DialogState}
 use Rattle.sip_dialog.specs.Digests.{StandsOnce, IsPlace}
 use Rattle.sip_dialog.specs.Naming.{digest_of}
 use Rattle.sip_dialog.specs.SameNames.{fed_alike}
@@ -19,7 +19,7 @@ use Rattle.sip_dialog.specs.Rows.{names, AreNamed, StandsAt, StandsNowhere}
 use Rattle.sip_dialog.proofs.Sameness.{count_first, count_map, count_alike, split_by, counted_at}
 
 abbrev pub Row : Type 0
-Row = DialogId × Standing
+Row = DialogId × DialogState
 
 pub and_turned : (x y : Bool) → (x && y) ≡ (y && x)
 and_turned true true = refl

@@ -5,7 +5,7 @@ use Rattle.std.specs.Prelude.{◌&&◌, not, count_by, ◌==◌}
 use Rattle.std.proofs.lemmas.Option.{get_or_from_slice_get}
 use Rattle.sip_dialog.specs.declared.dialog.DialogId.{DialogId}
 use Rattle.sip_dialog.specs.declared.dialog.Dialog.{Dialog}
-use Rattle.sip_dialog.specs.declared.standing.Standing.{Standing}
+use Rattle.sip_dialog.specs.declared.dialog_state.DialogState.{DialogState}
 use Rattle.sip_dialog.specs.Dialogs.{is_known, is_unconfirmed, after_invite, known}
 use Rattle.sip_dialog.specs.Rows.{names, dialogs_in, is_recent, IsTakenOut, StandsNowhere, StoodBehind, Entries}
 use Rattle.sip_dialog.specs.Sameness.{SameDialogs}
@@ -15,13 +15,13 @@ use Rattle.sip_dialog.proofs.Sameness.{count_first, count_filter, count_map, cou
 use Rattle.sip_dialog.proofs.Tables.{dialog, counted, moved}
 
 -- those of an INVITE to which no 2xx was forwarded, and those that aren't known any more
-abbrev pub lapses : ℕ → Standing → Bool
+abbrev pub lapses : ℕ → DialogState → Bool
 lapses number s = s.number == number && not s.has_success
 
-abbrev pub is_old : ℕ → Standing → Bool
+abbrev pub is_old : ℕ → DialogState → Bool
 is_old now s = not (is_recent now s)
 
-module _ (leaves : Standing → Bool) where
+module _ (leaves : DialogState → Bool) where
   -- at an index and behind it no row is to leave
   abbrev pub NoneFrom : ℕ → List Row → Type 0
   NoneFrom start rows = (at : ℕ) (d : Row) → start ≤ at → at < length rows → leaves (get_or rows at d).1 ≡ false

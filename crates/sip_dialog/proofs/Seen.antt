@@ -5,7 +5,7 @@ use Rattle.std.specs.List.{AllByRecursion}
 use Rattle.sip_uri.specs.declared.addr.Addr.{Addr}
 use Rattle.sip_dialog.specs.declared.dialog.DialogId.{DialogId}
 use Rattle.sip_dialog.specs.declared.dialog.Dialog.{Dialog}
-use Rattle.sip_dialog.specs.declared.standing.Standing.{Standing}
+use Rattle.sip_dialog.specs.declared.dialog_state.DialogState.{DialogState}
 use Rattle.sip_dialog.specs.Dialogs.{is_known, known, is_named}
 use Rattle.sip_dialog.specs.Rows.{dialog_of, dialogs_in, is_recent, names}
 use Rattle.sip_dialog.specs.Sameness.{as_seen, SameDialogs}
@@ -40,7 +40,7 @@ number_alike true false m n same early = absurd (cc)
 number_alike false true m n same early = absurd (cc)
 number_alike false false m n same early = early refl
 
-pub seen_alike : (id : DialogId) (a b : Standing) → a.has_success ≡ b.has_success → (a.has_success ≡ false → a.number ≡ b.number) → a.since ≡ b.since
+pub seen_alike : (id : DialogId) (a b : DialogState) → a.has_success ≡ b.has_success → (a.has_success ≡ false → a.number ≡ b.number) → a.since ≡ b.since
     → a.addresses ≡ b.addresses → as_seen (dialog_of id a) ≡ as_seen (dialog_of id b)
 seen_alike id a b success early since addresses =
     ap (λ (n : ℕ). made_of id n a.has_success a.since a.addresses) (number_alike a.has_success b.has_success a.number b.number success early)
@@ -110,7 +110,7 @@ seen_same now rows others alone sized met =
     (seen_many now rows ∙ sized ∙ sym (seen_many now others))
 
 -- a row of this name that is seen so stands among all
-pub row_stands : (id : DialogId) (standing : Standing) (rows : List Row) (at : ℕ) (x : Row) → slice_get rows at ≡ Some x → x.0 ≡ id
+pub row_stands : (id : DialogId) (standing : DialogState) (rows : List Row) (at : ℕ) (x : Row) → slice_get rows at ≡ Some x → x.0 ≡ id
     → ((k : DialogId) → as_seen (dialog_of k x.1) ≡ as_seen (dialog_of k standing)) → Stands (as_seen (dialog_of id standing)) (map as_seen (dialogs_in rows))
 row_stands id standing rows at x there named alike = λ test.
     let same : seen x ≡ as_seen (dialog_of id standing) = ap (λ (k : DialogId). as_seen (dialog_of k x.1)) named ∙ alike id in

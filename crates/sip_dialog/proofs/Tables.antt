@@ -12,7 +12,7 @@ use Rattle.sip_dialog.specs.declared.dialog.Dialog.{Dialog}
 use Rattle.sip_dialog.specs.declared.dialog.InviteAnswer.{InviteAnswer}
 use Rattle.sip_dialog.specs.declared.error.DialogError.{DialogError}
 use Rattle.sip_dialog.specs.declared.error.DialogError.TheVariants.{NoMemory, Full}
-use Rattle.sip_dialog.specs.declared.standing.Standing.{Standing}
+use Rattle.sip_dialog.specs.declared.dialog_state.DialogState.{DialogState}
 use Rattle.sip_dialog.specs.Addresses.{is_same_addr}
 use Rattle.sip_dialog.specs.Dialogs.{is_known, known, is_named, holds, is_in_dialog, edited, learnt, knows, is_full_for, answered_again, begun, without_dialog}
 use Rattle.sip_dialog.specs.Rows.{names, dialog_of, dialogs_in, is_recent, StandsAt, StandsNowhere, IsKnownAt, IsTakenOut}
@@ -187,7 +187,7 @@ module _ (now : ℕ) (id : DialogId) (edit : Dialog → Dialog) where
     by_test true = refl
     by_test false = again (is_recent now r.1) (p (dialog r))
 
-  pub edited_at : (rows : List Row) (at : ℕ) (x : Row) (w : Standing) → StandsAt id rows at → slice_get rows at ≡ Some x → is_recent now x.1 ≡ true
+  pub edited_at : (rows : List Row) (at : ℕ) (x : Row) (w : DialogState) → StandsAt id rows at → slice_get rows at ≡ Some x → is_recent now x.1 ≡ true
       → ((k : DialogId) → dialog_of k w ≡ edit (dialog_of k x.1))
       → SameDialogs now (dialogs_in (set rows at (x.0, w))) (edited now id edit (dialogs_in rows))
   edited_at rows at x w h e recent makes = λ p.
@@ -243,7 +243,7 @@ module _ (now : ℕ) (id : DialogId) (edit : Dialog → Dialog) where
       ∙ sym (count_filter p (is_known now) (map one (known now ds)))
 
 -- an edit of the row that was met, and none where none was
-pub edit_met : (now : ℕ) (id : DialogId) (edit : Dialog → Dialog) (old rows : List Row) (at : ℕ) (x : Row) (w : Standing)
+pub edit_met : (now : ℕ) (id : DialogId) (edit : Dialog → Dialog) (old rows : List Row) (at : ℕ) (x : Row) (w : DialogState)
     → SameDialogs now (dialogs_in rows) (dialogs_in old) → IsKnownAt now id rows at
     → slice_get rows at ≡ Some x → ((k : DialogId) → dialog_of k w ≡ edit (dialog_of k x.1))
     → SameDialogs now (dialogs_in (set rows at (x.0, w))) (edited now id edit (dialogs_in old))

@@ -1,13 +1,13 @@
 //! The calls on the dialogs that are known (RFC 3261 12): what is asked of them, and what begins, renews and ends one.
 ghost use Rattle.std.specs.Prelude.{◌≡◌, ◌≢◌, ◌↔◌, ◌≤◌, ◌+◌, ℕ, true, [], map, Err, IfErr, OnOk, OnErr};
-ghost use Rattle.sip_base.specs.Keyed.{fed_first};
+ghost use Rattle.sip_base.specs.KeyedHasher.{fed_first};
 ghost use Rattle.sip_dialog.specs.declared.error.DialogError.TheVariants.{NoMemory, Full};
 ghost use Rattle.sip_dialog.specs.Dialogs.{is_in_dialog, is_full_for, learnt, taught, renewed, without_dialog, after_invite};
 ghost use Rattle.sip_dialog.specs.Sameness.{as_seen, SameDialogs};
 
 use crate::dialog::{DialogId, InviteAnswer};
 use crate::error::DialogError;
-use crate::rows::Rows;
+use crate::rows::DialogRows;
 use sip_uri::Addr;
 use std::alloc::Global;
 use std::marker::Model;
@@ -18,7 +18,7 @@ use std::marker::Model;
 /// wanted among 4,096.
 #[derive(Drop)]
 pub struct Dialogs {
-    rows: Rows,
+    rows: DialogRows,
 }
 
 impl Model for Dialogs {
@@ -41,7 +41,7 @@ impl Dialogs {
         ensures secret { result.secret ≡ fed_first keys }
     {
         Dialogs {
-            rows: Rows::new(alloc, keys),
+            rows: DialogRows::new(alloc, keys),
         }
     }
 

@@ -2,7 +2,7 @@
 ghost use Rattle.std.specs.Prelude.{◌≡◌, ◌≤◌, ◌<◌, ◌+◌, ◌++◌, ◌∷◌, [], Bool, true, not, length, map, filter, count_by, position, MatchOption, ℕ};
 ghost use Rattle.std.specs.Prelude.{is_some, IfSome, IfNone, IfErr, Err, nat_le, ◌↔◌, ◌≢◌, OnOk, OnErr, IsOk};
 ghost use Rattle.std.specs.List.{AllByRecursion};
-ghost use Rattle.sip_base.specs.Keyed.{fed_first};
+ghost use Rattle.sip_base.specs.KeyedHasher.{fed_first};
 ghost use Rattle.sip_dialog.specs.declared.error.DialogError.TheVariants.{NoMemory, Full};
 ghost use Rattle.sip_dialog.specs.Dialogs.{known, knows, is_in_dialog, learnt, taught, renewed, is_full_for, begun, after_invite, without_dialog};
 ghost use Rattle.sip_dialog.specs.declared.dialog.DialogId.{DialogId};
@@ -15,11 +15,11 @@ ghost use Rattle.sip_dialog.specs.Sameness.{as_seen, SameDialogs};
 ghost use Rattle.sip_dialog.specs.Met.{IsMet, Stands};
 
 use crate::dialog::{DialogId, InviteAnswer};
+use crate::dialog_state::{DialogState, earlier_end};
 use crate::digests::Digests;
 use crate::error::DialogError;
 use crate::naming::{is_same_dialog, is_same_name};
-use crate::standing::{Standing, earlier_end};
-use sip_base::Keyed;
+use sip_base::KeyedHasher;
 use sip_uri::Addr;
 use std::alloc::{AllocError, Global};
 use std::hash::{BuildHasher, Hash, Hasher};
@@ -32,18 +32,18 @@ const KNOWN: usize = 4096;
 /// looked at where an INVITE leaves the open requests. A name is found by its digest under a secret. Seen as all
 /// of them, in any order, how many more can be put in with no memory, and the secret.
 #[derive(Drop)]
-pub(crate) struct Rows {
-    rows: Vec<(DialogId, Standing)>,
+pub(crate) struct DialogRows {
+    rows: Vec<(DialogId, DialogState)>,
     /// Of each row the digest of its name.
     digests: Digests,
-    keyed: Keyed,
+    keyed: KeyedHasher,
     /// How many stand in front: behind them all have a 2xx.
     early: usize,
     /// The moment before which none of their dialogs ends, in milliseconds.
     until: u64,
 }
 
-impl Model for Rows {
+impl Model for DialogRows {
     ghost use Rattle.sip_dialog.specs.Rows.{Entries};
 
     ghost Value = { Entries };
@@ -63,7 +63,7 @@ impl Model for Rows {
 
 /// The digest of a name, alike for both sides of a call.
 #[tactic(auto, unfolding(crate::specs::Naming::digest_of))]
-fn digest_of(keyed: &Keyed, id: &DialogId) -> u64
+fn digest_of(keyed: &KeyedHasher, id: &DialogId) -> u64
     ensures { result ≡ digest_of keyed.now id.now }
 {
     let mut state = keyed.build_hasher();
@@ -72,7 +72,7 @@ fn digest_of(keyed: &Keyed, id: &DialogId) -> u64
 }
 
 /// Where the row of a name stands, row by row. Called only where two have one digest.
-fn search(rows: &[(DialogId, Standing)], id: &DialogId) -> Option<usize>
+fn search(rows: &[(DialogId, DialogState)], id: &DialogId) -> Option<usize>
     ensures { result ≡ position (λ row. names id.now row.0) rows.now }
 {
     rows.iter().position(|row| is_same_dialog(&row.0, id))
@@ -80,7 +80,7 @@ fn search(rows: &[(DialogId, Standing)], id: &DialogId) -> Option<usize>
 
 /// The moment at which the first of the rows' dialogs ends, in milliseconds. Called only where as many rows stand as may be
 /// known.
-fn first_end(rows: &[(DialogId, Standing)]) -> u64
+fn first_end(rows: &[(DialogId, DialogState)]) -> u64
     ensures { AreKnownBefore result rows.now }
 {
     let mut until = u64::MAX;
@@ -91,14 +91,14 @@ fn first_end(rows: &[(DialogId, Standing)]) -> u64
 }
 
 /// How many rows are of dialogs that are known.
-fn count_recent(rows: &[(DialogId, Standing)], now: u64) -> usize
+fn count_recent(rows: &[(DialogId, DialogState)], now: u64) -> usize
     ensures { result ≡ length (filter (λ row. is_recent now row.1) rows.now) }
 {
     rows.iter().filter(|row| row.1.is_recent(now)).count()
 }
 
 /// Only where a row has this name, byte by byte, and is seen so by later steps.
-fn is_row_of(row: &(DialogId, Standing), id: &DialogId, standing: &Standing) -> bool
+fn is_row_of(row: &(DialogId, DialogState), id: &DialogId, standing: &DialogState) -> bool
     ensures name { result ≡ true → row.now.0 ≡ id.now }
     ensures seen { result ≡ true → (k : DialogId) → as_seen (dialog_of k row.now.1) ≡ as_seen (dialog_of k standing.now) }
 {
@@ -109,7 +109,7 @@ fn is_row_of(row: &(DialogId, Standing), id: &DialogId, standing: &Standing) -> 
 }
 
 /// Only where each of some rows that is of a dialog which is known stands in a table, as later steps see it.
-fn are_met(rows: &[(DialogId, Standing)], other: &Rows, now: u64) -> bool
+fn are_met(rows: &[(DialogId, DialogState)], other: &DialogRows, now: u64) -> bool
     ensures { result ≡ true → AllByRecursion (IsMet now other.now.entries) rows.now }
 {
     for row in rows {
@@ -120,16 +120,16 @@ fn are_met(rows: &[(DialogId, Standing)], other: &Rows, now: u64) -> bool
     true
 }
 
-impl Rows {
+impl DialogRows {
     /// No rows. Names are hashed under the secret `keys`.
     pub(crate) fn new(alloc: Global, keys: u128) -> Self
         ensures entries { result.entries ≡ [] }
         ensures secret { result.secret ≡ fed_first keys }
     {
-        Rows {
+        DialogRows {
             rows: Vec::new(alloc),
             digests: Digests::new(alloc),
-            keyed: Keyed::new(keys),
+            keyed: KeyedHasher::new(keys),
             early: 0,
             until: u64::MAX,
         }
@@ -226,7 +226,7 @@ impl Rows {
     }
 
     /// Only where a row of another table stands here under the same name, byte by byte, and is seen alike by later steps.
-    fn has(&self, id: &DialogId, standing: &Standing) -> bool
+    fn has(&self, id: &DialogId, standing: &DialogState) -> bool
         ensures { result ≡ true → Stands (as_seen (dialog_of id.now standing.now)) (map as_seen (dialogs_in self.now.entries)) }
     {
         let digest = self.digest(id);
@@ -237,7 +237,7 @@ impl Rows {
     }
 
     /// Only where a row of another table isn't of a dialog that is known, or stands here as later steps see it.
-    fn meets(&self, row: &(DialogId, Standing), now: u64) -> bool
+    fn meets(&self, row: &(DialogId, DialogState), now: u64) -> bool
         ensures { result ≡ true → IsMet now self.now.entries row.now }
     {
         if !row.1.is_recent(now) {
@@ -248,7 +248,7 @@ impl Rows {
 
     /// Only where another table knows the same dialogs, as later steps see them: as many, and each that is known here. A look-up for
     /// each.
-    pub(crate) fn is_same(&self, other: &Rows, now: u64) -> bool
+    pub(crate) fn is_same(&self, other: &DialogRows, now: u64) -> bool
         ensures { result ≡ true → SameDialogs now (map as_seen (dialogs_in self.now.entries))
             (map as_seen (dialogs_in other.now.entries)) }
     {
@@ -411,7 +411,7 @@ impl Rows {
         let last = self.rows.len();
         let is_success = answer.is_success;
         let until = earlier_end(self.until, answer.arrived_at);
-        self.rows.push_reserved(Standing::begin(answer));
+        self.rows.push_reserved(DialogState::begin(answer));
         self.until = until;
         if !is_success {
             self.rows.swap(self.early, last);

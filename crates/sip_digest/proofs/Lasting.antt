@@ -6,7 +6,7 @@ use Rattle.std.specs.Option.{option_map_or}
 use Rattle.std.proofs.lemmas.List.{drop_all, drop_more, length-drop, length-map, take_all, take_more_same}
 use Rattle.std.proofs.lemmas.Option.{get_or_from_slice_get, slice_get-get_or, slice_get_past}
 use Rattle.sip_digest.specs.declared.nonces.Nonce.{Nonce}
-use Rattle.sip_digest.specs.declared.nonces.Row.{Row}
+use Rattle.sip_digest.specs.declared.nonces.NonceRow.{NonceRow}
 use Rattle.sip_digest.specs.Nonces.{is_live, lasting}
 use Rattle.sip_digest.specs.Rows.{nonces_in}
 use Rattle.sip_digest.proofs.Lookups.{blank}
@@ -44,15 +44,15 @@ none_lasts now ns place le = let none : drop place ns ≡ [] = drop_all place ns
 -- ---- places
 
 -- as many nonces as rows
-pub as_many : (rows : List Row) → length (nonces_in rows) ≡ length rows
-as_many rows = length-map rows (λ (r : Row). r.nonce)
+pub as_many : (rows : List NonceRow) → length (nonces_in rows) ≡ length rows
+as_many rows = length-map rows (λ (r : NonceRow). r.nonce)
 
 -- no row stands past the last
-pub none_at : (rows : List Row) (place : ℕ) → length rows ≤ place → slice_get (nonces_in rows) place ≡ None
+pub none_at : (rows : List NonceRow) (place : ℕ) → length rows ≤ place → slice_get (nonces_in rows) place ≡ None
 none_at rows place le = slice_get_past (nonces_in rows) place (omega (arith, as_many rows, le))
 
 -- how many stand from a place on
-pub many_from : (rows : List Row) (from many len : ℕ) → len ≡ length rows → many ≡ len - from → many ≡ length (drop from (nonces_in rows))
+pub many_from : (rows : List NonceRow) (from many len : ℕ) → len ≡ length rows → many ≡ len - from → many ≡ length (drop from (nonces_in rows))
 many_from rows from many len is count = omega (arith, is, count, as_many rows, length-drop from (nonces_in rows))
 
 -- ---- from a place on

@@ -10,7 +10,7 @@ use Rattle.std.proofs.lemmas.List.Folds.{position_or_len_push, find_at}
 use Rattle.std.specs.Option.{option_map}
 use Rattle.std.proofs.lemmas.Option.{cond_some, slice_get-map, slice_get_past, slice_get-get_or, slice_get_read, get_or_from_slice_get}
 use Rattle.sip_digest.specs.declared.nonces.Nonce.{Nonce}
-use Rattle.sip_digest.specs.declared.nonces.Row.{Row}
+use Rattle.sip_digest.specs.declared.nonces.NonceRow.{NonceRow}
 use Rattle.sip_digest.specs.Nonces.{is_live, is_this}
 use Rattle.sip_digest.specs.Rows.{bucket_of, nonces_in, buckets_of, gaps_in, passed_since, IsNewest, AreLinked, AreKept}
 use Rattle.sip_digest.proofs.Rows.{nonce_at}
@@ -141,14 +141,14 @@ seek_stopped nonces word now front place other s =
     ∙ s.left
 
 -- the look-up begins at the mark of the word's bucket
-pub newest_at : (rows : List Row) (turn : ℕ) (marks : List ℕ) (word bucket mark front : ℕ) → AreKept (buckets_of (nonces_in rows)) (gaps_in rows) turn marks
+pub newest_at : (rows : List NonceRow) (turn : ℕ) (marks : List ℕ) (word bucket mark front : ℕ) → AreKept (buckets_of (nonces_in rows)) (gaps_in rows) turn marks
     → bucket ≡ bucket_of word → mark ≡ get_or marks bucket mark → front ≡ length rows - passed_since mark turn
     → IsNewest (bucket_of word) (buckets_of (nonces_in rows)) (length (nonces_in rows)) front
 newest_at rows turn marks word bucket mark front k b read is =
     let mark_is : mark ≡ get_or marks (bucket_of word) 0 =
     get_or_read marks bucket mark (omega (arith, k.sized)) read 0 ∙ ap (λ (m : ℕ). get_or marks m 0) b in
     let many : length (buckets_of (nonces_in rows)) ≡ length (nonces_in rows) = length-map (nonces_in rows) (λ (n : Nonce). bucket_of n.word) in
-    let as_many : length (nonces_in rows) ≡ length rows = length-map rows (λ (r : Row). r.nonce) in
+    let as_many : length (nonces_in rows) ≡ length rows = length-map rows (λ (r : NonceRow). r.nonce) in
     let from : length (buckets_of (nonces_in rows)) - passed_since (get_or marks (bucket_of word) 0) turn ≡ front =
     ap (λ (n : ℕ). n - passed_since (get_or marks (bucket_of word) 0) turn) (many ∙ as_many)
     ∙ ap (λ (m : ℕ). length rows - passed_since m turn) (sym mark_is) ∙ sym is in
@@ -164,32 +164,33 @@ found_none test xs e = find_at test xs ∙ slice_get_past xs (position_or_len te
 found_some : {X : Type 0} (test : X → Bool) (xs : List X) (i : ℕ) → position test xs ≡ Some i → find test xs ≡ slice_get xs i
 found_some test xs i e = find_at test xs ∙ ap (slice_get xs) (cond_some (nat_lt (position_or_len test xs) (length xs)) _ _ e).1
 
-pub found_nonce : (rows : List Row) (nonces : List Nonce) (test : Nonce → Bool) (i : ℕ) (row : Row) → nonces_in rows ≡ nonces → position test nonces ≡ Some i
+pub found_nonce : (rows : List NonceRow) (nonces : List Nonce) (test : Nonce → Bool) (i : ℕ) (row : NonceRow) → nonces_in rows ≡ nonces → position test nonces ≡ Some i
     → i < length rows → row ≡ get_or rows i row → find test nonces ≡ Some row.nonce
 found_nonce rows nonces test i row is found within read =
     found_some test nonces i found ∙ ap (λ (ns : List Nonce). slice_get ns i) (sym is) ∙ nonce_at rows i row (slice_get_read rows (length rows) i row refl within read)
 
 -- the bucket of a row that was read
-bucket_at : (rows : List Row) (i : ℕ) (row : Row) → slice_get rows i ≡ Some row → get_or (buckets_of (nonces_in rows)) i 0 ≡ bucket_of row.nonce.word
+bucket_at : (rows : List NonceRow) (i : ℕ) (row : NonceRow) → slice_get rows i ≡ Some row → get_or (buckets_of (nonces_in rows)) i 0 ≡ bucket_of row.nonce.word
 bucket_at rows i row got =
     get_or_from_slice_get (buckets_of (nonces_in rows)) i (bucket_of row.nonce.word) 0
     (slice_get-map (λ (n : Nonce). bucket_of n.word) (nonces_in rows) i ∙ ap (option_map (λ (n : Nonce). bucket_of n.word)) (nonce_at rows i row got))
 
 -- a row of the bucket is passed
-pub seek_past : (rows : List Row) (word now front at : ℕ) (place : Option ℕ) (row : Row) → AreLinked (buckets_of (nonces_in rows)) (gaps_in rows) → at ≡ front - 1
+pub seek_past : (rows : List NonceRow) (word now front at : ℕ) (place : Option ℕ) (row : NonceRow) → AreLinked (buckets_of (nonces_in rows)) (gaps_in rows)
+    → at ≡ front - 1
     → 0 < front
     → slice_get rows at ≡ Some row → bucket_of row.nonce.word ≡ bucket_of word → Seeks (nonces_in rows) word now front place
     → Seeks (nonces_in rows) word now (at - row.gap) (cond (is_this word now row.nonce) (Some at) place)
 seek_past rows word now front at place row linked is some got same s =
     let nonce_is : get_or (nonces_in rows) at blank ≡ row.nonce = get_or_from_slice_get (nonces_in rows) at row.nonce blank (nonce_at rows at row got) in
     let gap_is : get_or (gaps_in rows) at 0 ≡ row.gap =
-    get_or_from_slice_get (gaps_in rows) at row.gap 0 (slice_get-map (λ (r : Row). r.gap) rows at ∙ ap (option_map (λ (r : Row). r.gap)) got) in
+    get_or_from_slice_get (gaps_in rows) at row.gap 0 (slice_get-map (λ (r : NonceRow). r.gap) rows at ∙ ap (option_map (λ (r : NonceRow). r.gap)) got) in
     subst (λ (n : Nonce). Seeks (nonces_in rows) word now (at - row.gap) (cond (is_this word now n) (Some at) place)) nonce_is
     (subst (λ (g : ℕ). Seeks (nonces_in rows) word now (at - g) (cond (is_this word now (get_or (nonces_in rows) at blank)) (Some at) place)) gap_is
     (seek_on (nonces_in rows) (gaps_in rows) word now front at place linked (omega arith) (bucket_at rows at row got ∙ same) s))
 
 -- a row of another bucket ends it
-pub seek_other : (rows : List Row) (word now front at : ℕ) (place : Option ℕ) (row : Row) → at ≡ front - 1 → slice_get rows at ≡ Some row
+pub seek_other : (rows : List NonceRow) (word now front at : ℕ) (place : Option ℕ) (row : NonceRow) → at ≡ front - 1 → slice_get rows at ≡ Some row
     → bucket_of row.nonce.word ≢ bucket_of word
     → Seeks (nonces_in rows) word now front place → place ≡ position (is_this word now) (nonces_in rows)
 seek_other rows word now front at place row is got other s =
@@ -197,13 +198,13 @@ seek_other rows word now front at place row is got other s =
     (λ e. other (sym (bucket_at rows at row got) ∙ ap (λ (k : ℕ). get_or (buckets_of (nonces_in rows)) k 0) is ∙ e)) s
 
 -- there is a row
-pub seek_row : (rows : List Row) (word now front at : ℕ) (place : Option ℕ) → at ≡ front - 1 → 0 < front → Seeks (nonces_in rows) word now front place
+pub seek_row : (rows : List NonceRow) (word now front at : ℕ) (place : Option ℕ) → at ≡ front - 1 → 0 < front → Seeks (nonces_in rows) word now front place
     → slice_get rows at ≡ None → ⊥
 seek_row rows word now front at place is some s none =
-    let lt : at < length rows = omega (arith, s.within, length-map rows (λ (r : Row). r.nonce)) in
+    let lt : at < length rows = omega (arith, s.within, length-map rows (λ (r : NonceRow). r.nonce)) in
     by_row (get_or rows at blank_row) (slice_get-get_or rows at blank_row lt) where
-      blank_row : Row
+      blank_row : NonceRow
       blank_row = record { nonce = blank; gap = 0 }
 
-      by_row : (row : Row) → slice_get rows at ≡ Some row → ⊥
+      by_row : (row : NonceRow) → slice_get rows at ≡ Some row → ⊥
       by_row row got = absurd cc

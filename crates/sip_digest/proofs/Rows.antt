@@ -7,7 +7,7 @@ use Rattle.std.proofs.lemmas.List.{get_or_append_left, get_or_push, get_or-set_s
 use Rattle.std.specs.Option.{option_map}
 use Rattle.std.proofs.lemmas.Option.{slice_get-map}
 use Rattle.sip_digest.specs.declared.nonces.Nonce.{Nonce}
-use Rattle.sip_digest.specs.declared.nonces.Row.{Row}
+use Rattle.sip_digest.specs.declared.nonces.NonceRow.{NonceRow}
 use Rattle.sip_digest.specs.Nonces.{keep_last, is_this, counted}
 use Rattle.sip_digest.specs.Rows.{bucket_of, nonces_in, buckets_of, gaps_in, passed_since, IsNewest, AreLinked, AreKept}
 use Rattle.sip_digest.proofs.Counting.{with_count, counted_at, is_there}
@@ -203,11 +203,11 @@ map_kept {X = X} {Y = Y} f xs x =
     ∙ ap (λ (n : ℕ). drop (n - 4096) (map f (xs ++ x ∷ []))) (sym (length-map (xs ++ x ∷ []) f))
     ∙ ap (λ (ys : List Y). keep_last 4096 ys) (map_push f xs x)
 
-nonces_kept : (rows : List Row) (row : Row) → nonces_in (keep_last 4096 (rows ++ row ∷ [])) ≡ keep_last 4096 (nonces_in rows ++ row.nonce ∷ [])
+nonces_kept : (rows : List NonceRow) (row : NonceRow) → nonces_in (keep_last 4096 (rows ++ row ∷ [])) ≡ keep_last 4096 (nonces_in rows ++ row.nonce ∷ [])
 nonces_kept rows row = map_kept (λ r. r.nonce) rows row
 
 -- a row comes into a state
-rows_kept : (rows : List Row) (row : Row) (turn : ℕ) (marks : List ℕ) → row.gap ≡ passed_since (get_or marks (bucket_of row.nonce.word) 0) turn
+rows_kept : (rows : List NonceRow) (row : NonceRow) (turn : ℕ) (marks : List ℕ) → row.gap ≡ passed_since (get_or marks (bucket_of row.nonce.word) 0) turn
     → AreKept (buckets_of (nonces_in rows)) (gaps_in rows) turn marks
     → AreKept (buckets_of (nonces_in (keep_last 4096 (rows ++ row ∷ [])))) (gaps_in (keep_last 4096 (rows ++ row ∷ []))) ((turn + 1) % 65536)
     (slice_set marks (bucket_of row.nonce.word) ((turn + 1) % 65536))
@@ -216,22 +216,22 @@ rows_kept rows row turn marks is k =
     let bucket : ℕ = bucket_of row.nonce.word in
     let e : buckets_of (nonces_in (keep_last 4096 (rows ++ row ∷ []))) ≡ keep_last 4096 (buckets_of (nonces_in rows) ++ bucket ∷ []) =
     ap buckets_of (nonces_kept rows row) ∙ map_kept (λ (n : Nonce). bucket_of n.word) (nonces_in rows) row.nonce in
-    let f : gaps_in (keep_last 4096 (rows ++ row ∷ [])) ≡ keep_last 4096 (gaps_in rows ++ row.gap ∷ []) = map_kept (λ (r : Row). r.gap) rows row in
+    let f : gaps_in (keep_last 4096 (rows ++ row ∷ [])) ≡ keep_last 4096 (gaps_in rows ++ row.gap ∷ []) = map_kept (λ (r : NonceRow). r.gap) rows row in
     subst (λ (bs : List ℕ). AreKept bs (gaps_in (keep_last 4096 (rows ++ row ∷ []))) after (set marks bucket after)) (sym e)
     (subst (λ (gs : List ℕ). AreKept (keep_last 4096 (buckets_of (nonces_in rows) ++ bucket ∷ [])) gs after (set marks bucket after)) (sym f)
     (kept_on bucket row.gap (buckets_of (nonces_in rows)) (gaps_in rows) turn marks (omega arith) is k))
 
 -- the same of a row that is put behind the others
-pub kept_behind : (before after : List Row) (row : Row) (bucket turn : ℕ) (marks : List ℕ) → after ≡ keep_last 4096 (before ++ row ∷ [])
+pub kept_behind : (before after : List NonceRow) (row : NonceRow) (bucket turn : ℕ) (marks : List ℕ) → after ≡ keep_last 4096 (before ++ row ∷ [])
     → bucket ≡ bucket_of row.nonce.word → row.gap ≡ passed_since (get_or marks bucket 0) turn → AreKept (buckets_of (nonces_in before)) (gaps_in before) turn marks
     → AreKept (buckets_of (nonces_in after)) (gaps_in after) ((turn + 1) % 65536) (slice_set marks bucket ((turn + 1) % 65536))
 kept_behind before after row bucket turn marks e b is k =
-    subst (λ (rows : List Row). AreKept (buckets_of (nonces_in rows)) (gaps_in rows) ((turn + 1) % 65536) (slice_set marks bucket ((turn + 1) % 65536))) (sym e)
+    subst (λ (rows : List NonceRow). AreKept (buckets_of (nonces_in rows)) (gaps_in rows) ((turn + 1) % 65536) (slice_set marks bucket ((turn + 1) % 65536))) (sym e)
     (subst (λ (m : ℕ). AreKept (buckets_of (nonces_in (keep_last 4096 (before ++ row ∷ [])))) (gaps_in (keep_last 4096 (before ++ row ∷ []))) ((turn + 1) % 65536)
     (slice_set marks m ((turn + 1) % 65536))) (sym b)
     (rows_kept before row turn marks (is ∙ ap (λ (m : ℕ). passed_since (get_or marks m 0) turn) b) k))
 
-pub nonces_behind : (before after : List Row) (row : Row) (was : List Nonce) → after ≡ keep_last 4096 (before ++ row ∷ []) → nonces_in before ≡ was
+pub nonces_behind : (before after : List NonceRow) (row : NonceRow) (was : List Nonce) → after ≡ keep_last 4096 (before ++ row ∷ []) → nonces_in before ≡ was
     → nonces_in after ≡ keep_last 4096 (was ++ row.nonce ∷ [])
 nonces_behind before after row was e is =
     ap nonces_in e ∙ nonces_kept before row ∙ ap (λ (ns : List Nonce). keep_last 4096 (ns ++ row.nonce ∷ [])) is
@@ -244,27 +244,28 @@ unchanged {X = X} {Y = Y} f (z ∷ zs) zero x y got e =
     let same : z ≡ x = cc in ap (λ (v : Y). v ∷ map f zs) (e ∙ ap f (sym same))
 unchanged {X = X} {Y = Y} f (z ∷ zs) (suc i) x y got e = ap (λ (ys : List Y). f z ∷ ys) (unchanged f zs i x y got e)
 
-abbrev pub row_with : Row → ℕ → Row
+abbrev pub row_with : NonceRow → ℕ → NonceRow
 row_with row count = record { nonce = with_count row.nonce count; gap = row.gap }
 
-pub nonce_at : (rows : List Row) (i : ℕ) (row : Row) → slice_get rows i ≡ Some row → slice_get (nonces_in rows) i ≡ Some row.nonce
-nonce_at rows i row got = slice_get-map (λ (r : Row). r.nonce) rows i ∙ ap (option_map (λ (r : Row). r.nonce)) got
+pub nonce_at : (rows : List NonceRow) (i : ℕ) (row : NonceRow) → slice_get rows i ≡ Some row → slice_get (nonces_in rows) i ≡ Some row.nonce
+nonce_at rows i row got = slice_get-map (λ (r : NonceRow). r.nonce) rows i ∙ ap (option_map (λ (r : NonceRow). r.nonce)) got
 
-nonces_with : (rows : List Row) (i count : ℕ) (row : Row) → nonces_in (set rows i (row_with row count)) ≡ set (nonces_in rows) i (with_count row.nonce count)
-nonces_with rows i count row = map-set (λ (r : Row). r.nonce) rows i (row_with row count)
+nonces_with : (rows : List NonceRow) (i count : ℕ) (row : NonceRow) → nonces_in (set rows i (row_with row count)) ≡ set (nonces_in rows) i (with_count row.nonce count)
+nonces_with rows i count row = map-set (λ (r : NonceRow). r.nonce) rows i (row_with row count)
 
-pub kept_with : (rows : List Row) (turn : ℕ) (marks : List ℕ) (i count : ℕ) (row : Row) → slice_get rows i ≡ Some row
+pub kept_with : (rows : List NonceRow) (turn : ℕ) (marks : List ℕ) (i count : ℕ) (row : NonceRow) → slice_get rows i ≡ Some row
     → AreKept (buckets_of (nonces_in rows)) (gaps_in rows) turn marks
     → AreKept (buckets_of (nonces_in (slice_set rows i (row_with row count)))) (gaps_in (slice_set rows i (row_with row count))) turn marks
 kept_with rows turn marks i count row got k =
     let e : buckets_of (nonces_in (set rows i (row_with row count))) ≡ buckets_of (nonces_in rows) =
     ap buckets_of (nonces_with rows i count row) ∙ unchanged (λ (n : Nonce). bucket_of n.word) (nonces_in rows) i row.nonce (with_count row.nonce count)
     (nonce_at rows i row got) refl in
-    let f : gaps_in (set rows i (row_with row count)) ≡ gaps_in rows = unchanged (λ (r : Row). r.gap) rows i row (row_with row count) got refl in
+    let f : gaps_in (set rows i (row_with row count)) ≡ gaps_in rows = unchanged (λ (r : NonceRow). r.gap) rows i row (row_with row count) got refl in
     subst (λ (bs : List ℕ). AreKept bs (gaps_in (set rows i (row_with row count))) turn marks) (sym e)
     (subst (λ (gs : List ℕ). AreKept (buckets_of (nonces_in rows)) gs turn marks) (sym f) k)
 
-pub counted_with : (rows : List Row) (nonces : List Nonce) (word now count i : ℕ) (row : Row) → nonces_in rows ≡ nonces → position (is_this word now) nonces ≡ Some i
+pub counted_with : (rows : List NonceRow) (nonces : List Nonce) (word now count i : ℕ) (row : NonceRow) → nonces_in rows ≡ nonces
+    → position (is_this word now) nonces ≡ Some i
     → slice_get rows i ≡ Some row → nonces_in (slice_set rows i (row_with row count)) ≡ counted word count nonces now
 counted_with rows nonces word now count i row is found got =
     nonces_with rows i count row
@@ -272,8 +273,9 @@ counted_with rows nonces word now count i row is found got =
     ∙ ap (λ (ns : List Nonce). counted word count ns now) is
 
 -- a place that was found has a row
-pub found_row : (rows : List Row) (nonces : List Nonce) (word now i : ℕ) → nonces_in rows ≡ nonces → position (is_this word now) nonces ≡ Some i → slice_get rows i ≡ None
+pub found_row : (rows : List NonceRow) (nonces : List Nonce) (word now i : ℕ) → nonces_in rows ≡ nonces → position (is_this word now) nonces ≡ Some i
+    → slice_get rows i ≡ None
     → ⊥
 found_row rows nonces word now i is found none =
     is_there word now (nonces_in rows) i (ap (position (is_this word now)) is ∙ found)
-    (slice_get-map (λ (r : Row). r.nonce) rows i ∙ ap (option_map (λ (r : Row). r.nonce)) none)
+    (slice_get-map (λ (r : NonceRow). r.nonce) rows i ∙ ap (option_map (λ (r : NonceRow). r.nonce)) none)

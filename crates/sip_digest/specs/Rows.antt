@@ -2,14 +2,14 @@
 -- linked from the newest to the oldest, so that a look-up passes them alone.
 use Rattle.std.specs.Prelude.{◌≡◌, ◌≢◌, ℕ, ◌+◌, ◌-◌, ◌%◌, ◌<◌, ◌≤◌, List, map, length, get_or}
 use Rattle.sip_digest.specs.declared.nonces.Nonce.{Nonce}
-use Rattle.sip_digest.specs.declared.nonces.Row.{Row}
+use Rattle.sip_digest.specs.declared.nonces.NonceRow.{NonceRow}
 
 -- the bucket of a word
 abbrev pub bucket_of : ℕ → ℕ
 bucket_of word = word % 4096
 
 -- the nonces in rows
-abbrev pub nonces_in : List Row → List Nonce
+abbrev pub nonces_in : List NonceRow → List Nonce
 nonces_in rows = map (λ r. r.nonce) rows
 
 -- the buckets of nonces' words
@@ -17,7 +17,7 @@ abbrev pub buckets_of : List Nonce → List ℕ
 buckets_of nonces = map (λ n. bucket_of n.word) nonces
 
 -- how many rows each of them passes on the way to the next older one of its bucket
-abbrev pub gaps_in : List Row → List ℕ
+abbrev pub gaps_in : List NonceRow → List ℕ
 gaps_in rows = map (λ r. r.gap) rows
 
 -- how many turns passed since a mark; turns are counted round 2^16

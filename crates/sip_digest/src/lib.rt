@@ -8,7 +8,7 @@
 //!   `test_parts`.
 //!
 //! ```text
-//! let Checked { worth, word } = nonces.check(user_a1, &credential, now);
+//! let NonceCheck { worth, word } = nonces.check(user_a1, &credential, now);
 //! ```
 #![tactic(auto)]
 
@@ -29,5 +29,5 @@ pub use answers::{a1, a1_sha256, answer, answer_sha256};
 pub use credential::Credential;
 pub use hex_numbers::hex_number;
 pub use nonce_texts::{nonce_text, word_of};
-pub use nonces::{Checked, Nonce, Nonces, Worth};
+pub use nonces::{Nonce, NonceCheck, Nonces, Worth};
 pub use protection::{Protection, nonce_count};

@@ -45,7 +45,7 @@ pub enum Worth {
 /// What a credential is worth, and the word that its nonce's text names, where the credential is right: by it the nonce is
 /// found again.
 #[derive(Clone, Copy)]
-pub struct Checked {
+pub struct NonceCheck {
     pub worth: Worth,
     pub word: Option<u128>,
 }
@@ -53,7 +53,7 @@ pub struct Checked {
 /// A nonce that is kept, and how many rows stand between it and the next older one of its bucket. Where none is left,
 /// that leads to a row of another bucket, or past the oldest.
 #[derive(Clone, Copy)]
-struct Row {
+struct NonceRow {
     nonce: Nonce,
     gap: u16,
 }
@@ -62,7 +62,7 @@ struct Row {
 /// rows of one bucket alone, from the newest to the oldest: one or two, since words are random.
 #[derive(Drop)]
 pub struct Nonces {
-    rows: VecDeque<Row>,
+    rows: VecDeque<NonceRow>,
     /// How many nonces were issued, round 2^16.
     turn: u16,
     /// What `turn` was when the newest row of each bucket had come.
@@ -115,12 +115,12 @@ impl Nonces {
     /// What a credential is worth at a moment, where the user whose `a1` is given is the one it
     /// names, and its form, realm and URI are right (RFC 2617 3.2.2, 3.3); and the word of its nonce, if the credential
     /// is right.
-    pub fn check(&self, a1: &[u8], credential: &Credential<'_>, now: u64) -> Checked
+    pub fn check(&self, a1: &[u8], credential: &Credential<'_>, now: u64) -> NonceCheck
         ensures worth { result.worth ≡ worth_of self.now a1.now (shown credential.now) now }
         ensures word { result.worth ≡ Right → result.word ≡ Texts.word_of credential.now.nonce.now }
     {
         if !credential.is_answer(a1) {
-            return Checked {
+            return NonceCheck {
                 worth: Worth::Wrong,
                 word: None,
             };
@@ -130,7 +130,7 @@ impl Nonces {
             None => Worth::Stale,
             Some(word) => standing(self.found(word, now), credential.count),
         };
-        Checked { worth, word }
+        NonceCheck { worth, word }
     }
 
     /// Whether another's say the same from a moment on: from the first that lives they are the same, in their order, with their
@@ -161,7 +161,7 @@ impl Nonces {
     {
         let bucket = bucket_of(nonce.word);
         let gap = self.turn.wrapping_sub(self.marks[bucket]);
-        put_behind(&mut self.rows, Row { nonce, gap });
+        put_behind(&mut self.rows, NonceRow { nonce, gap });
         self.turn = self.turn.wrapping_add(1);
         self.marks[bucket] = self.turn;
     }
@@ -188,7 +188,7 @@ impl Nonces {
 
 /// Where the live nonce of a word stands, where the newest row of its bucket, if there is one, is the last of the
 /// first `front`.
-fn place_among(rows: &VecDeque<Row>, mut front: usize, word: u128, now: u64) -> Option<usize>
+fn place_among(rows: &VecDeque<NonceRow>, mut front: usize, word: u128, now: u64) -> Option<usize>
     requires linked { AreLinked (buckets_of (nonces_in rows.now.items)) (gaps_in rows.now.items) }
     requires newest { IsNewest (bucket_of word) (buckets_of (nonces_in rows.now.items)) (length (nonces_in rows.now.items)) front }
     ensures { result ≡ position (is_this word now) (nonces_in rows.now.items) }
@@ -212,7 +212,7 @@ fn place_among(rows: &VecDeque<Row>, mut front: usize, word: u128, now: u64) -> 
 }
 
 /// Puts a row behind the others, where there is room for 4,096. The oldest of so many gives way.
-fn put_behind(rows: &mut VecDeque<Row>, row: Row)
+fn put_behind(rows: &mut VecDeque<NonceRow>, row: NonceRow)
     requires few { length rows.old.items ≤ 4096 }
     requires room { 4096 ≤ deque_capacity rows.old }
     ensures items { rows.new.items ≡ keep_last 4096 (rows.old.items ++ row ∷ []) }
@@ -255,7 +255,7 @@ fn is_this(nonce: &Nonce, word: u128, now: u64) -> bool
 }
 
 /// The nonce at a place, if there is one.
-fn nonce_at(rows: &VecDeque<Row>, place: usize) -> Option<Nonce>
+fn nonce_at(rows: &VecDeque<NonceRow>, place: usize) -> Option<Nonce>
     ensures { result ≡ slice_get (nonces_in rows.now.items) place }
 {
     match rows.get(place) {
@@ -265,7 +265,7 @@ fn nonce_at(rows: &VecDeque<Row>, place: usize) -> Option<Nonce>
 }
 
 /// Whether there is a nonce at a place, and it lives at a moment.
-fn lives_at(rows: &VecDeque<Row>, place: usize, now: u64) -> bool
+fn lives_at(rows: &VecDeque<NonceRow>, place: usize, now: u64) -> bool
     ensures { result
         ≡ option_map_or (Rattle.sip_digest.specs.Nonces.is_live now) (slice_get (nonces_in rows.now.items) place) false }
 {
@@ -276,7 +276,7 @@ fn lives_at(rows: &VecDeque<Row>, place: usize, now: u64) -> bool
 }
 
 /// Where the first nonce stands that lives at a moment; past the last one where none does.
-fn first_live(rows: &VecDeque<Row>, now: u64) -> usize
+fn first_live(rows: &VecDeque<NonceRow>, now: u64) -> usize
     ensures { drop result (nonces_in rows.now.items) ≡ lasting now (nonces_in rows.now.items) }
 {
     for place in 0..rows.len() {
@@ -313,14 +313,24 @@ fn same_nonce(left: Option<Nonce>, right: Option<Nonce>) -> bool
 }
 
 /// Whether one list of rows has at a place the nonce that another has at a place of its own.
-fn same_at(left: &VecDeque<Row>, place: usize, right: &VecDeque<Row>, other: usize) -> bool
+fn same_at(
+    left: &VecDeque<NonceRow>,
+    place: usize,
+    right: &VecDeque<NonceRow>,
+    other: usize,
+) -> bool
     ensures { (result ≡ true) ↔ (slice_get (nonces_in left.now.items) place ≡ slice_get (nonces_in right.now.items) other) }
 {
     same_nonce(nonce_at(left, place), nonce_at(right, other))
 }
 
 /// Whether two lists of rows have the same nonces, each from a place on.
-fn are_alike(left: &VecDeque<Row>, mine: usize, right: &VecDeque<Row>, others: usize) -> bool
+fn are_alike(
+    left: &VecDeque<NonceRow>,
+    mine: usize,
+    right: &VecDeque<NonceRow>,
+    others: usize,
+) -> bool
     ensures { (result ≡ true) ↔ (drop mine (nonces_in left.now.items) ≡ drop others (nonces_in right.now.items)) }
 {
     let count = left.len().saturating_sub(mine);

@@ -7,7 +7,7 @@ use Rattle.sip_text.specs.Words.{is_token_text, is_same_text}
 use Rattle.sip_text.proofs.PartLaws.{only_parts}
 use Rattle.sip_uri.specs.declared.addr.Addr.{Addr}
 use Rattle.sip_uri.specs.Addresses.{ip_text}
-use Rattle.sip_header.specs.declared.parameters.Parameter.{Parameter}
+use Rattle.sip_header.specs.declared.parameters.HeaderParameter.{HeaderParameter}
 use Rattle.sip_header.specs.declared.via.Via.{Via}
 use Rattle.sip_header.specs.Parameters.{IsParameter, parameter_of}
 use Rattle.sip_header.specs.Via.{via_of, IsVia}
@@ -39,7 +39,7 @@ cut_last (b ∷ before) (f ∷ front) text last plain plain_last same =
 
 -- ---- the two parameters
 
-abbrev port : Parameter
+abbrev port : HeaderParameter
 port = record { name = codes "rport"; value = None }
 
 bare : (text : List ℕ) → IsParameter text port → AllPassing is_plain text
@@ -58,7 +58,7 @@ shape sender text asks number source = parts sender (59 ∷ []) text asks number
 behind : (sender text last : List ℕ) → sender ++ (59 ∷ text ++ (59 ∷ last ++ [])) ≡ (sender ++ 59 ∷ text) ++ 59 ∷ last
 behind sender text last = simp (append_assoc, append-nil)
 
-by_texts : (sender host front : List ℕ) (texts : List (List ℕ)) (first : Parameter) (from : Addr) → AllZip IsParameter texts (first ∷ port ∷ []) →
+by_texts : (sender host front : List ℕ) (texts : List (List ℕ)) (first : HeaderParameter) (from : Addr) → AllZip IsParameter texts (first ∷ port ∷ []) →
     is_same_text first.name (codes "rport") ≡ false → is_same_text first.name (codes "received") ≡ false → sender ++ as_written texts ≡ front ++ 59 ∷ codes "rport" →
     with_source host from (sender ∷ texts) ≡ front ++ codes ";rport=" ++ decimal from.port ++ (codes ";received=" ++ ip_text from.ip)
 by_texts sender host front [] first from are asks received whole = absurd are
@@ -76,7 +76,7 @@ by_texts sender host front (a ∷ b ∷ c ∷ texts) first from are asks receive
 
 -- ---- the value
 
-pub asked_last : (value front : List ℕ) (via : Via) (first : Parameter) → via_of value ≡ Some via
+pub asked_last : (value front : List ℕ) (via : Via) (first : HeaderParameter) → via_of value ≡ Some via
     → via.parameters ≡ first ∷ record { name = codes "rport"; value = None } ∷ [] →
     is_same_text first.name (codes "rport") ≡ false → is_same_text first.name (codes "received") ≡ false → value ≡ front ++ codes ";rport" → IsBeforePort value front
 asked_last value front via first is parameters asks received ends = record {
@@ -94,10 +94,11 @@ with_port value front from is = is.edited from
 
 -- ---- whether it asks
 
-either : (t : Bool) (first last : Parameter) → is_some (cond t (Some first) (Some last)) ≡ true
+either : (t : Bool) (first last : HeaderParameter) → is_some (cond t (Some first) (Some last)) ≡ true
 either true first last = refl
 either false first last = refl
 
-pub asks : (parameters : List Parameter) (first : Parameter) → parameters ≡ first ∷ record { name = codes "rport"; value = None } ∷ []
+pub asks : (parameters : List HeaderParameter) (first : HeaderParameter) → parameters ≡ first ∷ record { name = codes "rport"; value = None } ∷ []
     → true ≡ is_some (parameter_of (codes "rport") parameters)
-asks parameters first is = sym (ap (λ (w : List Parameter). is_some (parameter_of (codes "rport") w)) is ∙ either (is_same_text first.name (codes "rport")) first port)
+asks parameters first is = sym (ap (λ (w : List HeaderParameter). is_some (parameter_of (codes "rport") w)) is
+    ∙ either (is_same_text first.name (codes "rport")) first port)

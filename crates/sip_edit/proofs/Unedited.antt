@@ -12,7 +12,7 @@ use Rattle.sip_text.specs.Lists.{trimmed}
 use Rattle.sip_text.specs.Cuts.{parts_at}
 use Rattle.sip_text.proofs.PartLaws.{only_parts}
 use Rattle.sip_uri.specs.declared.addr.Addr.{Addr}
-use Rattle.sip_header.specs.declared.parameters.Parameter.{Parameter}
+use Rattle.sip_header.specs.declared.parameters.HeaderParameter.{HeaderParameter}
 use Rattle.sip_header.specs.declared.via.Via.{Via}
 use Rattle.sip_header.specs.Parameters.{IsAssigned, IsParameterBy, IsParameter, parameter_of}
 use Rattle.sip_header.specs.Via.{via_of, IsVia}
@@ -49,26 +49,29 @@ name_by text name (Some value) h =
     (passing is.left (ap is_token_text is.is_name ∙ h.1)) refl in
     ap trimmed front ∙ is.is_name
 
-pub named : (sought text : List ℕ) (p : Parameter) → IsParameter text p → is_parameter sought text ≡ is_same_text p.name sought
+pub named : (sought text : List ℕ) (p : HeaderParameter) → IsParameter text p → is_parameter sought text ≡ is_same_text p.name sought
 named sought text p is = ap (λ (n : List ℕ). is_same_text n sought) (name_by text p.name p.value is)
 
 -- ---- none of a name
 
-none_here : (sought : List ℕ) (p : Parameter) (ps : List Parameter) (t : Bool) → is_same_text p.name sought ≡ t → is_some (parameter_of sought (p ∷ ps)) ≡ false
+none_here : (sought : List ℕ) (p : HeaderParameter) (ps : List HeaderParameter) (t : Bool) → is_same_text p.name sought ≡ t
+    → is_some (parameter_of sought (p ∷ ps)) ≡ false
     → t ≡ false
 none_here sought p ps false is none = refl
 none_here sought p ps true is none = let never = rw is at none in absurd cc
 
-none_later : (sought : List ℕ) (p : Parameter) (ps : List Parameter) → is_some (parameter_of sought (p ∷ ps)) ≡ false → is_some (parameter_of sought ps) ≡ false
+none_later : (sought : List ℕ) (p : HeaderParameter) (ps : List HeaderParameter) → is_some (parameter_of sought (p ∷ ps)) ≡ false
+    → is_some (parameter_of sought ps) ≡ false
 none_later sought p ps none =
     let other : is_same_text p.name sought ≡ false = none_here sought p ps (is_same_text p.name sought) refl none in
     let here = rw other at none in here
 
-other_name : (sought text : List ℕ) (p : Parameter) (ps : List Parameter) → IsParameter text p → is_some (parameter_of sought (p ∷ ps)) ≡ false
+other_name : (sought text : List ℕ) (p : HeaderParameter) (ps : List HeaderParameter) → IsParameter text p → is_some (parameter_of sought (p ∷ ps)) ≡ false
     → is_parameter sought text ≡ false
 other_name sought text p ps is none = named sought text p is ∙ none_here sought p ps (is_same_text p.name sought) refl none
 
-none_asks : (texts : List (List ℕ)) (ps : List Parameter) → AllZip IsParameter texts ps → is_some (parameter_of (codes "rport") ps) ≡ false → asks_for_port texts ≡ false
+none_asks : (texts : List (List ℕ)) (ps : List HeaderParameter) → AllZip IsParameter texts ps → is_some (parameter_of (codes "rport") ps) ≡ false
+    → asks_for_port texts ≡ false
 none_asks [] ps are none = refl
 none_asks (text ∷ texts) [] are none = absurd are
 none_asks (text ∷ texts) (p ∷ ps) are none =
@@ -77,7 +80,7 @@ none_asks (text ∷ texts) (p ∷ ps) are none =
 abbrev pub as_written : List (List ℕ) → List ℕ
 as_written texts = flat_map (λ text. 59 ∷ text) texts
 
-none_edited : (port : ℕ) (texts : List (List ℕ)) (ps : List Parameter) → AllZip IsParameter texts ps → is_some (parameter_of (codes "rport") ps) ≡ false
+none_edited : (port : ℕ) (texts : List (List ℕ)) (ps : List HeaderParameter) → AllZip IsParameter texts ps → is_some (parameter_of (codes "rport") ps) ≡ false
     → is_some (parameter_of (codes "received") ps) ≡ false
     → flat_map (edited port) texts ≡ as_written texts
 none_edited port [] ps are asks received = refl

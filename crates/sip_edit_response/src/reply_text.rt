@@ -19,7 +19,7 @@ use std::alloc::{AllocError, Global};
 
 /// The status line of a response that is made here often, with its CRLF.
 #[tactic(auto, using(crate::proofs::StatusLines::trying, crate::proofs::StatusLines::ok, crate::proofs::StatusLines::unauthorized, crate::proofs::StatusLines::forbidden))]
-fn usual_line(status: u16) -> Option<&'static [u8]>
+fn plain_line(status: u16) -> Option<&'static [u8]>
     ensures { IfSome result (λ line. line.now ≡ start_text (Status status (Reasons.reason_of status)) ++ codes "\r\n") }
 {
     match status {
@@ -35,7 +35,7 @@ fn usual_line(status: u16) -> Option<&'static [u8]>
 pub(crate) fn put_first_line(out: &mut Buffer, status: u16) -> Result<(), AllocError>
     ensures { OnOk result (out.new ≡ out.old ++ start_text (Status status (Reasons.reason_of status)) ++ codes "\r\n") }
 {
-    if let Some(line) = usual_line(status) {
+    if let Some(line) = plain_line(status) {
         return out.extend(line);
     }
     put_status_line(out, status, reason_of(status))?;

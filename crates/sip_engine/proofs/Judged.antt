@@ -5,13 +5,13 @@ use Rattle.sip_dialog.specs.Dialogs.{is_in_dialog}
 use Rattle.sip_message_form.specs.declared.message.Message.{Message}
 use Rattle.sip_header.specs.CoreFields.{core_of}
 use Rattle.sip_uri.specs.declared.addr.Addr.{Addr}
-use Rattle.sip_transaction_table.specs.declared.key.Key.{Key}
-use Rattle.sip_core.specs.state.Arrival.{Arrival}
-use Rattle.sip_core.specs.state.Dialogs.{dialog_of}
-use Rattle.sip_core.specs.state.declared.proxy_state.ProxyState.{ProxyState}
-use Rattle.sip_core.specs.state.declared.server.Server.{Server}
+use Rattle.sip_transaction_table.specs.declared.key.TransactionKey.{TransactionKey}
+use Rattle.sip_verdict.specs.state.Arrival.{Arrival}
+use Rattle.sip_verdict.specs.state.Dialogs.{dialog_of}
+use Rattle.sip_verdict.specs.state.declared.proxy_state.ProxyState.{ProxyState}
+use Rattle.sip_verdict.specs.state.declared.server.Server.{Server}
 use Rattle.sip_validate.specs.Refusal.{refusal_of, is_bad_request}
-use Rattle.sip_core.specs.verdict_model.Verdict as Definition
+use Rattle.sip_verdict.specs.verdict_model.Verdict as Definition
 use Rattle.std.specs.Result.{result_ok}
 use Rattle.sip_engine.specs.Delivery.{IsDroppedOrOn, NeedsRoom}
 
@@ -72,7 +72,7 @@ checked : (server : Server) (state : ProxyState) (now : ℕ) (m : Message) (meth
 checked server state now m method (Some refusal) = tt
 checked server state now m method None = spared state (Definition.core_verdict server state now m method (result_ok (core_of m)))
 
-cancelling : (server : Server) (state : ProxyState) (a : Arrival) (m : Message) (short : Bool) (key : Key)
+cancelling : (server : Server) (state : ProxyState) (a : Arrival) (m : Message) (short : Bool) (key : TransactionKey)
     → NeedsRoom (Definition.is_full state) (Definition.cancel_verdict server state a m short key)
 cancelling server state a m short key = by_test (is_bad_request server.config.own m short) where
   by_test : (t : Bool)
@@ -81,7 +81,7 @@ cancelling server state a m short key = by_test (is_bad_request server.config.ow
   by_test true = tt
   by_test false = spared state (Definition.Cancel (Definition.found_for_cancel state key a.from))
 
-pub new_place : (server : Server) (state : ProxyState) (a : Arrival) (m : Message) (short : Bool) (method : List ℕ) (key : Key)
+pub new_place : (server : Server) (state : ProxyState) (a : Arrival) (m : Message) (short : Bool) (method : List ℕ) (key : TransactionKey)
     → NeedsRoom (Definition.is_full state) (Definition.new_verdict server state a m short method key)
 new_place server state a m short method key = by_ack (bytes_eq method (codes "ACK")) where
   by_cancel : (t : Bool)

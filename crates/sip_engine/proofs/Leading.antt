@@ -7,9 +7,9 @@ use Rattle.sip_uri.specs.declared.addr.Addr.{Addr}
 use Rattle.sip_model.specs.steps_model.Effect.{datagram_effect}
 use Rattle.sip_model.specs.steps_model.Step.{Act, Does, Passing, IsDeadline, IsDelivery, IsQuiet, IsResend, IsStep, NoneAgainBy, NoneBy, arrival_of, moment_of}
 use Rattle.sip_model.specs.Run.{Link, IsChain, under}
-use Rattle.sip_core.specs.state.State.{first_state}
-use Rattle.sip_core.specs.state.declared.proxy_state.ProxyState.{ProxyState}
-use Rattle.sip_core.specs.state.declared.server.Server.{Server}
+use Rattle.sip_verdict.specs.state.State.{first_state}
+use Rattle.sip_verdict.specs.state.declared.proxy_state.ProxyState.{ProxyState}
+use Rattle.sip_verdict.specs.state.declared.server.Server.{Server}
 use Rattle.sip_timers.specs.declared.timer.Timer.{Timer}
 use Rattle.sip_engine_open.specs.Timers.{IsFiredFirst, IsOfTimer}
 use Rattle.sip_engine.specs.Engine.{IsReached}

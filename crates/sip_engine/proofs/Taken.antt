@@ -9,25 +9,25 @@ use Rattle.sip_model.specs.steps_model.Effect.{counted, datagram_effect, effect_
 use Rattle.sip_model.specs.steps_model.Step.{Does}
 use Rattle.sip_engine_open.specs.forwarding.Arrivals.{arrival_of}
 use Rattle.sip_engine_open.specs.forwarding.declared.arrival.Arrival.{Arrival}
-use Rattle.sip_core.specs.state.declared.proxy_state.ProxyState.{ProxyState}
-use Rattle.sip_core.specs.state.declared.server.Server.{Server}
-use Rattle.sip_core.specs.verdict_model.Verdict as Definition
-use Rattle.sip_core.specs.Verdict.{Is, IsOutcome}
-use Rattle.sip_core.specs.declared.verdict.Judged.{Judged}
-use Rattle.sip_core.specs.declared.verdict.Outcome.{Outcome}
-use Rattle.sip_core.specs.declared.verdict.Outcome.TheVariants as Decided
-use Rattle.sip_core.specs.declared.verdict.Verdict.{Verdict}
-use Rattle.sip_core.specs.declared.verdict.Verdict.TheVariants as Arrived
+use Rattle.sip_verdict.specs.state.declared.proxy_state.ProxyState.{ProxyState}
+use Rattle.sip_verdict.specs.state.declared.server.Server.{Server}
+use Rattle.sip_verdict.specs.verdict_model.Verdict as Definition
+use Rattle.sip_verdict.specs.Verdict.{Is, IsOutcome}
+use Rattle.sip_verdict.specs.declared.verdict.Judged.{Judged}
+use Rattle.sip_verdict.specs.declared.verdict.PolicyOutcome.{PolicyOutcome}
+use Rattle.sip_verdict.specs.declared.verdict.PolicyOutcome.TheVariants as Decided
+use Rattle.sip_verdict.specs.declared.verdict.Verdict.{Verdict}
+use Rattle.sip_verdict.specs.declared.verdict.Verdict.TheVariants as Arrived
 use Rattle.sip_dialog.specs.declared.dialog.DialogId.{DialogId}
 use Rattle.sip_engine_open.specs.fork.Places.{branch_at}
 use Rattle.sip_uri.specs.declared.addr.Addr.{Addr}
-use Rattle.sip_transaction_table.specs.declared.key.Key.{Key}
+use Rattle.sip_transaction_table.specs.declared.key.TransactionKey.{TransactionKey}
 use Rattle.sip_location.specs.declared.binding.Binding.{Binding}
-use Rattle.sip_core.specs.state.Arrival as Arrivals
-use Rattle.sip_core.specs.state.State.{has_key}
-use Rattle.sip_core.specs.state.declared.branch.Branch.{Branch}
-use Rattle.sip_core.specs.state.declared.open_request.OpenRequest.{OpenRequest}
-use Rattle.sip_core.specs.verdict_model.declared.question.Question.{Question}
+use Rattle.sip_verdict.specs.state.Arrival as Arrivals
+use Rattle.sip_verdict.specs.state.State.{has_key}
+use Rattle.sip_verdict.specs.state.declared.branch.Branch.{Branch}
+use Rattle.sip_verdict.specs.state.declared.open_request.OpenRequest.{OpenRequest}
+use Rattle.sip_verdict.specs.verdict_model.declared.question.Question.{Question}
 use Rattle.sip_engine_request.specs.uas.Asking.{AnswersFinally}
 use Rattle.sip_engine_request.specs.Steps.{Takes}
 use Rattle.sip_engine.specs.Delivery.{IsDroppedOrOn, IsServed, NeedsRoom, way_on}
@@ -63,7 +63,7 @@ module _ (server : Server) (a : Arrival) (old new : ProxyState) where
 -- ---- what was decided
 
 -- a verdict that is dropped or goes on is none of what policy decides
-asked : (server : Server) (rows : List Binding) (now : ℕ) (q : Question) (v : Definition.Verdict) (o : Outcome) → IsOutcome rows now q v o → IsDroppedOrOn v → ⊥
+asked : (server : Server) (rows : List Binding) (now : ℕ) (q : Question) (v : Definition.Verdict) (o : PolicyOutcome) → IsOutcome rows now q v o → IsDroppedOrOn v → ⊥
 asked server rows now q v Decided.Challenge is d = subst IsDroppedOrOn is d
 asked server rows now q v (Decided.Deny id) is d = subst IsDroppedOrOn is d
 asked server rows now q v (Decided.Send id targets) is d = subst IsDroppedOrOn is d
@@ -115,7 +115,7 @@ module _ (server : Server) (a : Arrival) (old new : ProxyState) where
   message_is m x v (Ok out) same h = subst (λ (y : Message). Takes server old a y v out new) same h
   message_is m x v (Err e) same h = tt
 
-  pub told : (key : Key) (m x : Message) (judged : Judged) (result : Result StepOut AllocError) → x ≡ m
+  pub told : (key : TransactionKey) (m x : Message) (judged : Judged) (result : Result StepOut AllocError) → x ≡ m
       → IfOk result (λ out. (named : Option OpenRequest) (v : Definition.Verdict) → Is server old.bindings a.now named v (Arrived.Judged judged)
       → Takes server old a x v out new)
       → IfOk result (λ out. (v : Definition.Verdict) → Is server old.bindings a.now (Definition.found_for_cancel old key a.from) v (Arrived.Judged judged)
@@ -125,12 +125,12 @@ module _ (server : Server) (a : Arrival) (old new : ProxyState) where
 
   -- ---- a request with an open key
 
-  pub known : (m : Message) (short : Bool) (method : List ℕ) (key : Key) (place : ℕ) (result : Result StepOut AllocError)
+  pub known : (m : Message) (short : Bool) (method : List ℕ) (key : TransactionKey) (place : ℕ) (result : Result StepOut AllocError)
       → Some place ≡ position (has_key key) old.requests
       → slice_get old.requests place ≡ find (has_key key) old.requests
       → ((r : OpenRequest) → find (has_key key) old.requests ≡ Some r → Definition.message_verdict server old (arrival_of a) m short
       ≡ Definition.by_open server old (arrival_of a) m short method key (Some r))
-      → IfOk result (λ out. (k : Key) (r : OpenRequest) → slice_get old.requests place ≡ Some r
+      → IfOk result (λ out. (k : TransactionKey) (r : OpenRequest) → slice_get old.requests place ≡ Some r
       → Takes server old a m (Definition.by_open server old (arrival_of a) m short method k (Some r)) out new)
       → IfOk result (λ out. Takes server old a m (Definition.message_verdict server old (arrival_of a) m short) out new)
   known m short method key place (Ok out) at found verdict h =
@@ -181,14 +181,14 @@ module _ (server : Server) (a : Arrival) (old new : ProxyState) where
 
 -- ---- what was decided about a new request
 
-module _ (server : Server) (a : Arrival) (old mid new : ProxyState) (key : Key) (m : Message) (short : Bool) (method : List ℕ) (decided : Verdict) where
+module _ (server : Server) (a : Arrival) (old mid new : ProxyState) (key : TransactionKey) (m : Message) (short : Bool) (method : List ℕ) (decided : Verdict) where
   -- the verdict on it
   abbrev pub verdict : Definition.Verdict
   verdict = Definition.new_verdict server old (arrival_of a) m short method key
 
   -- that was decided
   abbrev pub IsNew : Type 0
-  IsNew = (x : Arrivals.Arrival) (k : Key) → x.now ≡ a.now → Is server old.bindings a.now (Definition.found_for_cancel old k x.from)
+  IsNew = (x : Arrivals.Arrival) (k : TransactionKey) → x.now ≡ a.now → Is server old.bindings a.now (Definition.found_for_cancel old k x.from)
       (Definition.new_verdict server old x m short method k) decided
 
   pub served : mid ≡ old → IsNew → NeedsRoom (Definition.is_full old) verdict → AnswersFinally verdict → IsServed server mid a key decided

@@ -5,9 +5,9 @@ use Rattle.std.proofs.lemmas.Bool.Decides.{nat_tests}
 use Rattle.sip_engine_open.specs.Next.{IsNext}
 use Rattle.sip_engine_open.specs.fork.Due.{IsNothingDue}
 use Rattle.sip_model.specs.steps_model.Step.{NoneAgainBefore, NoneAgainBy, NoneBefore, NoneBy}
-use Rattle.sip_core.specs.context_model.Retransmission.{resends}
-use Rattle.sip_core.specs.state.State.{deadlines}
-use Rattle.sip_core.specs.state.declared.open_request.OpenRequest.{OpenRequest}
+use Rattle.sip_verdict.specs.context_model.Retransmission.{resends}
+use Rattle.sip_verdict.specs.state.State.{deadlines}
+use Rattle.sip_verdict.specs.state.declared.open_request.OpenRequest.{OpenRequest}
 
 not_by : (moment due : ℕ) → due < moment → (dues : List ℕ) → AllByRecursion (λ (d : ℕ). moment ≤ d) dues → AllByRecursion (λ (d : ℕ). due < d) dues
 not_by moment due lt [] h = tt

@@ -1,15 +1,15 @@
 -- What is one step for a datagram, and what a verdict asks for.
 use Rattle.std.specs.Prelude.{Bool, ◌≡◌, false, ⊤, Option, Some, None}
-use Rattle.sip_core.specs.Verdict.{Is}
-use Rattle.sip_core.specs.declared.verdict.Verdict.{Verdict}
-use Rattle.sip_core.specs.declared.verdict.Verdict.TheVariants as Arrived
+use Rattle.sip_verdict.specs.Verdict.{Is}
+use Rattle.sip_verdict.specs.declared.verdict.Verdict.{Verdict}
+use Rattle.sip_verdict.specs.declared.verdict.Verdict.TheVariants as Arrived
 use Rattle.sip_dialog.specs.declared.dialog.DialogId.{DialogId}
 use Rattle.sip_uri.specs.declared.addr.Addr.{Addr}
-use Rattle.sip_transaction_table.specs.declared.key.Key.{Key}
+use Rattle.sip_transaction_table.specs.declared.key.TransactionKey.{TransactionKey}
 use Rattle.sip_engine_open.specs.forwarding.declared.arrival.Arrival.{Arrival}
-use Rattle.sip_core.specs.state.declared.proxy_state.ProxyState.{ProxyState}
-use Rattle.sip_core.specs.state.declared.server.Server.{Server}
-use Rattle.sip_core.specs.verdict_model.Verdict as Definition
+use Rattle.sip_verdict.specs.state.declared.proxy_state.ProxyState.{ProxyState}
+use Rattle.sip_verdict.specs.state.declared.server.Server.{Server}
+use Rattle.sip_verdict.specs.verdict_model.Verdict as Definition
 use Rattle.sip_engine_request.specs.uas.Asking.{AnswersFinally}
 
 -- where an ACK goes on by what was decided about it, if it does
@@ -50,7 +50,7 @@ NeedsRoom full (Definition.Send q id targets) = full ≡ false
 NeedsRoom full (Definition.Register q id registered) = full ≡ false
 
 -- What was decided about a new request with a key is some verdict on it, for which there is room, and which answers finally if it answers at once.
-pub record IsServed (server : Server) (state : ProxyState) (a : Arrival) (key : Key) (decided : Verdict) : Type 0 where
+pub record IsServed (server : Server) (state : ProxyState) (a : Arrival) (key : TransactionKey) (decided : Verdict) : Type 0 where
   pub verdict : Definition.Verdict
   pub is : Is server state.bindings a.now (Definition.found_for_cancel state key a.from) verdict decided
   pub space : NeedsRoom (Definition.is_full state) verdict

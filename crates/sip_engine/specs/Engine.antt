@@ -1,9 +1,9 @@
 -- What a running server is.
 use Rattle.std.specs.Prelude.{ℕ, List}
 use Rattle.sip_model.specs.Run.{Link, IsChain}
-use Rattle.sip_core.specs.state.State.{first_state}
-use Rattle.sip_core.specs.state.declared.proxy_state.ProxyState.{ProxyState}
-use Rattle.sip_core.specs.state.declared.server.Server.{Server}
+use Rattle.sip_verdict.specs.state.State.{first_state}
+use Rattle.sip_verdict.specs.state.declared.proxy_state.ProxyState.{ProxyState}
+use Rattle.sip_verdict.specs.state.declared.server.Server.{Server}
 use Rattle.sip_engine_open.specs.proxy.Proxy.{Secrets}
 use Rattle.sip_timers.specs.declared.timer.Timer.{Timer}
 

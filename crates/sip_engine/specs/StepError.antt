@@ -1,6 +1,6 @@
 -- What an error is called, and when a step is refused.
 use Rattle.std.specs.Prelude.{ℕ, Bool, ◌^◌, List, codes, nat_le, if◌then◌else◌, Option, Some, None}
-use Rattle.sip_core.specs.state.declared.proxy_state.ProxyState.{ProxyState}
+use Rattle.sip_verdict.specs.state.declared.proxy_state.ProxyState.{ProxyState}
 use Rattle.sip_engine.specs.declared.error.StepError.{StepError}
 use Rattle.sip_engine.specs.declared.error.StepError.TheVariants.{NoMemory, MomentTooLarge, Worn}
 

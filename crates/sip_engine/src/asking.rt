@@ -1,11 +1,11 @@
 //! New requests about which policy was asked, carried out: answered here, or sent to their targets (RFC 3261 10.3, 16.5, 22).
-//! What policy wasn't asked about is carried out in `served`.
+//! What policy wasn't asked about is carried out in `dispatch`.
 ghost use Rattle.std.specs.Prelude.{◌≡◌, true, false, IfOk};
 ghost use Rattle.sip_engine_request.specs.Admitting.{IsAnswered};
-ghost use Rattle.sip_core.specs.Verdict.{HasRoomFor, Is};
-ghost use Rattle.sip_core.specs.declared.verdict.Verdict.TheVariants as Arrived;
-ghost use Rattle.sip_core.specs.state.Names.{AreNames};
-ghost use Rattle.sip_core.specs.verdict_model.Verdict as Definition;
+ghost use Rattle.sip_verdict.specs.Verdict.{HasRoomFor, Is};
+ghost use Rattle.sip_verdict.specs.declared.verdict.Verdict.TheVariants as Arrived;
+ghost use Rattle.sip_verdict.specs.state.Names.{AreNames};
+ghost use Rattle.sip_verdict.specs.verdict_model.Verdict as Definition;
 ghost use Rattle.sip_engine_request.specs.uas.Asking as Asking;
 ghost use Rattle.sip_engine_request.specs.Steps.{IsNew, IsWhole, Takes};
 ghost use Rattle.sip_engine.specs.Delivery.{IsServed};
@@ -14,14 +14,14 @@ use crate::going::go_to;
 use crate::keeping::keep;
 use crate::new_request::NewRequest;
 use sip_base::Shared;
-use sip_core::state::{Names, Server};
-use sip_core::{Judged, Outcome};
 use sip_engine_open::proxy::{Configured, Proxy};
 use sip_engine_request::uas::is_answered_here;
-use sip_engine_request::{KeyedRequest, Sending, take_judged};
+use sip_engine_request::{KeyedRequest, RoutedRequest, take_judged};
 use sip_event::StepOut;
 use sip_timers::Timers;
-use sip_transaction_table::Held;
+use sip_transaction_table::Boxed;
+use sip_verdict::state::{DialogNames, Server};
+use sip_verdict::{Judged, PolicyOutcome};
 use std::alloc::{AllocError, Global};
 
 /// A new request about which policy decided is answered here: challenged, denied, registered, or sent to nobody. `AllocError`
@@ -31,7 +31,7 @@ fn answer_judged<T: Timers>(
     server: &Server,
     proxy: &mut Proxy<T>,
     request: NewRequest<'_>,
-    judged: Held<Judged<'_>>,
+    judged: Boxed<Judged<'_>>,
 ) -> Result<StepOut, AllocError>
     requires new { IsNew proxy.old.state request.received.now.arrival request.key }
     requires here { Asking.is_answered_here judged.outcome ≡ true }
@@ -61,7 +61,7 @@ fn send_judged<T: Timers>(
     configured: &Configured<'_>,
     proxy: &mut Proxy<T>,
     request: NewRequest<'_>,
-    names: &mut Option<Names>,
+    names: &mut Option<DialogNames>,
     judged: &Judged<'_>,
 ) -> Result<StepOut, AllocError>
     requires new { IsNew proxy.old.state request.received.now.arrival request.key }
@@ -74,11 +74,11 @@ fn send_judged<T: Timers>(
         → Takes configured.now.server.now proxy.old.state request.entry.received.now.arrival request.entry.received.now.message.now verdict out proxy.new.state) }
     ensures whole { IsWhole proxy.old proxy.new result }
 {
-    let Outcome::Send(rule, targets) = &judged.outcome else {
+    let PolicyOutcome::Send(rule, targets) = &judged.outcome else {
         unreachable!()
     };
     let rule = *rule;
-    let sending = Sending {
+    let sending = RoutedRequest {
         judged,
         rule,
         targets,
@@ -93,8 +93,8 @@ pub(crate) fn take_asked<T: Timers>(
     configured: &Configured<'_>,
     proxy: &mut Proxy<T>,
     request: NewRequest<'_>,
-    names: &mut Option<Names>,
-    judged: Held<Judged<'_>>,
+    names: &mut Option<DialogNames>,
+    judged: Boxed<Judged<'_>>,
 ) -> Result<StepOut, AllocError>
     requires new { IsNew proxy.old.state request.received.now.arrival request.key }
     requires names { AreNames request.received.now.message.now names.old }

@@ -2,18 +2,17 @@
 //! (RFC 3261 17.1.3, 17.2.3). Moment and number were looked at in `stepping`.
 ghost use Rattle.std.specs.Prelude.{◌≡◌, IfOk, OnOk, OnErr};
 ghost use Rattle.sip_engine_open.specs.fork.Firing.{KeepsOrder};
-ghost use Rattle.sip_core.specs.Incoming.{IsRequest};
+ghost use Rattle.sip_verdict.specs.Incoming.{IsRequest};
 ghost use Rattle.sip_engine_open.specs.proxy.Proxy.{IsComing};
 ghost use Rattle.sip_model.specs.steps_model.Effect.{datagram_effect};
 ghost use Rattle.sip_model.specs.steps_model.Step.{Does};
 ghost use Rattle.sip_engine_open.specs.forwarding.Arrivals.{arrival_of};
-ghost use Rattle.sip_core.specs.verdict_model.Verdict as Definition;
+ghost use Rattle.sip_verdict.specs.verdict_model.Verdict as Definition;
 ghost use Rattle.sip_engine_request.specs.Steps.{IsWhole, Takes};
 
-use crate::known::take_known;
-use crate::new::take_new;
+use crate::copy_or_ack::take_known;
+use crate::new_step::take_new;
 use crate::responses::take_reply;
-use sip_core::{Incoming, Judge, laws, read_datagram};
 use sip_engine_open::forwarding::Arrival;
 use sip_engine_open::proxy::{Configured, Proxy, ReceivedRequest, ReceivedResponse};
 use sip_engine_open::take_dropped;
@@ -22,7 +21,8 @@ use sip_header::Via;
 use sip_message_form::View;
 use sip_policy::Rules;
 use sip_timers::Timers;
-use sip_transaction_table::Key;
+use sip_transaction_table::TransactionKey;
+use sip_verdict::{Incoming, Judge, laws, read_datagram};
 use std::alloc::{AllocError, Global};
 
 /// The step of a request with a key: it belongs to the open one with that key, or is new (RFC 3261 17.2.3). `AllocError` is
@@ -31,7 +31,7 @@ fn take_request<T: Timers, R: Rules>(
     alloc: Global,
     judge: &Judge<R>,
     proxy: &mut Proxy<T>,
-    key: Key,
+    key: TransactionKey,
     request: &ReceivedRequest<'_>,
 ) -> Result<StepOut, AllocError>
     requires coming { IsComing proxy.old.state request.now.arrival }
@@ -59,7 +59,7 @@ fn take_read<T: Timers, R: Rules>(
     short: bool,
     method: &[u8],
     via: Via<'_>,
-    key: Key,
+    key: TransactionKey,
 ) -> Result<StepOut, AllocError>
     requires coming { IsComing proxy.old.state arrival }
     requires request { IsRequest message.now short method.now via key }

@@ -1,20 +1,20 @@
 //! The two ways in which a new request goes on: to its targets (RFC 3261 16.5, 16.6), and in its dialog (12.2, 16.12).
 //! It is kept before it goes, with what names its dialogs.
 ghost use Rattle.std.specs.Prelude.{◌≡◌, false, IfOk};
-ghost use Rattle.sip_core.specs.state.Names.{AreNames};
-ghost use Rattle.sip_core.specs.verdict_model.Verdict as Definition;
+ghost use Rattle.sip_verdict.specs.state.Names.{AreNames};
+ghost use Rattle.sip_verdict.specs.verdict_model.Verdict as Definition;
 ghost use Rattle.sip_engine_request.specs.Steps.{IsNew, IsWhole, Takes};
 
 use crate::keeping::keep_onward;
 use crate::new_request::NewRequest;
 use sip_base::Shared;
-use sip_core::state::Names;
 use sip_dialog::DialogId;
 use sip_engine_open::proxy::{Configured, Proxy};
-use sip_engine_request::{KeyedRequest, Sending, send_to, send_within};
+use sip_engine_request::{KeyedRequest, RoutedRequest, send_to, send_within};
 use sip_event::StepOut;
 use sip_timers::Timers;
 use sip_uri::Addr;
+use sip_verdict::state::DialogNames;
 use std::alloc::{AllocError, Global};
 
 /// A new request goes to its targets, which are somebody, by a rule (RFC 3261 16.5, 16.6). `AllocError` is the only refusal;
@@ -24,8 +24,8 @@ pub(crate) fn go_to<T: Timers>(
     configured: &Configured<'_>,
     proxy: &mut Proxy<T>,
     request: NewRequest<'_>,
-    names: &mut Option<Names>,
-    sending: &Sending<'_, '_>,
+    names: &mut Option<DialogNames>,
+    sending: &RoutedRequest<'_, '_>,
 ) -> Result<StepOut, AllocError>
     requires new { IsNew proxy.old.state request.received.now.arrival request.key }
     requires names { AreNames request.received.now.message.now names.old }
@@ -52,7 +52,7 @@ pub(crate) fn go_within<T: Timers>(
     configured: &Configured<'_>,
     proxy: &mut Proxy<T>,
     request: NewRequest<'_>,
-    names: &mut Option<Names>,
+    names: &mut Option<DialogNames>,
     way: (Addr, DialogId),
 ) -> Result<StepOut, AllocError>
     requires new { IsNew proxy.old.state request.received.now.arrival request.key }

@@ -1,9 +1,9 @@
 ghost use Rattle.std.specs.Prelude.{◌<◌};
 ghost use Rattle.std.specs.List.{All};
 ghost use Rattle.sip_model.specs.steps_model.Step.{NoneAgainBefore, NoneBefore};
-ghost use Rattle.sip_core.specs.state.declared.open_request.OpenRequest.{OpenRequest};
-ghost use Rattle.sip_core.specs.state.declared.proxy_state.ProxyState.{ProxyState};
-ghost use Rattle.sip_core.specs.state.declared.server.Server.{Server};
+ghost use Rattle.sip_verdict.specs.state.declared.open_request.OpenRequest.{OpenRequest};
+ghost use Rattle.sip_verdict.specs.state.declared.proxy_state.ProxyState.{ProxyState};
+ghost use Rattle.sip_verdict.specs.state.declared.server.Server.{Server};
 ghost use Rattle.sip_engine.specs.Engine.{IsReached};
 
 use sip_model::order::{no_deadline_passed, numbers_differ};

@@ -6,7 +6,7 @@
 //! else changes then (`Engine::change`).
 //!
 //! - Used: `sip_run` over a list of events, `sip_replay` over a script, `sip_loop` over a link.
-//! - Not here: a socket or a clock (`sip_loop_link`).
+//! - Not here: a socket or a clock (`sip_transport`).
 //! - Tried: `test_engine`, `test_server`.
 //!
 //! ```text
@@ -17,18 +17,18 @@
 mod answering;
 mod asking;
 mod change_error;
+mod copy_or_ack;
 mod datagram;
 mod delivery_laws;
+mod dispatch;
 mod engine;
 mod error;
 mod going;
 mod histories;
 mod keeping;
-mod known;
-mod new;
 mod new_request;
+mod new_step;
 mod responses;
-mod served;
 mod stepping;
 
 pub use change_error::ChangeError;

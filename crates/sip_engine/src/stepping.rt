@@ -14,13 +14,13 @@ ghost use Rattle.sip_engine.specs.declared.error.StepError.TheVariants.{NoMemory
 use crate::error::StepError;
 use crate::histories::reached_states_are_sound;
 use crate::take_datagram;
-use sip_core::Judge;
 use sip_engine_open::forwarding::Arrival;
 use sip_engine_open::proxy::{Configured, Proxy};
 use sip_event::{StepOut, Ticket};
 use sip_policy::Rules;
 use sip_timers::Timers;
 use sip_uri::Addr;
+use sip_verdict::Judge;
 use std::alloc::Global;
 
 /// The first moment, and the first number of a datagram, that is too large.

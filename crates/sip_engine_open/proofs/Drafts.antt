@@ -3,16 +3,16 @@ use Rattle.std.proofs.Common.{◌≡◌, ◌∙◌, ℕ, ◌≤◌, List, slice_
 use Rattle.std.specs.Option.{unwrap_or}
 use Rattle.std.specs.declared.alloc.AllocError.{AllocError}
 use Rattle.sip_proxy.specs.Drafts.{IsDrafted}
-use Rattle.sip_proxy.specs.declared.drafting.Draft.{Draft}
-use Rattle.sip_proxy.specs.fork.declared.due.Due.{Due}
+use Rattle.sip_proxy.specs.declared.drafting.EventDraft.{EventDraft}
+use Rattle.sip_proxy.specs.fork.declared.first_due.Due.{Due}
 use Rattle.sip_proxy.specs.fork.Keeping.{IsKeptAs, IsOf}
 use Rattle.sip_hops.specs.declared.host_address.HostAddress.{HostAddress}
 use Rattle.sip_proxy.specs.context.declared.input.Input.{Input}
 use Rattle.sip_proxy.specs.context.declared.input.Input.TheVariants.{Response, BranchDeadline, SideDeadline, SendFault, Cancel, Ack, BranchAgain, AnswerAgain}
-use Rattle.sip_dialog_lessons.specs.Lessons.{beginnings}
+use Rattle.sip_dialog_updates.specs.DialogUpdates.{beginnings}
 use Rattle.sip_proxy.specs.context_model.Retransmission.{answer_due, branch_due}
-use Rattle.sip_dialog_lessons.specs.state.declared.open_request.OpenRequest.{OpenRequest}
-use Rattle.sip_dialog_lessons.specs.state.declared.server.Server.{Server}
+use Rattle.sip_dialog_updates.specs.state.declared.open_request.OpenRequest.{OpenRequest}
+use Rattle.sip_dialog_updates.specs.state.declared.server.Server.{Server}
 use Rattle.sip_proxy.specs.fork.Due.{GoesAgainBefore}
 use Rattle.sip_engine_open.specs.TimeSteps.{IsDueAs, IsFired, IsLastOf, IsOfPart}
 
@@ -46,10 +46,10 @@ about_there requests place due x input here is r at = subst (λ (v : OpenRequest
 
 module _ (rows : List HostAddress) (server : Server) (now : ℕ) where
   -- what is drafted of an input to the request at a place
-  abbrev pub IsDraftAt : List OpenRequest → ℕ → Input → Draft → Type 0
+  abbrev pub IsDraftAt : List OpenRequest → ℕ → Input → EventDraft → Type 0
   IsDraftAt requests place input draft = (r : OpenRequest) → slice_get requests place ≡ Some r → IsDrafted rows server now r input draft
 
-  pub draft_fired : (what : Due) (requests : List OpenRequest) (place : ℕ) (x : OpenRequest) (input : Input) (result : Result Draft AllocError)
+  pub draft_fired : (what : Due) (requests : List OpenRequest) (place : ℕ) (x : OpenRequest) (input : Input) (result : Result EventDraft AllocError)
       → slice_get requests place ≡ Some x → IsDueAs x now input
       → IsOfPart x what input → (GoesAgainBefore x now what → IsLastOf x now input) → IfOk result (IsDraftAt requests place input)
       → IfOk result (λ draft. (r : OpenRequest) → slice_get requests place ≡ Some r → IsFired rows server now what r draft)
@@ -59,12 +59,12 @@ module _ (rows : List HostAddress) (server : Server) (now : ℕ) where
       subst (λ (v : OpenRequest). IsFired rows server now what v draft) (read_twice requests place x r here at) fired
   draft_fired what requests place x input (Err e) here due part last h = tt
 
-  pub draft_kept : (requests : List OpenRequest) (place : ℕ) (input : Input) (result : Result Draft AllocError) → IfOk result (IsDraftAt requests place input)
+  pub draft_kept : (requests : List OpenRequest) (place : ℕ) (input : Input) (result : Result EventDraft AllocError) → IfOk result (IsDraftAt requests place input)
       → IfOk result (λ draft. (r : OpenRequest) → slice_get requests place ≡ Some r → IsKeptAs now r draft.change)
   draft_kept requests place input (Ok draft) h = λ r at. (h r at).kept
   draft_kept requests place input (Err e) h = tt
 
-  pub draft_few : (requests : List OpenRequest) (place : ℕ) (x : OpenRequest) (input : Input) (result : Result Draft AllocError) → slice_get requests place ≡ Some x
-      → IfOk result (IsDraftAt requests place input) → IfOk result (λ draft. beginnings draft.drafted.lessons ≤ 1)
+  pub draft_few : (requests : List OpenRequest) (place : ℕ) (x : OpenRequest) (input : Input) (result : Result EventDraft AllocError) → slice_get requests place ≡ Some x
+      → IfOk result (IsDraftAt requests place input) → IfOk result (λ draft. beginnings draft.drafted.updates ≤ 1)
   draft_few requests place x input (Ok draft) here h = (h x here).drafted.few
   draft_few requests place x input (Err e) here h = tt

@@ -4,31 +4,31 @@ use Rattle.std.proofs.Common.{sym, ap, subst}
 use Rattle.std.specs.declared.alloc.AllocError.{AllocError}
 use Rattle.sip_event.specs.declared.event.StepOut.{StepOut}
 use Rattle.sip_event.specs.declared.packet.Packet.{Packet}
-use Rattle.sip_core.specs.Verdict.{IsRequestOf}
-use Rattle.sip_core.specs.context_model.Branches.{Change, acknowledged, responded}
-use Rattle.sip_core.specs.context_model.Sending.{answer_to}
-use Rattle.sip_proxy.specs.declared.drafting.Draft.{Draft}
+use Rattle.sip_verdict.specs.Verdict.{IsRequestOf}
+use Rattle.sip_verdict.specs.context_model.Branches.{Change, acknowledged, responded}
+use Rattle.sip_verdict.specs.context_model.Sending.{answer_to}
+use Rattle.sip_proxy.specs.declared.drafting.EventDraft.{EventDraft}
 use Rattle.sip_dialog.specs.declared.dialog.Dialog.{Dialog}
 use Rattle.sip_proxy.specs.fork.Places.{branch_at}
 use Rattle.sip_message_form.specs.declared.message.Message.{Message}
 use Rattle.sip_message_form.specs.declared.message.Start.{Start}
 use Rattle.sip_message_form.specs.declared.message.Start.TheVariants.{Request, Status}
 use Rattle.sip_hops.specs.declared.host_address.HostAddress.{HostAddress}
-use Rattle.sip_dialog_lessons.specs.Lessons.{after_lessons}
-use Rattle.sip_dialog_lessons.specs.declared.lesson.Lesson.{Lesson}
+use Rattle.sip_dialog_updates.specs.DialogUpdates.{after_updates}
+use Rattle.sip_dialog_updates.specs.declared.dialog_update.DialogUpdate.{DialogUpdate}
 use Rattle.sip_proxy.specs.steps_model.Effect.{Effect, changed, copied, counted, effect_of, method_of, nothing, replaced}
 use Rattle.sip_proxy.specs.steps_model.Step.{Does, originals, retransmissions}
 use Rattle.sip_proxy.specs.forwarding.Arrivals.{arrival_of}
 use Rattle.sip_proxy.specs.forwarding.declared.arrival.Arrival.{Arrival}
-use Rattle.sip_core.specs.context_model.Retransmission.{acked_again, answers_again, is_lasting}
-use Rattle.sip_dialog_lessons.specs.state.SameState.{SameState}
-use Rattle.sip_dialog_lessons.specs.state.State.{is_invite, is_success}
-use Rattle.sip_dialog_lessons.specs.state.declared.branch.Branch.{Branch}
-use Rattle.sip_dialog_lessons.specs.state.declared.open_request.LastAnswer.{LastAnswer}
-use Rattle.sip_dialog_lessons.specs.state.declared.open_request.OpenRequest.{OpenRequest}
-use Rattle.sip_dialog_lessons.specs.state.declared.proxy_state.ProxyState.{ProxyState}
-use Rattle.sip_dialog_lessons.specs.state.declared.server.Server.{Server}
-use Rattle.sip_core.specs.verdict_model.Verdict.{Respond}
+use Rattle.sip_verdict.specs.context_model.Retransmission.{acked_again, answers_again, is_lasting}
+use Rattle.sip_dialog_updates.specs.state.SameState.{SameState}
+use Rattle.sip_dialog_updates.specs.state.State.{is_invite, is_success}
+use Rattle.sip_dialog_updates.specs.state.declared.branch.Branch.{Branch}
+use Rattle.sip_dialog_updates.specs.state.declared.open_request.LastAnswer.{LastAnswer}
+use Rattle.sip_dialog_updates.specs.state.declared.open_request.OpenRequest.{OpenRequest}
+use Rattle.sip_dialog_updates.specs.state.declared.proxy_state.ProxyState.{ProxyState}
+use Rattle.sip_dialog_updates.specs.state.declared.server.Server.{Server}
+use Rattle.sip_verdict.specs.verdict_model.Verdict.{Respond}
 use Rattle.sip_engine_open.specs.Steps.{IsDraftOf, Leaves, left_by}
 
 -- ---- what is sent
@@ -72,10 +72,10 @@ module _ (server : Server) (a : Arrival) (old new : ProxyState) where
   -- ---- a change
 
   -- what a draft leaves that is made
-  abbrev pub LeavesDraft : Draft → StepOut → Type 0
-  LeavesDraft draft out = Leaves a draft.drafted.packets (replaced draft.change old.requests) (after_lessons a.now draft.drafted.lessons old.dialogs) old out new
+  abbrev pub LeavesDraft : EventDraft → StepOut → Type 0
+  LeavesDraft draft out = Leaves a draft.drafted.packets (replaced draft.change old.requests) (after_updates a.now draft.drafted.updates old.dialogs) old out new
 
-  change_done : (rows : List HostAddress) (r : OpenRequest) (change : Change) (copies : List Packet) (draft : Draft) (out : StepOut) → rows ≡ server.config.addresses
+  change_done : (rows : List HostAddress) (r : OpenRequest) (change : Change) (copies : List Packet) (draft : EventDraft) (out : StepOut) → rows ≡ server.config.addresses
       → IsDraftOf rows server a.now r change copies draft → LeavesDraft draft out
       → Does server old a.now (record (changed server a.now (counted (arrival_of a) old) change) { again = copies }) out new
   change_done rows r change copies draft out known d l =
@@ -85,12 +85,12 @@ module _ (server : Server) (a : Arrival) (old new : ProxyState) where
         repeats = ap retransmissions l.packets_are ∙ d.sent.again;
         records = l.records_are;
         leaves =
-            subst (λ (ds : List Dialog). SameState new (left_by a (replaced change.request old.requests) ds old)) (d.lessons (sym known) old.dialogs)
-            (subst (λ (x : OpenRequest). SameState new (left_by a (replaced x old.requests) (after_lessons a.now draft.drafted.lessons old.dialogs) old)) d.request
+            subst (λ (ds : List Dialog). SameState new (left_by a (replaced change.request old.requests) ds old)) (d.updates (sym known) old.dialogs)
+            (subst (λ (x : OpenRequest). SameState new (left_by a (replaced x old.requests) (after_updates a.now draft.drafted.updates old.dialogs) old)) d.request
             l.leaves);
       }
 
-  pub response_done : (rows : List HostAddress) (place branch status : ℕ) (m : Message) (draft : Draft) (result : Result StepOut AllocError)
+  pub response_done : (rows : List HostAddress) (place branch status : ℕ) (m : Message) (draft : EventDraft) (result : Result StepOut AllocError)
       → rows ≡ server.config.addresses
       → ((found : OpenRequest × Branch) → branch_at old.requests (place, branch) ≡ Some found
       → IsDraftOf rows server a.now found.0 (responded server a.now found.0 found.1 status m) (acked_again server found.0 found.1 status) draft)
@@ -113,8 +113,9 @@ module _ (server : Server) (a : Arrival) (old new : ProxyState) where
         state = cond t (record (counted (arrival_of a) old) { requests = replaced (acknowledged a.now r) old.requests }) (counted (arrival_of a) old);
       }
 
-  ack_done : (m : Message) (r : OpenRequest) (draft : Draft) (out : StepOut) → bytes_eq (method_of m.start) (codes "ACK") ≡ true → draft.change ≡ acknowledged a.now r
-      → draft.drafted.packets ≡ [] → draft.drafted.lessons ≡ [] → LeavesDraft draft out
+  ack_done : (m : Message) (r : OpenRequest) (draft : EventDraft) (out : StepOut) → bytes_eq (method_of m.start) (codes "ACK") ≡ true
+      → draft.change ≡ acknowledged a.now r
+      → draft.drafted.packets ≡ [] → draft.drafted.updates ≡ [] → LeavesDraft draft out
       → Does server old a.now (copied (arrival_of a) m r (counted (arrival_of a) old)) out new
   ack_done m r draft out is becomes sends tells l =
       let done : Does server old a.now (copied_by r true) out new =
@@ -124,8 +125,8 @@ module _ (server : Server) (a : Arrival) (old new : ProxyState) where
         repeats = ap retransmissions (l.packets_are ∙ sends);
         records = l.records_are;
         leaves =
-            subst (λ (ls : List Lesson). SameState new (left_by a (replaced (acknowledged a.now r) old.requests) (after_lessons a.now ls old.dialogs) old)) tells
-            (subst (λ (x : OpenRequest). SameState new (left_by a (replaced x old.requests) (after_lessons a.now draft.drafted.lessons old.dialogs) old)) becomes
+            subst (λ (ls : List DialogUpdate). SameState new (left_by a (replaced (acknowledged a.now r) old.requests) (after_updates a.now ls old.dialogs) old)) tells
+            (subst (λ (x : OpenRequest). SameState new (left_by a (replaced x old.requests) (after_updates a.now draft.drafted.updates old.dialogs) old)) becomes
             l.leaves);
       } in
       subst (λ (t : Bool). Does server old a.now (copied_by r t) out new) (sym is) done
@@ -148,10 +149,10 @@ module _ (server : Server) (a : Arrival) (old new : ProxyState) where
 -- ---- a copy, whatever the server
 
 module _ (a : Arrival) (old new : ProxyState) where
-  pub acknowledged_done : (place : ℕ) (draft : Draft) (result : Result StepOut AllocError)
+  pub acknowledged_done : (place : ℕ) (draft : EventDraft) (result : Result StepOut AllocError)
       → ((r : OpenRequest) → slice_get old.requests place ≡ Some r → draft.change ≡ acknowledged a.now r)
-      → draft.drafted.packets ≡ [] → draft.drafted.lessons ≡ []
-      → IfOk result (λ out. Leaves a draft.drafted.packets (replaced draft.change old.requests) (after_lessons a.now draft.drafted.lessons old.dialogs) old out new)
+      → draft.drafted.packets ≡ [] → draft.drafted.updates ≡ []
+      → IfOk result (λ out. Leaves a draft.drafted.packets (replaced draft.change old.requests) (after_updates a.now draft.drafted.updates old.dialogs) old out new)
       → IfOk result (λ out. (server : Server) (m : Message) (r : OpenRequest) → bytes_eq (method_of m.start) (codes "ACK") ≡ true → slice_get old.requests place ≡ Some r
       → Does server old a.now (copied (arrival_of a) m r (counted (arrival_of a) old)) out new)
   acknowledged_done place draft (Ok out) becomes sends tells l = λ server m r is at. ack_done server a old new m r draft out is (becomes r at) sends tells l

@@ -8,7 +8,7 @@ use Rattle.sip_event.specs.declared.event.StepOut.{StepOut}
 use Rattle.sip_proxy.specs.Drafts.{IsDrafted}
 use Rattle.sip_proxy.specs.Proxy.{MayCome}
 use Rattle.sip_proxy.specs.context_model.Branches.{Change, send_failed}
-use Rattle.sip_proxy.specs.declared.drafting.Draft.{Draft}
+use Rattle.sip_proxy.specs.declared.drafting.EventDraft.{EventDraft}
 use Rattle.sip_event.specs.declared.packet.Ticket.{Ticket}
 use Rattle.sip_proxy.specs.fork.Places.{branch_at}
 use Rattle.sip_hops.specs.declared.host_address.HostAddress.{HostAddress}
@@ -17,10 +17,10 @@ use Rattle.sip_proxy.specs.context.Inputs.{Outcome, changing, outcome_of}
 use Rattle.sip_proxy.specs.forwarding.Forwarding.{AreSent, Teach, change_of}
 use Rattle.sip_proxy.specs.steps_model.Effect.{Effect, change_packets, changed, dialogs_after, replaced}
 use Rattle.sip_proxy.specs.steps_model.Step.{Does, IsFault, NoneAgainBefore, NoneBefore, failed_branch, failed_request, fault_effect, is_failed, moment_of}
-use Rattle.sip_dialog_lessons.specs.state.declared.branch.Branch.{Branch}
-use Rattle.sip_dialog_lessons.specs.state.declared.open_request.OpenRequest.{OpenRequest}
-use Rattle.sip_dialog_lessons.specs.state.declared.proxy_state.ProxyState.{ProxyState}
-use Rattle.sip_dialog_lessons.specs.state.declared.server.Server.{Server}
+use Rattle.sip_dialog_updates.specs.state.declared.branch.Branch.{Branch}
+use Rattle.sip_dialog_updates.specs.state.declared.open_request.OpenRequest.{OpenRequest}
+use Rattle.sip_dialog_updates.specs.state.declared.proxy_state.ProxyState.{ProxyState}
+use Rattle.sip_dialog_updates.specs.state.declared.server.Server.{Server}
 use Rattle.sip_engine_open.specs.Faults.{failed_of, failing}
 use Rattle.sip_engine_open.specs.TimeSteps.{IsDraftOf, Leaves}
 use Rattle.sip_engine_open.proofs.Drafts.{IsDraftAt}
@@ -100,17 +100,17 @@ module _ (server : Server) (now : ℕ) (ticket : Ticket) (state : ProxyState) wh
 -- ---- drafts
 
 module _ (rows : List HostAddress) (server : Server) (now : ℕ) where
-  draft_of : (r : OpenRequest) (input : Input) (change : Change) (draft : Draft) → outcome_of server now r input ≡ changing change []
+  draft_of : (r : OpenRequest) (input : Input) (change : Change) (draft : EventDraft) → outcome_of server now r input ≡ changing change []
       → IsDrafted rows server now r input draft
       → IsDraftOf rows server now change draft
   draft_of r input change draft is d =
       record {
         request = d.request ∙ ap (λ (o : Outcome). o.request) is;
         sent = subst (λ (o : Outcome). AreSent (change_packets (change_of o)) o.copies draft.drafted.packets) is d.drafted.sent;
-        lessons = subst (λ (o : Outcome). Teach rows server now draft.drafted.lessons (dialogs_after server now (change_of o))) is d.drafted.lessons;
+        updates = subst (λ (o : Outcome). Teach rows server now draft.drafted.updates (dialogs_after server now (change_of o))) is d.drafted.updates;
       }
 
-  pub fault_drafted : (requests : List OpenRequest) (place branch : ℕ) (x : OpenRequest) (b : Branch) (input : Input) (result : Result Draft AllocError)
+  pub fault_drafted : (requests : List OpenRequest) (place branch : ℕ) (x : OpenRequest) (b : Branch) (input : Input) (result : Result EventDraft AllocError)
       → slice_get requests place ≡ Some x
       → slice_get x.branches branch ≡ Some b → outcome_of server now x input ≡ changing (send_failed server now x b) []
       → IfOk result (IsDraftAt rows server now requests place input)
@@ -125,9 +125,9 @@ module _ (rows : List HostAddress) (server : Server) (now : ℕ) where
 -- ---- steps
 
 module _ (server : Server) (now : ℕ) (old new : ProxyState) where
-  pub failed_done : (rows : List HostAddress) (place branch : ℕ) (draft : Draft) (result : Result StepOut AllocError) → rows ≡ server.config.addresses
+  pub failed_done : (rows : List HostAddress) (place branch : ℕ) (draft : EventDraft) (result : Result StepOut AllocError) → rows ≡ server.config.addresses
       → ((found : OpenRequest × Branch) → branch_at old.requests (place, branch) ≡ Some found → IsDraftOf rows server now (send_failed server now found.0 found.1) draft)
-      → IfOk result (λ out. Leaves now draft.drafted.packets (replaced draft.change old.requests) draft.drafted.lessons old out new)
+      → IfOk result (λ out. Leaves now draft.drafted.packets (replaced draft.change old.requests) draft.drafted.updates old out new)
       → IfOk result (λ out. (found : OpenRequest × Branch) → branch_at old.requests (place, branch) ≡ Some found
       → Does server old now (changed server now old (send_failed server now found.0 found.1)) out new)
   failed_done rows place branch draft (Ok out) known drafted l = λ found at.

@@ -7,8 +7,8 @@ use Rattle.std.specs.declared.alloc.AllocError.{AllocError}
 use Rattle.std.proofs.lemmas.Option.{slice_get_within, get_or_from_slice_get}
 use Rattle.sip_event.specs.declared.packet.Packet.{Packet}
 use Rattle.sip_proxy.specs.Drafts.{IsDrafted}
-use Rattle.sip_core.specs.context_model.Branches.{Change, responded}
-use Rattle.sip_proxy.specs.declared.drafting.Draft.{Draft}
+use Rattle.sip_verdict.specs.context_model.Branches.{Change, responded}
+use Rattle.sip_proxy.specs.declared.drafting.EventDraft.{EventDraft}
 use Rattle.sip_proxy.specs.fork.Places.{branch_at}
 use Rattle.sip_proxy.specs.fork.Keeping.{IsKeptAs}
 use Rattle.sip_message_form.specs.declared.message.Message.{Message}
@@ -16,12 +16,12 @@ use Rattle.sip_proxy.specs.forwarding.Forwarding.{AreSent, Teach, change_of}
 use Rattle.sip_hops.specs.declared.host_address.HostAddress.{HostAddress}
 use Rattle.sip_proxy.specs.context.Inputs.{Outcome, changing, outcome_of}
 use Rattle.sip_proxy.specs.context.declared.input.Input.{Input}
-use Rattle.sip_dialog_lessons.specs.Lessons.{beginnings}
+use Rattle.sip_dialog_updates.specs.DialogUpdates.{beginnings}
 use Rattle.sip_proxy.specs.steps_model.Effect.{change_packets, dialogs_after}
-use Rattle.sip_core.specs.context_model.Retransmission.{acked_again}
-use Rattle.sip_dialog_lessons.specs.state.declared.branch.Branch.{Branch}
-use Rattle.sip_dialog_lessons.specs.state.declared.open_request.OpenRequest.{OpenRequest}
-use Rattle.sip_dialog_lessons.specs.state.declared.server.Server.{Server}
+use Rattle.sip_verdict.specs.context_model.Retransmission.{acked_again}
+use Rattle.sip_dialog_updates.specs.state.declared.branch.Branch.{Branch}
+use Rattle.sip_dialog_updates.specs.state.declared.open_request.OpenRequest.{OpenRequest}
+use Rattle.sip_dialog_updates.specs.state.declared.server.Server.{Server}
 use Rattle.sip_engine_open.specs.Steps.{IsDraftOf}
 
 -- ---- places
@@ -66,23 +66,23 @@ contained requests place branch x b r here there at =
 -- ---- drafts
 
 module _ (rows : List HostAddress) (server : Server) (now : ℕ) where
-  draft_of : (r : OpenRequest) (input : Input) (change : Change) (copies : List Packet) (draft : Draft) → outcome_of server now r input ≡ changing change copies
+  draft_of : (r : OpenRequest) (input : Input) (change : Change) (copies : List Packet) (draft : EventDraft) → outcome_of server now r input ≡ changing change copies
       → IsDrafted rows server now r input draft → IsDraftOf rows server now r change copies draft
   draft_of r input change copies draft is d =
       record {
         request = d.request ∙ ap (λ (o : Outcome). o.request) is;
         kept = d.kept;
         sent = subst (λ (o : Outcome). AreSent (change_packets (change_of o)) o.copies draft.drafted.packets) is d.drafted.sent;
-        lessons = subst (λ (o : Outcome). Teach rows server now draft.drafted.lessons (dialogs_after server now (change_of o))) is d.drafted.lessons;
+        updates = subst (λ (o : Outcome). Teach rows server now draft.drafted.updates (dialogs_after server now (change_of o))) is d.drafted.updates;
         few = d.drafted.few;
       }
 
   -- what is drafted of an input to the request at a place
-  abbrev pub IsDraftAt : List OpenRequest → ℕ → Input → Draft → Type 0
+  abbrev pub IsDraftAt : List OpenRequest → ℕ → Input → EventDraft → Type 0
   IsDraftAt requests place input draft = (r : OpenRequest) → slice_get requests place ≡ Some r → IsDrafted rows server now r input draft
 
   pub response_drafted : (requests : List OpenRequest) (place branch : ℕ) (x : OpenRequest) (b : Branch) (status : ℕ) (m : Message) (input : Input)
-      (result : Result Draft AllocError)
+      (result : Result EventDraft AllocError)
       → slice_get requests place ≡ Some x → slice_get x.branches branch ≡ Some b → outcome_of server now x input
       ≡ changing (responded server now x b status m) (acked_again server x b status)
       → IfOk result (IsDraftAt requests place input)
@@ -94,12 +94,12 @@ module _ (rows : List HostAddress) (server : Server) (now : ℕ) where
       (draft_of x input (responded server now x b status m) (acked_again server x b status) draft is (h x here))
   response_drafted requests place branch x b status m input (Err e) here there is h = tt
 
-  pub draft_kept : (requests : List OpenRequest) (place : ℕ) (input : Input) (result : Result Draft AllocError) → IfOk result (IsDraftAt requests place input)
+  pub draft_kept : (requests : List OpenRequest) (place : ℕ) (input : Input) (result : Result EventDraft AllocError) → IfOk result (IsDraftAt requests place input)
       → IfOk result (λ draft. (r : OpenRequest) → slice_get requests place ≡ Some r → IsKeptAs now r draft.change)
   draft_kept requests place input (Ok draft) h = λ r at. (h r at).kept
   draft_kept requests place input (Err e) h = tt
 
-  pub draft_few : (requests : List OpenRequest) (place : ℕ) (x : OpenRequest) (input : Input) (result : Result Draft AllocError) → slice_get requests place ≡ Some x
-      → IfOk result (IsDraftAt requests place input) → IfOk result (λ draft. beginnings draft.drafted.lessons ≤ 1)
+  pub draft_few : (requests : List OpenRequest) (place : ℕ) (x : OpenRequest) (input : Input) (result : Result EventDraft AllocError) → slice_get requests place ≡ Some x
+      → IfOk result (IsDraftAt requests place input) → IfOk result (λ draft. beginnings draft.drafted.updates ≤ 1)
   draft_few requests place x input (Ok draft) here h = (h x here).drafted.few
   draft_few requests place x input (Err e) here h = tt

@@ -4,14 +4,14 @@ use Rattle.std.specs.List.{filter_map}
 use Rattle.std.specs.Option.{option_to_list}
 use Rattle.std.proofs.lemmas.List.Elements.{Contains-append_left, Contains-append_right}
 use Rattle.sip_proxy.specs.fork.Due.{IsDue, IsFirst, IsNothingDue}
-use Rattle.sip_proxy.specs.fork.declared.due.Due.{Due}
-use Rattle.sip_proxy.specs.fork.declared.due.Due.TheVariants as What
-use Rattle.sip_proxy.specs.fork.declared.due.First.{First}
+use Rattle.sip_proxy.specs.fork.declared.first_due.Due.{Due}
+use Rattle.sip_proxy.specs.fork.declared.first_due.Due.TheVariants as What
+use Rattle.sip_proxy.specs.fork.declared.first_due.FirstDue.{FirstDue}
 use Rattle.sip_proxy.specs.steps_model.Step.{NoneAgainBefore, NoneAgainBy, NoneBefore, NoneBy}
 use Rattle.sip_proxy.specs.context_model.Retransmission.{answer_due, branch_due, resends, resends_of}
-use Rattle.sip_dialog_lessons.specs.state.State.{deadlines, deadlines_of, phase_deadline, side_deadline}
-use Rattle.sip_dialog_lessons.specs.state.declared.branch.Branch.{Branch}
-use Rattle.sip_dialog_lessons.specs.state.declared.open_request.OpenRequest.{OpenRequest}
+use Rattle.sip_dialog_updates.specs.state.State.{deadlines, deadlines_of, phase_deadline, side_deadline}
+use Rattle.sip_dialog_updates.specs.state.declared.branch.Branch.{Branch}
+use Rattle.sip_dialog_updates.specs.state.declared.open_request.OpenRequest.{OpenRequest}
 use Rattle.sip_engine_open.specs.Next.{IsNext}
 use Rattle.sip_engine_open.proofs.Lists.{all_contains, all_weaker, at_place, in_filter_map, in_flat_map, in_option}
 
@@ -34,7 +34,7 @@ due_of r due (What.BranchEnds place) is =
     (Contains-append_right (option_to_list (side_deadline r.side)) (filter_map (λ (b : Branch). phase_deadline b.phase) r.branches) due
     (in_filter_map (λ (b : Branch). phase_deadline b.phase) r.branches place found.0 due found.1 (is.is found.0 found.1)))
 
-pub first_is_next : (requests : List OpenRequest) (first : First) → IsFirst requests first → IsNext requests first.due
+pub first_is_next : (requests : List OpenRequest) (first : FirstDue) → IsFirst requests first → IsNext requests first.due
 first_is_next requests first f =
     record { is_due = of_all (due_of found.0 first.due first.what (f.due found.0 found.1)); none_before = f.none_before; none_again = f.none_again } where
       found : (r : OpenRequest) × (slice_get requests first.place ≡ Some r)

@@ -2,27 +2,27 @@
 use Rattle.std.proofs.Common.{◌≡◌, ◌∙◌, ℕ, ◌≤◌, List, [], Bool, true, false, cond, Option, Some, None, Ok, slice_get, refl, sym, ap, subst, arith}
 use Rattle.std.specs.Prelude.{◌&&◌}
 use Rattle.sip_proxy.specs.Expiring.{expiring}
-use Rattle.sip_proxy.specs.declared.drafting.Draft.{Draft}
+use Rattle.sip_proxy.specs.declared.drafting.EventDraft.{EventDraft}
 use Rattle.sip_proxy.specs.fork.Ending.{IsDeadlineOf, ended, left_invite}
 use Rattle.sip_proxy.specs.fork.Keeping.{IsKeptAs, IsOf}
 use Rattle.sip_proxy.specs.fork.context.Inputs.{Outcome, changing}
 use Rattle.sip_proxy.specs.fork.Quiet.{alone}
-use Rattle.sip_proxy.specs.fork.declared.due.Due.{Due}
+use Rattle.sip_proxy.specs.fork.declared.first_due.Due.{Due}
 use Rattle.sip_proxy.specs.fork.transaction_table.declared.transaction.Transaction.{Transaction}
 use Rattle.sip_proxy.specs.forwarding.Forwarding.{IsDraft}
 use Rattle.sip_hops.specs.declared.host_address.HostAddress.{HostAddress}
 use Rattle.sip_proxy.specs.context.declared.input.Input.{Input}
 use Rattle.sip_dialog.specs.declared.dialog.Dialog.{Dialog}
-use Rattle.sip_dialog_lessons.specs.Lessons.{after_lessons, beginnings}
+use Rattle.sip_dialog_updates.specs.DialogUpdates.{after_updates, beginnings}
 use Rattle.sip_dialog.specs.Dialogs.{after_invite}
 use Rattle.sip_proxy.specs.steps_model.Effect.{dialogs_after, replaced}
-use Rattle.sip_dialog_lessons.specs.state.State.{has_left, is_invite}
-use Rattle.sip_dialog_lessons.specs.state.declared.open_request.OpenRequest.{OpenRequest}
-use Rattle.sip_dialog_lessons.specs.state.declared.server.Server.{Server}
-use Rattle.sip_dialog_lessons.specs.state.declared.proxy_state.ProxyState.{ProxyState}
+use Rattle.sip_dialog_updates.specs.state.State.{has_left, is_invite}
+use Rattle.sip_dialog_updates.specs.state.declared.open_request.OpenRequest.{OpenRequest}
+use Rattle.sip_dialog_updates.specs.state.declared.server.Server.{Server}
+use Rattle.sip_dialog_updates.specs.state.declared.proxy_state.ProxyState.{ProxyState}
 use Rattle.sip_event.specs.declared.event.StepOut.{StepOut}
 use Rattle.sip_proxy.specs.fork.Due.{IsFirst, IsOfFirst}
-use Rattle.sip_proxy.specs.fork.declared.due.First.{First}
+use Rattle.sip_proxy.specs.fork.declared.first_due.FirstDue.{FirstDue}
 use Rattle.sip_timers.specs.declared.timer.Timer.{Timer}
 use Rattle.sip_engine_open.specs.TimeSteps.{IsDueAs, IsFired, IsQuietEnd, Leaves}
 use Rattle.sip_engine_open.specs.Timers.{IsFiredFirst}
@@ -43,13 +43,13 @@ kept_there requests place moment due t x input here is_due is later kept server 
 -- ---- as a draft
 
 -- a request that becomes this one, and nothing is sent
-abbrev pub quiet_draft : OpenRequest → Draft
-quiet_draft next = record { change = next; drafted = record { packets = []; lessons = expiring (left_invite next) } }
+abbrev pub quiet_draft : OpenRequest → EventDraft
+quiet_draft next = record { change = next; drafted = record { packets = []; updates = expiring (left_invite next) } }
 
-taught : (server : Server) (now : ℕ) (next : OpenRequest) (dialogs : List Dialog) → after_lessons now (expiring (left_invite next)) dialogs
+taught : (server : Server) (now : ℕ) (next : OpenRequest) (dialogs : List Dialog) → after_updates now (expiring (left_invite next)) dialogs
     ≡ dialogs_after server now (alone next) dialogs
 taught server now next dialogs = by_test (is_invite next && has_left next) where
-  by_test : (t : Bool) → after_lessons now (expiring (cond t (Some next.number) None)) dialogs ≡ cond t (after_invite now next.number dialogs) dialogs
+  by_test : (t : Bool) → after_updates now (expiring (cond t (Some next.number) None)) dialogs ≡ cond t (after_invite now next.number dialogs) dialogs
   by_test true = refl
   by_test false = refl
 
@@ -60,7 +60,7 @@ few_taught (Some number) = omega arith
 quiet_drafted : (rows : List HostAddress) (server : Server) (now : ℕ) (next : OpenRequest) → IsDraft rows server now (changing (alone next) []) (quiet_draft next).drafted
 quiet_drafted rows server now next = record {
   sent = record { originals = refl; again = refl };
-  lessons = λ addresses dialogs. taught server now next dialogs;
+  updates = λ addresses dialogs. taught server now next dialogs;
   few = few_taught (left_invite next);
 }
 
@@ -80,7 +80,7 @@ quiet_fired rows server due what r next h kept = record {
 
 -- ---- the step
 
-module _ (server : Server) (old new : ProxyState) (timers : List Timer) (first : First) (t : Transaction) (out : StepOut) where
+module _ (server : Server) (old new : ProxyState) (timers : List Timer) (first : FirstDue) (t : Transaction) (out : StepOut) where
   -- what is left where the transaction ended
   abbrev pub LeavesEnded : Type 0
   LeavesEnded = (r : OpenRequest) → slice_get old.requests first.place ≡ Some r → Leaves first.due [] (replaced (ended t r) old.requests)
@@ -92,7 +92,7 @@ module _ (server : Server) (old new : ProxyState) (timers : List Timer) (first :
       → LeavesEnded → (now : ℕ) → first.due ≤ now → IsFiredFirst server timers old now out new
   quiet_done rows known f of quiet kept leaves =
       let found : (r : OpenRequest) × (slice_get old.requests first.place ≡ Some r) = at_place old.requests first.place f.within in
-      let draft : Draft = quiet_draft (ended t found.0) in
+      let draft : EventDraft = quiet_draft (ended t found.0) in
       let fired : IsFired rows server first.due first.what found.0 draft = quiet_fired rows server first.due first.what found.0 (ended t found.0) (quiet found.0 found.1)
       (kept server found.0 found.1) in
       first_done server old new timers rows first draft (Ok out) known f of (λ x there.

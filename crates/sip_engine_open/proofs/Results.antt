@@ -3,16 +3,16 @@ use Rattle.std.proofs.Common.{◌≡◌, ◌∙◌, ℕ, ◌≤◌, ◌⊎◌, i
 use Rattle.std.specs.declared.alloc.AllocError.{AllocError}
 use Rattle.sip_event.specs.declared.event.StepOut.{StepOut}
 use Rattle.sip_event.specs.declared.packet.Packet.{Packet}
-use Rattle.sip_proxy.specs.declared.drafting.Draft.{Draft}
+use Rattle.sip_proxy.specs.declared.drafting.EventDraft.{EventDraft}
 use Rattle.sip_proxy.specs.fork.Due.{GoesAgainBefore, IsFirst, IsOfFirst}
-use Rattle.sip_proxy.specs.fork.declared.due.First.{First}
+use Rattle.sip_proxy.specs.fork.declared.first_due.FirstDue.{FirstDue}
 use Rattle.sip_hops.specs.declared.host_address.HostAddress.{HostAddress}
-use Rattle.sip_dialog_lessons.specs.declared.lesson.Lesson.{Lesson}
+use Rattle.sip_dialog_updates.specs.declared.dialog_update.DialogUpdate.{DialogUpdate}
 use Rattle.sip_proxy.specs.steps_model.Effect.{replaced}
 use Rattle.sip_proxy.specs.steps_model.Step.{IsDeadline, IsQuiet, IsResend, moment_of}
-use Rattle.sip_dialog_lessons.specs.state.declared.open_request.OpenRequest.{OpenRequest}
-use Rattle.sip_dialog_lessons.specs.state.declared.proxy_state.ProxyState.{ProxyState}
-use Rattle.sip_dialog_lessons.specs.state.declared.server.Server.{Server}
+use Rattle.sip_dialog_updates.specs.state.declared.open_request.OpenRequest.{OpenRequest}
+use Rattle.sip_dialog_updates.specs.state.declared.proxy_state.ProxyState.{ProxyState}
+use Rattle.sip_dialog_updates.specs.state.declared.server.Server.{Server}
 use Rattle.sip_timers.specs.declared.timer.Timer.{Timer}
 use Rattle.sip_engine_open.specs.TimeSteps.{IsFired, Leaves}
 use Rattle.sip_engine_open.specs.Timers.{IsFiredFirst}
@@ -24,10 +24,10 @@ pub no_earlier_than : (moment due : ℕ) (result : Result StepOut AllocError) �
 no_earlier_than moment due (Ok out) le at = subst (λ (n : ℕ). moment ≤ n) (sym at) le
 no_earlier_than moment due (Err e) le at = tt
 
-module _ (now : ℕ) (packets : List Packet) (requests : List OpenRequest) (lessons : List Lesson) (old new : ProxyState) where
+module _ (now : ℕ) (packets : List Packet) (requests : List OpenRequest) (updates : List DialogUpdate) (old new : ProxyState) where
   -- a step that leaves this, if it is taken
   abbrev pub IfLeft : Result StepOut AllocError → Type 0
-  IfLeft result = IfOk result (λ out. Leaves now packets requests lessons old out new)
+  IfLeft result = IfOk result (λ out. Leaves now packets requests updates old out new)
 
   pub left_at : (result : Result StepOut AllocError) → IfLeft result → IfOk result (λ out. out.at ≡ now)
   left_at (Ok out) l = l.at_moment
@@ -47,7 +47,7 @@ module _ (now : ℕ) (packets : List Packet) (requests : List OpenRequest) (less
 
 module _ (server : Server) (old new : ProxyState) (timers : List Timer) where
   -- what was done of what is due first is what its timer is set for
-  fires_first : (at : ℕ) (out : StepOut) (first : First) → IsOfFirst timers old.requests first → out.at ≡ first.due → (r : OpenRequest)
+  fires_first : (at : ℕ) (out : StepOut) (first : FirstDue) → IsOfFirst timers old.requests first → out.at ≡ first.due → (r : OpenRequest)
       → slice_get old.requests first.place ≡ Some r
       → IsDone server old at out new r first.what → IsFiredFirst server timers old at out new
   fires_first at out first of stands r there done = record {
@@ -59,10 +59,10 @@ module _ (server : Server) (old new : ProxyState) (timers : List Timer) where
     is_its = done.1 of.timer (of.request r there) (of.part r there) (subst (λ (n : ℕ). GoesAgainBefore r n first.what) (sym stands) (of.again r there));
   }
 
-  pub first_done : (rows : List HostAddress) (first : First) (draft : Draft) (result : Result StepOut AllocError) → rows ≡ server.config.addresses
+  pub first_done : (rows : List HostAddress) (first : FirstDue) (draft : EventDraft) (result : Result StepOut AllocError) → rows ≡ server.config.addresses
       → IsFirst old.requests first
       → IsOfFirst timers old.requests first → ((r : OpenRequest) → slice_get old.requests first.place ≡ Some r → IsFired rows server first.due first.what r draft)
-      → IfLeft first.due draft.drafted.packets (replaced draft.change old.requests) draft.drafted.lessons old new result
+      → IfLeft first.due draft.drafted.packets (replaced draft.change old.requests) draft.drafted.updates old new result
       → IfOk result (λ out. (now : ℕ) → first.due ≤ now → IsFiredFirst server timers old now out new)
   first_done rows first draft (Ok out) known f of fired l = λ now le.
       let found : (r : OpenRequest) × (slice_get old.requests first.place ≡ Some r) = at_place old.requests first.place f.within in

@@ -9,18 +9,18 @@ use Rattle.sip_proxy.specs.Drafts.{IsDrafted}
 use Rattle.sip_proxy.specs.Proxy.{Becomes}
 use Rattle.sip_proxy.specs.context_model.Branches.{Change, is_closing, is_same_branch, overdue, side_overdue, was_refused}
 use Rattle.sip_proxy.specs.context_model.Sending.{branch_packets}
-use Rattle.sip_proxy.specs.declared.drafting.Draft.{Draft}
+use Rattle.sip_proxy.specs.declared.drafting.EventDraft.{EventDraft}
 use Rattle.sip_dialog.specs.Sameness.{SameDialogs}
 use Rattle.sip_dialog.specs.Dialogs.{after_invite}
 use Rattle.sip_dialog.specs.declared.dialog.Dialog.{Dialog}
 use Rattle.sip_proxy.specs.fork.Due.{GoesAgainBefore, IsOfOwner}
-use Rattle.sip_proxy.specs.fork.declared.due.Due.{Due}
+use Rattle.sip_proxy.specs.fork.declared.first_due.Due.{Due}
 use Rattle.sip_proxy.specs.forwarding.Forwarding.{AreSent, Teach}
 use Rattle.sip_hops.specs.declared.host_address.HostAddress.{HostAddress}
 use Rattle.sip_proxy.specs.context.declared.input.Input.{Input}
 use Rattle.sip_proxy.specs.context.declared.input.Input.TheVariants.{Response, BranchDeadline, SideDeadline, SendFault, Cancel, Ack, BranchAgain, AnswerAgain}
-use Rattle.sip_dialog_lessons.specs.Lessons.{after_lessons}
-use Rattle.sip_dialog_lessons.specs.declared.lesson.Lesson.{Lesson}
+use Rattle.sip_dialog_updates.specs.DialogUpdates.{after_updates}
+use Rattle.sip_dialog_updates.specs.declared.dialog_update.DialogUpdate.{DialogUpdate}
 use Rattle.sip_location.specs.Binding.{live}
 use Rattle.sip_location.specs.Sameness.{SameBindings}
 use Rattle.sip_location.specs.declared.binding.Binding.{Binding}
@@ -29,17 +29,17 @@ use Rattle.sip_proxy.specs.steps_model.Step.{Does, IsDeadline, IsQuiet, IsResend
 use Rattle.sip_proxy.specs.steps_model.Step.{retransmissions, OfSide, OfBranch}
 use Rattle.sip_proxy.specs.context_model.Retransmission.{OfAnswer, OfRequest, answer_due, answer_next, answers_again, branch_due, branch_next, goes_again, insists}
 use Rattle.sip_proxy.specs.context_model.Retransmission.{is_cancelled_again, is_sent_again, resent_branch, with_resend}
-use Rattle.sip_dialog_lessons.specs.state.SameState.{SameState}
-use Rattle.sip_dialog_lessons.specs.state.State.{has_left, is_closed, is_ended, is_invite}
-use Rattle.sip_dialog_lessons.specs.state.declared.branch.Branch.{Branch}
-use Rattle.sip_dialog_lessons.specs.state.declared.branch.Phase.{Phase}
-use Rattle.sip_dialog_lessons.specs.state.declared.branch.Phase.TheVariants.{Unheard, Heard, Cancelled, Done, Ended}
-use Rattle.sip_dialog_lessons.specs.state.declared.open_request.OpenRequest.{OpenRequest}
-use Rattle.sip_dialog_lessons.specs.state.declared.open_request.Side.{Side}
-use Rattle.sip_dialog_lessons.specs.state.declared.open_request.Side.TheVariants.{Answering, Closing, Acknowledged, Closed}
-use Rattle.sip_dialog_lessons.specs.state.declared.proxy_state.ProxyState.{ProxyState}
-use Rattle.sip_dialog_lessons.specs.state.declared.resend.Resend.{Resend}
-use Rattle.sip_dialog_lessons.specs.state.declared.server.Server.{Server}
+use Rattle.sip_dialog_updates.specs.state.SameState.{SameState}
+use Rattle.sip_dialog_updates.specs.state.State.{has_left, is_closed, is_ended, is_invite}
+use Rattle.sip_dialog_updates.specs.state.declared.branch.Branch.{Branch}
+use Rattle.sip_dialog_updates.specs.state.declared.branch.Phase.{Phase}
+use Rattle.sip_dialog_updates.specs.state.declared.branch.Phase.TheVariants.{Unheard, Heard, Cancelled, Done, Ended}
+use Rattle.sip_dialog_updates.specs.state.declared.open_request.OpenRequest.{OpenRequest}
+use Rattle.sip_dialog_updates.specs.state.declared.open_request.Side.{Side}
+use Rattle.sip_dialog_updates.specs.state.declared.open_request.Side.TheVariants.{Answering, Closing, Acknowledged, Closed}
+use Rattle.sip_dialog_updates.specs.state.declared.proxy_state.ProxyState.{ProxyState}
+use Rattle.sip_dialog_updates.specs.state.declared.resend.Resend.{Resend}
+use Rattle.sip_dialog_updates.specs.state.declared.server.Server.{Server}
 use Rattle.sip_timers.specs.declared.timer.Timer.{Timer}
 use Rattle.sip_engine_open.specs.TimeSteps.{IsDraftOf, IsDueAs, IsFired, IsLastOf, IsOfPart, Leaves}
 use Rattle.sip_engine_open.specs.Timers.{IsOfTimer}
@@ -138,16 +138,16 @@ bindings_same from left right same = λ aor moment later. ap (λ (rows : List Bi
 abbrev left_by : ℕ → List OpenRequest → List Dialog → ProxyState → ProxyState
 left_by now requests dialogs old = record old { moment = now; requests = requests; dialogs = dialogs }
 
-left_same : (now : ℕ) (requests : List OpenRequest) (lessons : List Lesson) (old new : ProxyState) → Becomes now requests lessons old new
-    → SameState new (left_by now requests (after_lessons now lessons old.dialogs) old)
-left_same now requests lessons old new becomes =
+left_same : (now : ℕ) (requests : List OpenRequest) (updates : List DialogUpdate) (old new : ProxyState) → Becomes now requests updates old new
+    → SameState new (left_by now requests (after_updates now updates old.dialogs) old)
+left_same now requests updates old new becomes =
     record {
       moment = becomes.moment_is;
       next = becomes.next_is;
       bindings = bindings_same new.moment new.bindings old.bindings becomes.bindings_are;
       nonces = becomes.nonces_are;
       requests = becomes.requests_are;
-      dialogs = subst (λ (n : ℕ). SameDialogs n new.dialogs (after_lessons now lessons old.dialogs)) (sym becomes.moment_is) becomes.dialogs_are;
+      dialogs = subst (λ (n : ℕ). SameDialogs n new.dialogs (after_updates now updates old.dialogs)) (sym becomes.moment_is) becomes.dialogs_are;
     }
 
 -- ---- what a step does
@@ -164,10 +164,10 @@ module _ (server : Server) (now : ℕ) (old : ProxyState) (out : StepOut) (new :
       }
 
   -- what a draft leaves that is made
-  abbrev pub LeavesDraft : Draft → Type 0
-  LeavesDraft draft = Leaves now draft.drafted.packets (replaced draft.change old.requests) draft.drafted.lessons old out new
+  abbrev pub LeavesDraft : EventDraft → Type 0
+  LeavesDraft draft = Leaves now draft.drafted.packets (replaced draft.change old.requests) draft.drafted.updates old out new
 
-  pub change_done : (rows : List HostAddress) (change : Change) (draft : Draft) → rows ≡ server.config.addresses → IsDraftOf rows server now change draft
+  pub change_done : (rows : List HostAddress) (change : Change) (draft : EventDraft) → rows ≡ server.config.addresses → IsDraftOf rows server now change draft
       → LeavesDraft draft
       → Does server old now (changed server now old change) out new
   change_done rows change draft known d l =
@@ -177,18 +177,18 @@ module _ (server : Server) (now : ℕ) (old : ProxyState) (out : StepOut) (new :
         repeats = ap retransmissions l.packets_are ∙ d.sent.again;
         records = l.records_are;
         leaves =
-            subst (λ (ds : List Dialog). SameState new (left_by now (replaced change.request old.requests) ds old)) (d.lessons (sym known) old.dialogs)
-            (subst (λ (x : OpenRequest). SameState new (left_by now (replaced x old.requests) (after_lessons now draft.drafted.lessons old.dialogs) old)) d.request
-            (left_same now (replaced draft.change old.requests) draft.drafted.lessons old new l.becomes));
+            subst (λ (ds : List Dialog). SameState new (left_by now (replaced change.request old.requests) ds old)) (d.updates (sym known) old.dialogs)
+            (subst (λ (x : OpenRequest). SameState new (left_by now (replaced x old.requests) (after_updates now draft.drafted.updates old.dialogs) old)) d.request
+            (left_same now (replaced draft.change old.requests) draft.drafted.updates old new l.becomes));
       }
 
   -- what goes again teaches the dialogs nothing, as its request stays
-  pub resend_done : (rows : List HostAddress) (packets : List Packet) (next : OpenRequest) (draft : Draft) → rows ≡ server.config.addresses → draft.change ≡ next
-      → AreSent [] packets draft.drafted.packets → Teach rows server now draft.drafted.lessons
+  pub resend_done : (rows : List HostAddress) (packets : List Packet) (next : OpenRequest) (draft : EventDraft) → rows ≡ server.config.addresses → draft.change ≡ next
+      → AreSent [] packets draft.drafted.packets → Teach rows server now draft.drafted.updates
       (dialogs_after server now (record { request = next; acks = []; upward = []; cancels = [] }))
       → has_left next ≡ false → LeavesDraft draft → Does server old now (resent now old packets next) out new
   resend_done rows packets next draft known becomes sent teach stays l =
-      let none_learnt : after_lessons now draft.drafted.lessons old.dialogs ≡ old.dialogs =
+      let none_learnt : after_updates now draft.drafted.updates old.dialogs ≡ old.dialogs =
       teach (sym known) old.dialogs ∙ stays_for (is_invite next) (has_left next) (after_invite now next.number old.dialogs) old.dialogs stays in
       record {
         at_moment = l.at_moment;
@@ -197,8 +197,8 @@ module _ (server : Server) (now : ℕ) (old : ProxyState) (out : StepOut) (new :
         records = l.records_are;
         leaves =
             subst (λ (ds : List Dialog). SameState new (left_by now (replaced next old.requests) ds old)) none_learnt
-            (subst (λ (x : OpenRequest). SameState new (left_by now (replaced x old.requests) (after_lessons now draft.drafted.lessons old.dialogs) old)) becomes
-            (left_same now (replaced draft.change old.requests) draft.drafted.lessons old new l.becomes));
+            (subst (λ (x : OpenRequest). SameState new (left_by now (replaced x old.requests) (after_updates now draft.drafted.updates old.dialogs) old)) becomes
+            (left_same now (replaced draft.change old.requests) draft.drafted.updates old new l.becomes));
       }
 
 -- ---- the kinds of steps
@@ -223,7 +223,7 @@ IsDone server old at out new r what =
     → GoesAgainBefore r out.at what → IsOfTimer timer happens)
 
 module _ (server : Server) (at : ℕ) (old : ProxyState) (out : StepOut) (new : ProxyState) (rows : List HostAddress) (known : rows ≡ server.config.addresses) (what : Due)
-    (r : OpenRequest) (draft : Draft) where
+    (r : OpenRequest) (draft : EventDraft) where
   fired_then : IsFired rows server out.at what r draft → LeavesDraft server out.at old out new draft → Contains old.requests r → out.at ≤ moment_of old at
       → NoneBefore out.at old.requests
       → NoneAgainBefore out.at old.requests → IsDone server old at out new r what
@@ -241,7 +241,7 @@ module _ (server : Server) (at : ℕ) (old : ProxyState) (out : StepOut) (new : 
           is_first = none;
           none_again = again;
           does = change_done server out.at old out new rows (overdue server out.at r branch.now) draft known
-              (record { request = d.request; sent = d.drafted.sent; lessons = d.drafted.lessons }) l;
+              (record { request = d.request; sent = d.drafted.sent; updates = d.drafted.updates }) l;
         } in
         (inl passed, λ timer number of before. (number, (part timer.name.owner of, last before)))
     by_input SideDeadline is part last d =
@@ -254,7 +254,7 @@ module _ (server : Server) (at : ℕ) (old : ProxyState) (out : StepOut) (new : 
           is_first = none;
           none_again = again;
           does = change_done server out.at old out new rows (side_overdue server out.at r) draft known
-              (record { request = d.request; sent = d.drafted.sent; lessons = d.drafted.lessons }) l;
+              (record { request = d.request; sent = d.drafted.sent; updates = d.drafted.updates }) l;
         } in
         (inl passed, λ timer number of before. (number, (part timer.name.owner of, last before)))
     by_input (SendFault branch) is part last d = absurd is
@@ -271,7 +271,7 @@ module _ (server : Server) (at : ℕ) (old : ProxyState) (out : StepOut) (new : 
           is_first = none;
           none_again = again;
           does = resend_done server out.at old out new rows (branch_packets server true r branch.now) (with_resend branch.now r) draft known d.request d.drafted.sent
-              d.drafted.lessons
+              d.drafted.updates
               (branch_stays r branch.now out.at is.there is.is) l;
         } in
         (inr gone, λ timer number of before. (number, part timer.name.owner of))
@@ -286,7 +286,7 @@ module _ (server : Server) (at : ℕ) (old : ProxyState) (out : StepOut) (new : 
           is_first = none;
           none_again = again;
           does = resend_done server out.at old out new rows (answers_again r r.answer) (record r { again = answer_next r }) draft known d.request d.drafted.sent
-              d.drafted.lessons
+              d.drafted.updates
               (answer_stays r out.at is) l;
         } in
         (inr gone, λ timer number of before. (number, part timer.name.owner of))

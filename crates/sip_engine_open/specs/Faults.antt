@@ -5,10 +5,10 @@ use Rattle.sip_proxy.specs.context_model.Branches.{send_failed}
 use Rattle.sip_event.specs.declared.packet.Ticket.{Ticket}
 use Rattle.sip_proxy.specs.steps_model.Effect.{Effect, changed, nothing}
 use Rattle.sip_proxy.specs.steps_model.Step.{is_failed}
-use Rattle.sip_dialog_lessons.specs.state.declared.branch.Branch.{Branch}
-use Rattle.sip_dialog_lessons.specs.state.declared.open_request.OpenRequest.{OpenRequest}
-use Rattle.sip_dialog_lessons.specs.state.declared.proxy_state.ProxyState.{ProxyState}
-use Rattle.sip_dialog_lessons.specs.state.declared.server.Server.{Server}
+use Rattle.sip_dialog_updates.specs.state.declared.branch.Branch.{Branch}
+use Rattle.sip_dialog_updates.specs.state.declared.open_request.OpenRequest.{OpenRequest}
+use Rattle.sip_dialog_updates.specs.state.declared.proxy_state.ProxyState.{ProxyState}
+use Rattle.sip_dialog_updates.specs.state.declared.server.Server.{Server}
 
 -- the open request of a ticket, with the branch that the ticket names, if nothing was heard of that
 abbrev pub failed_of : Ticket → List OpenRequest → Option (OpenRequest × Branch)

@@ -2,8 +2,8 @@
 use Rattle.std.specs.Prelude.{ℕ, ◌⊎◌, List, Contains}
 use Rattle.sip_proxy.specs.steps_model.Step.{NoneBefore, NoneAgainBefore}
 use Rattle.sip_proxy.specs.context_model.Retransmission.{resends}
-use Rattle.sip_dialog_lessons.specs.state.State.{deadlines}
-use Rattle.sip_dialog_lessons.specs.state.declared.open_request.OpenRequest.{OpenRequest}
+use Rattle.sip_dialog_updates.specs.state.State.{deadlines}
+use Rattle.sip_dialog_updates.specs.state.declared.open_request.OpenRequest.{OpenRequest}
 
 -- At this moment a deadline of open requests passes, or something of theirs goes again; no deadline stands before it, and nothing is
 -- to go again before it.

@@ -2,20 +2,20 @@
 use Rattle.std.specs.Prelude.{ℕ, ◌≡◌, ◌≤◌, List, []}
 use Rattle.sip_event.specs.declared.event.StepOut.{StepOut}
 use Rattle.sip_event.specs.declared.packet.Packet.{Packet}
-use Rattle.sip_core.specs.context_model.Branches.{Change}
-use Rattle.sip_proxy.specs.declared.drafting.Draft.{Draft}
+use Rattle.sip_verdict.specs.context_model.Branches.{Change}
+use Rattle.sip_proxy.specs.declared.drafting.EventDraft.{EventDraft}
 use Rattle.sip_dialog.specs.declared.dialog.Dialog.{Dialog}
 use Rattle.sip_proxy.specs.fork.Keeping.{IsKeptAs}
 use Rattle.sip_proxy.specs.forwarding.Forwarding.{AreSent, Teach}
 use Rattle.sip_hops.specs.declared.host_address.HostAddress.{HostAddress}
-use Rattle.sip_dialog_lessons.specs.Lessons.{beginnings}
+use Rattle.sip_dialog_updates.specs.DialogUpdates.{beginnings}
 use Rattle.sip_proxy.specs.steps_model.Effect.{change_packets, counted, dialogs_after}
 use Rattle.sip_proxy.specs.forwarding.Arrivals.{arrival_of}
 use Rattle.sip_proxy.specs.forwarding.declared.arrival.Arrival.{Arrival}
-use Rattle.sip_dialog_lessons.specs.state.SameState.{SameState}
-use Rattle.sip_dialog_lessons.specs.state.declared.open_request.OpenRequest.{OpenRequest}
-use Rattle.sip_dialog_lessons.specs.state.declared.proxy_state.ProxyState.{ProxyState}
-use Rattle.sip_dialog_lessons.specs.state.declared.server.Server.{Server}
+use Rattle.sip_dialog_updates.specs.state.SameState.{SameState}
+use Rattle.sip_dialog_updates.specs.state.declared.open_request.OpenRequest.{OpenRequest}
+use Rattle.sip_dialog_updates.specs.state.declared.proxy_state.ProxyState.{ProxyState}
+use Rattle.sip_dialog_updates.specs.state.declared.server.Server.{Server}
 
 -- the state after a datagram that took its number, with these open requests and these dialogs
 abbrev pub left_by : Arrival → List OpenRequest → List Dialog → ProxyState → ProxyState
@@ -34,9 +34,9 @@ pub record Leaves (a : Arrival) (packets : List Packet) (requests : List OpenReq
 -- what goes again beside it; and what the dialogs learn, of which at
 -- most one begins (RFC 3261 12, 16.7).
 pub record IsDraftOf (rows : List HostAddress) (server : Server) (now : ℕ) (r : OpenRequest) (change : Change) (copies : List Packet)
-    (draft : Draft) : Type 0 where
+    (draft : EventDraft) : Type 0 where
   pub request : draft.change ≡ change.request
   pub kept : IsKeptAs now r draft.change
   pub sent : AreSent (change_packets change) copies draft.drafted.packets
-  pub lessons : Teach rows server now draft.drafted.lessons (dialogs_after server now change)
-  pub few : beginnings draft.drafted.lessons ≤ 1
+  pub updates : Teach rows server now draft.drafted.updates (dialogs_after server now change)
+  pub few : beginnings draft.drafted.updates ≤ 1

@@ -5,10 +5,10 @@ use Rattle.sip_event.specs.declared.packet.Packet.{Packet}
 use Rattle.sip_proxy.specs.Drafts.{IsDrafted}
 use Rattle.sip_proxy.specs.Proxy.{Becomes}
 use Rattle.sip_proxy.specs.context_model.Branches.{Change}
-use Rattle.sip_proxy.specs.declared.drafting.Draft.{Draft}
+use Rattle.sip_proxy.specs.declared.drafting.EventDraft.{EventDraft}
 use Rattle.sip_proxy.specs.fork.Due.{GoesAgainBefore, IsOfOwner, is_of}
-use Rattle.sip_proxy.specs.fork.declared.due.Due.{Due}
-use Rattle.sip_proxy.specs.fork.declared.due.Due.TheVariants as What
+use Rattle.sip_proxy.specs.fork.declared.first_due.Due.{Due}
+use Rattle.sip_proxy.specs.fork.declared.first_due.Due.TheVariants as What
 use Rattle.sip_proxy.specs.fork.transaction_table.declared.transaction.Transaction.{Transaction}
 use Rattle.sip_proxy.specs.fork.transaction_table.declared.transaction.Transaction.TheVariants as Transactions
 use Rattle.sip_proxy.specs.fork.context.Inputs.{changing, outcome_of}
@@ -18,31 +18,31 @@ use Rattle.sip_hops.specs.declared.host_address.HostAddress.{HostAddress}
 use Rattle.sip_proxy.specs.context.declared.input.Input.{Input}
 use Rattle.sip_proxy.specs.context.declared.input.Input.TheVariants.{Response, BranchDeadline, SideDeadline, SendFault, Cancel, Ack}
 use Rattle.sip_proxy.specs.context.declared.input.Input.TheVariants.{BranchAgain, AnswerAgain}
-use Rattle.sip_dialog_lessons.specs.declared.lesson.Lesson.{Lesson}
+use Rattle.sip_dialog_updates.specs.declared.dialog_update.DialogUpdate.{DialogUpdate}
 use Rattle.sip_proxy.specs.steps_model.Effect.{change_packets, dialogs_after}
 use Rattle.sip_proxy.specs.context_model.Retransmission.{answer_due, branch_due}
-use Rattle.sip_dialog_lessons.specs.state.State.{phase_deadline, side_deadline}
-use Rattle.sip_dialog_lessons.specs.state.declared.branch.Branch.{Branch}
-use Rattle.sip_dialog_lessons.specs.state.declared.open_request.OpenRequest.{OpenRequest}
-use Rattle.sip_dialog_lessons.specs.state.declared.proxy_state.ProxyState.{ProxyState}
-use Rattle.sip_dialog_lessons.specs.state.declared.server.Server.{Server}
+use Rattle.sip_dialog_updates.specs.state.State.{phase_deadline, side_deadline}
+use Rattle.sip_dialog_updates.specs.state.declared.branch.Branch.{Branch}
+use Rattle.sip_dialog_updates.specs.state.declared.open_request.OpenRequest.{OpenRequest}
+use Rattle.sip_dialog_updates.specs.state.declared.proxy_state.ProxyState.{ProxyState}
+use Rattle.sip_dialog_updates.specs.state.declared.server.Server.{Server}
 use Rattle.sip_timers.specs.declared.timer.Owner.{Owner}
 use Rattle.sip_timers.specs.declared.timer.Owner.TheVariants as Of
 
--- At its moment a step put out these packets and no record; it left these open requests, of the dialogs what these lessons make of
+-- At its moment a step put out these packets and no record; it left these open requests, of the dialogs what these updates make of
 -- them, and all else as it was.
-pub record Leaves (now : ℕ) (packets : List Packet) (requests : List OpenRequest) (lessons : List Lesson) (old : ProxyState) (out : StepOut)
+pub record Leaves (now : ℕ) (packets : List Packet) (requests : List OpenRequest) (updates : List DialogUpdate) (old : ProxyState) (out : StepOut)
     (new : ProxyState) : Type 0 where
   pub at_moment : out.at ≡ now
   pub packets_are : out.packets ≡ packets
   pub records_are : out.records ≡ []
-  pub becomes : Becomes now requests lessons old new
+  pub becomes : Becomes now requests updates old new
 
 -- What was drafted of a change of an open request: the request as it becomes, what is sent, and what the dialogs learn; nothing goes again.
-pub record IsDraftOf (rows : List HostAddress) (server : Server) (now : ℕ) (change : Change) (draft : Draft) : Type 0 where
+pub record IsDraftOf (rows : List HostAddress) (server : Server) (now : ℕ) (change : Change) (draft : EventDraft) : Type 0 where
   pub request : draft.change ≡ change.request
   pub sent : AreSent (change_packets change) [] draft.drafted.packets
-  pub lessons : Teach rows server now draft.drafted.lessons (dialogs_after server now change)
+  pub updates : Teach rows server now draft.drafted.updates (dialogs_after server now change)
 
 -- a branch is one of these, and this is its moment
 pub record IsBranchDue (moment_of : Branch → Option ℕ) (branches : List Branch) (b : Branch) (due : ℕ) : Type 0 where
@@ -88,7 +88,7 @@ IsLastOf r due (BranchAgain branch) = Unit {0}
 IsLastOf r due AnswerAgain = Unit {0}
 
 -- What was drafted of an open request is what it does by which is due of it.
-pub record IsFired (rows : List HostAddress) (server : Server) (due : ℕ) (what : Due) (r : OpenRequest) (draft : Draft) : Type 0 where
+pub record IsFired (rows : List HostAddress) (server : Server) (due : ℕ) (what : Due) (r : OpenRequest) (draft : EventDraft) : Type 0 where
   pub input : Input
   pub is_due : IsDueAs r due input
   pub is_part : IsOfPart r what input

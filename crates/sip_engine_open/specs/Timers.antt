@@ -7,9 +7,9 @@ use Rattle.sip_proxy.specs.context_model.Branches.{Change}
 use Rattle.sip_proxy.specs.fork.Due.{is_of}
 use Rattle.sip_proxy.specs.steps_model.Step.{IsDeadline, IsOverdue, IsResend, OfSide, OfBranch}
 use Rattle.sip_proxy.specs.context_model.Retransmission.{IsResent, OfAnswer, OfRequest, answer_due, branch_due}
-use Rattle.sip_dialog_lessons.specs.state.declared.open_request.OpenRequest.{OpenRequest}
-use Rattle.sip_dialog_lessons.specs.state.declared.proxy_state.ProxyState.{ProxyState}
-use Rattle.sip_dialog_lessons.specs.state.declared.server.Server.{Server}
+use Rattle.sip_dialog_updates.specs.state.declared.open_request.OpenRequest.{OpenRequest}
+use Rattle.sip_dialog_updates.specs.state.declared.proxy_state.ProxyState.{ProxyState}
+use Rattle.sip_dialog_updates.specs.state.declared.server.Server.{Server}
 use Rattle.sip_timers.specs.declared.timer.Owner.{Owner}
 use Rattle.sip_timers.specs.declared.timer.Owner.TheVariants as Of
 use Rattle.sip_timers.specs.declared.timer.Timer.{Timer}

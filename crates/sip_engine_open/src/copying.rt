@@ -4,26 +4,26 @@ ghost use Rattle.std.specs.Prelude.{◌≡◌, ◌≤◌, ◌<◌, ◌^◌, [], 
 ghost use Rattle.std.specs.Str.{bytes_eq};
 ghost use Rattle.sip_proxy.specs.fork.Firing.{KeepsOrder};
 ghost use Rattle.sip_proxy.specs.Proxy.{IsComing};
-ghost use Rattle.sip_core.specs.Verdict.{IsRequestOf};
-ghost use Rattle.sip_core.specs.context_model.Branches.{acknowledged};
+ghost use Rattle.sip_verdict.specs.Verdict.{IsRequestOf};
+ghost use Rattle.sip_verdict.specs.context_model.Branches.{acknowledged};
 ghost use Rattle.sip_proxy.specs.fork.Keeping.{IsKeptAs};
 ghost use Rattle.sip_message_form.specs.declared.message.Message.{Message};
 ghost use Rattle.sip_proxy.specs.steps_model.Effect.{counted, effect_of, method_of};
 ghost use Rattle.sip_proxy.specs.steps_model.Step.{Does};
 ghost use Rattle.sip_proxy.specs.forwarding.Arrivals.{arrival_of};
-ghost use Rattle.sip_dialog_lessons.specs.state.declared.open_request.OpenRequest.{OpenRequest};
-ghost use Rattle.sip_dialog_lessons.specs.state.declared.server.Server.{Server};
-ghost use Rattle.sip_core.specs.verdict_model.Verdict.{Copy};
+ghost use Rattle.sip_dialog_updates.specs.state.declared.open_request.OpenRequest.{OpenRequest};
+ghost use Rattle.sip_dialog_updates.specs.state.declared.server.Server.{Server};
+ghost use Rattle.sip_verdict.specs.verdict_model.Verdict.{Copy};
 
 use crate::counting::{change, pass};
-use sip_core::is_ack;
-use sip_dialog_lessons::Lessons;
+use sip_dialog_updates::DialogUpdates;
 use sip_event::StepOut;
 use sip_proxy::context::Input;
 use sip_proxy::forwarding::{Arrival, Drafted, copy_packets};
-use sip_proxy::{Configured, Draft, Proxy, ReceivedRequest};
+use sip_proxy::{Configured, EventDraft, Proxy, ReceivedRequest};
 use sip_text::Items;
 use sip_timers::Timers;
+use sip_verdict::is_ack;
 use std::alloc::{AllocError, Global};
 
 /// Drafts what an ACK makes of the open request at a place: nothing is sent, and the dialogs learn nothing. `AllocError`
@@ -34,7 +34,7 @@ fn draft_ack<T: Timers>(
     proxy: &Proxy<T>,
     now: u64,
     place: usize,
-) -> Result<Draft, AllocError>
+) -> Result<EventDraft, AllocError>
     requires place { place < length proxy.now.state.requests }
     requires later { proxy.now.state.moment ≤ now }
     requires small { now < 2 ^ 62 }
@@ -42,18 +42,18 @@ fn draft_ack<T: Timers>(
         ≡ acknowledged now r) }
     ensures kept { IfOk result (λ draft. (r : OpenRequest) → slice_get proxy.now.state.requests place ≡ Some r → IsKeptAs now r draft.change) }
     ensures sends { IfOk result (λ draft. draft.drafted.packets ≡ []) }
-    ensures tells { IfOk result (λ draft. draft.drafted.lessons ≡ []) }
+    ensures tells { IfOk result (λ draft. draft.drafted.updates ≡ []) }
 {
     let draft = proxy.draft_input(alloc, configured, now, place, Input::Ack)?;
-    let Draft {
+    let EventDraft {
         change,
         drafted: _drafted,
     } = draft;
     let drafted = Drafted {
         packets: Items::new(alloc),
-        lessons: Lessons::new(alloc),
+        updates: DialogUpdates::new(alloc),
     };
-    Ok(Draft { change, drafted })
+    Ok(EventDraft { change, drafted })
 }
 
 /// An ACK acknowledges the final answer of the open request at a place, and nothing is sent. `AllocError` is the only

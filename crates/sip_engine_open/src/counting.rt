@@ -2,14 +2,14 @@ ghost use Rattle.std.specs.Prelude.{◌≡◌, ◌≤◌, ◌<◌, length, slice
 ghost use Rattle.sip_proxy.specs.fork.Firing.{KeepsOrder};
 ghost use Rattle.sip_proxy.specs.Proxy.{IsComing};
 ghost use Rattle.sip_proxy.specs.fork.Keeping.{IsKeptAs};
-ghost use Rattle.sip_dialog_lessons.specs.Lessons.{after_lessons, beginnings};
+ghost use Rattle.sip_dialog_updates.specs.DialogUpdates.{after_updates, beginnings};
 ghost use Rattle.sip_proxy.specs.steps_model.Effect.{replaced};
-ghost use Rattle.sip_dialog_lessons.specs.state.declared.open_request.OpenRequest.{OpenRequest};
+ghost use Rattle.sip_dialog_updates.specs.state.declared.open_request.OpenRequest.{OpenRequest};
 ghost use Rattle.sip_engine_open.specs.Steps.{Leaves};
 
 use sip_event::{Packet, StepOut};
 use sip_proxy::forwarding::Arrival;
-use sip_proxy::{Draft, Proxy};
+use sip_proxy::{EventDraft, Proxy};
 use sip_text::Items;
 use sip_timers::Timers;
 use std::alloc::{AllocError, Global};
@@ -43,14 +43,14 @@ pub(crate) fn change<T: Timers>(
     proxy: &mut Proxy<T>,
     arrival: Arrival,
     place: usize,
-    draft: Draft,
+    draft: EventDraft,
 ) -> Result<StepOut, AllocError>
     requires coming { IsComing proxy.old.state arrival }
     requires place { place < length proxy.old.state.requests }
     requires kept { (r : OpenRequest) → slice_get proxy.old.state.requests place ≡ Some r → IsKeptAs arrival.now r draft.change }
-    requires few { beginnings draft.drafted.lessons ≤ 1 }
+    requires few { beginnings draft.drafted.updates ≤ 1 }
     ensures leaves { IfOk result (λ out. Leaves arrival draft.drafted.packets (replaced draft.change proxy.old.state.requests)
-        (after_lessons arrival.now draft.drafted.lessons proxy.old.state.dialogs) proxy.old.state out proxy.new.state) }
+        (after_updates arrival.now draft.drafted.updates proxy.old.state.dialogs) proxy.old.state out proxy.new.state) }
     ensures unchanged { OnErr result (proxy.new.state ≡ proxy.old.state) }
     ensures timers { OnErr result (proxy.new.timers ≡ proxy.old.timers) }
     ensures queue { OnOk result (KeepsOrder proxy.old.timers proxy.new.timers proxy.new.state.requests) }

@@ -1,17 +1,17 @@
 ghost use Rattle.std.specs.Prelude.{◌≡◌, ◌≤◌, ◌<◌, ◌^◌, length, slice_get, Some, IfOk, IfSome};
 ghost use Rattle.sip_proxy.specs.fork.Due.{GoesAgainBefore, IsDue, IsFirst};
 ghost use Rattle.sip_proxy.specs.fork.Keeping.{IsKeptAs};
-ghost use Rattle.sip_dialog_lessons.specs.Lessons.{beginnings};
-ghost use Rattle.sip_dialog_lessons.specs.state.declared.open_request.OpenRequest.{OpenRequest};
-ghost use Rattle.sip_dialog_lessons.specs.state.declared.server.Server as Declared;
+ghost use Rattle.sip_dialog_updates.specs.DialogUpdates.{beginnings};
+ghost use Rattle.sip_dialog_updates.specs.state.declared.open_request.OpenRequest.{OpenRequest};
+ghost use Rattle.sip_dialog_updates.specs.state.declared.server.Server as Declared;
 ghost use Rattle.sip_proxy.specs.fork.Ending.{IsDeadlineOf, ended};
 ghost use Rattle.sip_engine_open.specs.TimeSteps.{IsDueAs, IsFired, IsLastOf, IsOfPart, IsQuietEnd, ending_of};
 
-use sip_dialog_lessons::state::{Branch, OpenRequest};
+use sip_dialog_updates::state::{Branch, OpenRequest};
 use sip_proxy::context::Input;
-use sip_proxy::fork::{Due, First};
+use sip_proxy::fork::{Due, FirstDue};
 use sip_proxy::transaction_table::Transaction;
-use sip_proxy::{Configured, Draft, Proxy};
+use sip_proxy::{Configured, EventDraft, Proxy};
 use sip_timers::Timers;
 use std::alloc::{AllocError, Global};
 
@@ -24,7 +24,7 @@ pub(crate) fn branch_of(request: &OpenRequest, branch: usize) -> &Branch
 }
 
 /// What is due of an open request, as an input to it.
-fn input_of<'a>(request: &'a OpenRequest, first: First) -> Input<'a>
+fn input_of<'a>(request: &'a OpenRequest, first: FirstDue) -> Input<'a>
     requires { IsDue request.now first.due first.what }
     ensures due { IsDueAs request.now first.due result }
     ensures part { IsOfPart request.now first.what result }
@@ -57,7 +57,7 @@ fn transaction_of(what: Due) -> Option<Transaction>
 
 /// The transaction that what is due first does no more than to end, if it does: nothing is sent, and nothing else of its open
 /// request changes. Takes no memory.
-pub(crate) fn quiet_end<T: Timers>(proxy: &Proxy<T>, first: First) -> Option<Transaction>
+pub(crate) fn quiet_end<T: Timers>(proxy: &Proxy<T>, first: FirstDue) -> Option<Transaction>
     requires first { IsFirst proxy.now.state.requests first }
     requires later { proxy.now.state.moment ≤ first.due }
     ensures quiet { IfSome result (λ transaction. (r : OpenRequest) → slice_get proxy.now.state.requests first.place ≡ Some r
@@ -79,8 +79,8 @@ pub(crate) fn draft_first<T: Timers>(
     alloc: Global,
     configured: &Configured<'_>,
     proxy: &Proxy<T>,
-    first: First,
-) -> Result<Draft, AllocError>
+    first: FirstDue,
+) -> Result<EventDraft, AllocError>
     requires first { IsFirst proxy.now.state.requests first }
     requires later { proxy.now.state.moment ≤ first.due }
     requires small { first.due < 2 ^ 62 }
@@ -88,7 +88,7 @@ pub(crate) fn draft_first<T: Timers>(
         → IsFired configured.now.hops.now.addresses configured.now.server.now first.due first.what r draft) }
     ensures kept { IfOk result (λ draft. (r : OpenRequest) → slice_get proxy.now.state.requests first.place ≡ Some r
         → IsKeptAs first.due r draft.change) }
-    ensures few { IfOk result (λ draft. beginnings draft.drafted.lessons ≤ 1) }
+    ensures few { IfOk result (λ draft. beginnings draft.drafted.updates ≤ 1) }
 {
     let input = input_of(proxy.get(first.place), first);
     proxy.draft_input(alloc, configured, first.due, first.place, input)

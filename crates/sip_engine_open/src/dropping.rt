@@ -5,8 +5,8 @@ ghost use Rattle.sip_message_form.specs.declared.message.Message.{Message};
 ghost use Rattle.sip_proxy.specs.steps_model.Effect.{counted, effect_of, nothing};
 ghost use Rattle.sip_proxy.specs.steps_model.Step.{Does};
 ghost use Rattle.sip_proxy.specs.forwarding.Arrivals.{arrival_of};
-ghost use Rattle.sip_dialog_lessons.specs.state.declared.server.Server.{Server};
-ghost use Rattle.sip_core.specs.verdict_model.Verdict.{Drop};
+ghost use Rattle.sip_dialog_updates.specs.state.declared.server.Server.{Server};
+ghost use Rattle.sip_verdict.specs.verdict_model.Verdict.{Drop};
 
 use crate::counting::pass;
 use sip_event::StepOut;

@@ -5,20 +5,20 @@ ghost use Rattle.sip_proxy.specs.Proxy.{MayCome};
 ghost use Rattle.sip_proxy.specs.context_model.Branches.{is_unheard, send_failed};
 ghost use Rattle.sip_proxy.specs.fork.Places.{branch_at};
 ghost use Rattle.sip_proxy.specs.fork.Keeping.{IsKeptAs};
-ghost use Rattle.sip_dialog_lessons.specs.Lessons.{beginnings};
+ghost use Rattle.sip_dialog_updates.specs.DialogUpdates.{beginnings};
 ghost use Rattle.sip_proxy.specs.steps_model.Effect.{changed};
 ghost use Rattle.sip_proxy.specs.steps_model.Step.{Does, IsFault, is_failed, moment_of};
-ghost use Rattle.sip_dialog_lessons.specs.state.declared.branch.Branch.{Branch};
-ghost use Rattle.sip_dialog_lessons.specs.state.declared.open_request.OpenRequest.{OpenRequest};
+ghost use Rattle.sip_dialog_updates.specs.state.declared.branch.Branch.{Branch};
+ghost use Rattle.sip_dialog_updates.specs.state.declared.open_request.OpenRequest.{OpenRequest};
 ghost use Rattle.sip_engine_open.specs.Faults.{failed_of};
 ghost use Rattle.sip_engine_open.specs.TimeSteps.{IsDraftOf};
 
 use crate::drafting::branch_of;
 use crate::stepping::{change, pass};
-use sip_dialog_lessons::state::{Branch, OpenRequest, Phase};
+use sip_dialog_updates::state::{Branch, OpenRequest, Phase};
 use sip_event::{StepOut, Ticket};
 use sip_proxy::context::Input;
-use sip_proxy::{Configured, Draft, Proxy};
+use sip_proxy::{Configured, EventDraft, Proxy};
 use sip_timers::Timers;
 use std::alloc::{AllocError, Global};
 
@@ -81,14 +81,14 @@ fn draft_fault<T: Timers>(
     now: u64,
     place: usize,
     branch: usize,
-) -> Result<Draft, AllocError>
+) -> Result<EventDraft, AllocError>
     requires found { IsSome (branch_at proxy.now.state.requests (place, branch)) }
     requires later { proxy.now.state.moment ≤ now }
     requires small { now < 2 ^ 62 }
     ensures draft { IfOk result (λ draft. (found : OpenRequest × Branch) → branch_at proxy.now.state.requests (place, branch) ≡ Some found
         → IsDraftOf configured.now.hops.now.addresses configured.now.server.now now (send_failed configured.now.server.now now found.0 found.1) draft) }
     ensures kept { IfOk result (λ draft. (r : OpenRequest) → slice_get proxy.now.state.requests place ≡ Some r → IsKeptAs now r draft.change) }
-    ensures few { IfOk result (λ draft. beginnings draft.drafted.lessons ≤ 1) }
+    ensures few { IfOk result (λ draft. beginnings draft.drafted.updates ≤ 1) }
 {
     found_places_are_within();
     let branch = branch_of(proxy.get(place), branch);

@@ -9,7 +9,7 @@ use crate::drafting::{draft_first, quiet_end};
 use crate::next::due_by;
 use crate::stepping::{change, end, pass};
 use sip_event::StepOut;
-use sip_proxy::fork::First;
+use sip_proxy::fork::FirstDue;
 use sip_proxy::{Configured, Proxy};
 use sip_timers::Timers;
 use std::alloc::{AllocError, Global};
@@ -20,7 +20,7 @@ fn fire_first<T: Timers>(
     alloc: Global,
     configured: &Configured<'_>,
     proxy: &mut Proxy<T>,
-    first: First,
+    first: FirstDue,
 ) -> Result<StepOut, AllocError>
     requires first { IsFirst proxy.old.state.requests first }
     requires in_order { IsOfFirst proxy.old.timers proxy.old.state.requests first }

@@ -1,17 +1,17 @@
 ghost use Rattle.std.specs.Prelude.{◌≡◌, ℕ, List, ◌≤◌, ◌<◌};
 ghost use Rattle.sip_proxy.specs.Proxy.{Becomes, IsCounted};
-ghost use Rattle.sip_core.specs.context_model.Branches.{Change};
+ghost use Rattle.sip_verdict.specs.context_model.Branches.{Change};
 ghost use Rattle.sip_proxy.specs.forwarding.Forwarding.{Teach};
 ghost use Rattle.sip_hops.specs.declared.host_address.HostAddress.{HostAddress};
-ghost use Rattle.sip_dialog_lessons.specs.Lessons.{after_lessons};
-ghost use Rattle.sip_dialog_lessons.specs.declared.lesson.Lesson.{Lesson};
+ghost use Rattle.sip_dialog_updates.specs.DialogUpdates.{after_updates};
+ghost use Rattle.sip_dialog_updates.specs.declared.dialog_update.DialogUpdate.{DialogUpdate};
 ghost use Rattle.sip_proxy.specs.steps_model.Effect.{changed, counted, dialogs_after, replaced};
 ghost use Rattle.sip_proxy.specs.forwarding.Arrivals.{arrival_of};
 ghost use Rattle.sip_proxy.specs.forwarding.declared.arrival.Arrival.{Arrival};
-ghost use Rattle.sip_dialog_lessons.specs.state.SameState.{SameState};
-ghost use Rattle.sip_dialog_lessons.specs.state.declared.open_request.OpenRequest.{OpenRequest};
-ghost use Rattle.sip_dialog_lessons.specs.state.declared.proxy_state.ProxyState.{ProxyState};
-ghost use Rattle.sip_dialog_lessons.specs.state.declared.server.Server.{Server};
+ghost use Rattle.sip_dialog_updates.specs.state.SameState.{SameState};
+ghost use Rattle.sip_dialog_updates.specs.state.declared.open_request.OpenRequest.{OpenRequest};
+ghost use Rattle.sip_dialog_updates.specs.state.declared.proxy_state.ProxyState.{ProxyState};
+ghost use Rattle.sip_dialog_updates.specs.state.declared.server.Server.{Server};
 ghost use Rattle.sip_engine_open.specs.Steps.{left_by};
 ghost use Rattle.sip_event.specs.declared.packet.Ticket.{Ticket};
 ghost use Rattle.sip_proxy.specs.fork.Due.{IsNothingDue};
@@ -20,15 +20,15 @@ ghost use Rattle.sip_engine_open.specs.Faults.{failed_of, failing};
 ghost use Rattle.sip_engine_open.specs.Next.{IsNext};
 
 /// What a state becomes that then takes a datagram's number is the same as what the step leaves of the counted state: with
-/// these open requests and what the lessons make of the dialogs; and by a change of an open request, as the change says.
+/// these open requests and what the updates make of the dialogs; and by a change of an open request, as the change says.
 pub fn counted_states_are_same()
-    ensures left { (a : Arrival) (requests : List OpenRequest) (lessons : List Lesson) (old middle new : ProxyState) → a.number ≡ old.next
-        → Becomes a.now requests lessons old middle → IsCounted middle new
-        → SameState new (left_by a requests (after_lessons a.now lessons old.dialogs) old) }
-    ensures changed { (rows : List HostAddress) (server : Server) (a : Arrival) (change : Change) (lessons : List Lesson)
+    ensures left { (a : Arrival) (requests : List OpenRequest) (updates : List DialogUpdate) (old middle new : ProxyState)
+        → a.number ≡ old.next → Becomes a.now requests updates old middle → IsCounted middle new
+        → SameState new (left_by a requests (after_updates a.now updates old.dialogs) old) }
+    ensures changed { (rows : List HostAddress) (server : Server) (a : Arrival) (change : Change) (updates : List DialogUpdate)
         (old middle new : ProxyState) → a.number ≡ old.next → server.config.addresses ≡ rows
-        → Teach rows server a.now lessons (dialogs_after server a.now change)
-        → Becomes a.now (replaced change.request old.requests) lessons old middle → IsCounted middle new
+        → Teach rows server a.now updates (dialogs_after server a.now change)
+        → Becomes a.now (replaced change.request old.requests) updates old middle → IsCounted middle new
         → SameState new (changed server a.now (counted (arrival_of a) old) change).state }
 {}
 

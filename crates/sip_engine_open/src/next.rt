@@ -4,7 +4,7 @@ ghost use Rattle.sip_proxy.specs.steps_model.Step.{NoneBy, NoneAgainBy};
 ghost use Rattle.sip_engine_open.specs.Next.{IsNext};
 
 use sip_proxy::Proxy;
-use sip_proxy::fork::First;
+use sip_proxy::fork::FirstDue;
 use sip_timers::Timers;
 
 /// The next moment, in milliseconds, at which a deadline passes or something goes again. None exactly where no deadline
@@ -19,7 +19,7 @@ pub fn next_due<T: Timers>(proxy: &Proxy<T>) -> Option<u64>
 }
 
 /// What is due first, if it is due by a moment in milliseconds. Takes no memory.
-pub(crate) fn due_by<T: Timers>(proxy: &Proxy<T>, now: u64) -> Option<First>
+pub(crate) fn due_by<T: Timers>(proxy: &Proxy<T>, now: u64) -> Option<FirstDue>
     ensures first { IfSome result (IsFirst proxy.now.state.requests) }
     ensures in_order { IfSome result (IsOfFirst proxy.now.timers proxy.now.state.requests) }
     ensures due { IfSome result (λ first. first.due ≤ now) }

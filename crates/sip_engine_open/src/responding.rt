@@ -2,24 +2,24 @@
 ghost use Rattle.std.specs.Prelude.{◌≡◌, ◌≤◌, ◌<◌, ◌^◌, ℕ, List, length, slice_get, Some, IsSome, IfOk, OnOk, OnErr};
 ghost use Rattle.sip_proxy.specs.fork.Firing.{KeepsOrder};
 ghost use Rattle.sip_proxy.specs.Proxy.{IsComing};
-ghost use Rattle.sip_core.specs.context_model.Branches.{responded};
+ghost use Rattle.sip_verdict.specs.context_model.Branches.{responded};
 ghost use Rattle.sip_proxy.specs.fork.Places.{branch_at};
 ghost use Rattle.sip_proxy.specs.fork.Keeping.{IsKeptAs};
-ghost use Rattle.sip_dialog_lessons.specs.Lessons.{beginnings};
+ghost use Rattle.sip_dialog_updates.specs.DialogUpdates.{beginnings};
 ghost use Rattle.sip_proxy.specs.steps_model.Effect.{counted, effect_of};
 ghost use Rattle.sip_proxy.specs.steps_model.Step.{Does};
 ghost use Rattle.sip_proxy.specs.forwarding.Arrivals.{arrival_of};
-ghost use Rattle.sip_core.specs.context_model.Retransmission.{acked_again};
-ghost use Rattle.sip_dialog_lessons.specs.state.declared.branch.Branch.{Branch};
-ghost use Rattle.sip_dialog_lessons.specs.state.declared.open_request.OpenRequest.{OpenRequest};
-ghost use Rattle.sip_core.specs.verdict_model.Verdict.{Respond};
+ghost use Rattle.sip_verdict.specs.context_model.Retransmission.{acked_again};
+ghost use Rattle.sip_dialog_updates.specs.state.declared.branch.Branch.{Branch};
+ghost use Rattle.sip_dialog_updates.specs.state.declared.open_request.OpenRequest.{OpenRequest};
+ghost use Rattle.sip_verdict.specs.verdict_model.Verdict.{Respond};
 ghost use Rattle.sip_engine_open.specs.Steps.{IsDraftOf};
 
 use crate::counting::change;
-use sip_dialog_lessons::state::{Branch, OpenRequest};
+use sip_dialog_updates::state::{Branch, OpenRequest};
 use sip_event::StepOut;
 use sip_proxy::context::Input;
-use sip_proxy::{Configured, Draft, Proxy, ReceivedResponse};
+use sip_proxy::{Configured, EventDraft, Proxy, ReceivedResponse};
 use sip_timers::Timers;
 use std::alloc::{AllocError, Global};
 
@@ -47,7 +47,7 @@ fn draft_response<T: Timers>(
     response: &ReceivedResponse<'_>,
     place: usize,
     branch: usize,
-) -> Result<Draft, AllocError>
+) -> Result<EventDraft, AllocError>
     requires found { IsSome (branch_at proxy.now.state.requests (place, branch)) }
     requires later { proxy.now.state.moment ≤ response.now.arrival.now }
     requires small { response.now.arrival.now < 2 ^ 62 }
@@ -56,7 +56,7 @@ fn draft_response<T: Timers>(
         (responded configured.now.server.now response.now.arrival.now found.0 found.1 response.now.status response.now.message.now)
         (acked_again configured.now.server.now found.0 found.1 response.now.status) draft) }
     ensures kept { IfOk result (λ draft. (r : OpenRequest) → slice_get proxy.now.state.requests place ≡ Some r → IsKeptAs response.now.arrival.now r draft.change) }
-    ensures few { IfOk result (λ draft. beginnings draft.drafted.lessons ≤ 1) }
+    ensures few { IfOk result (λ draft. beginnings draft.drafted.updates ≤ 1) }
 {
     found_places_are_within();
     let branch = branch_of(proxy.get(place), branch);

@@ -4,14 +4,14 @@ ghost use Rattle.sip_proxy.specs.Proxy.{MayCome};
 ghost use Rattle.sip_proxy.specs.fork.Ending.{ended, left_invite};
 ghost use Rattle.sip_proxy.specs.Expiring.{expiring};
 ghost use Rattle.sip_proxy.specs.fork.Keeping.{IsKeptAs};
-ghost use Rattle.sip_dialog_lessons.specs.Lessons.{beginnings};
+ghost use Rattle.sip_dialog_updates.specs.DialogUpdates.{beginnings};
 ghost use Rattle.sip_proxy.specs.steps_model.Effect.{replaced};
-ghost use Rattle.sip_dialog_lessons.specs.state.declared.open_request.OpenRequest.{OpenRequest};
+ghost use Rattle.sip_dialog_updates.specs.state.declared.open_request.OpenRequest.{OpenRequest};
 ghost use Rattle.sip_engine_open.specs.TimeSteps.{Leaves};
 
 use sip_event::StepOut;
 use sip_proxy::transaction_table::Transaction;
-use sip_proxy::{Draft, Proxy};
+use sip_proxy::{EventDraft, Proxy};
 use sip_text::Items;
 use sip_timers::Timers;
 use std::alloc::{AllocError, Global};
@@ -39,14 +39,14 @@ pub(crate) fn change<T: Timers>(
     proxy: &mut Proxy<T>,
     now: u64,
     place: usize,
-    draft: Draft,
+    draft: EventDraft,
 ) -> Result<StepOut, AllocError>
     requires moment { MayCome proxy.old.state now }
     requires place { place < length proxy.old.state.requests }
     requires kept { (r : OpenRequest) → slice_get proxy.old.state.requests place ≡ Some r → IsKeptAs now r draft.change }
-    requires few { beginnings draft.drafted.lessons ≤ 1 }
+    requires few { beginnings draft.drafted.updates ≤ 1 }
     ensures leaves { IfOk result (λ out. Leaves now draft.drafted.packets (replaced draft.change proxy.old.state.requests)
-        draft.drafted.lessons proxy.old.state out proxy.new.state) }
+        draft.drafted.updates proxy.old.state out proxy.new.state) }
     ensures unchanged { OnErr result (proxy.new.state ≡ proxy.old.state) }
     ensures timers { OnErr result (proxy.new.timers ≡ proxy.old.timers) }
     ensures queue { OnOk result (KeepsOrder proxy.old.timers proxy.new.timers proxy.new.state.requests) }

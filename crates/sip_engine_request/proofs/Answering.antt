@@ -5,12 +5,12 @@ use Rattle.std.specs.declared.alloc.AllocError.{AllocError}
 use Rattle.sip_event.specs.declared.event.StepOut.{StepOut}
 use Rattle.sip_proxy.specs.Proxy.{Becomes, with_bindings, with_nonces}
 use Rattle.sip_audit.specs.declared.record.Record.{Record}
-use Rattle.sip_core.specs.context_model.Opening.{closing}
+use Rattle.sip_verdict.specs.context_model.Opening.{closing}
 use Rattle.sip_dialog.specs.Sameness.{SameDialogs}
 use Rattle.sip_dialog.specs.declared.dialog.Dialog.{Dialog}
 use Rattle.sip_message_fields.specs.declared.field.Field.{Field}
 use Rattle.sip_message_form.specs.declared.message.Message.{Message}
-use Rattle.sip_transaction_table.specs.declared.key.Key.{Key}
+use Rattle.sip_transaction_table.specs.declared.key.TransactionKey.{TransactionKey}
 use Rattle.sip_location.specs.Binding.{live}
 use Rattle.sip_location.specs.Locations.{Planned}
 use Rattle.sip_location.specs.Sameness.{SameBindings}
@@ -20,14 +20,14 @@ use Rattle.sip_proxy.specs.steps_model.Step.{Does, originals, retransmissions}
 use Rattle.sip_digest.specs.declared.nonces.Nonce.{Nonce}
 use Rattle.sip_uas.specs.forwarding.Arrivals.{arrival_of}
 use Rattle.sip_uas.specs.forwarding.declared.arrival.Arrival.{Arrival}
-use Rattle.sip_dialog_lessons.specs.state.State.{has_key, with_one_more}
-use Rattle.sip_dialog_lessons.specs.state.declared.open_request.OpenRequest.{OpenRequest}
-use Rattle.sip_dialog_lessons.specs.state.declared.proxy_state.ProxyState.{ProxyState}
-use Rattle.sip_dialog_lessons.specs.state.declared.server.Server.{Server}
-use Rattle.sip_core.specs.verdict_model.Verdict.{is_full}
+use Rattle.sip_dialog_updates.specs.state.State.{has_key, with_one_more}
+use Rattle.sip_dialog_updates.specs.state.declared.open_request.OpenRequest.{OpenRequest}
+use Rattle.sip_dialog_updates.specs.state.declared.proxy_state.ProxyState.{ProxyState}
+use Rattle.sip_dialog_updates.specs.state.declared.server.Server.{Server}
+use Rattle.sip_verdict.specs.verdict_model.Verdict.{is_full}
 use Rattle.sip_uas.specs.Drafts as Drafts
 use Rattle.sip_uas.specs.Drafts.{IsOpenable, with_opened}
-use Rattle.sip_uas.specs.declared.draft.Draft.{Draft}
+use Rattle.sip_uas.specs.declared.answer_draft.AnswerDraft.{AnswerDraft}
 use Rattle.sip_engine_request.specs.Admitting.{IsOpenableIn}
 use Rattle.sip_uas.proofs.Replying.{text_by}
 
@@ -66,14 +66,15 @@ room_by false None r requests e = tt
 room_by true (Some x) r requests e = absurd (no_longer x requests e)
 room_by false (Some x) r requests e = refl
 
-openable : (state : ProxyState) (a : Arrival) (key : Key) (o : Option OpenRequest) → position (has_key key) state.requests ≡ None → IfSome o (λ x. is_full state ≡ false)
+openable : (state : ProxyState) (a : Arrival) (key : TransactionKey) (o : Option OpenRequest) → position (has_key key) state.requests ≡ None
+    → IfSome o (λ x. is_full state ≡ false)
     → IfSome o (IsOpenable a key)
     → IfSome o (IsOpenableIn state a)
 openable state a key None alone space can = tt
 openable state a key (Some r) alone space can =
     record {
       space = space;
-      alone = subst (λ (k : Key). position (has_key k) state.requests ≡ None) (sym can.key_is) alone;
+      alone = subst (λ (k : TransactionKey). position (has_key k) state.requests ≡ None) (sym can.key_is) alone;
       number_is = can.number_is;
       fits = can.fits;
       within = can.within;
@@ -81,7 +82,7 @@ openable state a key (Some r) alone space can =
     }
 
 -- what was drafted can be opened in the state in which its request comes
-pub opened_in : (a : Arrival) (key : Key) (old : ProxyState) (draft : Draft) (nonces : List Nonce) (plan : Option Planned) (effect : Effect)
+pub opened_in : (a : Arrival) (key : TransactionKey) (old : ProxyState) (draft : AnswerDraft) (nonces : List Nonce) (plan : Option Planned) (effect : Effect)
     → position (has_key key) old.requests ≡ None
     → Drafts.Does a.now draft nonces plan (counted (arrival_of a) old) effect → Replies old.requests old.dialogs effect → IfSome draft.opened (IsOpenable a key)
     → IfSome draft.opened (IsOpenableIn old a)
@@ -91,7 +92,8 @@ opened_in a key old draft nonces plan effect alone does is can =
 -- ---- the step
 
 -- what was drafted is done, once the request is opened, and then nonces and bindings are as they are to be
-pub step_done : (server : Server) (a : Arrival) (old mid new : ProxyState) (draft : Draft) (nonces : List Nonce) (plan : Option Planned) (effect : Effect) (out : StepOut)
+pub step_done : (server : Server) (a : Arrival) (old mid new : ProxyState) (draft : AnswerDraft) (nonces : List Nonce) (plan : Option Planned) (effect : Effect)
+    (out : StepOut)
     → Drafts.Does a.now draft nonces plan (counted (arrival_of a) old) effect → Replies old.requests old.dialogs effect
     → out ≡ record { at = a.now; packets = draft.packets; records = draft.records }
     → Becomes a.now (with_opened draft.opened old.requests) [] (counted (arrival_of a) old) mid
@@ -118,7 +120,7 @@ step_done server a old mid new draft nonces plan effect out does is put became l
     }
 
 -- the same where nonces and bindings stay
-pub answer_done : (server : Server) (a : Arrival) (old new : ProxyState) (draft : Draft) (effect : Effect) (result : Result StepOut AllocError)
+pub answer_done : (server : Server) (a : Arrival) (old new : ProxyState) (draft : AnswerDraft) (effect : Effect) (result : Result StepOut AllocError)
     → Drafts.Does a.now draft old.nonces None (counted (arrival_of a) old) effect → Replies old.requests old.dialogs effect
     → IfOk result (λ out. out ≡ record { at = a.now; packets = draft.packets; records = draft.records })
     → OnOk result (Becomes a.now (with_opened draft.opened old.requests) [] (counted (arrival_of a) old) new)

@@ -2,14 +2,14 @@
 use Rattle.std.proofs.Common.{◌≡◌, ◌∙◌, ◌≤◌, ℕ, IfSome, true, List, [], ◌∷◌, Option, Result, Some, Ok, refl, sym, ap, subst, true≢false}
 use Rattle.sip_event.specs.declared.event.StepOut.{StepOut}
 use Rattle.sip_proxy.specs.Proxy.{Becomes, with_bindings, with_nonces}
-use Rattle.sip_core.specs.Verdict.{HasRoomFor, IsOutcome, plan_of}
-use Rattle.sip_core.specs.declared.verdict.Judged.{Judged}
-use Rattle.sip_core.specs.declared.verdict.Outcome.{Outcome}
-use Rattle.sip_core.specs.declared.verdict.Outcome.TheVariants.{Challenge, Deny, Send, Register}
-use Rattle.sip_core.specs.context_model.Opening.{closing}
+use Rattle.sip_verdict.specs.Verdict.{HasRoomFor, IsOutcome, plan_of}
+use Rattle.sip_verdict.specs.declared.verdict.Judged.{Judged}
+use Rattle.sip_verdict.specs.declared.verdict.PolicyOutcome.{PolicyOutcome}
+use Rattle.sip_verdict.specs.declared.verdict.PolicyOutcome.TheVariants.{Challenge, Deny, Send, Register}
+use Rattle.sip_verdict.specs.context_model.Opening.{closing}
 use Rattle.sip_message_fields.specs.declared.field.Field.{Field}
 use Rattle.sip_message_form.specs.declared.message.Message.{Message}
-use Rattle.sip_core.specs.declared.registering.Registering.TheVariants as Judge
+use Rattle.sip_verdict.specs.declared.registering.Registering.TheVariants as Judge
 use Rattle.sip_location.specs.Locations.{IsPlan, Planned}
 use Rattle.sip_location.specs.Registration.{registered}
 use Rattle.sip_location.specs.Sameness.{SameBindings, SameOutcome}
@@ -22,17 +22,17 @@ use Rattle.sip_digest.specs.declared.nonces.Nonce.{Nonce}
 use Rattle.sip_uas.specs.forwarding.Arrivals.{arrival_of}
 use Rattle.sip_uas.specs.forwarding.declared.arrival.Arrival.{Arrival}
 use Rattle.sip_edit_response.specs.Extras.{denial_warning}
-use Rattle.sip_dialog_lessons.specs.state.declared.open_request.OpenRequest.{OpenRequest}
-use Rattle.sip_dialog_lessons.specs.state.declared.proxy_state.ProxyState.{ProxyState}
-use Rattle.sip_dialog_lessons.specs.state.declared.server.Server.{Server}
+use Rattle.sip_dialog_updates.specs.state.declared.open_request.OpenRequest.{OpenRequest}
+use Rattle.sip_dialog_updates.specs.state.declared.proxy_state.ProxyState.{ProxyState}
+use Rattle.sip_dialog_updates.specs.state.declared.server.Server.{Server}
 use Rattle.sip_targets.specs.declared.targets.Targets.{Targets}
 use Rattle.sip_targets.specs.declared.targets.Targets.TheVariants as To
-use Rattle.sip_core.specs.verdict_model.Verdict as Definition
-use Rattle.sip_core.specs.verdict_model.declared.question.Question.{Question}
+use Rattle.sip_verdict.specs.verdict_model.Verdict as Definition
+use Rattle.sip_verdict.specs.verdict_model.declared.question.Question.{Question}
 use Rattle.sip_uas.specs.Asking.{after_asking, are_nobody, is_answered_here}
 use Rattle.sip_uas.specs.Drafts as Drafts
 use Rattle.sip_uas.specs.Drafts.{AreBound, with_opened}
-use Rattle.sip_uas.specs.declared.draft.Draft.{Draft}
+use Rattle.sip_uas.specs.declared.answer_draft.AnswerDraft.{AnswerDraft}
 use Rattle.sip_engine_request.proofs.Answering.{Replies, step_done}
 use Rattle.sip_uas.proofs.Replying.{text_by}
 
@@ -49,14 +49,14 @@ follows old new plan applied = λ now after is.
     subst (λ (outcome : Result (List Binding) LocationError). SameOutcome now (Ok new) outcome) is.registered_are (applied is.registration now is.is_plan)
 
 -- there is room for the plan of what was decided, if it has one
-has_room_for : (room : ℕ) (outcome : Outcome) → HasRoomFor room outcome → IfSome (plan_of outcome) (λ plan. 1 ≤ room)
+has_room_for : (room : ℕ) (outcome : PolicyOutcome) → HasRoomFor room outcome → IfSome (plan_of outcome) (λ plan. 1 ≤ room)
 has_room_for room Challenge has = tt
 has_room_for room (Deny id) has = tt
 has_room_for room (Send id targets) has = tt
 has_room_for room (Register id (Judge.Planned plan)) has = has
 has_room_for room (Register id (Judge.Refused status extras)) has = tt
 
-pub has_room : (room : ℕ) (outcome : Outcome) (plan : Planned) → plan_of outcome ≡ Some plan → HasRoomFor room outcome → 1 ≤ room
+pub has_room : (room : ℕ) (outcome : PolicyOutcome) (plan : Planned) → plan_of outcome ≡ Some plan → HasRoomFor room outcome → 1 ≤ room
 has_room room outcome plan is has = subst (λ (planned : Option Planned). IfSome planned (λ p. 1 ≤ room)) is (has_room_for room outcome has)
 
 -- ---- answers
@@ -106,7 +106,7 @@ module _ (server : Server) (a : Arrival) (m : Message) (state : ProxyState) wher
     dialogs_are = refl;
   }
 
-  pub judged_replies : (rows : List Binding) (q : Question) (verdict : Definition.Verdict) (outcome : Outcome) → is_answered_here outcome ≡ true
+  pub judged_replies : (rows : List Binding) (q : Question) (verdict : Definition.Verdict) (outcome : PolicyOutcome) → is_answered_here outcome ≡ true
       → IsOutcome rows a.now q verdict outcome → RepliesBy verdict
   judged_replies rows q verdict Challenge here is = subst RepliesBy (sym is) (challenge_replies q)
   judged_replies rows q verdict (Deny id) here is = subst RepliesBy (sym is) (denial_replies q id)
@@ -115,7 +115,7 @@ module _ (server : Server) (a : Arrival) (m : Message) (state : ProxyState) wher
 
 -- ---- the step
 
-pub judged_done : (server : Server) (a : Arrival) (m : Message) (old mid new : ProxyState) (judged : Judged) (verdict : Definition.Verdict) (draft : Draft)
+pub judged_done : (server : Server) (a : Arrival) (m : Message) (old mid new : ProxyState) (judged : Judged) (verdict : Definition.Verdict) (draft : AnswerDraft)
     (out : StepOut)
     → Drafts.Does a.now draft (after_asking (arrival_of a) judged old.nonces) (plan_of judged.outcome) (counted (arrival_of a) old)
     (effect_of server (arrival_of a) m verdict (counted (arrival_of a) old))

@@ -6,10 +6,10 @@ use Rattle.std.proofs.lemmas.Option.{slice_get-get_or}
 use Rattle.sip_proxy.specs.Drafts.{IsDrafted}
 use Rattle.sip_proxy.specs.Proxy.{Becomes, IsCounted}
 use Rattle.sip_audit.specs.declared.record.Record.{Record}
-use Rattle.sip_core.specs.context_model.Branches.{cancelled}
-use Rattle.sip_core.specs.context_model.Opening.{closing}
-use Rattle.sip_core.specs.context_model.Sending.{answer_packet}
-use Rattle.sip_proxy.specs.declared.drafting.Draft.{Draft}
+use Rattle.sip_verdict.specs.context_model.Branches.{cancelled}
+use Rattle.sip_verdict.specs.context_model.Opening.{closing}
+use Rattle.sip_verdict.specs.context_model.Sending.{answer_packet}
+use Rattle.sip_proxy.specs.declared.drafting.EventDraft.{EventDraft}
 use Rattle.sip_dialog.specs.Sameness.{SameDialogs}
 use Rattle.sip_dialog.specs.declared.dialog.Dialog.{Dialog}
 use Rattle.sip_event.specs.declared.packet.Packet.{Packet}
@@ -20,9 +20,9 @@ use Rattle.sip_hops.specs.declared.host_address.HostAddress.{HostAddress}
 use Rattle.sip_uri.specs.declared.addr.Addr.{Addr}
 use Rattle.sip_proxy.specs.context.declared.input.Input.TheVariants as Input
 use Rattle.sip_transaction_table.specs.Key.{key_of}
-use Rattle.sip_transaction_table.specs.declared.key.Key.{Key}
-use Rattle.sip_dialog_lessons.specs.Lessons.{after_lessons}
-use Rattle.sip_dialog_lessons.specs.declared.lesson.Lesson.{Lesson}
+use Rattle.sip_transaction_table.specs.declared.key.TransactionKey.{TransactionKey}
+use Rattle.sip_dialog_updates.specs.DialogUpdates.{after_updates}
+use Rattle.sip_dialog_updates.specs.declared.dialog_update.DialogUpdate.{DialogUpdate}
 use Rattle.sip_location.specs.Binding.{live}
 use Rattle.sip_location.specs.declared.binding.Binding.{Binding}
 use Rattle.sip_proxy.specs.steps_model.Effect.{cancelling, counted, dialogs_after, replaced}
@@ -30,11 +30,11 @@ use Rattle.sip_proxy.specs.steps_model.Step.{Does, originals, retransmissions}
 use Rattle.sip_uas.specs.transactions_model.Near.{IsWithin}
 use Rattle.sip_uas.specs.forwarding.Arrivals.{arrival_of}
 use Rattle.sip_uas.specs.forwarding.declared.arrival.Arrival.{Arrival}
-use Rattle.sip_dialog_lessons.specs.state.State.{with_one_more}
-use Rattle.sip_dialog_lessons.specs.state.declared.open_request.OpenRequest.{OpenRequest}
-use Rattle.sip_dialog_lessons.specs.state.declared.proxy_state.ProxyState.{ProxyState}
-use Rattle.sip_dialog_lessons.specs.state.declared.server.Server.{Server}
-use Rattle.sip_core.specs.verdict_model.Verdict as Definition
+use Rattle.sip_dialog_updates.specs.state.State.{with_one_more}
+use Rattle.sip_dialog_updates.specs.state.declared.open_request.OpenRequest.{OpenRequest}
+use Rattle.sip_dialog_updates.specs.state.declared.proxy_state.ProxyState.{ProxyState}
+use Rattle.sip_dialog_updates.specs.state.declared.server.Server.{Server}
+use Rattle.sip_verdict.specs.verdict_model.Verdict as Definition
 use Rattle.sip_uas.specs.Drafts.{IsOpenable}
 use Rattle.sip_uas.proofs.Replying.{text_by}
 
@@ -49,7 +49,7 @@ stands_at (r ∷ rs) place lt = (get_or (r ∷ rs) place r, slice_get-get_or (r 
 abbrev pub from_source : Addr → OpenRequest → Option OpenRequest
 from_source from r = cond (bytes_eq r.request.source.ip from.ip) (Some r) None
 
-pub named_by : (requests : List OpenRequest) (key : Key) (from : Addr) (place : ℕ) (r : OpenRequest) (t : Bool) → slice_get requests place ≡ Some r
+pub named_by : (requests : List OpenRequest) (key : TransactionKey) (from : Addr) (place : ℕ) (r : OpenRequest) (t : Bool) → slice_get requests place ≡ Some r
     → option_and_then (slice_get requests) (Some place) ≡ find (Definition.is_cancelled_by key) requests → bytes_eq r.request.source.ip from.ip ≡ t
     → option_and_then (from_source from) (find (Definition.is_cancelled_by key) requests) ≡ cond t (Some r) None
 named_by requests key from place r t there found same =
@@ -57,7 +57,7 @@ named_by requests key from place r t there found same =
 
 -- ---- the 200
 
-pub agreed_opens : (a : Arrival) (key : Key) (m : Message) (text : List ℕ) (r : OpenRequest) → key_of m ≡ Some key → r ≡ closing (arrival_of a) m 200 text
+pub agreed_opens : (a : Arrival) (key : TransactionKey) (m : Message) (text : List ℕ) (r : OpenRequest) → key_of m ≡ Some key → r ≡ closing (arrival_of a) m 200 text
     → Fits (closing (arrival_of a) m 200 text)
     → IsWithin a.now (closing (arrival_of a) m 200 text) → IsOpenable a key r
 agreed_opens a key m text r is same fits within =
@@ -68,22 +68,22 @@ agreed_opens a key m text r is same fits within =
       branched = NoBranch;
       number_is = refl;
       key_is =
-          ap (λ (o : Option Key). unwrap_or o (record { branch = []; host = []; port = 0; method = [] })) is;
+          ap (λ (o : Option TransactionKey). unwrap_or o (record { branch = []; host = []; port = 0; method = [] })) is;
     } in
     subst (IsOpenable a key) (sym same) opens
 
 -- ---- the step
 
 pub cancel_done : (server : Server) (a : Arrival) (m : Message) (rows : List HostAddress) (old mid new : ProxyState) (r opened : OpenRequest) (packet : Packet)
-    (draft both : Draft) (packets : List Packet)
+    (draft both : EventDraft) (packets : List Packet)
     (made : List Record) → Definition.is_full old ≡ false → rows ≡ server.config.addresses → a.number ≡ old.next
     → packet ≡ answer_packet false a.number m a.from (text_by server a m 200 []) → opened ≡ closing (arrival_of a) m 200 (text_by server a m 200 [])
     → IsDrafted rows server a.now r Input.Cancel draft → both.change ≡ draft.change → both.drafted.packets ≡ packet ∷ [] ++ draft.drafted.packets
-    → both.drafted.lessons ≡ draft.drafted.lessons
-    → packets ≡ both.drafted.packets → Becomes a.now (replaced both.change (with_one_more opened old.requests)) both.drafted.lessons old mid → IsCounted mid new
+    → both.drafted.updates ≡ draft.drafted.updates
+    → packets ≡ both.drafted.packets → Becomes a.now (replaced both.change (with_one_more opened old.requests)) both.drafted.updates old mid → IsCounted mid new
     → made ≡ []
     → Does server old a.now (cancelling server (arrival_of a) m (Some r) (counted (arrival_of a) old)) (record { at = a.now; packets = packets; records = made }) new
-cancel_done server a m rows old mid new r opened packet draft both packets made room known number packet_is opened_is d change_is packets_are lessons_are sent became
+cancel_done server a m rows old mid new r opened packet draft both packets made room known number packet_is opened_is d change_is packets_are updates_are sent became
     counts none =
     let answer : Packet = answer_packet false a.number m a.from (text_by server a m 200 []) in
     let agreed : OpenRequest = closing (arrival_of a) m 200 (text_by server a m 200 []) in
@@ -106,8 +106,8 @@ cancel_done server a m rows old mid new r opened packet draft both packets made 
                 ∙ ap (λ (t : Bool). replaced (cancelled server a.now r).request (cond t old.requests (with_one_more agreed old.requests))) (sym room);
             dialogs =
                 subst (λ (n : ℕ). SameDialogs n new.dialogs (dialogs_after server a.now (cancelled server a.now r) old.dialogs)) (sym at)
-                (subst (SameDialogs a.now new.dialogs) (ap (λ (ls : List Lesson). after_lessons a.now ls old.dialogs) lessons_are
-                ∙ d.drafted.lessons (sym known) old.dialogs)
-                (subst (λ (ds : List Dialog). SameDialogs a.now ds (after_lessons a.now both.drafted.lessons old.dialogs)) (sym counts.dialogs_are) became.dialogs_are));
+                (subst (SameDialogs a.now new.dialogs) (ap (λ (ls : List DialogUpdate). after_updates a.now ls old.dialogs) updates_are
+                ∙ d.drafted.updates (sym known) old.dialogs)
+                (subst (λ (ds : List Dialog). SameDialogs a.now ds (after_updates a.now both.drafted.updates old.dialogs)) (sym counts.dialogs_are) became.dialogs_are));
           };
     }

@@ -2,17 +2,17 @@
 use Rattle.std.specs.Prelude.{◌≡◌, position, None, Result, OnOk, OnErr}
 use Rattle.sip_event.specs.declared.event.StepOut.{StepOut}
 use Rattle.sip_message_form.specs.declared.message.Message.{Message}
-use Rattle.sip_transaction_table.specs.declared.key.Key.{Key}
+use Rattle.sip_transaction_table.specs.declared.key.TransactionKey.{TransactionKey}
 use Rattle.sip_proxy.specs.Proxy.{Proxy, IsComing}
 use Rattle.sip_proxy.specs.fork.Firing.{KeepsOrder}
 use Rattle.sip_proxy.specs.steps_model.Effect.{counted, effect_of}
 use Rattle.sip_proxy.specs.steps_model.Step.{Does}
 use Rattle.sip_uas.specs.forwarding.Arrivals.{arrival_of}
 use Rattle.sip_uas.specs.forwarding.declared.arrival.Arrival.{Arrival}
-use Rattle.sip_dialog_lessons.specs.state.State.{has_key}
-use Rattle.sip_dialog_lessons.specs.state.declared.proxy_state.ProxyState.{ProxyState}
-use Rattle.sip_dialog_lessons.specs.state.declared.server.Server.{Server}
-use Rattle.sip_core.specs.verdict_model.Verdict as Definition
+use Rattle.sip_dialog_updates.specs.state.State.{has_key}
+use Rattle.sip_dialog_updates.specs.state.declared.proxy_state.ProxyState.{ProxyState}
+use Rattle.sip_dialog_updates.specs.state.declared.server.Server.{Server}
+use Rattle.sip_verdict.specs.verdict_model.Verdict as Definition
 
 -- A step does what a verdict on the message of a datagram says.
 abbrev pub Takes : Server → ProxyState → Arrival → Message → Definition.Verdict → StepOut → ProxyState → Type 0
@@ -26,6 +26,6 @@ pub record IsWhole {X E : Type 0} (old new : Proxy) (result : Result X E) : Type
   pub secrets : new.secrets ≡ old.secrets
 
 -- A datagram comes, and no open request has the key of the one that it brings (RFC 3261 17.2.3).
-pub record IsNew (state : ProxyState) (a : Arrival) (key : Key) : Type 0 where
+pub record IsNew (state : ProxyState) (a : Arrival) (key : TransactionKey) : Type 0 where
   pub coming : IsComing state a
   pub alone : position (has_key key) state.requests ≡ None

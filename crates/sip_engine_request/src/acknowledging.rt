@@ -1,9 +1,9 @@
 ghost use Rattle.std.specs.Prelude.{IfOk};
 ghost use Rattle.sip_proxy.specs.Proxy.{IsComing};
-ghost use Rattle.sip_core.specs.verdict_model.Verdict as Definition;
+ghost use Rattle.sip_verdict.specs.verdict_model.Verdict as Definition;
 ghost use Rattle.sip_engine_request.specs.Steps.{IsWhole, Takes};
 
-use crate::forwarded::take_lessons;
+use crate::forwarded_request::take_updates;
 use sip_dialog::DialogId;
 use sip_event::StepOut;
 use sip_proxy::forwarding::forward_ack;
@@ -44,7 +44,7 @@ pub fn send_ack<T: Timers>(
     )?;
     let mut packets = Items::with_room(alloc, 1)?;
     packets.push(ack.packet)?;
-    take_lessons(proxy, arrival, ack.lessons)?;
+    take_updates(proxy, arrival, ack.updates)?;
     Ok(StepOut {
         at: arrival.now,
         packets,

@@ -1,25 +1,25 @@
 //! The step of a CANCEL (RFC 3261 9.2, 16.10): its own answer, and what it makes of the open request that it names.
 ghost use Rattle.std.specs.Prelude.{◌≡◌, ◌+◌, ◌<◌, ◌^◌, ◌++◌, ◌∷◌, [], false, length, slice_get, IfOk, IfSome};
 ghost use Rattle.std.specs.Option.{option_and_then};
-ghost use Rattle.sip_core.specs.context_model.Opening.{closing};
+ghost use Rattle.sip_verdict.specs.context_model.Opening.{closing};
 ghost use Rattle.sip_message_form.specs.Text.{text_of};
 ghost use Rattle.sip_uas.specs.forwarding.Arrivals.{arrival_of};
-ghost use Rattle.sip_core.specs.context_model.Sending.{answer_packet, made_answer};
-ghost use Rattle.sip_core.specs.verdict_model.Verdict as Definition;
+ghost use Rattle.sip_verdict.specs.context_model.Sending.{answer_packet, made_answer};
+ghost use Rattle.sip_verdict.specs.verdict_model.Verdict as Definition;
 ghost use Rattle.sip_uas.specs.Drafts.{IsOpenable};
 ghost use Rattle.sip_engine_request.specs.Steps.{IsNew, IsWhole, Takes};
 
-use crate::answered::take_answered;
-use sip_dialog_lessons::state::Server;
+use crate::answered_request::take_answered;
+use sip_dialog_updates::state::Server;
 use sip_event::{Packet, StepOut};
 use sip_message_fields::Fields;
 use sip_proxy::context::Input;
-use sip_proxy::fork::Opening;
+use sip_proxy::fork::NewRow;
 use sip_proxy::forwarding::Drafted;
-use sip_proxy::{Configured, Draft, Proxy};
+use sip_proxy::{Configured, EventDraft, Proxy};
 use sip_text::Items;
 use sip_timers::Timers;
-use sip_transaction_table::Key;
+use sip_transaction_table::TransactionKey;
 use sip_uas::KeyedRequest;
 use sip_uas::forwarding::{put_packets, reply};
 use sip_uas::transactions_model::fitting_events::opens_fitting;
@@ -29,7 +29,7 @@ use std::alloc::{AllocError, Global};
 
 /// The place of the open request that a CANCEL with a key names, if the CANCEL comes from its IP address (RFC 3261 9.2).
 #[tactic(auto, using(crate::proofs::Cancels::named_by))]
-fn find_named<T: Timers>(proxy: &Proxy<T>, key: &Key, from: Addr) -> Option<usize>
+fn find_named<T: Timers>(proxy: &Proxy<T>, key: &TransactionKey, from: Addr) -> Option<usize>
     ensures named { option_and_then (slice_get proxy.now.state.requests) result ≡ Definition.found_for_cancel proxy.now.state key.now from }
     ensures within { IfSome result (λ place. place < length proxy.now.state.requests) }
 {
@@ -46,7 +46,7 @@ fn find_named<T: Timers>(proxy: &Proxy<T>, key: &Key, from: Addr) -> Option<usiz
 #[derive(Drop)]
 struct Agreed {
     packet: Packet,
-    opened: Opening,
+    opened: NewRow,
 }
 
 /// Makes the 200 to a CANCEL (RFC 3261 9.2). `AllocError` is the only refusal.
@@ -68,7 +68,7 @@ fn agree(alloc: Global, server: &Server, cancel: KeyedRequest) -> Result<Agreed,
     } = cancel;
     let extras = Fields::new(alloc);
     let replied = reply(alloc, server, arrival, key, request, 200, &extras)?;
-    let opened = Opening::of(alloc, replied.request)?;
+    let opened = NewRow::of(alloc, replied.request)?;
     Ok(Agreed {
         packet: replied.packet,
         opened,
@@ -76,22 +76,22 @@ fn agree(alloc: Global, server: &Server, cancel: KeyedRequest) -> Result<Agreed,
 }
 
 /// A draft whose packets go behind another one.
-fn behind(alloc: Global, first: Packet, draft: Draft) -> Result<Draft, AllocError>
+fn behind(alloc: Global, first: Packet, draft: EventDraft) -> Result<EventDraft, AllocError>
     ensures change { IfOk result (λ both. both.change ≡ draft.change) }
     ensures packets { IfOk result (λ both. both.drafted.packets ≡ first ∷ [] ++ draft.drafted.packets) }
-    ensures lessons { IfOk result (λ both. both.drafted.lessons ≡ draft.drafted.lessons) }
+    ensures updates { IfOk result (λ both. both.drafted.updates ≡ draft.drafted.updates) }
 {
-    let Draft { change, drafted } = draft;
-    let Drafted { packets, lessons } = drafted;
+    let EventDraft { change, drafted } = draft;
+    let Drafted { packets, updates } = drafted;
     let mut packets = packets;
     let mut all = Items::new(alloc);
     all.push(first)?;
     put_packets(alloc, &mut all, &mut packets)?;
     let drafted = Drafted {
         packets: all,
-        lessons,
+        updates,
     };
-    Ok(Draft { change, drafted })
+    Ok(EventDraft { change, drafted })
 }
 
 /// A CANCEL is answered with 200, and behind that the open request at a place is cancelled (RFC 3261 9.2, 16.10).

@@ -2,33 +2,33 @@ ghost use Rattle.std.specs.Prelude.{◌≡◌, ℕ, List};
 ghost use Rattle.sip_timers.specs.declared.timer.Timer.{Timer};
 ghost use Rattle.sip_proxy.specs.fork.Firing.{KeepsOrder};
 ghost use Rattle.sip_proxy.specs.Proxy.{with_bindings, with_nonces};
-ghost use Rattle.sip_core.specs.Verdict.{HasRoomFor, plan_of};
+ghost use Rattle.sip_verdict.specs.Verdict.{HasRoomFor, plan_of};
 ghost use Rattle.sip_location.specs.Sameness.{SameBindings};
 ghost use Rattle.sip_location.specs.declared.binding.Binding.{Binding};
 ghost use Rattle.sip_uas.specs.forwarding.Arrivals.{arrival_of};
 ghost use Rattle.sip_uas.specs.Asking.{after_asking, after_outcome};
 ghost use Rattle.sip_uas.specs.Drafts.{AreBound};
 
-use sip_core::{Judged, Outcome};
 use sip_proxy::Proxy;
 use sip_timers::Timers;
 use sip_uas::forwarding::Arrival;
+use sip_verdict::{Judged, PolicyOutcome};
 
 /// A challenge issues the nonce of its datagram's word (RFC 3261 22.1). Takes no memory.
-fn take_challenge<T: Timers>(proxy: &mut Proxy<T>, arrival: Arrival, outcome: &Outcome)
+fn take_challenge<T: Timers>(proxy: &mut Proxy<T>, arrival: Arrival, outcome: &PolicyOutcome)
     ensures state { proxy.new.state ≡ with_nonces (after_outcome (arrival_of arrival) outcome.now proxy.old.state.nonces) proxy.old.state }
     ensures room { proxy.new.room ≡ proxy.old.room }
     ensures queue { (old : List Timer) → KeepsOrder old proxy.old.timers proxy.old.state.requests → KeepsOrder old proxy.new.timers proxy.new.state.requests }
     ensures secrets { proxy.new.secrets ≡ proxy.old.secrets }
 {
     match outcome {
-        Outcome::Challenge => proxy.issue(arrival.word, arrival.now),
-        Outcome::Deny(_) | Outcome::Send(_, _) | Outcome::Register(_, _) => {}
+        PolicyOutcome::Challenge => proxy.issue(arrival.word, arrival.now),
+        PolicyOutcome::Deny(_) | PolicyOutcome::Send(_, _) | PolicyOutcome::Register(_, _) => {}
     }
 }
 
 /// The bindings take the plan of what was decided, if it has one (RFC 3261 10.3). Takes no memory.
-fn take_plan<T: Timers>(proxy: &mut Proxy<T>, outcome: Outcome)
+fn take_plan<T: Timers>(proxy: &mut Proxy<T>, outcome: PolicyOutcome)
     requires { HasRoomFor proxy.old.room outcome }
     ensures bound { (now : ℕ) (after : List Binding) → AreBound now (plan_of outcome) proxy.old.state.bindings after
         → SameBindings now proxy.new.state.bindings after }

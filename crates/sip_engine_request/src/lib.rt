@@ -9,25 +9,25 @@
 #![tactic(auto)]
 
 mod acknowledging;
-mod answered;
+mod answered_request;
 mod cancelling;
 mod deciding;
-mod forwarded;
+mod dialog_request;
+mod forwarded_request;
 mod judging;
 mod records;
-mod routed;
+mod routed_request;
 mod sending;
 mod taking;
-mod within;
 
 pub use acknowledging::send_ack;
-pub use answered::take_answered;
+pub use answered_request::take_answered;
 pub use cancelling::take_cancel;
+pub use dialog_request::send_within;
 pub use judging::take_judged;
-pub use routed::Sending;
+pub use routed_request::RoutedRequest;
 pub use sending::send_to;
 pub use sip_uas::KeyedRequest;
-pub use within::send_within;
 
 /// Of `sip_uas`.
 pub mod uas {

@@ -1,18 +1,18 @@
 ghost use Rattle.std.specs.Prelude.{◌≡◌, [], ◌∷◌, length, IfOk, IfSome};
-ghost use Rattle.sip_audit.specs.declared.record.Outcome.TheVariants.{Sent};
+ghost use Rattle.sip_audit.specs.declared.record.AuditOutcome.TheVariants.{Sent};
 ghost use Rattle.sip_proxy.specs.steps_model.Effect as Effects;
 ghost use Rattle.sip_uas.specs.forwarding.Arrivals.{arrival_of};
-ghost use Rattle.sip_dialog_lessons.specs.state.declared.server.Server.{Server};
+ghost use Rattle.sip_dialog_updates.specs.state.declared.server.Server.{Server};
 ghost use Rattle.sip_targets.specs.Targets.{target_list};
-ghost use Rattle.sip_core.specs.verdict_model.Verdict.{minute_on};
+ghost use Rattle.sip_verdict.specs.verdict_model.Verdict.{minute_on};
 
-use crate::Sending;
-use sip_audit::{Outcome, Record};
-use sip_core::state::Heard;
+use crate::RoutedRequest;
+use sip_audit::{AuditOutcome, Record};
 use sip_targets::Targets;
 use sip_text::Items;
 use sip_uas::forwarding::Arrival;
 use sip_uas::records_of;
+use sip_verdict::state::KeptRequest;
 use std::alloc::{AllocError, Global};
 
 /// How many targets there are, if that is a number of 32 bits.
@@ -31,8 +31,8 @@ fn count_of(targets: &Targets) -> Option<u32>
 pub(crate) fn sending_records(
     alloc: Global,
     arrival: Arrival,
-    request: &Heard,
-    sending: &Sending<'_, '_>,
+    request: &KeptRequest,
+    sending: &RoutedRequest<'_, '_>,
 ) -> Result<Items<Record>, AllocError>
     ensures { IfOk result (λ records. (server : Server)
         → sending.now.judged.now.minute ≡ minute_on server sending.now.judged.now.question
@@ -47,7 +47,7 @@ pub(crate) fn sending_records(
         arrival,
         request,
         sending.judged,
-        Outcome::Sent {
+        AuditOutcome::Sent {
             rule: sending.rule,
             targets,
         },

@@ -1,9 +1,9 @@
 ghost use Rattle.std.specs.Prelude.{◌≡◌, false, IfOk};
-ghost use Rattle.sip_core.specs.verdict_model.Verdict as Definition;
+ghost use Rattle.sip_verdict.specs.verdict_model.Verdict as Definition;
 ghost use Rattle.sip_engine_request.specs.Steps.{IsNew, IsWhole, Takes};
 
-use crate::Sending;
-use crate::forwarded::{take_credential, take_request};
+use crate::RoutedRequest;
+use crate::forwarded_request::{take_credential, take_request};
 use crate::records::sending_records;
 use sip_event::StepOut;
 use sip_proxy::forwarding::forward_to;
@@ -21,7 +21,7 @@ pub fn send_to<T: Timers>(
     configured: &Configured<'_>,
     proxy: &mut Proxy<T>,
     request: KeyedRequest,
-    sending: &Sending<'_, '_>,
+    sending: &RoutedRequest<'_, '_>,
 ) -> Result<StepOut, AllocError>
     requires new { IsNew proxy.old.state request.arrival request.key }
     requires space { Definition.is_full proxy.old.state ≡ false }

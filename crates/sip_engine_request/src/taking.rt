@@ -2,17 +2,17 @@ ghost use Rattle.std.specs.Prelude.{◌≡◌, [], IfOk, IfSome, OnOk};
 ghost use Rattle.sip_proxy.specs.Proxy.{Becomes, IsComing};
 ghost use Rattle.sip_proxy.specs.steps_model.Effect.{counted};
 ghost use Rattle.sip_uas.specs.forwarding.Arrivals.{arrival_of};
-ghost use Rattle.sip_dialog_lessons.specs.state.State.{with_one_more};
+ghost use Rattle.sip_dialog_updates.specs.state.State.{with_one_more};
 ghost use Rattle.sip_uas.specs.Drafts.{with_opened};
 ghost use Rattle.sip_engine_request.specs.Admitting.{IsOpenableIn};
 ghost use Rattle.sip_engine_request.specs.Steps.{IsWhole};
 
-use sip_dialog_lessons::Lessons;
+use sip_dialog_updates::DialogUpdates;
 use sip_event::StepOut;
 use sip_proxy::Proxy;
-use sip_proxy::fork::Opening;
+use sip_proxy::fork::NewRow;
 use sip_timers::Timers;
-use sip_uas::Draft;
+use sip_uas::AnswerDraft;
 use sip_uas::forwarding::Arrival;
 use std::alloc::{AllocError, Global};
 
@@ -22,7 +22,7 @@ fn open<T: Timers>(
     alloc: Global,
     proxy: &mut Proxy<T>,
     arrival: Arrival,
-    request: Opening,
+    request: NewRow,
 ) -> Result<(), AllocError>
     requires coming { IsComing proxy.old.state arrival }
     requires opens { IsOpenableIn proxy.old.state arrival request }
@@ -30,7 +30,7 @@ fn open<T: Timers>(
     ensures whole { IsWhole proxy.old proxy.new result }
     ensures room { proxy.new.room ≡ proxy.old.room }
 {
-    proxy.open(arrival.now, request, Lessons::new(alloc))
+    proxy.open(arrival.now, request, DialogUpdates::new(alloc))
 }
 
 /// The moment of a datagram comes, and the request is opened that was drafted, if one was: where 1,024 are open, none is.
@@ -39,7 +39,7 @@ fn open_drafted<T: Timers>(
     alloc: Global,
     proxy: &mut Proxy<T>,
     arrival: Arrival,
-    opened: Option<Opening>,
+    opened: Option<NewRow>,
 ) -> Result<(), AllocError>
     requires coming { IsComing proxy.old.state arrival }
     requires opens { IfSome opened (IsOpenableIn proxy.old.state arrival) }
@@ -63,7 +63,7 @@ pub(crate) fn take_draft<T: Timers>(
     alloc: Global,
     proxy: &mut Proxy<T>,
     arrival: Arrival,
-    draft: Draft,
+    draft: AnswerDraft,
 ) -> Result<StepOut, AllocError>
     requires coming { IsComing proxy.old.state arrival }
     requires opens { IfSome draft.opened (IsOpenableIn proxy.old.state arrival) }
@@ -73,11 +73,11 @@ pub(crate) fn take_draft<T: Timers>(
     ensures whole { IsWhole proxy.old proxy.new result }
     ensures room { proxy.new.room ≡ proxy.old.room }
 {
-    let Draft {
+    let AnswerDraft {
         packets,
         records,
         opened,
-        lessons: _none,
+        updates: _none,
     } = draft;
     open_drafted(alloc, proxy, arrival, opened)?;
     let _number = proxy.count();

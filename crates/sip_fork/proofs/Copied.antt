@@ -1,7 +1,7 @@
 -- What an input makes of a request, by way of a copy of it.
 use Rattle.std.proofs.Common.{◌≡◌, ℕ, ap, ◌∙◌}
-use Rattle.sip_dialog_lessons.specs.state.declared.open_request.OpenRequest.{OpenRequest}
-use Rattle.sip_dialog_lessons.specs.state.declared.server.Server.{Server}
+use Rattle.sip_dialog_updates.specs.state.declared.open_request.OpenRequest.{OpenRequest}
+use Rattle.sip_dialog_updates.specs.state.declared.server.Server.{Server}
 use Rattle.sip_context.specs.declared.input.Input.{Input}
 use Rattle.sip_context.specs.declared.sent.Sent.{Sent}
 use Rattle.sip_context.specs.Inputs.{outcome, outcome_of}

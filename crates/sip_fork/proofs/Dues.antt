@@ -6,12 +6,12 @@ use Rattle.std.proofs.lemmas.List.Quantifiers.{position-Some}
 use Rattle.std.proofs.lemmas.Option.{get_or_from_slice_get, slice_get-get_or}
 use Rattle.sip_timers.specs.declared.timer.Owner.{Owner}
 use Rattle.sip_timers.specs.declared.timer.Owner.TheVariants as Of
-use Rattle.sip_dialog_lessons.specs.state.declared.branch.Branch.{Branch}
-use Rattle.sip_dialog_lessons.specs.state.declared.open_request.OpenRequest.{OpenRequest}
-use Rattle.sip_dialog_lessons.specs.state.State.{phase_deadline, side_deadline}
+use Rattle.sip_dialog_updates.specs.state.declared.branch.Branch.{Branch}
+use Rattle.sip_dialog_updates.specs.state.declared.open_request.OpenRequest.{OpenRequest}
+use Rattle.sip_dialog_updates.specs.state.State.{phase_deadline, side_deadline}
 use Rattle.model_steps.specs.context_model.Retransmission.{answer_due, branch_due}
-use Rattle.sip_fork.specs.declared.due.Due.{Due}
-use Rattle.sip_fork.specs.declared.due.Due.TheVariants as What
+use Rattle.sip_fork.specs.declared.first_due.Due.{Due}
+use Rattle.sip_fork.specs.declared.first_due.Due.TheVariants as What
 use Rattle.sip_fork.specs.Due.{GoesAgainBefore, IsBranchAt, IsBranchOf, IsDue, IsNotDue, is_at, is_branch_due, is_either, is_of}
 
 pub at_is : (moment : Option ℕ) (due : ℕ) → is_at moment due ≡ true → moment ≡ Some due

@@ -12,14 +12,14 @@ use Rattle.std.proofs.lemmas.Option.{slice_get-get_or, slice_get_within, slice_g
 use Rattle.sip_timers.specs.declared.timer.Name.{Name}
 use Rattle.sip_timers.specs.declared.timer.Timer.{Timer}
 use Rattle.sip_timers.specs.Timers.{AreOrdered, first_named}
-use Rattle.sip_dialog_lessons.specs.state.declared.open_request.OpenRequest.{OpenRequest}
+use Rattle.sip_dialog_updates.specs.state.declared.open_request.OpenRequest.{OpenRequest}
 use Rattle.sip_request.specs.Named.{named_by}
 use Rattle.sip_request.specs.declared.request.Request.{Request}
 use Rattle.sip_fork.specs.Contexts.{AreTied}
 use Rattle.sip_fork.specs.Due.{GoesAgainBefore, IsDue, IsFirst, IsFirstAt, IsNotDue, IsNothingDue, IsOfFirst, IsOfOwner}
 use Rattle.sip_fork.specs.Queue.{IsQueue}
 use Rattle.sip_fork.specs.Timing.{Timing}
-use Rattle.sip_fork.specs.declared.due.Due.{Due}
+use Rattle.sip_fork.specs.declared.first_due.Due.{Due}
 use Rattle.sip_fork.proofs.Dues.{something}
 use Rattle.sip_fork.proofs.Firsts.{first_le, none_before, none_again_before}
 use Rattle.sip_fork.proofs.Moments.{due_then}

@@ -12,12 +12,12 @@ use Rattle.model_steps.specs.context_model.BranchById.{HasNumbers}
 use Rattle.model_steps.specs.context_model.Branches.{is_same_branch, overdue, phased, side_overdue, turned, with_phase}
 use Rattle.sip_transaction_table.specs.declared.transaction.Transaction.{Transaction}
 use Rattle.sip_transaction_table.specs.declared.transaction.Transaction.TheVariants as Of
-use Rattle.sip_dialog_lessons.specs.state.State.{has_left, is_ended, is_invite}
-use Rattle.sip_dialog_lessons.specs.state.declared.branch.Branch.{Branch}
-use Rattle.sip_dialog_lessons.specs.state.declared.branch.Phase.TheVariants.{Ended}
-use Rattle.sip_dialog_lessons.specs.state.declared.open_request.OpenRequest.{OpenRequest}
-use Rattle.sip_dialog_lessons.specs.state.declared.open_request.Side.TheVariants.{Closed}
-use Rattle.sip_dialog_lessons.specs.state.declared.server.Server.{Server}
+use Rattle.sip_dialog_updates.specs.state.State.{has_left, is_ended, is_invite}
+use Rattle.sip_dialog_updates.specs.state.declared.branch.Branch.{Branch}
+use Rattle.sip_dialog_updates.specs.state.declared.branch.Phase.TheVariants.{Ended}
+use Rattle.sip_dialog_updates.specs.state.declared.open_request.OpenRequest.{OpenRequest}
+use Rattle.sip_dialog_updates.specs.state.declared.open_request.Side.TheVariants.{Closed}
+use Rattle.sip_dialog_updates.specs.state.declared.server.Server.{Server}
 use Rattle.sip_context.specs.declared.input.Input.{Input}
 use Rattle.sip_context.specs.declared.input.Input.TheVariants.{Response, BranchDeadline, SideDeadline, SendFault, Cancel, Ack, BranchAgain, AnswerAgain}
 use Rattle.sip_context.specs.Inputs.{changing, outcome_of}

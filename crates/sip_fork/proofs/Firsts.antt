@@ -8,7 +8,7 @@ use Rattle.std.proofs.lemmas.List.Sums.{sum_by-cons}
 use Rattle.sip_timers.specs.declared.timer.Timer.{Timer}
 use Rattle.sip_timers.specs.Timers.{AreOrdered, due_before}
 use Rattle.sip_fork.proofs.Lists.{all_append, all_weaker}
-use Rattle.sip_dialog_lessons.specs.state.State.{deadlines_of}
+use Rattle.sip_dialog_updates.specs.state.State.{deadlines_of}
 use Rattle.model_steps.specs.context_model.Retransmission.{resends_of}
 use Rattle.model_steps.specs.Step.{NoneBefore, NoneAgainBefore}
 use Rattle.sip_request.specs.Named.{named_by}

@@ -6,8 +6,8 @@ use Rattle.std.proofs.lemmas.Bool.Decides.{nat_tests}
 use Rattle.std.proofs.lemmas.List.{reverse-append}
 use Rattle.std.proofs.lemmas.Option.{slice_get_within, get_or_from_slice_get}
 use Rattle.sip_timers.specs.declared.timer.Timer.{Timer}
-use Rattle.sip_dialog_lessons.specs.state.State.{has_left, with_one_more}
-use Rattle.sip_dialog_lessons.specs.state.declared.open_request.OpenRequest.{OpenRequest}
+use Rattle.sip_dialog_updates.specs.state.State.{has_left, with_one_more}
+use Rattle.sip_dialog_updates.specs.state.declared.open_request.OpenRequest.{OpenRequest}
 use Rattle.model_steps.specs.Effect.{replaced}
 use Rattle.sip_request.specs.Queued.{entries}
 use Rattle.sip_request.specs.transactions_model.Queue.{AreDueInOrder, Entry, entries_of, has, queue_after, request_entries, same_entry}

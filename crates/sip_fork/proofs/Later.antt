@@ -3,7 +3,7 @@ use Rattle.std.proofs.Common.{◌≡◌, ℕ, ◌+◌, ◌-◌, ◌<◌, ◌≤�
 use Rattle.std.proofs.Math.Nat.{le-max_left, max-le}
 use Rattle.sip_timers.specs.declared.timer.Timer.{Timer}
 use Rattle.sip_timers.specs.Timers.{due_by}
-use Rattle.sip_dialog_lessons.specs.state.declared.open_request.OpenRequest.{OpenRequest}
+use Rattle.sip_dialog_updates.specs.state.declared.open_request.OpenRequest.{OpenRequest}
 use Rattle.model_steps.specs.Step.{NoneBefore, NoneAgainBefore}
 use Rattle.sip_request.specs.transactions_model.Near.{IsWithin}
 use Rattle.sip_request.specs.declared.request.Request.{Request}

@@ -3,15 +3,15 @@ use Rattle.std.proofs.Common.{ℕ, ◌+◌, ◌<◌, ◌≤◌, Bool, true, fals
 use Rattle.std.specs.Prelude.{◌&&◌, not}
 use Rattle.std.specs.List.{AllByRecursion}
 use Rattle.sip_timers.specs.declared.letter.Letter.TheVariants as By
-use Rattle.sip_dialog_lessons.specs.state.State.{is_invite, is_success}
-use Rattle.sip_dialog_lessons.specs.state.declared.branch.Branch.{Branch}
-use Rattle.sip_dialog_lessons.specs.state.declared.branch.Phase.{Phase}
-use Rattle.sip_dialog_lessons.specs.state.declared.branch.Phase.TheVariants.{Unheard, Heard, Cancelled, Done, Ended}
-use Rattle.sip_dialog_lessons.specs.state.declared.open_request.LastAnswer.{LastAnswer}
-use Rattle.sip_dialog_lessons.specs.state.declared.open_request.OpenRequest.{OpenRequest}
-use Rattle.sip_dialog_lessons.specs.state.declared.open_request.Side.{Side}
-use Rattle.sip_dialog_lessons.specs.state.declared.open_request.Side.TheVariants.{Answering, Closing, Acknowledged, Closed}
-use Rattle.sip_dialog_lessons.specs.state.declared.resend.Resend.{Resend}
+use Rattle.sip_dialog_updates.specs.state.State.{is_invite, is_success}
+use Rattle.sip_dialog_updates.specs.state.declared.branch.Branch.{Branch}
+use Rattle.sip_dialog_updates.specs.state.declared.branch.Phase.{Phase}
+use Rattle.sip_dialog_updates.specs.state.declared.branch.Phase.TheVariants.{Unheard, Heard, Cancelled, Done, Ended}
+use Rattle.sip_dialog_updates.specs.state.declared.open_request.LastAnswer.{LastAnswer}
+use Rattle.sip_dialog_updates.specs.state.declared.open_request.OpenRequest.{OpenRequest}
+use Rattle.sip_dialog_updates.specs.state.declared.open_request.Side.{Side}
+use Rattle.sip_dialog_updates.specs.state.declared.open_request.Side.TheVariants.{Answering, Closing, Acknowledged, Closed}
+use Rattle.sip_dialog_updates.specs.state.declared.resend.Resend.{Resend}
 use Rattle.model_steps.specs.context_model.Branches.{was_refused}
 use Rattle.sip_request.specs.transactions_model.InviteClient.{invite_timers, call_timers}
 use Rattle.sip_request.specs.transactions_model.OtherClient.{other_timers}

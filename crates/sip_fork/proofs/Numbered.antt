@@ -1,7 +1,7 @@
 -- The numbers of requests rise, also after one was opened, changed or closed.
 use Rattle.std.proofs.Common.{◌≡◌, ℕ, zero, suc, ◌<◌, List, [], ◌∷◌, ◌++◌, length, map, get_or, set, remove, ap, arith}
 use Rattle.std.specs.List.{AllByRecursion}
-use Rattle.sip_dialog_lessons.specs.state.declared.open_request.OpenRequest.{OpenRequest}
+use Rattle.sip_dialog_updates.specs.state.declared.open_request.OpenRequest.{OpenRequest}
 use Rattle.sip_request.specs.declared.request.Request.{Request}
 use Rattle.model_branches.specs.Kept.{AreNumbered}
 

@@ -5,8 +5,8 @@ use Rattle.std.proofs.Math.Nat.{le-max_left, le-max_right, max-le}
 use Rattle.std.proofs.lemmas.Option.{get_or_from_slice_get, slice_get_within}
 use Rattle.std.proofs.lemmas.List.Elements.{All-append, All-get_or, All-cons, All-head, All-nil, All-tail}
 use Rattle.model_steps.specs.Effect.{replaced}
-use Rattle.sip_dialog_lessons.specs.state.State.{has_left}
-use Rattle.sip_dialog_lessons.specs.state.declared.open_request.OpenRequest.{OpenRequest}
+use Rattle.sip_dialog_updates.specs.state.State.{has_left}
+use Rattle.sip_dialog_updates.specs.state.declared.open_request.OpenRequest.{OpenRequest}
 use Rattle.sip_request.specs.transactions_model.Near.{IsWithin}
 use Rattle.sip_timers.specs.declared.timer.Timer.{Timer}
 use Rattle.sip_request.specs.declared.request.Request.{Request}

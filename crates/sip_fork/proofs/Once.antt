@@ -8,14 +8,14 @@ use Rattle.std.proofs.lemmas.List.Elements.{All-from_recursion, All-contains}
 use Rattle.sip_best.specs.Best.{best_of}
 use Rattle.sip_event.specs.declared.packet.Packet.{Packet}
 use Rattle.sip_message_form.specs.declared.message.Message.{Message}
-use Rattle.sip_dialog_lessons.specs.state.declared.branch.Branch.{Branch}
-use Rattle.sip_dialog_lessons.specs.state.declared.branch.Phase.{Phase}
-use Rattle.sip_dialog_lessons.specs.state.declared.branch.Phase.TheVariants.{Unheard, Heard, Cancelled, Done, Ended}
-use Rattle.sip_dialog_lessons.specs.state.declared.open_request.OpenRequest.{OpenRequest}
-use Rattle.sip_dialog_lessons.specs.state.declared.open_request.Side.TheVariants.{Closing, Closed}
-use Rattle.sip_dialog_lessons.specs.state.declared.open_request.Upward.{Upward}
-use Rattle.sip_dialog_lessons.specs.state.declared.server.Server.{Server}
-use Rattle.sip_dialog_lessons.specs.state.State.{is_invite, is_final, is_answering, is_success, is_provisional}
+use Rattle.sip_dialog_updates.specs.state.declared.branch.Branch.{Branch}
+use Rattle.sip_dialog_updates.specs.state.declared.branch.Phase.{Phase}
+use Rattle.sip_dialog_updates.specs.state.declared.branch.Phase.TheVariants.{Unheard, Heard, Cancelled, Done, Ended}
+use Rattle.sip_dialog_updates.specs.state.declared.open_request.OpenRequest.{OpenRequest}
+use Rattle.sip_dialog_updates.specs.state.declared.open_request.Side.TheVariants.{Closing, Closed}
+use Rattle.sip_dialog_updates.specs.state.declared.open_request.Upward.{Upward}
+use Rattle.sip_dialog_updates.specs.state.declared.server.Server.{Server}
+use Rattle.sip_dialog_updates.specs.state.State.{is_invite, is_final, is_answering, is_success, is_provisional}
 use Rattle.model_steps.specs.context_model.Branches.{Change, is_same_branch, turned, phased, with_phase, marked, given_up, all_final, answered, best_upward, upward_of}
 use Rattle.model_steps.specs.context_model.Branches.{upward_list, settled, invite_heard, other_heard, heard, relayed_from, relayed_provisional, is_accepted}
 use Rattle.model_steps.specs.context_model.Branches.{relayed_success, with_answer, acks_of, further, target_responded, cancel_responded, responded, branch_overdue}

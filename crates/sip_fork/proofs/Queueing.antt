@@ -16,8 +16,8 @@ use Rattle.sip_timers.specs.declared.timer.Timer.{Timer}
 use Rattle.sip_timers.specs.Setting.{all_placed, AreSome, NoMore, IsNew, SetsInOrder}
 use Rattle.sip_timers.specs.Timers.{AreOrdered, due_before}
 use Rattle.sip_timers.proofs.Setting.{AreSome-none}
-use Rattle.sip_dialog_lessons.specs.state.declared.branch.Branch.{Branch}
-use Rattle.sip_dialog_lessons.specs.state.declared.open_request.OpenRequest.{OpenRequest}
+use Rattle.sip_dialog_updates.specs.state.declared.branch.Branch.{Branch}
+use Rattle.sip_dialog_updates.specs.state.declared.open_request.OpenRequest.{OpenRequest}
 use Rattle.sip_request.specs.transactions_model.Matching.{AreBranched}
 use Rattle.sip_request.specs.transactions_model.Queue.{Entry, entry_of, same_entry, has, part_entries, request_entries, entries_of, all_behind, AreApart, AreDueInOrder}
 use Rattle.sip_request.specs.transactions_model.Queue.{queue_after}

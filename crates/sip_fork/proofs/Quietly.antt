@@ -5,12 +5,12 @@ use Rattle.std.specs.List.{flat_map, list_any}
 use Rattle.std.proofs.lemmas.Bool.Decides.{nat_tests}
 use Rattle.sip_best.specs.Best.{best_of}
 use Rattle.sip_event.specs.declared.packet.Packet.{Packet}
-use Rattle.sip_dialog_lessons.specs.state.declared.server.Server.{Server}
-use Rattle.sip_dialog_lessons.specs.state.declared.open_request.OpenRequest.{OpenRequest}
-use Rattle.sip_dialog_lessons.specs.state.declared.open_request.Side.TheVariants.{Closed}
-use Rattle.sip_dialog_lessons.specs.state.declared.open_request.Upward.{Upward}
-use Rattle.sip_dialog_lessons.specs.state.declared.branch.Branch.{Branch}
-use Rattle.sip_dialog_lessons.specs.state.declared.branch.Phase.TheVariants.{Done, Ended}
+use Rattle.sip_dialog_updates.specs.state.declared.server.Server.{Server}
+use Rattle.sip_dialog_updates.specs.state.declared.open_request.OpenRequest.{OpenRequest}
+use Rattle.sip_dialog_updates.specs.state.declared.open_request.Side.TheVariants.{Closed}
+use Rattle.sip_dialog_updates.specs.state.declared.open_request.Upward.{Upward}
+use Rattle.sip_dialog_updates.specs.state.declared.branch.Branch.{Branch}
+use Rattle.sip_dialog_updates.specs.state.declared.branch.Phase.TheVariants.{Done, Ended}
 use Rattle.model_steps.specs.context_model.Branches.{Change, after_upward, all_final, best_upward, branch_overdue, cancel_branch, is_cancellable, is_same_branch}
 use Rattle.model_steps.specs.context_model.Branches.{new_cancels, overdue, phased, settled, side_overdue}
 use Rattle.model_steps.specs.context_model.Branches.{target_overdue, held_branch, turned, upward_list, upward_of, with_cancel, with_cancels, with_phase}

@@ -3,14 +3,14 @@ use Rattle.std.proofs.Common.{◌≡◌, ℕ, ◌+◌, Bool, true, false, cond, 
 use Rattle.std.specs.Prelude.{◌&&◌, ◌||◌}
 use Rattle.sip_event.specs.declared.packet.Packet.{Packet}
 use Rattle.sip_message_form.specs.declared.message.Message.{Message}
-use Rattle.sip_dialog_lessons.specs.state.declared.branch.Branch.{Branch}
-use Rattle.sip_dialog_lessons.specs.state.declared.branch.Phase.{Phase}
-use Rattle.sip_dialog_lessons.specs.state.declared.branch.Phase.TheVariants.{Unheard, Heard, Cancelled, Done, Ended}
-use Rattle.sip_dialog_lessons.specs.state.declared.open_request.OpenRequest.{OpenRequest}
-use Rattle.sip_dialog_lessons.specs.state.declared.open_request.Side.TheVariants.{Closed}
-use Rattle.sip_dialog_lessons.specs.state.declared.open_request.Upward.{Upward}
-use Rattle.sip_dialog_lessons.specs.state.declared.server.Server.{Server}
-use Rattle.sip_dialog_lessons.specs.state.State.{is_invite, is_final, is_answering, is_success, is_decline, is_provisional}
+use Rattle.sip_dialog_updates.specs.state.declared.branch.Branch.{Branch}
+use Rattle.sip_dialog_updates.specs.state.declared.branch.Phase.{Phase}
+use Rattle.sip_dialog_updates.specs.state.declared.branch.Phase.TheVariants.{Unheard, Heard, Cancelled, Done, Ended}
+use Rattle.sip_dialog_updates.specs.state.declared.open_request.OpenRequest.{OpenRequest}
+use Rattle.sip_dialog_updates.specs.state.declared.open_request.Side.TheVariants.{Closed}
+use Rattle.sip_dialog_updates.specs.state.declared.open_request.Upward.{Upward}
+use Rattle.sip_dialog_updates.specs.state.declared.server.Server.{Server}
+use Rattle.sip_dialog_updates.specs.state.State.{is_invite, is_final, is_answering, is_success, is_decline, is_provisional}
 use Rattle.model_steps.specs.context_model.Branches.{Change, is_same_branch, with_phase, with_final, marked, given_up, after_upward, answered, best_upward, settled}
 use Rattle.model_steps.specs.context_model.Branches.{other_heard, heard, relayed_provisional, relayed_success, linger, final_of, told_to, with_answer, acks_of, further}
 use Rattle.model_steps.specs.context_model.Branches.{target_responded, cancel_responded, responded, target_overdue, branch_overdue, acknowledged_side, was_refused}

@@ -8,11 +8,11 @@ use Rattle.std.proofs.lemmas.Bool.Decides.{nat_tests}
 use Rattle.std.proofs.lemmas.List.Elements.{All-head, All-tail}
 use Rattle.std.proofs.lemmas.List.Folds.{find_at}
 use Rattle.std.proofs.lemmas.Option.{slice_get_past, slice_get-get_or}
-use Rattle.sip_dialog_lessons.specs.state.declared.branch.Branch.{Branch}
-use Rattle.sip_dialog_lessons.specs.state.declared.open_request.OpenRequest.{OpenRequest}
+use Rattle.sip_dialog_updates.specs.state.declared.branch.Branch.{Branch}
+use Rattle.sip_dialog_updates.specs.state.declared.open_request.OpenRequest.{OpenRequest}
 use Rattle.sip_edit.specs.BranchId.{branch_id_of}
 use Rattle.sip_edit.specs.declared.branch_id.BranchId.{BranchId}
-use Rattle.sip_dialog_lessons.specs.state.declared.server.Server.{Server}
+use Rattle.sip_dialog_updates.specs.state.declared.server.Server.{Server}
 use Rattle.model_steps.specs.context_model.BranchById.{is_of_datagram, is_sent, sent_in, branch_by_id, HasNumbers}
 use Rattle.model_steps.specs.context_model.FoundBranch.{found_branch}
 use Rattle.sip_request.specs.declared.request.Request.{Request}

@@ -10,15 +10,15 @@ use Rattle.std.proofs.lemmas.List.Sums.{sum_by_push, sum_by-set, sum_by-remove, 
 use Rattle.std.proofs.lemmas.Option.{slice_get_within, slice_get-map, get_or_from_slice_get}
 use Rattle.sip_timers.specs.declared.timer.Timer.{Timer}
 use Rattle.sip_timers.specs.Moves.{IsHeld, Moves}
-use Rattle.sip_dialog_lessons.specs.state.declared.open_request.OpenRequest.{OpenRequest}
-use Rattle.sip_dialog_lessons.specs.state.State.{has_left}
+use Rattle.sip_dialog_updates.specs.state.declared.open_request.OpenRequest.{OpenRequest}
+use Rattle.sip_dialog_updates.specs.state.State.{has_left}
 use Rattle.model_steps.specs.Effect.{replaced}
 use Rattle.sip_fork.proofs.Walks.{removed_at, replaced_at}
 use Rattle.model_steps.specs.context_model.BranchById.{HasNumbers}
 use Rattle.sip_request.specs.Named.{HasKeys, IsReady, named_by}
 use Rattle.sip_request.specs.Near.{IsNear}
 use Rattle.sip_request.specs.transactions_model.Matching.{AreBranched}
-use Rattle.sip_request.specs.declared.request.Plan.{Plan}
+use Rattle.sip_request.specs.declared.request.RequestPlan.{RequestPlan}
 use Rattle.sip_request.specs.declared.request.Request.{Request}
 use Rattle.sip_fork.specs.Contexts.{AreTied, IsFitting, IsKept}
 use Rattle.sip_fork.proofs.NearTimes.{IsNear-within}
@@ -53,7 +53,7 @@ timed_at pending reached rows i r h at =
     IsNear-within (reached + 1) (2 ^ 64) (omega (arith, early)) r.open_request kept.within
 
 -- a request that fits can be kept
-pub ready : (pending : List Timer) (reached room : ℕ) (rows : List Request) (plan : Plan) → AreTied pending reached rows → HasKeys plan.request plan.keys
+pub ready : (pending : List Timer) (reached room : ℕ) (rows : List Request) (plan : RequestPlan) → AreTied pending reached rows → HasKeys plan.request plan.keys
     → IsFitting reached room plan.request → IsReady reached room plan
 ready pending reached room rows plan h keys fitting =
     let early : reached < 2 ^ 62 = h.early in

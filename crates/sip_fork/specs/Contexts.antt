@@ -4,7 +4,7 @@ use Rattle.std.specs.List.{All, sum_by}
 use Rattle.sip_base.specs.declared.word_hasher.WordHasher.{WordHasher}
 use Rattle.sip_timers.specs.declared.timer.Timer.{Timer}
 use Rattle.sip_timers.specs.Timers.{KeysDiffer}
-use Rattle.sip_dialog_lessons.specs.state.declared.open_request.OpenRequest.{OpenRequest}
+use Rattle.sip_dialog_updates.specs.state.declared.open_request.OpenRequest.{OpenRequest}
 use Rattle.model_steps.specs.context_model.BranchById.{HasNumbers}
 use Rattle.sip_request.specs.transactions_model.Near.{IsWithin}
 use Rattle.sip_request.specs.transactions_model.Fits.{Fits}

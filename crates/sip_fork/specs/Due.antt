@@ -3,14 +3,14 @@ use Rattle.std.specs.Prelude.{ℕ, ◌≡◌, ◌≢◌, ◌<◌, ◌&&◌, ◌|
 use Rattle.sip_timers.specs.declared.timer.Timer.{Timer}
 use Rattle.sip_timers.specs.declared.timer.Owner.{Owner}
 use Rattle.sip_timers.specs.declared.timer.Owner.TheVariants as Of
-use Rattle.sip_dialog_lessons.specs.state.declared.branch.Branch.{Branch}
-use Rattle.sip_dialog_lessons.specs.state.declared.open_request.OpenRequest.{OpenRequest}
-use Rattle.sip_dialog_lessons.specs.state.State.{phase_deadline, side_deadline}
+use Rattle.sip_dialog_updates.specs.state.declared.branch.Branch.{Branch}
+use Rattle.sip_dialog_updates.specs.state.declared.open_request.OpenRequest.{OpenRequest}
+use Rattle.sip_dialog_updates.specs.state.State.{phase_deadline, side_deadline}
 use Rattle.model_steps.specs.context_model.Retransmission.{answer_due, branch_due}
 use Rattle.model_steps.specs.Step.{NoneBefore, NoneAgainBefore}
-use Rattle.sip_fork.specs.declared.due.Due.{Due}
-use Rattle.sip_fork.specs.declared.due.Due.TheVariants as What
-use Rattle.sip_fork.specs.declared.due.First.{First}
+use Rattle.sip_fork.specs.declared.first_due.Due.{Due}
+use Rattle.sip_fork.specs.declared.first_due.Due.TheVariants as What
+use Rattle.sip_fork.specs.declared.first_due.FirstDue.{FirstDue}
 
 -- the branch at a place has this moment
 pub record IsBranchAt (moment_of : Branch → Option ℕ) (branches : List Branch) (place due : ℕ) : Type 0 where
@@ -25,7 +25,7 @@ IsDue r due (What.BranchAgain place) = IsBranchAt (branch_due r) r.branches plac
 IsDue r due (What.BranchEnds place) = IsBranchAt (λ b. phase_deadline b.phase) r.branches place due
 
 -- This is due first: of the open request at a place, and no deadline stands before that moment, and nothing is to go again before it.
-pub record IsFirst (requests : List OpenRequest) (first : First) : Type 0 where
+pub record IsFirst (requests : List OpenRequest) (first : FirstDue) : Type 0 where
   pub within : first.place < length requests
   pub due : (r : OpenRequest) → slice_get requests first.place ≡ Some r → IsDue r first.due first.what
   pub none_before : NoneBefore first.due requests
@@ -33,7 +33,7 @@ pub record IsFirst (requests : List OpenRequest) (first : First) : Type 0 where
 
 -- At this moment what is due first is due.
 abbrev pub IsFirstAt : List OpenRequest → ℕ → Type 0
-IsFirstAt requests due = (first : First) × IsFirst requests first × (first.due ≡ due)
+IsFirstAt requests due = (first : FirstDue) × IsFirst requests first × (first.due ≡ due)
 
 -- whether timers of this owner are those of a branch of a number, or of its CANCEL
 abbrev pub is_part : Owner → Bool → ℕ → Bool
@@ -65,7 +65,7 @@ GoesAgainBefore r due (What.BranchEnds place) = (b : Branch) → slice_get r.bra
 
 -- What is due first is what the first timer that stands is set for: of those due at one moment, the one that was set first, and of one
 -- part what goes again before its deadline.
-pub record IsOfFirst (pending : List Timer) (requests : List OpenRequest) (first : First) : Type 0 where
+pub record IsOfFirst (pending : List Timer) (requests : List OpenRequest) (first : FirstDue) : Type 0 where
   pub timer : Timer
   pub later : List Timer
   pub stands : pending ≡ timer ∷ later

@@ -2,9 +2,9 @@
 use Rattle.std.specs.Prelude.{◌≡◌, ℕ, ◌&&◌, if◌then◌else◌, slice_get, Option, Some, None}
 use Rattle.sip_transaction_table.specs.declared.transaction.Transaction.{Transaction}
 use Rattle.sip_transaction_table.specs.declared.transaction.Transaction.TheVariants.{Server, Client}
-use Rattle.sip_dialog_lessons.specs.state.State.{has_left, is_invite}
-use Rattle.sip_dialog_lessons.specs.state.declared.branch.Branch.{Branch}
-use Rattle.sip_dialog_lessons.specs.state.declared.open_request.OpenRequest.{OpenRequest}
+use Rattle.sip_dialog_updates.specs.state.State.{has_left, is_invite}
+use Rattle.sip_dialog_updates.specs.state.declared.branch.Branch.{Branch}
+use Rattle.sip_dialog_updates.specs.state.declared.open_request.OpenRequest.{OpenRequest}
 use Rattle.sip_context.specs.declared.input.Input.{Input}
 use Rattle.sip_context.specs.declared.input.Input.TheVariants.{Response, BranchDeadline, SideDeadline, SendFault, Cancel, Ack, BranchAgain}
 use Rattle.sip_context.specs.declared.input.Input.TheVariants.{AnswerAgain}

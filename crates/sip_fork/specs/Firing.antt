@@ -1,7 +1,7 @@
 -- In which order the timers of open requests fire (RFC 3261 17).
 use Rattle.std.specs.Prelude.{◌≡◌, List}
 use Rattle.sip_timers.specs.declared.timer.Timer.{Timer}
-use Rattle.sip_dialog_lessons.specs.state.declared.open_request.OpenRequest.{OpenRequest}
+use Rattle.sip_dialog_updates.specs.state.declared.open_request.OpenRequest.{OpenRequest}
 use Rattle.sip_request.specs.Queued.{entries}
 use Rattle.sip_request.specs.transactions_model.Queue.{AreApart, AreDueInOrder, Entry, entries_of, has, queue_after}
 

@@ -1,7 +1,7 @@
 -- Which inputs are about an open request, and what is kept of it with each event (RFC 3261 16.7 to 16.10, 17).
 use Rattle.std.specs.Prelude.{◌≡◌, ◌≤◌, ℕ, Contains, IsSomeAnd}
-use Rattle.sip_dialog_lessons.specs.state.declared.branch.Branch.{Branch}
-use Rattle.sip_dialog_lessons.specs.state.declared.open_request.OpenRequest.{OpenRequest}
+use Rattle.sip_dialog_updates.specs.state.declared.branch.Branch.{Branch}
+use Rattle.sip_dialog_updates.specs.state.declared.open_request.OpenRequest.{OpenRequest}
 use Rattle.model_steps.specs.context_model.Retransmission.{answer_due, branch_due}
 use Rattle.sip_context.specs.declared.input.Input.{Input}
 use Rattle.sip_context.specs.declared.input.Input.TheVariants.{Response, BranchDeadline, SideDeadline, SendFault, Cancel, Ack, BranchAgain}

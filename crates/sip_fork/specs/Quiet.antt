@@ -3,11 +3,11 @@ use Rattle.std.specs.Prelude.{◌≡◌, ◌&&◌, ◌||◌, ◌==◌, Bool, tru
 use Rattle.std.specs.List.{list_any}
 use Rattle.sip_transaction_table.specs.declared.transaction.Transaction.{Transaction}
 use Rattle.sip_transaction_table.specs.declared.transaction.Transaction.TheVariants.{Server, Client}
-use Rattle.sip_dialog_lessons.specs.state.State.{is_answering}
-use Rattle.sip_dialog_lessons.specs.state.declared.branch.Branch.{Branch}
-use Rattle.sip_dialog_lessons.specs.state.declared.branch.Phase.{Phase}
-use Rattle.sip_dialog_lessons.specs.state.declared.branch.Phase.TheVariants.{Unheard, Heard, Cancelled, Done, Ended}
-use Rattle.sip_dialog_lessons.specs.state.declared.open_request.OpenRequest.{OpenRequest}
+use Rattle.sip_dialog_updates.specs.state.State.{is_answering}
+use Rattle.sip_dialog_updates.specs.state.declared.branch.Branch.{Branch}
+use Rattle.sip_dialog_updates.specs.state.declared.branch.Phase.{Phase}
+use Rattle.sip_dialog_updates.specs.state.declared.branch.Phase.TheVariants.{Unheard, Heard, Cancelled, Done, Ended}
+use Rattle.sip_dialog_updates.specs.state.declared.open_request.OpenRequest.{OpenRequest}
 use Rattle.model_steps.specs.context_model.Branches.{Change, is_cancellable, is_same_branch}
 
 -- a change of a request with which nothing is sent

@@ -1,9 +1,9 @@
 -- Why the timers of an open request stand, and which moments they stand for (RFC 3261 17).
 use Rattle.std.specs.Prelude.{ℕ, ◌≡◌, ◌≤◌, Some}
 use Rattle.std.specs.List.{AllByRecursion}
-use Rattle.sip_dialog_lessons.specs.state.declared.branch.Branch.{Branch}
-use Rattle.sip_dialog_lessons.specs.state.declared.open_request.OpenRequest.{OpenRequest}
-use Rattle.sip_dialog_lessons.specs.state.State.{is_invite, phase_deadline, side_deadline}
+use Rattle.sip_dialog_updates.specs.state.declared.branch.Branch.{Branch}
+use Rattle.sip_dialog_updates.specs.state.declared.open_request.OpenRequest.{OpenRequest}
+use Rattle.sip_dialog_updates.specs.state.State.{is_invite, phase_deadline, side_deadline}
 use Rattle.model_steps.specs.context_model.Retransmission.{answer_due, branch_due}
 use Rattle.sip_request.specs.transactions_model.Ties.{IsFor, branch_timers, due_at, side_timers}
 use Rattle.sip_request.specs.transactions_model.Fits.{BranchFits, Fits}

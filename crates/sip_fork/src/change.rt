@@ -2,27 +2,27 @@
 ghost use Rattle.std.specs.Prelude.{◌≡◌, ◌<◌, ◌^◌, IfOk};
 ghost use Rattle.std.specs.List.{AllByRecursion, list_all};
 ghost use Rattle.model_steps.specs.context_model.BranchById.{HasNumbers};
-ghost use Rattle.sip_dialog_lessons.specs.state.State as States;
-ghost use Rattle.sip_dialog_lessons.specs.state.declared.branch.Branch.{Branch};
+ghost use Rattle.sip_dialog_updates.specs.state.State as States;
+ghost use Rattle.sip_dialog_updates.specs.state.declared.branch.Branch.{Branch};
 ghost use Rattle.sip_request.specs.Named.{HasKeys};
 
-use crate::row::Standing;
+use crate::row::OpenRow;
 use sip_context::Sent;
-use sip_dialog_lessons::state::{Branch, OpenRequest, Phase, Side};
-use sip_request::{Plan, Request};
-use sip_transaction_table::Held;
+use sip_dialog_updates::state::{Branch, OpenRequest, Phase, Side};
+use sip_request::{Request, RequestPlan};
+use sip_transaction_table::Boxed;
 use std::alloc::{AllocError, Global};
 use std::marker::Model;
 
 /// An open request as it is to be, where it is to stand, with all the memory that it takes to take the place of the one of
 /// its number and its key; seen as the request.
 #[derive(Drop)]
-pub struct Change {
-    pub(crate) row: Held<Standing>,
+pub struct ChangedRow {
+    pub(crate) row: Boxed<OpenRow>,
 }
 
-impl Model for Change {
-    ghost use Rattle.sip_dialog_lessons.specs.state.declared.open_request.OpenRequest.{OpenRequest};
+impl Model for ChangedRow {
+    ghost use Rattle.sip_dialog_updates.specs.state.declared.open_request.OpenRequest.{OpenRequest};
     ghost use Rattle.sip_fork.specs.Contexts.{IsPlaced};
 
     ghost Value = { OpenRequest };
@@ -34,12 +34,12 @@ impl Model for Change {
 
 /// A request as it is to be opened, where it is to stand, with all the memory that it takes; seen as the request.
 #[derive(Drop)]
-pub struct Opening {
-    pub(crate) place: Held<Standing>,
+pub struct NewRow {
+    pub(crate) place: Boxed<OpenRow>,
 }
 
-impl Model for Opening {
-    ghost use Rattle.sip_dialog_lessons.specs.state.declared.open_request.OpenRequest.{OpenRequest};
+impl Model for NewRow {
+    ghost use Rattle.sip_dialog_updates.specs.state.declared.open_request.OpenRequest.{OpenRequest};
     ghost use Rattle.sip_fork.specs.Contexts.{IsPlaced};
 
     ghost Value = { OpenRequest };
@@ -52,7 +52,7 @@ impl Model for Opening {
 /// What an input makes of an open request: the request as it is to be, and what is sent.
 #[derive(Drop)]
 pub struct Prepared {
-    pub change: Change,
+    pub change: ChangedRow,
     pub sent: Sent,
 }
 
@@ -98,14 +98,14 @@ fn has_numbers(request: &OpenRequest) -> u64
     request.number
 }
 
-impl Change {
+impl ChangedRow {
     /// An open request as it was planned. Takes no memory.
-    pub(crate) fn of(row: Held<Standing>) -> Self
+    pub(crate) fn of(row: Boxed<OpenRow>) -> Self
         requires { HasKeys row.open_request row.branches }
         ensures { result ≡ row.open_request }
     {
         let _number = has_numbers(&row.get().request.open_request);
-        Change { row }
+        ChangedRow { row }
     }
 
     /// The request.
@@ -123,16 +123,16 @@ impl Change {
     }
 }
 
-impl Opening {
+impl NewRow {
     /// A request as it is to be opened. `AllocError` is the only refusal.
     pub fn of(alloc: Global, request: OpenRequest) -> Result<Self, AllocError>
         ensures { IfOk result (λ opening. opening ≡ request) }
     {
-        let plan = Plan::of(alloc, request)?;
+        let plan = RequestPlan::of(alloc, request)?;
         let request = Request::planned(plan);
         let _number = has_numbers(&request.open_request);
-        let place = Held::new(alloc, Standing { request })?;
-        Ok(Opening { place })
+        let place = Boxed::new(alloc, OpenRow { request })?;
+        Ok(NewRow { place })
     }
 
     /// The request.

@@ -4,14 +4,14 @@ ghost use Rattle.std.specs.Prelude.{◌≡◌, ◌<◌, ◌≤◌, ◌==◌, [],
 ghost use Rattle.std.specs.Prelude.{option_map, None, Some, IfOk, IfErr, IfSome, OnOk, MatchOption};
 ghost use Rattle.std.specs.List.{All, AllPairs};
 ghost use Rattle.std.specs.Option.{option_and_then};
-ghost use Rattle.sip_base.specs.Keyed.{fed_first};
+ghost use Rattle.sip_base.specs.KeyedHasher.{fed_first};
 ghost use Rattle.sip_transaction_table.specs.Key.{same_key};
 ghost use Rattle.sip_timers.specs.declared.error.TimerError.TheVariants.{NoMemory};
-ghost use Rattle.sip_dialog_lessons.specs.state.State.{has_key, with_one_more};
-ghost use Rattle.sip_dialog_lessons.specs.state.declared.open_request.OpenRequest.{OpenRequest};
+ghost use Rattle.sip_dialog_updates.specs.state.State.{has_key, with_one_more};
+ghost use Rattle.sip_dialog_updates.specs.state.declared.open_request.OpenRequest.{OpenRequest};
 ghost use Rattle.model_steps.specs.verdict_model.Verdict.{is_cancelled_by};
 ghost use Rattle.model_steps.specs.context_model.FoundBranch.{found_branch};
-ghost use Rattle.sip_dialog_lessons.specs.state.declared.branch.Branch.{Branch};
+ghost use Rattle.sip_dialog_updates.specs.state.declared.branch.Branch.{Branch};
 ghost use Rattle.model_steps.specs.Effect.{replaced};
 ghost use Rattle.model_steps.specs.Step.{NoneBefore, NoneAgainBefore};
 ghost use Rattle.sip_fork.specs.Keeping.{IsKeptAs, IsOf};
@@ -20,7 +20,7 @@ ghost use Rattle.sip_request.specs.Near.{most_timers};
 ghost use Rattle.sip_context.specs.Inputs.{changing, outcome, outcome_of};
 ghost use Rattle.sip_fork.specs.Quiet.{alone, ends_alone};
 ghost use Rattle.sip_context.specs.declared.input.Input as Inputs;
-ghost use Rattle.sip_dialog_lessons.specs.state.declared.server.Server as Servers;
+ghost use Rattle.sip_dialog_updates.specs.state.declared.server.Server as Servers;
 ghost use Rattle.sip_fork.specs.Ending.{IsDeadlineOf, ended, left_invite};
 ghost use Rattle.sip_fork.specs.Contexts.{IsFitting, IsSame};
 ghost use Rattle.sip_fork.specs.Firing.{IsQueueOf, KeepsOrder};
@@ -29,31 +29,31 @@ ghost use Rattle.model_branches.specs.Kept.{AreKept};
 ghost use Rattle.sip_fork.specs.Due.{IsFirst, IsFirstAt, IsNothingDue, IsOfFirst};
 ghost use Rattle.sip_fork.specs.Places.{branch_at};
 
-use crate::change::{Change, Opening, Prepared};
-use crate::due::{First, what_at};
+use crate::change::{ChangedRow, NewRow, Prepared};
 use crate::ending::{ends_quietly, invite_number, leaves_with};
+use crate::first_due::{FirstDue, what_at};
 use crate::keeping::{inputs_fit, inputs_keep};
 use crate::lookup::place_of_sent;
 use crate::moving::{change_row, close_row, end_row, open_row};
 use crate::planning::prepared;
 use crate::queue::Queue;
-use crate::row::Standing;
+use crate::row::OpenRow;
 use crate::timing::timers_stand_for_moments;
 use model_branches::laws::timers_are_apart;
 use model_steps::context_model::laws::found_by_numbers;
 use sip_context::Input;
-use sip_dialog_lessons::state::{OpenRequest, Server};
+use sip_dialog_updates::state::{OpenRequest, Server};
 use sip_edit::branch_of_text;
 use sip_request::transactions_model::bounds::time_passes;
 use sip_timers::{TimerError, Timers};
-use sip_transaction_table::{Key, Table, Transaction};
+use sip_transaction_table::{Transaction, TransactionKey, TransactionTable};
 use std::alloc::{AllocError, Global};
 use std::marker::Model;
 
 /// The open requests in rising order of their numbers, each with a key of its own, and exactly the timers that they name.
 /// Moments are milliseconds.
 pub struct Contexts<T: Timers> {
-    table: Table<Standing>,
+    table: TransactionTable<OpenRow>,
     timers: Queue<T>,
     moment: u64,
 }
@@ -100,7 +100,7 @@ impl<T: Timers> Contexts<T> {
         ensures secret { IfOk result (λ contexts. contexts.secret ≡ fed_first keys) }
         ensures refused { IfErr result (λ e. e ≡ NoMemory) }
     {
-        let table = Table::new(alloc, keys)?;
+        let table = TransactionTable::new(alloc, keys)?;
         let timers = Queue::new(alloc)?;
         Ok(Contexts {
             table,
@@ -184,7 +184,7 @@ impl<T: Timers> Contexts<T> {
     }
 
     /// The place of the open request with a key (RFC 3261 17.2.3).
-    pub fn find(&self, key: &Key) -> Option<usize>
+    pub fn find(&self, key: &TransactionKey) -> Option<usize>
         ensures place { result ≡ position (has_key key.now) self.now.requests }
         ensures request { option_and_then (slice_get self.now.requests) result ≡ find (has_key key.now) self.now.requests }
     {
@@ -192,7 +192,7 @@ impl<T: Timers> Contexts<T> {
     }
 
     /// The place of the earliest open request that a CANCEL with this key names (RFC 3261 9.2).
-    pub fn find_cancelled(&self, key: &Key) -> Option<usize>
+    pub fn find_cancelled(&self, key: &TransactionKey) -> Option<usize>
         ensures place { result ≡ position (is_cancelled_by key.now) self.now.requests }
         ensures request { option_and_then (slice_get self.now.requests) result ≡ find (is_cancelled_by key.now) self.now.requests }
     {
@@ -289,7 +289,7 @@ impl<T: Timers> Contexts<T> {
 
     /// The open request at a place becomes what was prepared, of its number and its key, and its timers follow; one that stays
     /// open no longer is closed. Takes no memory.
-    pub fn change(&mut self, place: usize, change: Change)
+    pub fn change(&mut self, place: usize, change: ChangedRow)
         requires place { place < length self.old.requests }
         requires same { (r : OpenRequest) → slice_get self.old.requests place ≡ Some r → IsSame r change }
         requires within { IsWithin self.old.moment change }
@@ -356,7 +356,7 @@ impl<T: Timers> Contexts<T> {
     }
 
     /// Opens a request that was prepared, whose number is above all others and whose key isn't open. Takes no memory.
-    pub fn open(&mut self, opening: Opening)
+    pub fn open(&mut self, opening: NewRow)
         requires few { length self.old.requests < 1024 }
         requires places { 1 ≤ self.old.places }
         requires last { All (λ (r : OpenRequest). r.number < opening.number) self.old.requests }
@@ -378,7 +378,7 @@ impl<T: Timers> Contexts<T> {
     /// What is due first of all open requests, if anything is: no deadline stands before it, and nothing is to go again before
     /// it; of what is due at one moment, what a timer was set for first. None exactly where no deadline stands and nothing is to
     /// go again. Takes no memory.
-    pub fn first(&self) -> Option<First>
+    pub fn first(&self) -> Option<FirstDue>
         ensures first { MatchOption result (IsNothingDue self.now.requests) (IsFirst self.now.requests) }
         ensures in_order { IfSome result (IsOfFirst self.now.pending self.now.requests) }
     {
@@ -388,7 +388,7 @@ impl<T: Timers> Contexts<T> {
         let place = self.table.find_number(name.request).unwrap();
         let row = self.table.get(place);
         let what = what_at(&row.request.open_request, name.owner, due).unwrap();
-        Some(First { due, place, what })
+        Some(FirstDue { due, place, what })
     }
 
     /// When what is due first of all open requests is due, in milliseconds, without a look at its request. None exactly where no

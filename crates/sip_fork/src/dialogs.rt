@@ -1,10 +1,10 @@
 ghost use Rattle.std.specs.Prelude.{◌≤◌, ℕ, length, count_by};
-ghost use Rattle.sip_dialog_lessons.specs.state.declared.open_request.OpenRequest.{OpenRequest};
-ghost use Rattle.sip_dialog_lessons.specs.state.declared.server.Server.{Server};
+ghost use Rattle.sip_dialog_updates.specs.state.declared.open_request.OpenRequest.{OpenRequest};
+ghost use Rattle.sip_dialog_updates.specs.state.declared.server.Server.{Server};
 ghost use Rattle.model_steps.specs.context_model.Opening.{opening};
 ghost use Rattle.sip_context.specs.declared.input.Input.{Input};
 ghost use Rattle.sip_context.specs.Inputs.{outcome_of};
-ghost use Rattle.sip_dialog_lessons.specs.Telling.{is_early_or_success};
+ghost use Rattle.sip_dialog_updates.specs.Telling.{is_early_or_success};
 ghost use Rattle.sip_fork.specs.Keeping.{IsOf};
 
 /// One answer at most goes to the caller with each input of a request, and one behind the 100 as it is opened: while a

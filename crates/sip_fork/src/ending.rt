@@ -1,9 +1,9 @@
 //! Transactions that end where their request stands, since their deadline does no more: without a plan, and without memory.
 ghost use Rattle.std.specs.Prelude.{◌≡◌, ◌≤◌, ◌^◌, true, ℕ, [], if◌then◌else◌, Some, None};
 ghost use Rattle.std.specs.List.{list_all};
-ghost use Rattle.sip_dialog_lessons.specs.state.State as States;
-ghost use Rattle.sip_dialog_lessons.specs.state.declared.branch.Branch.{Branch};
-ghost use Rattle.sip_dialog_lessons.specs.state.declared.server.Server.{Server};
+ghost use Rattle.sip_dialog_updates.specs.state.State as States;
+ghost use Rattle.sip_dialog_updates.specs.state.declared.branch.Branch.{Branch};
+ghost use Rattle.sip_dialog_updates.specs.state.declared.server.Server.{Server};
 ghost use Rattle.sip_context.specs.declared.input.Input.{Input};
 ghost use Rattle.sip_context.specs.Inputs.{changing, outcome_of};
 ghost use Rattle.sip_fork.specs.Quiet.{alone, ends_alone};
@@ -15,9 +15,9 @@ ghost use Rattle.sip_timers.specs.Setting.{SetsInOrder};
 ghost use Rattle.sip_fork.specs.Ending.{IsDeadlineOf, ended};
 
 use crate::change::have_ended;
-use crate::quiet::{branch_ends_quietly, side_ends_quietly};
+use crate::quiet_ending::{branch_ends_quietly, side_ends_quietly};
 use sip_context::state::is_invite;
-use sip_dialog_lessons::state::{Branch, OpenRequest, Side};
+use sip_dialog_updates::state::{Branch, OpenRequest, Side};
 use sip_request::Request;
 use sip_timers::Timers;
 use sip_transaction_table::Transaction;

@@ -1,7 +1,7 @@
 ghost use Rattle.std.specs.Prelude.{◌≡◌, ℕ, List, Some, slice_get};
 ghost use Rattle.sip_timers.specs.declared.timer.Timer.{Timer};
-ghost use Rattle.sip_dialog_lessons.specs.state.State.{with_one_more};
-ghost use Rattle.sip_dialog_lessons.specs.state.declared.open_request.OpenRequest.{OpenRequest};
+ghost use Rattle.sip_dialog_updates.specs.state.State.{with_one_more};
+ghost use Rattle.sip_dialog_updates.specs.state.declared.open_request.OpenRequest.{OpenRequest};
 ghost use Rattle.model_steps.specs.Effect.{replaced};
 ghost use Rattle.sip_fork.specs.Firing.{IsQueueOf, KeepsOrder};
 

@@ -13,9 +13,9 @@
 mod change;
 mod contexts;
 pub mod dialogs;
-mod due;
 mod ending;
 pub mod firing;
+mod first_due;
 pub mod keeping;
 mod lookup;
 mod moving;
@@ -23,13 +23,13 @@ pub mod nearness;
 pub mod openings;
 mod planning;
 mod queue;
-mod quiet;
+mod quiet_ending;
 mod row;
 mod timing;
 
-pub use change::{Change, Opening, Prepared};
+pub use change::{ChangedRow, NewRow, Prepared};
 pub use contexts::Contexts;
-pub use due::{Due, First};
+pub use first_due::{Due, FirstDue};
 
 /// Of `sip_transaction_table`.
 pub mod transaction_table {

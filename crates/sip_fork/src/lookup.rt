@@ -1,7 +1,7 @@
 ghost use Rattle.std.specs.Prelude.{◌≡◌, position};
 ghost use Rattle.model_steps.specs.context_model.BranchById as Branches;
 
-use sip_dialog_lessons::state::{Branch, OpenRequest};
+use sip_dialog_updates::state::{Branch, OpenRequest};
 
 /// Whether a branch of an open request is to the target of a number, and was sent with a method (RFC 3261 17.1.3).
 fn is_sent(request: &OpenRequest, target: u32, method: &[u8], branch: &Branch) -> bool

@@ -17,17 +17,21 @@ ghost use Rattle.sip_request.specs.transactions_model.Near.{IsWithin};
 ghost use Rattle.sip_fork.specs.Contexts.{AreTied, IsFitting, IsSame};
 ghost use Rattle.sip_fork.specs.Ending.{ended};
 
-use crate::change::{Change, Opening};
+use crate::change::{ChangedRow, NewRow};
 use crate::ending::stop;
 use crate::queue::Queue;
-use crate::row::Standing;
+use crate::row::OpenRow;
 use model_branches::laws::timers_are_apart;
 use sip_request::Request;
 use sip_timers::Timers;
-use sip_transaction_table::{Held, Table, Transaction};
+use sip_transaction_table::{Boxed, Transaction, TransactionTable};
 
 /// Closes the request at a place: its timers are stopped.
-pub(crate) fn close_row<T: Timers>(table: &mut Table<Standing>, timers: &mut Queue<T>, place: usize)
+pub(crate) fn close_row<T: Timers>(
+    table: &mut TransactionTable<OpenRow>,
+    timers: &mut Queue<T>,
+    place: usize,
+)
     requires place { place < length table.old.rows }
     requires tied { AreTied timers.old.pending timers.old.reached table.old.rows }
     ensures rows { table.new.rows ≡ remove table.old.rows place }
@@ -46,7 +50,7 @@ pub(crate) fn close_row<T: Timers>(table: &mut Table<Standing>, timers: &mut Que
 }
 
 /// Sets the timers of a request where it is to stand, and no others of those of the one in whose place it is to stand.
-fn follow<T: Timers>(row: &mut Held<Standing>, timers: &mut Queue<T>, was: &Request)
+fn follow<T: Timers>(row: &mut Boxed<OpenRow>, timers: &mut Queue<T>, was: &Request)
     requires held { IsHeld timers.old.pending (named_by was.now) }
     requires timed { IsNear (2 ^ 64) was.now.open_request }
     requires ready { IsReady timers.old.reached timers.old.room (record { request = row.old.open_request; keys = row.old.branches }) }
@@ -64,10 +68,10 @@ fn follow<T: Timers>(row: &mut Held<Standing>, timers: &mut Queue<T>, was: &Requ
 
 /// Changes the request at a place: its timers follow.
 pub(crate) fn change_row<T: Timers>(
-    table: &mut Table<Standing>,
+    table: &mut TransactionTable<OpenRow>,
     timers: &mut Queue<T>,
     place: usize,
-    change: Change,
+    change: ChangedRow,
 )
     requires place { place < length table.old.rows }
     requires tied { AreTied timers.old.pending timers.old.reached table.old.rows }
@@ -86,7 +90,7 @@ pub(crate) fn change_row<T: Timers>(
 {
     timers_are_apart();
     timers.stand_in_order();
-    let Change { mut row } = change;
+    let ChangedRow { mut row } = change;
     let stood = table.get(place);
     follow(&mut row, timers, &stood.request);
     table.replace(place, row);
@@ -94,7 +98,7 @@ pub(crate) fn change_row<T: Timers>(
 
 /// A transaction of the request at a place ends where it stands: its timers are stopped.
 pub(crate) fn end_row<T: Timers>(
-    table: &mut Table<Standing>,
+    table: &mut TransactionTable<OpenRow>,
     timers: &mut Queue<T>,
     place: usize,
     transaction: Transaction,
@@ -122,7 +126,7 @@ pub(crate) fn end_row<T: Timers>(
 }
 
 /// Sets the timers of a request where it stands.
-fn begin<T: Timers>(place: &mut Held<Standing>, timers: &mut Queue<T>)
+fn begin<T: Timers>(place: &mut Boxed<OpenRow>, timers: &mut Queue<T>)
     requires apart { KeysDiffer timers.old.pending }
     requires ready { IsReady timers.old.reached timers.old.room (record { request = place.old.open_request; keys = place.old.branches }) }
     ensures moves { Moves timers.old.pending [] timers.new.pending (named_by place.new) }
@@ -138,9 +142,9 @@ fn begin<T: Timers>(place: &mut Held<Standing>, timers: &mut Queue<T>)
 
 /// Opens a request behind all others: its timers are set.
 pub(crate) fn open_row<T: Timers>(
-    table: &mut Table<Standing>,
+    table: &mut TransactionTable<OpenRow>,
     timers: &mut Queue<T>,
-    opening: Opening,
+    opening: NewRow,
 )
     requires few { length table.old.rows < 1024 }
     requires places { 1 ≤ table.old.room }
@@ -159,7 +163,7 @@ pub(crate) fn open_row<T: Timers>(
 {
     timers_are_apart();
     timers.stand_in_order();
-    let Opening { mut place } = opening;
+    let NewRow { mut place } = opening;
     begin(&mut place, timers);
     table.push(place);
 }

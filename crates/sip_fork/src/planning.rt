@@ -2,13 +2,13 @@ ghost use Rattle.std.specs.Prelude.{◌≡◌, ◌<◌, ◌+◌, ◌^◌, IfOk, 
 ghost use Rattle.sip_context.specs.Inputs.{IsFit, outcome, outcome_of};
 ghost use Rattle.sip_request.specs.Named.{HasKeys};
 
-use crate::change::{Change, Prepared};
-use crate::row::Standing;
+use crate::change::{ChangedRow, Prepared};
+use crate::row::OpenRow;
 use sip_context::{Input, Sent, take_input};
-use sip_dialog_lessons::state::{OpenRequest, Server};
-use sip_request::{Plan, Request};
+use sip_dialog_updates::state::{OpenRequest, Server};
+use sip_request::{Request, RequestPlan};
 use sip_text::Items;
-use sip_transaction_table::Held;
+use sip_transaction_table::Boxed;
 use std::alloc::{AllocError, Global};
 
 /// A copy of an open request.
@@ -20,15 +20,15 @@ fn clone_of(request: &OpenRequest) -> Result<OpenRequest, AllocError>
 }
 
 /// A copy of an open request, where it is to stand, without keys. `AllocError` is the only refusal.
-fn copied(alloc: Global, request: &OpenRequest) -> Result<Held<Standing>, AllocError>
+fn copied(alloc: Global, request: &OpenRequest) -> Result<Boxed<OpenRow>, AllocError>
     ensures { IfOk result (λ row. row.open_request ≡ request.now) }
 {
-    let plan = Plan {
+    let plan = RequestPlan {
         request: clone_of(request)?,
         keys: Items::new(alloc),
     };
     let request = Request::planned(plan);
-    Held::new(alloc, Standing { request })
+    Boxed::new(alloc, OpenRow { request })
 }
 
 /// Lets a request become what an input makes of it, where it is to stand. `AllocError` is the only refusal.
@@ -36,7 +36,7 @@ fn take_in(
     alloc: Global,
     server: &Server,
     now: u64,
-    row: &mut Held<Standing>,
+    row: &mut Boxed<OpenRow>,
     input: Input<'_>,
 ) -> Result<Sent, AllocError>
     requires now { now + 185000 < 2 ^ 64 }
@@ -54,12 +54,12 @@ fn take_in(
 }
 
 /// Gives a request keys for its branches. `AllocError` is the only refusal.
-fn give_keys(alloc: Global, row: &mut Held<Standing>) -> Result<(), AllocError>
+fn give_keys(alloc: Global, row: &mut Boxed<OpenRow>) -> Result<(), AllocError>
     ensures request { row.new.open_request ≡ row.old.open_request }
     ensures keys { OnOk result (HasKeys row.new.open_request row.new.branches) }
 {
     let standing = row.get_mut();
-    standing.request.branches = Plan::room_for(alloc, &standing.request.open_request)?;
+    standing.request.branches = RequestPlan::room_for(alloc, &standing.request.open_request)?;
     Ok(())
 }
 
@@ -79,6 +79,6 @@ pub(crate) fn prepared(
     let mut row = copied(alloc, request)?;
     let sent = take_in(alloc, server, now, &mut row, input)?;
     give_keys(alloc, &mut row)?;
-    let change = Change::of(row);
+    let change = ChangedRow::of(row);
     Ok(Prepared { change, sent })
 }

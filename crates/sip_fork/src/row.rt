@@ -3,16 +3,16 @@ ghost use Rattle.sip_fork.specs.Ending.{ended};
 
 use crate::ending;
 use sip_request::Request;
-use sip_transaction_table::{Key, Row, Transaction};
+use sip_transaction_table::{Transaction, TransactionKey, TransactionRow};
 use std::marker::Model;
 
 /// An open request as a row of the table, seen as the request.
 #[derive(Drop)]
-pub(crate) struct Standing {
+pub(crate) struct OpenRow {
     pub(crate) request: Request,
 }
 
-impl Model for Standing {
+impl Model for OpenRow {
     ghost use Rattle.sip_request.specs.declared.request.Request.{Request};
 
     ghost Value = { Request };
@@ -20,7 +20,7 @@ impl Model for Standing {
     ghost view = { λ s. s.request };
 }
 
-impl Row for Standing {
+impl TransactionRow for OpenRow {
     ghost number = { λ r. r.open_request.number };
 
     ghost key = { λ r. r.open_request.key };
@@ -31,7 +31,7 @@ impl Row for Standing {
         self.request.open_request.number
     }
 
-    fn key(&self) -> &Key {
+    fn key(&self) -> &TransactionKey {
         self.request.open_request.key.get()
     }
 

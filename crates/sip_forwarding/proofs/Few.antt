@@ -8,22 +8,22 @@ use Rattle.sip_message_form.specs.declared.message.Message.{Message}
 use Rattle.sip_event.specs.declared.packet.Packet.{Packet}
 use Rattle.sip_best.specs.declared.final_answer.Final.{Final}
 use Rattle.sip_best.specs.Best.{is_unbeaten, picked, chosen_of, challenging, is_challenge_status, going_up, best_of}
-use Rattle.sip_dialog_lessons.specs.state.Arrival.{Arrival}
-use Rattle.sip_dialog_lessons.specs.state.declared.server.Server.{Server}
-use Rattle.sip_dialog_lessons.specs.state.declared.branch.Phase.{Phase}
-use Rattle.sip_dialog_lessons.specs.state.declared.branch.Phase.TheVariants.{Unheard, Heard, Cancelled, Done, Ended}
-use Rattle.sip_dialog_lessons.specs.state.declared.branch.Branch.{Branch}
-use Rattle.sip_dialog_lessons.specs.state.declared.open_request.Side.{Side}
-use Rattle.sip_dialog_lessons.specs.state.declared.open_request.Side.TheVariants.{Answering, Closing, Acknowledged, Closed}
-use Rattle.sip_dialog_lessons.specs.state.declared.open_request.OpenRequest.{OpenRequest}
-use Rattle.sip_dialog_lessons.specs.state.declared.open_request.Upward.{Upward}
-use Rattle.sip_dialog_lessons.specs.state.State.{is_invite, is_answering, is_final, is_provisional, is_success}
+use Rattle.sip_dialog_updates.specs.state.Arrival.{Arrival}
+use Rattle.sip_dialog_updates.specs.state.declared.server.Server.{Server}
+use Rattle.sip_dialog_updates.specs.state.declared.branch.Phase.{Phase}
+use Rattle.sip_dialog_updates.specs.state.declared.branch.Phase.TheVariants.{Unheard, Heard, Cancelled, Done, Ended}
+use Rattle.sip_dialog_updates.specs.state.declared.branch.Branch.{Branch}
+use Rattle.sip_dialog_updates.specs.state.declared.open_request.Side.{Side}
+use Rattle.sip_dialog_updates.specs.state.declared.open_request.Side.TheVariants.{Answering, Closing, Acknowledged, Closed}
+use Rattle.sip_dialog_updates.specs.state.declared.open_request.OpenRequest.{OpenRequest}
+use Rattle.sip_dialog_updates.specs.state.declared.open_request.Upward.{Upward}
+use Rattle.sip_dialog_updates.specs.state.State.{is_invite, is_answering, is_final, is_provisional, is_success}
 use Rattle.sip_forwarding.specs.context_model.Branches.{Change, settled, answered, upward_list, upward_of, best_upward, all_final, turned, phased, with_phase}
 use Rattle.sip_forwarding.specs.context_model.Branches.{invite_heard, other_heard, heard, relayed_from, relayed_provisional, relayed_success, is_accepted, further}
 use Rattle.sip_forwarding.specs.context_model.Branches.{with_answer, acks_of, responded, target_responded, cancel_responded, branch_overdue, given_up, marked}
 use Rattle.sip_forwarding.specs.context_model.Sending.{made_answer}
 use Rattle.sip_forwarding.specs.context_model.Opening.{unsent, forking, trying, tried, opening, is_tried}
-use Rattle.sip_dialog_lessons.specs.Telling.{is_early_or_success}
+use Rattle.sip_dialog_updates.specs.Telling.{is_early_or_success}
 use Rattle.sip_context.specs.declared.input.Input.{Input}
 use Rattle.sip_context.specs.declared.input.Input.TheVariants.{Response, BranchDeadline, SideDeadline, SendFault, Cancel, Ack, BranchAgain, AnswerAgain}
 use Rattle.sip_context.specs.Inputs.{outcome_of}

@@ -6,7 +6,7 @@ use Rattle.sip_event.specs.declared.packet.Packet.{Packet}
 use Rattle.sip_message_fields.specs.declared.field.Field.{Field}
 use Rattle.sip_message_form.specs.declared.message.Message.{Message}
 use Rattle.sip_message_form.specs.Text.{text_of}
-use Rattle.sip_transaction_table.specs.declared.key.Key.{Key}
+use Rattle.sip_transaction_table.specs.declared.key.TransactionKey.{TransactionKey}
 use Rattle.sip_transaction_table.specs.Key.{key_of}
 use Rattle.sip_context_branches.specs.state.KeptRequest.{KeptRequest}
 use Rattle.sip_context_branches.specs.state.State.{first_resend}
@@ -23,11 +23,11 @@ use Rattle.sip_forwarding.specs.declared.arrival.Arrival.{Arrival}
 
 -- ---- before anything is sent for it
 
-key_is : (m : Message) (key : Key) → key_of m ≡ Some key → key ≡ request_key m
-key_is m key is = sym (ap (λ (o : Option Key). unwrap_or o (record { branch = []; host = []; port = 0; method = [] })) is)
+key_is : (m : Message) (key : TransactionKey) → key_of m ≡ Some key → key ≡ request_key m
+key_is m key is = sym (ap (λ (o : Option TransactionKey). unwrap_or o (record { branch = []; host = []; port = 0; method = [] })) is)
 
 -- a request of a datagram
-abbrev pub request_with : Arrival → KeptRequest → Key → Resend → List Final → List Branch → OpenRequest
+abbrev pub request_with : Arrival → KeptRequest → TransactionKey → Resend → List Final → List Branch → OpenRequest
 request_with a k key again finals branches =
     record {
       key = key;
@@ -41,11 +41,11 @@ request_with a k key again finals branches =
       branches = branches;
     }
 
-pub arrives : (a : Arrival) (k : KeptRequest) (key : Key) (again : Resend) (finals : List Final) (branches : List Branch) → key_of k.message ≡ Some key
+pub arrives : (a : Arrival) (k : KeptRequest) (key : TransactionKey) (again : Resend) (finals : List Final) (branches : List Branch) → key_of k.message ≡ Some key
     → again ≡ first_resend a.now → finals ≡ [] → branches ≡ [] → request_with a k key again finals branches ≡ arriving (arrived a k) k.message
 arrives a k key again finals branches is_key is_again no_finals no_branches =
-    let its : Key = request_key k.message in
-    ap (λ (x : Key). request_with a k x again finals branches) (key_is k.message key is_key)
+    let its : TransactionKey = request_key k.message in
+    ap (λ (x : TransactionKey). request_with a k x again finals branches) (key_is k.message key is_key)
     ∙ ap (λ (x : Resend). request_with a k its x finals branches) is_again
     ∙ ap (λ (x : List Final). request_with a k its (first_resend a.now) x branches) no_finals
     ∙ ap (λ (x : List Branch). request_with a k its (first_resend a.now) [] x) no_branches

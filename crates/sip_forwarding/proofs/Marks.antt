@@ -1,9 +1,9 @@
 -- What is sent for the first time is marked so, and so is what goes again, of each input (`Marks` of `model_steps` has what steps send).
 use Rattle.std.proofs.Common.{ℕ, true, false, ◌&&◌, cond, [], ◌++◌, flat_map, None}
-use Rattle.sip_dialog_lessons.specs.state.declared.server.Server.{Server}
-use Rattle.sip_dialog_lessons.specs.state.declared.open_request.Side.TheVariants.{Closed}
-use Rattle.sip_dialog_lessons.specs.state.declared.open_request.OpenRequest.{OpenRequest}
-use Rattle.sip_dialog_lessons.specs.state.State.{is_invite, is_answering, is_failure}
+use Rattle.sip_dialog_updates.specs.state.declared.server.Server.{Server}
+use Rattle.sip_dialog_updates.specs.state.declared.open_request.Side.TheVariants.{Closed}
+use Rattle.sip_dialog_updates.specs.state.declared.open_request.OpenRequest.{OpenRequest}
+use Rattle.sip_dialog_updates.specs.state.State.{is_invite, is_answering, is_failure}
 use Rattle.sip_forwarding.specs.context_model.Sending.{branch_packets}
 use Rattle.sip_forwarding.specs.context_model.Branches.{marked, given_up, branch_overdue}
 use Rattle.sip_forwarding.specs.context_model.Opening.{opening, tried, trying}

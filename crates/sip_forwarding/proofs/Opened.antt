@@ -2,13 +2,13 @@
 use Rattle.std.proofs.Common.{◌≡◌, ◌∙◌, ℕ, List, [], ◌∷◌, Option, Some, None, refl, ap}
 use Rattle.std.specs.Option.{unwrap_or}
 use Rattle.sip_message_form.specs.declared.message.Message.{Message}
-use Rattle.sip_transaction_table.specs.declared.key.Key.{Key}
+use Rattle.sip_transaction_table.specs.declared.key.TransactionKey.{TransactionKey}
 use Rattle.sip_transaction_table.specs.Key.{key_of}
-use Rattle.sip_dialog_lessons.specs.state.Arrival.{Arrival}
-use Rattle.sip_dialog_lessons.specs.state.declared.server.Server.{Server}
-use Rattle.sip_dialog_lessons.specs.state.declared.branch.Branch.{Branch}
-use Rattle.sip_dialog_lessons.specs.state.declared.open_request.OpenRequest.{OpenRequest}
-use Rattle.sip_dialog_lessons.specs.state.declared.open_request.Upward.{Upward}
+use Rattle.sip_dialog_updates.specs.state.Arrival.{Arrival}
+use Rattle.sip_dialog_updates.specs.state.declared.server.Server.{Server}
+use Rattle.sip_dialog_updates.specs.state.declared.branch.Branch.{Branch}
+use Rattle.sip_dialog_updates.specs.state.declared.open_request.OpenRequest.{OpenRequest}
+use Rattle.sip_dialog_updates.specs.state.declared.open_request.Upward.{Upward}
 use Rattle.sip_forwarding.specs.context_model.Branches.{answered, after_upward, best_upward}
 use Rattle.sip_forwarding.specs.context_model.Opening.{request_key, forking, trying, tried, opening}
 use Rattle.model_transactions.specs.Fits.{Fits}
@@ -40,11 +40,11 @@ opening_number server now r = let t : OpenRequest = tried now (trying server r) 
 opening_key : (server : Server) (now : ℕ) (r : OpenRequest) → (opening server now r).request.key ≡ r.key
 opening_key server now r = let t : OpenRequest = tried now (trying server r) r in told_key now (best_upward server t) t ∙ tried_key now (trying server r) r
 
-key_is : (m : Message) (key : Key) → key_of m ≡ Some key → request_key m ≡ key
-key_is m key is = ap (λ (o : Option Key). unwrap_or o (record { branch = []; host = []; port = 0; method = [] })) is
+key_is : (m : Message) (key : TransactionKey) → key_of m ≡ Some key → request_key m ≡ key
+key_is m key is = ap (λ (o : Option TransactionKey). unwrap_or o (record { branch = []; host = []; port = 0; method = [] })) is
 
 -- so a request that comes can be opened
-pub openable : (server : Server) (a : Arrival) (m : Message) (key : Key) (branches : List Branch) → key_of m ≡ Some key
+pub openable : (server : Server) (a : Arrival) (m : Message) (key : TransactionKey) (branches : List Branch) → key_of m ≡ Some key
     → Fits (opening server a.now (forking a m branches)).request
     → IsWithin a.now (opening server a.now (forking a m branches)).request → AreBranched (opening server a.now (forking a m branches)).request.branches
     → IsOpenable a key (opening server a.now (forking a m branches)).request

@@ -3,20 +3,20 @@ use Rattle.std.specs.Prelude.{◌≡◌, ◌≤◌, ℕ, List, [], ◌∷◌, Co
 use Rattle.sip_message_form.specs.declared.message.Message.{Message}
 use Rattle.sip_uri.specs.declared.addr.Addr.{Addr}
 use Rattle.sip_hops.specs.declared.host_address.HostAddress.{HostAddress}
-use Rattle.sip_transaction_table.specs.declared.key.Key.{Key}
+use Rattle.sip_transaction_table.specs.declared.key.TransactionKey.{TransactionKey}
 use Rattle.sip_dialog.specs.declared.dialog.Dialog.{Dialog}
 use Rattle.sip_event.specs.declared.packet.Packet.{Packet}
 use Rattle.sip_targets.specs.declared.targets.Targets.{Targets}
 use Rattle.sip_targets.specs.Targets.{target_list}
-use Rattle.sip_dialog_lessons.specs.state.Arrival.{Arrival}
-use Rattle.sip_dialog_lessons.specs.state.declared.server.Server.{Server}
-use Rattle.sip_dialog_lessons.specs.state.declared.open_request.OpenRequest.{OpenRequest}
+use Rattle.sip_dialog_updates.specs.state.Arrival.{Arrival}
+use Rattle.sip_dialog_updates.specs.state.declared.server.Server.{Server}
+use Rattle.sip_dialog_updates.specs.state.declared.open_request.OpenRequest.{OpenRequest}
 use Rattle.sip_forwarding.specs.context_model.Branches.{Change}
 use Rattle.sip_forwarding.specs.context_model.Opening.{branches_from, dialog_branch, forking}
 use Rattle.model_steps.specs.Effect.{change_packets, dialogs_after}
 use Rattle.model_steps.specs.Step.{originals, retransmissions}
-use Rattle.sip_dialog_lessons.specs.declared.lesson.Lesson.{Lesson}
-use Rattle.sip_dialog_lessons.specs.Lessons.{after_lessons, beginnings}
+use Rattle.sip_dialog_updates.specs.declared.dialog_update.DialogUpdate.{DialogUpdate}
+use Rattle.sip_dialog_updates.specs.DialogUpdates.{after_updates, beginnings}
 use Rattle.sip_context.specs.declared.input.Input.{Input}
 use Rattle.sip_context.specs.declared.input.Input.TheVariants.{Response, BranchDeadline, SideDeadline, SendFault, Cancel, Ack, BranchAgain}
 use Rattle.sip_context.specs.declared.input.Input.TheVariants.{AnswerAgain}
@@ -38,7 +38,7 @@ call_within server a m address = forking a m (dialog_branch server a.now m addre
 
 -- A request can be opened: it has the number and the key with which it came, its parts fit their transactions, its moments are near
 -- the one at which it came, and its branches are targets with numbers of their own and CANCELs behind them.
-pub record IsOpenable (a : Arrival) (under : Key) (r : OpenRequest) : Type 0 where
+pub record IsOpenable (a : Arrival) (under : TransactionKey) (r : OpenRequest) : Type 0 where
   pub number : r.number ≡ a.number
   pub key : r.key ≡ under
   pub fits : Fits r
@@ -52,9 +52,9 @@ pub record AreSent (first copies packets : List Packet) : Type 0 where
   pub originals : originals packets ≡ first
   pub again : retransmissions packets ≡ copies
 
--- At a moment lessons make this of the dialogs of a server that has this table of addresses.
-abbrev pub Teach : List HostAddress → Server → ℕ → List Lesson → (List Dialog → List Dialog) → Type 0
-Teach rows server now lessons edit = server.config.addresses ≡ rows → (dialogs : List Dialog) → after_lessons now lessons dialogs ≡ edit dialogs
+-- At a moment updates make this of the dialogs of a server that has this table of addresses.
+abbrev pub Teach : List HostAddress → Server → ℕ → List DialogUpdate → (List Dialog → List Dialog) → Type 0
+Teach rows server now updates edit = server.config.addresses ≡ rows → (dialogs : List Dialog) → after_updates now updates dialogs ≡ edit dialogs
 
 -- ---- events
 
@@ -77,5 +77,5 @@ IsInputTo r AnswerAgain = Unit {0}
 -- most one of them begins.
 pub record IsDraft (rows : List HostAddress) (server : Server) (now : ℕ) (o : Outcome) (d : Drafted) : Type 0 where
   pub sent : AreSent (change_packets (change_of o)) o.copies d.packets
-  pub lessons : Teach rows server now d.lessons (dialogs_after server now (change_of o))
-  pub few : beginnings d.lessons ≤ 1
+  pub updates : Teach rows server now d.updates (dialogs_after server now (change_of o))
+  pub few : beginnings d.updates ≤ 1

@@ -3,11 +3,11 @@ ghost use Rattle.sip_transaction_table.specs.Key.{key_of};
 ghost use Rattle.sip_context_branches.specs.context_model.Opening as Definitions;
 ghost use Rattle.sip_forwarding.specs.Arrivals.{arrived};
 
-use model_steps::state::{Heard, OpenRequest, Side};
+use model_steps::state::{KeptRequest, OpenRequest, Side};
 use sip_base::Shared;
 use sip_context::state::first_resend;
 use sip_text::Items;
-use sip_transaction_table::Key;
+use sip_transaction_table::TransactionKey;
 use sip_uri::Addr;
 use std::alloc::Global;
 
@@ -28,8 +28,8 @@ pub struct Arrival {
 pub(crate) fn arriving(
     alloc: Global,
     arrival: Arrival,
-    key: Shared<Key>,
-    request: Shared<Heard>,
+    key: Shared<TransactionKey>,
+    request: Shared<KeptRequest>,
 ) -> OpenRequest
     requires key { key_of request.message ≡ Some key }
     requires now { arrival.now + 32000 < 2 ^ 64 }

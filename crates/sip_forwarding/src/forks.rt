@@ -7,12 +7,12 @@ ghost use Rattle.sip_forwarding.specs.Arrivals.{arrived};
 
 use crate::arrival::{Arrival, arriving};
 use crate::branches::{branches_to, dialog_branch};
-use model_steps::state::{Branch, Heard, OpenRequest, Server};
+use model_steps::state::{Branch, KeptRequest, OpenRequest, Server};
 use sip_base::Shared;
 use sip_best::Final;
 use sip_targets::Targets;
 use sip_text::Items;
-use sip_transaction_table::Key;
+use sip_transaction_table::TransactionKey;
 use sip_uri::Addr;
 use std::alloc::{AllocError, Global};
 
@@ -36,8 +36,8 @@ fn unsent(alloc: Global, branches: &[Branch]) -> Result<Items<Final>, AllocError
 pub(crate) fn forking(
     alloc: Global,
     arrival: Arrival,
-    key: Shared<Key>,
-    request: Shared<Heard>,
+    key: Shared<TransactionKey>,
+    request: Shared<KeptRequest>,
     branches: Items<Branch>,
 ) -> Result<OpenRequest, AllocError>
     requires key { key_of request.message ≡ Some key }
@@ -55,8 +55,8 @@ pub(crate) fn forking(
 pub(crate) fn fork_to(
     alloc: Global,
     arrival: Arrival,
-    key: Shared<Key>,
-    request: Shared<Heard>,
+    key: Shared<TransactionKey>,
+    request: Shared<KeptRequest>,
     targets: &Targets,
 ) -> Result<OpenRequest, AllocError>
     requires key { key_of request.message ≡ Some key }
@@ -74,7 +74,7 @@ fn dialog_branches(
     alloc: Global,
     server: &Server,
     now: u64,
-    request: &Heard,
+    request: &KeptRequest,
     address: Addr,
 ) -> Result<Items<Branch>, AllocError>
     requires { now + 32000 < 2 ^ 64 }
@@ -92,8 +92,8 @@ pub(crate) fn fork_within(
     alloc: Global,
     server: &Server,
     arrival: Arrival,
-    key: Shared<Key>,
-    request: Shared<Heard>,
+    key: Shared<TransactionKey>,
+    request: Shared<KeptRequest>,
     address: Addr,
 ) -> Result<OpenRequest, AllocError>
     requires key { key_of request.message ≡ Some key }

@@ -1,14 +1,14 @@
 //! The drafts of requests that are sent on, to targets or in a dialog, for `sip_engine_request`.
-//! Where a request goes was decided before (`sip_core`).
+//! Where a request goes was decided before (`sip_verdict`).
 ghost use Rattle.std.specs.Prelude.{◌≡◌, ◌≤◌, ◌<◌, ◌+◌, ◌^◌, [], length, nat_lt, count_by, Some, IfOk};
 ghost use Rattle.sip_transaction_table.specs.Key.{key_of};
 ghost use Rattle.sip_targets.specs.Targets.{target_list};
 ghost use Rattle.sip_forwarding.specs.Arrivals.{arrival_of, arrived};
-ghost use Rattle.sip_dialog_lessons.specs.state.Dialogs.{after_request};
+ghost use Rattle.sip_dialog_updates.specs.state.Dialogs.{after_request};
 ghost use Rattle.sip_forwarding.specs.context_model.Opening as Openings;
 ghost use Rattle.model_steps.specs.Effect.{opening_packets, dialogs_after};
-ghost use Rattle.sip_dialog_lessons.specs.Lessons.{beginnings};
-ghost use Rattle.sip_dialog_lessons.specs.Telling.{Adds, is_early_or_success};
+ghost use Rattle.sip_dialog_updates.specs.DialogUpdates.{beginnings};
+ghost use Rattle.sip_dialog_updates.specs.Telling.{Adds, is_early_or_success};
 ghost use Rattle.sip_forwarding.specs.Forwarding.{AreSent, IsOpenable, Teach, call_to, call_within};
 
 use crate::Arrival;
@@ -16,16 +16,16 @@ use crate::forks::{fork_to, fork_within};
 use crate::laws::opens;
 use crate::opening::take_opening;
 use crate::renewing::renewing;
-use crate::state::Heard;
+use crate::state::KeptRequest;
 use sip_base::Shared;
 use sip_dialog::DialogId;
-use sip_dialog_lessons::Lessons;
-use sip_dialog_lessons::state::{OpenRequest, Server};
+use sip_dialog_updates::DialogUpdates;
+use sip_dialog_updates::state::{OpenRequest, Server};
 use sip_event::Packet;
 use sip_hops::Hops;
 use sip_targets::Targets;
 use sip_text::Items;
-use sip_transaction_table::Key;
+use sip_transaction_table::TransactionKey;
 use sip_uri::Addr;
 use std::alloc::{AllocError, Global};
 
@@ -35,35 +35,35 @@ use std::alloc::{AllocError, Global};
 pub struct Forwarded {
     pub packets: Items<Packet>,
     pub request: OpenRequest,
-    pub lessons: Lessons,
+    pub updates: DialogUpdates,
 }
 
-/// What becomes of a request once its first packets go, and what the dialogs learn of that behind some lessons.
+/// What becomes of a request once its first packets go, and what the dialogs learn of that behind some updates.
 fn begun(
     alloc: Global,
     server: &Server,
     hops: &Hops,
     now: u64,
     open_request: OpenRequest,
-    lessons: Lessons,
+    updates: DialogUpdates,
 ) -> Result<Forwarded, AllocError>
     requires { now + 32000 < 2 ^ 64 }
     ensures packets { IfOk result (λ forwarded. forwarded.packets ≡ opening_packets server.now now open_request) }
     ensures request { IfOk result (λ forwarded. forwarded.request ≡ (Openings.opening server.now now open_request).request) }
-    ensures told { IfOk result (λ forwarded. Adds hops.now.addresses lessons forwarded.lessons
+    ensures told { IfOk result (λ forwarded. Adds hops.now.addresses updates forwarded.updates
         (λ other moment dialogs. dialogs_after other moment (Openings.opening server.now now open_request) dialogs)) }
-    ensures room { IfOk result (λ forwarded. beginnings forwarded.lessons ≤ beginnings lessons
+    ensures room { IfOk result (λ forwarded. beginnings forwarded.updates ≤ beginnings updates
         + count_by is_early_or_success (Openings.opening server.now now open_request).upward) }
 {
     let mut open_request = open_request;
-    let mut lessons = lessons;
+    let mut updates = updates;
     let mut packets = Items::new(alloc);
     let upward = take_opening(alloc, server, now, &mut open_request, &mut packets)?;
-    lessons.add_change(alloc, hops, &open_request, upward.as_slice())?;
+    updates.add_change(alloc, hops, &open_request, upward.as_slice())?;
     Ok(Forwarded {
         packets,
         request: open_request,
-        lessons,
+        updates,
     })
 }
 
@@ -86,8 +86,8 @@ pub fn forward_to(
     server: &Server,
     hops: &Hops,
     arrival: Arrival,
-    key: Shared<Key>,
-    request: Shared<Heard>,
+    key: Shared<TransactionKey>,
+    request: Shared<KeptRequest>,
     targets: &Targets,
 ) -> Result<Forwarded, AllocError>
     requires key { key_of request.message ≡ Some key }
@@ -99,10 +99,10 @@ pub fn forward_to(
     ensures request { IfOk result (λ forwarded. forwarded.request
         ≡ (Openings.opening server.now arrival.now (call_to (arrived arrival request) request.message targets.now)).request) }
     ensures opens { IfOk result (λ forwarded. IsOpenable (arrival_of arrival) key forwarded.request) }
-    ensures lessons { IfOk result (λ forwarded. Teach hops.now.addresses server.now arrival.now forwarded.lessons
+    ensures updates { IfOk result (λ forwarded. Teach hops.now.addresses server.now arrival.now forwarded.updates
         (λ dialogs. dialogs_after server.now arrival.now (Openings.opening server.now arrival.now
         (call_to (arrived arrival request) request.message targets.now)) dialogs)) }
-    ensures none_begins { IfOk result (λ forwarded. beginnings forwarded.lessons ≡ 0) }
+    ensures none_begins { IfOk result (λ forwarded. beginnings forwarded.updates ≡ 0) }
 {
     if !can_be_numbered(targets) {
         return Err(AllocError);
@@ -115,7 +115,7 @@ pub fn forward_to(
         hops,
         arrival.now,
         open_request,
-        Lessons::new(alloc),
+        DialogUpdates::new(alloc),
     )?;
     Ok(forwarded)
 }
@@ -125,15 +125,15 @@ fn renewing_kept(
     alloc: Global,
     hops: &Hops,
     id: DialogId,
-    request: &Heard,
-) -> Result<Lessons, AllocError>
-    ensures told { IfOk result (λ lessons. Adds hops.now.addresses [] lessons
+    request: &KeptRequest,
+) -> Result<DialogUpdates, AllocError>
+    ensures told { IfOk result (λ updates. Adds hops.now.addresses [] updates
         (λ server now dialogs. after_request server now id request.now.message dialogs)) }
-    ensures none_begins { IfOk result (λ lessons. beginnings lessons ≡ 0) }
+    ensures none_begins { IfOk result (λ updates. beginnings updates ≡ 0) }
 {
     let request = request.view(alloc)?;
-    let lessons = renewing(alloc, hops, id, &request)?;
-    Ok(lessons)
+    let updates = renewing(alloc, hops, id, &request)?;
+    Ok(updates)
 }
 
 /// A request of a dialog that came, with its key, is sent on to the address that the dialog holds (RFC 3261 16.12): exactly
@@ -145,8 +145,8 @@ pub fn forward_within(
     server: &Server,
     hops: &Hops,
     arrival: Arrival,
-    key: Shared<Key>,
-    request: Shared<Heard>,
+    key: Shared<TransactionKey>,
+    request: Shared<KeptRequest>,
     address: Addr,
     id: DialogId,
 ) -> Result<Forwarded, AllocError>
@@ -160,14 +160,14 @@ pub fn forward_within(
     ensures request { IfOk result (λ forwarded. forwarded.request
         ≡ (Openings.opening server.now arrival.now (call_within server.now (arrived arrival request) request.message address)).request) }
     ensures opens { IfOk result (λ forwarded. IsOpenable (arrival_of arrival) key forwarded.request) }
-    ensures lessons { IfOk result (λ forwarded. Teach hops.now.addresses server.now arrival.now forwarded.lessons
+    ensures updates { IfOk result (λ forwarded. Teach hops.now.addresses server.now arrival.now forwarded.updates
         (λ dialogs. dialogs_after server.now arrival.now (Openings.opening server.now arrival.now
         (call_within server.now (arrived arrival request) request.message address)) (after_request server.now arrival.now id request.message dialogs))) }
-    ensures none_begins { IfOk result (λ forwarded. beginnings forwarded.lessons ≡ 0) }
+    ensures none_begins { IfOk result (λ forwarded. beginnings forwarded.updates ≡ 0) }
 {
     opens();
-    let lessons = renewing_kept(alloc, hops, id, request.get())?;
+    let updates = renewing_kept(alloc, hops, id, request.get())?;
     let open_request = fork_within(alloc, server, arrival, key, request, address)?;
-    let forwarded = begun(alloc, server, hops, arrival.now, open_request, lessons)?;
+    let forwarded = begun(alloc, server, hops, arrival.now, open_request, updates)?;
     Ok(forwarded)
 }

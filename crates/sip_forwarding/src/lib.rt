@@ -1,10 +1,10 @@
 //! How an open request begins (RFC 3261 16.2, 16.6, 17.2): answered at once, or sent to the branches of its targets or of
 //! its dialog; and what is sent on, as drafts that are made before anything is changed: a request to its targets, a
 //! request and an ACK in a dialog (16.6, 16.11, 16.12), and what an event of an open request sends (16.7 to 16.10). Each
-//! draft has its packets in their order and the lessons of the dialogs (12). Nothing here waits or reads a clock.
+//! draft has its packets in their order and the updates of the dialogs (12). Nothing here waits or reads a clock.
 //!
 //! - Used: `sip_uas` for a request that is answered here, `sip_proxy` for events, `sip_engine_request` for what is new.
-//! - Not here: the decision where a request goes (`sip_core`), and the taking of a draft (`sip_proxy`).
+//! - Not here: the decision where a request goes (`sip_verdict`), and the taking of a draft (`sip_proxy`).
 //! - Tried: `test_server` by its stored runs.
 //!
 //! ```text
@@ -35,7 +35,7 @@ pub use replying::{Replied, reply};
 
 /// Of `sip_state`.
 pub mod state {
-    pub use model_steps::state::Heard;
+    pub use model_steps::state::KeptRequest;
 }
 
 /// Of `model_transactions`.

@@ -8,13 +8,13 @@ ghost use Rattle.sip_context_branches.specs.context_model.Sending as Sendings;
 ghost use Rattle.sip_forwarding.specs.Arrivals.{arrived};
 
 use crate::arrival::{Arrival, arriving};
-use model_steps::state::{AnswerText, Heard, LastAnswer, OpenRequest, Server, Side};
+use model_steps::state::{AnswerText, KeptRequest, LastAnswer, OpenRequest, Server, Side};
 use sip_base::Shared;
 use sip_context::context_packets::{answer_packet, made_answer};
 use sip_event::Packet;
 use sip_message_fields::Fields;
 use sip_timers::T1;
-use sip_transaction_table::Key;
+use sip_transaction_table::TransactionKey;
 use std::alloc::{AllocError, Global};
 
 /// A final answer that is given at once: its packet, and the request that is open from then on.
@@ -36,7 +36,7 @@ fn make(
     alloc: Global,
     server: &Server,
     arrival: Arrival,
-    request: &Heard,
+    request: &KeptRequest,
     status: u16,
     extras: &Fields,
 ) -> Result<Made, AllocError>
@@ -60,8 +60,8 @@ fn make(
 fn closing(
     alloc: Global,
     arrival: Arrival,
-    key: Shared<Key>,
-    request: Shared<Heard>,
+    key: Shared<TransactionKey>,
+    request: Shared<KeptRequest>,
     answer: LastAnswer,
 ) -> OpenRequest
     requires key { key_of request.message ≡ Some key }
@@ -83,8 +83,8 @@ pub fn reply(
     alloc: Global,
     server: &Server,
     arrival: Arrival,
-    key: Shared<Key>,
-    request: Shared<Heard>,
+    key: Shared<TransactionKey>,
+    request: Shared<KeptRequest>,
     status: u16,
     extras: &Fields,
 ) -> Result<Replied, AllocError>

@@ -5,7 +5,7 @@ use Rattle.std.specs.List.{list_any, position_or_len}
 use Rattle.std.proofs.lemmas.Bool.Decides.{nat_tests}
 use Rattle.std.proofs.lemmas.Grind.{common_steps}
 use Rattle.std.proofs.lemmas.List.Quantifiers.{position-Some}
-use Rattle.sip_loop_link.specs.Told.{counted}
+use Rattle.sip_transport.specs.Told.{counted}
 use Rattle.sip_guard.specs.declared.unheard.UnheardSource.{UnheardSource}
 use Rattle.sip_guard.specs.Unheard.{is_of, counted_among, sources_behind, most_sources}
 

@@ -2,14 +2,14 @@
 use Rattle.std.specs.Prelude.{◌≡◌, ◌≤◌, ◌<◌, nat_lt, ℕ, zero, suc, Bool, true, false, not, ◌||◌, max, List, [], ◌∷◌, length, if◌then◌else◌, Option, Some, None}
 use Rattle.std.specs.Prelude.{option_map, option_and_then, Result, Ok, Err, ◌⊎◌}
 use Rattle.std.specs.List.{list_all, list_any}
-use Rattle.sip_loop_link.specs.Told.{counted, heard_of, and_then, and_counted, left_of}
-use Rattle.sip_loop_link.specs.declared.datagram.Instead.{Instead}
-use Rattle.sip_loop_link.specs.declared.datagram.Instead.TheVariants.{AskedAgain, HeardNothing}
-use Rattle.sip_loop_link.specs.declared.datagram.Given.{Given}
-use Rattle.sip_loop_link.specs.declared.datagram.Heard.{Heard}
-use Rattle.sip_loop_link.specs.declared.datagram.LinkFault.{LinkFault}
+use Rattle.sip_transport.specs.Told.{counted, heard_of, and_then, and_counted, left_of}
+use Rattle.sip_transport.specs.declared.datagram.Instead.{Instead}
+use Rattle.sip_transport.specs.declared.datagram.Instead.TheVariants.{AskedAgain, HeardNothing}
+use Rattle.sip_transport.specs.declared.datagram.Given.{Given}
+use Rattle.sip_transport.specs.declared.datagram.HeardDatagram.{HeardDatagram}
+use Rattle.sip_transport.specs.declared.datagram.LinkFault.{LinkFault}
 use Rattle.sip_uri.specs.declared.addr.Addr.{Addr}
-use Rattle.sip_base.specs.Keyed.{fed_first}
+use Rattle.sip_base.specs.KeyedHasher.{fed_first}
 use Rattle.sip_guard.specs.Allowance.{admits}
 use Rattle.sip_guard.specs.Limits.{limit_of}
 use Rattle.sip_guard.specs.Sources.{SourceTable, no_sources, AreFew, same_ip, used_of, IsCharged}
@@ -28,9 +28,9 @@ pub record AllowanceState : Type 0 where
 -- what a link tells: what it heard, set aside, was given and was let wait, where it tells that, what it holds, how often it was asked for a
 -- datagram, and how often that failed
 pub record LinkState : Type 0 where
-  pub heard : Option (List (Option Heard))
+  pub heard : Option (List (Option HeardDatagram))
   pub fresh : Bool
-  pub aside : Option (List Heard)
+  pub aside : Option (List HeardDatagram)
   pub given : Option (List Given)
   pub held : List ℕ
   pub waits : Option (List ℕ)
@@ -38,7 +38,7 @@ pub record LinkState : Type 0 where
   pub failures : ℕ
 
 -- by what each of these is
-abbrev pub link_told : Option (List (Option Heard)) → Bool → Option (List Heard) → Option (List Given) → List ℕ → Option (List ℕ) → ℕ → ℕ → LinkState
+abbrev pub link_told : Option (List (Option HeardDatagram)) → Bool → Option (List HeardDatagram) → Option (List Given) → List ℕ → Option (List ℕ) → ℕ → ℕ → LinkState
 link_told heard fresh aside given held waits receives failures =
     record { heard = heard; fresh = fresh; aside = aside; given = given; held = held; waits = waits; receives = receives; failures = failures }
 
@@ -96,12 +96,12 @@ IsAdmitted old ip new = (is_among old.always ip ≡ true → new ≡ old)
     × (is_among old.always ip ≡ false → (new ≡ record old { sources = new.sources }) × IsCharged old.limit old.present ip old.sources new.sources)
 
 -- what a link tells when it set aside these datagrams too, the newest first
-abbrev pub and_passed : Option (List Heard) → List Heard → Option (List Heard)
+abbrev pub and_passed : Option (List HeardDatagram) → List HeardDatagram → Option (List HeardDatagram)
 and_passed told [] = told
 and_passed told (datagram ∷ before) = and_then (and_passed told before) datagram
 
 -- what isn't handed on, with these datagrams too, the newest first
-abbrev pub noted_all : UnheardCounts → List Heard → UnheardCounts
+abbrev pub noted_all : UnheardCounts → List HeardDatagram → UnheardCounts
 noted_all unheard [] = unheard
 noted_all unheard (datagram ∷ before) = noted (noted_all unheard before) datagram.from.ip
 
@@ -121,7 +121,7 @@ instead_behind count = if nat_lt count most_passed then AskedAgain else HeardNot
 -- The link heard so many datagrams, each beyond the allowance of its source, which isn't heard always; they were counted, set aside and not
 -- handed on, so that the link heard what it had heard before, or nothing behind the last of as many as are passed over at most. The newest first.
 pub record PassesOver (old new : AllowanceState) (before after : LinkState) (count : ℕ) : Type 0 where
-  pub passed : List Heard
+  pub passed : List HeardDatagram
   pub number : length passed ≡ count
   pub told : after.heard ≡ left_of (instead_behind count) before.heard
   pub aside : after.aside ≡ and_passed before.aside passed

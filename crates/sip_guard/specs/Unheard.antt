@@ -3,7 +3,7 @@ use Rattle.std.specs.Prelude.{ℕ, List, [], ◌∷◌, ◌++◌, length, nat_lt
 use Rattle.std.specs.List.{list_any}
 use Rattle.sip_guard.specs.Sources.{same_ip}
 use Rattle.sip_guard.specs.declared.unheard.UnheardSource.{UnheardSource}
-use Rattle.sip_loop_link.specs.Told.{counted}
+use Rattle.sip_transport.specs.Told.{counted}
 
 -- how many in all, and of whom how many: the first sources of which one wasn't handed on
 pub record UnheardCounts : Type 0 where

@@ -1,14 +1,14 @@
 //! The link that a server asks in place of its socket: what is beyond a source's allowance is dropped before the engine hears of it.
 //! What goes out isn't limited.
 ghost use Rattle.std.specs.Prelude.{◌≡◌, true, None, IfOk, IfSome, OnOk, OnErr, option_map};
-ghost use Rattle.sip_loop_link.specs.Told.{counted, heard_of, and_then, GrewBy, IsWritable, SetsAside};
+ghost use Rattle.sip_transport.specs.Told.{counted, heard_of, and_then, GrewBy, IsWritable, SetsAside};
 ghost use Rattle.sip_guard.specs.Guard as Guarding;
 ghost use Rattle.sip_guard.specs.Guard.{guard_over, hearing, told_all, IsBounded, Hears, Guards};
 
 use crate::allowances::Allowances;
 use crate::limit::Limit;
 use crate::unheard::Unheard;
-use sip_loop_link::{Clock, Instead, Link, LinkFault, Sending};
+use sip_transport::{Clock, Instead, Link, LinkFault, SendOutcome};
 use sip_uri::Addr;
 use std::alloc::{AllocError, Global};
 use std::marker::Model;
@@ -241,7 +241,7 @@ impl<L: Link, C: Clock> Link for Guard<L, C> {
         self.link.bytes()
     }
 
-    fn send(&mut self, to: Addr, bytes: &[u8]) -> Result<Sending, AllocError>
+    fn send(&mut self, to: Addr, bytes: &[u8]) -> Result<SendOutcome, AllocError>
         ensures receives { self.new.receives ≡ self.old.receives }
         ensures failures { self.new.failures ≡ self.old.failures }
         ensures allowances { self.new.allowances ≡ self.old.allowances }

@@ -2,7 +2,7 @@
 //! that, and takes nothing from the others. Some IP addresses, as those of gateways, are heard always.
 //!
 //! - Used: `sipd_command` puts it over the socket, where a limit is asked for.
-//! - Not here: the links themselves (`sip_loop_link`).
+//! - Not here: the links themselves (`sip_transport`).
 //! - Tried: worked examples in `src/examples.rt`, as contracts that compute.
 //!
 //! ```text

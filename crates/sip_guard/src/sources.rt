@@ -3,12 +3,12 @@
 ghost use Rattle.std.specs.Prelude.{◌≡◌, ◌≤◌, ◌+◌, ℕ, List, [], true, false, length, is_some, IfOk, if◌then◌else◌};
 ghost use Rattle.std.specs.HashMap.{hasher_of, spare};
 ghost use Rattle.std.specs.Map.{lookup};
-ghost use Rattle.sip_base.specs.Keyed.{fed_first};
+ghost use Rattle.sip_base.specs.KeyedHasher.{fed_first};
 ghost use Rattle.sip_guard.specs.Allowance.{admits};
 ghost use Rattle.sip_guard.specs.Sources.{no_sources, AreFew, half, same_ip, number_in, used_of, fits_in, IsPut, IsCharged};
 
 use crate::limit::Limit;
-use sip_base::Keyed;
+use sip_base::KeyedHasher;
 use std::alloc::{AllocError, Global};
 use std::collections::HashMap;
 use std::marker::Model;
@@ -18,7 +18,7 @@ use std::mem::swap;
 const HALF: usize = 2048;
 
 /// The numbers of sources, hashed under a secret, since who sends may choose the addresses that it sends from.
-type Numbers = HashMap<[u8; 4], u128, Keyed>;
+type Numbers = HashMap<[u8; 4], u128, KeyedHasher>;
 
 /// The numbers of 4,096 sources at most. Two tables take turns: one whose sources are all idle is cleared whole, so that no call
 /// looks for idle ones, and none takes memory.
@@ -58,7 +58,7 @@ fn table(alloc: Global, keys: u128) -> Result<Numbers, AllocError>
     ensures secret { IfOk result (λ table. hasher_of table ≡ fed_first keys) }
     ensures room { IfOk result (λ table. half ≤ spare table) }
 {
-    HashMap::with_capacity_and_hasher(alloc, HALF, Keyed::new(keys))
+    HashMap::with_capacity_and_hasher(alloc, HALF, KeyedHasher::new(keys))
 }
 
 /// The number of a source in a table.
@@ -119,7 +119,7 @@ impl Sources {
     }
 
     /// Those of late become the earlier ones, which are forgotten: only where half the table is full of sources.
-    fn turn(&mut self)
+    fn forget_earlier(&mut self)
         ensures { self.new ≡ record { secret = self.old.secret; recent = []; earlier = self.old.recent; recent_until = 0; earlier_until = self.old.recent_until } }
     {
         self.earlier.clear();
@@ -139,7 +139,7 @@ impl Sources {
             return;
         }
         if self.earlier_until <= moment {
-            self.turn();
+            self.forget_earlier();
             put(&mut self.recent, ip, number);
             self.recent_until = number;
         } else if put(&mut self.earlier, ip, number) {

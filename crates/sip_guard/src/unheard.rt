@@ -1,6 +1,6 @@
 //! How many datagrams weren't handed on, and whose, for the lines that the program prints of them (`sipd_service`).
 ghost use Rattle.std.specs.Prelude.{◌≡◌, ◌≤◌, length, position, vec_capacity, IfOk};
-ghost use Rattle.sip_loop_link.specs.Told.{counted};
+ghost use Rattle.sip_transport.specs.Told.{counted};
 ghost use Rattle.sip_guard.specs.Unheard.{most_sources, none_unheard, noted, is_of, sources_behind};
 
 use std::alloc::{AllocError, Global};

@@ -1,9 +1,9 @@
 ghost use Rattle.std.specs.Prelude.{◌≡◌};
-ghost use Rattle.sip_loop_link.specs.Told.{GrewBy};
+ghost use Rattle.sip_transport.specs.Told.{GrewBy};
 ghost use Rattle.sip_guard.specs.Waits;
 
 use crate::guard::Guard;
-use sip_loop_link::{Clock, Link};
+use sip_transport::{Clock, Link};
 
 /// The longest wait, in milliseconds.
 const LONGEST: u64 = 1000;

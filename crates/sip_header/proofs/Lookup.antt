@@ -4,7 +4,7 @@ use Rattle.std.specs.Prelude.{is_some}
 use Rattle.sip_text.specs.Words.{is_token_text, is_same_text}
 use Rattle.sip_text.specs.Lists.{trimmed}
 use Rattle.sip_text.specs.Cuts.{split_outside}
-use Rattle.sip_header.specs.declared.parameters.Parameter.{Parameter}
+use Rattle.sip_header.specs.declared.parameters.HeaderParameter.{HeaderParameter}
 use Rattle.sip_header.specs.Parameters.{is_value, needs_value, bare_parameter, valued_parameter, parameter_by, parameter_in, parameters_in, said_in, parameter_of}
 
 -- ---- one parameter
@@ -35,7 +35,8 @@ bare_is text cut e =
 
 -- ---- one behind another
 
-first_by : (part : List ℕ) (others : List (List ℕ)) (o : Option Parameter) → parameter_in part ≡ o → is_some (parameters_in (part ∷ others)) ≡ true → is_some o ≡ true
+first_by : (part : List ℕ) (others : List (List ℕ)) (o : Option HeaderParameter) → parameter_in part ≡ o → is_some (parameters_in (part ∷ others)) ≡ true
+    → is_some o ≡ true
 first_by part others None is e = let never = rw is at e in absurd cc
 first_by part others (Some p) is e = refl
 
@@ -45,44 +46,44 @@ some_first part others e = first_by part others (parameter_in part) refl e
 pub none_first : (part : List ℕ) (others : List (List ℕ)) → None ≡ parameter_in part → is_some (parameters_in (part ∷ others)) ≡ false
 none_first part others is = rw (sym is) refl
 
-goes_on_by : (part : List ℕ) (others : List (List ℕ)) (p : Parameter) (o : Option (List Parameter)) → parameter_in part ≡ Some p → parameters_in others ≡ o
+goes_on_by : (part : List ℕ) (others : List (List ℕ)) (p : HeaderParameter) (o : Option (List HeaderParameter)) → parameter_in part ≡ Some p → parameters_in others ≡ o
     → is_some (parameters_in (part ∷ others)) ≡ is_some o
 goes_on_by part others p None is rest = rw (is, rest) refl
 goes_on_by part others p (Some ps) is rest = rw (is, rest) refl
 
-pub goes_on : (part : List ℕ) (others : List (List ℕ)) (p : Parameter) → parameter_in part ≡ Some p
+pub goes_on : (part : List ℕ) (others : List (List ℕ)) (p : HeaderParameter) → parameter_in part ≡ Some p
     → is_some (parameters_in (part ∷ others)) ≡ is_some (parameters_in others)
 goes_on part others p is = goes_on_by part others p (parameters_in others) is refl
 
-said_by : (part : List ℕ) (others : List (List ℕ)) (p : Parameter) (o : Option (List Parameter)) → parameter_in part ≡ Some p → parameters_in others ≡ o
+said_by : (part : List ℕ) (others : List (List ℕ)) (p : HeaderParameter) (o : Option (List HeaderParameter)) → parameter_in part ≡ Some p → parameters_in others ≡ o
     → is_some (parameters_in (part ∷ others)) ≡ true → said_in (part ∷ others) ≡ p ∷ said_in others
 said_by part others p None is rest e = let never = rw (is, rest) at e in absurd cc
 said_by part others p (Some ps) is rest e = rw (is, rest) refl
 
-pub said_first : (part : List ℕ) (others : List (List ℕ)) (p : Parameter) → parameter_in part ≡ Some p → is_some (parameters_in (part ∷ others)) ≡ true
+pub said_first : (part : List ℕ) (others : List (List ℕ)) (p : HeaderParameter) → parameter_in part ≡ Some p → is_some (parameters_in (part ∷ others)) ≡ true
     → said_in (part ∷ others) ≡ p ∷ said_in others
 said_first part others p is e = said_by part others p (parameters_in others) is refl e
 
 -- the first of a name is this one
-pub named_here : (name part : List ℕ) (others : List (List ℕ)) (p : Parameter) → parameter_in part ≡ Some p → is_some (parameters_in (part ∷ others)) ≡ true
+pub named_here : (name part : List ℕ) (others : List (List ℕ)) (p : HeaderParameter) → parameter_in part ≡ Some p → is_some (parameters_in (part ∷ others)) ≡ true
     → is_same_text p.name name ≡ true → Some p ≡ parameter_of name (said_in (part ∷ others))
 named_here name part others p is e same = rw (said_first part others p is e, same) refl
 
 -- or it is among the others
-pub named_later : (name part : List ℕ) (others : List (List ℕ)) (p : Parameter) → parameter_in part ≡ Some p → is_some (parameters_in (part ∷ others)) ≡ true
+pub named_later : (name part : List ℕ) (others : List (List ℕ)) (p : HeaderParameter) → parameter_in part ≡ Some p → is_some (parameters_in (part ∷ others)) ≡ true
     → is_same_text p.name name ≡ false → parameter_of name (said_in (part ∷ others)) ≡ parameter_of name (said_in others)
 named_later name part others p is e other = rw (said_first part others p is e, other) refl
 
 -- ---- all of them
 
-some_by : (texts : List (List ℕ)) (o : Option (List Parameter)) → parameters_in texts ≡ o → is_some o ≡ true → parameters_in texts ≡ Some (said_in texts)
+some_by : (texts : List (List ℕ)) (o : Option (List HeaderParameter)) → parameters_in texts ≡ o → is_some o ≡ true → parameters_in texts ≡ Some (said_in texts)
 some_by texts None is e = absurd cc
 some_by texts (Some ps) is e = rw is refl
 
 pub some_said : (texts : List (List ℕ)) → is_some (parameters_in texts) ≡ true → parameters_in texts ≡ Some (said_in texts)
 some_said texts e = some_by texts (parameters_in texts) refl e
 
-none_by : (o : Option (List Parameter)) → is_some o ≡ false → o ≡ None
+none_by : (o : Option (List HeaderParameter)) → is_some o ≡ false → o ≡ None
 none_by None e = refl
 none_by (Some ps) e = absurd cc
 

@@ -25,7 +25,7 @@ use Rattle.sip_uri.proofs.Tests as Tests
 use Rattle.sip_uri.proofs.ReadingLaws.{is_written, reading_is}
 use Rattle.sip_text.specs.declared.cuts.Quoting.{Quoting}
 use Rattle.sip_text.specs.declared.cuts.Quoting.TheVariants.{Outside, Inside, Escaped}
-use Rattle.sip_header.specs.declared.parameters.Parameter.{Parameter}
+use Rattle.sip_header.specs.declared.parameters.HeaderParameter.{HeaderParameter}
 use Rattle.sip_header.specs.declared.name_addr.AnyUri.{AnyUri}
 use Rattle.sip_header.specs.declared.name_addr.AnyUri.TheVariants.{Sip, Other}
 use Rattle.sip_header.specs.declared.name_addr.NameAddr.{NameAddr}
@@ -279,10 +279,11 @@ written_uri text uri e = uri_back text uri (reading_of text) refl e
 
 -- ---- the parts of an address
 
-with_is : (o : Option (List Parameter)) (u : Option AnyUri) (address : NameAddr) → o ≡ Some address.parameters → u ≡ Some address.uri → with_parameters o u ≡ Some address
-with_is o u address p q = ap (λ (w : Option (List Parameter)). with_parameters w u) p ∙ ap (with_parameters (Some address.parameters)) q
+with_is : (o : Option (List HeaderParameter)) (u : Option AnyUri) (address : NameAddr) → o ≡ Some address.parameters → u ≡ Some address.uri
+    → with_parameters o u ≡ Some address
+with_is o u address p q = ap (λ (w : Option (List HeaderParameter)). with_parameters w u) p ∙ ap (with_parameters (Some address.parameters)) q
 
-with_back : (o : Option (List Parameter)) (u : Option AnyUri) (address : NameAddr) → with_parameters o u ≡ Some address
+with_back : (o : Option (List HeaderParameter)) (u : Option AnyUri) (address : NameAddr) → with_parameters o u ≡ Some address
     → (o ≡ Some address.parameters) × (u ≡ Some address.uri)
 with_back o None address e = absurd cc
 with_back None (Some u) address e = absurd cc
@@ -329,7 +330,7 @@ bracketed_parts : (value : List ℕ) (address : NameAddr) (x y : List ℕ × Lis
     → with_parameters (behind_bracket parts) (any_uri_of (trimmed y.0)) ≡ Some address → IsBracketed value address
 bracketed_parts value address x y [] begins display ends parted e =
     let w = with_back None (any_uri_of (trimmed y.0)) address e in
-    let never : ◌≡◌ {A = Option (List Parameter)} None (Some address.parameters) = w.0 in
+    let never : ◌≡◌ {A = Option (List HeaderParameter)} None (Some address.parameters) = w.0 in
     absurd cc
 bracketed_parts value address x y (gap ∷ texts) begins display ends parted e =
     let w = with_back (behind_bracket (gap ∷ texts)) (any_uri_of (trimmed y.0)) address e in

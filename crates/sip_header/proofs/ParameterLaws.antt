@@ -9,7 +9,7 @@ use Rattle.sip_text.specs.Lists.{is_blank, trimmed}
 use Rattle.sip_text.proofs.Trims as Trims
 use Rattle.sip_text.specs.declared.cuts.Quoting.{Quoting}
 use Rattle.sip_text.specs.declared.cuts.Quoting.TheVariants.{Outside, Inside, Escaped}
-use Rattle.sip_header.specs.declared.parameters.Parameter.{Parameter}
+use Rattle.sip_header.specs.declared.parameters.HeaderParameter.{HeaderParameter}
 use Rattle.sip_header.specs.declared.via.Sender.{Sender}
 use Rattle.sip_header.specs.declared.via.Via.{Via}
 use Rattle.sip_text.specs.Cuts.{quoting_after, is_mark, split_from, split_outside, parts_at, IsParted}
@@ -121,45 +121,47 @@ read_by text name (Some value) h =
     let split : split_outside 61 text ≡ Some (is.left, is.right) = ap (split_outside 61) is.whole ∙ through 61 is.left is.right refl (plain_text is.left token) in
     ap (parameter_by text) split ∙ ap (λ (n : List ℕ). valued_parameter n (trimmed is.right)) is.is_name ∙ ap (valued_parameter name) is.is_value ∙ valued
 
-pub read_parameter : (text : List ℕ) (p : Parameter) → IsParameter text p → parameter_in text ≡ Some p
+pub read_parameter : (text : List ℕ) (p : HeaderParameter) → IsParameter text p → parameter_in text ≡ Some p
 read_parameter text p h = read_by text p.name p.value h
 
-bare_back : (text : List ℕ) (p : Parameter) (a b : Bool) → is_token_text (trimmed text) ≡ a → needs_value (trimmed text) ≡ b
+bare_back : (text : List ℕ) (p : HeaderParameter) (a b : Bool) → is_token_text (trimmed text) ≡ a → needs_value (trimmed text) ≡ b
     → cond a (cond b None (Some (record { name = trimmed text; value = None }))) None ≡ Some p → IsParameter text p
 bare_back text p false b token needs e = absurd cc
 bare_back text p true true token needs e = absurd cc
 bare_back text p true false token needs e =
-    let same : ◌≡◌ {A = Parameter} (record { name = trimmed text; value = None }) p = cc in
+    let same : ◌≡◌ {A = HeaderParameter} (record { name = trimmed text; value = None }) p = cc in
     subst (IsParameter text) same (refl, token, needs)
 
-valued_back : (text : List ℕ) (x : List ℕ × List ℕ) (p : Parameter) (a b : Bool) → IsSplitAt 61 text x → is_token_text (trimmed x.0) ≡ a → is_value (trimmed x.1) ≡ b
+valued_back : (text : List ℕ) (x : List ℕ × List ℕ) (p : HeaderParameter) (a b : Bool) → IsSplitAt 61 text x → is_token_text (trimmed x.0) ≡ a
+    → is_value (trimmed x.1) ≡ b
     → cond a (cond b (Some (record { name = trimmed x.0; value = Some (trimmed x.1) })) None) None ≡ Some p → IsParameter text p
 valued_back text x p false b split token fits e = absurd cc
 valued_back text x p true false split token fits e = absurd cc
 valued_back text x p true true split token fits e =
-    let same : ◌≡◌ {A = Parameter} (record { name = trimmed x.0; value = Some (trimmed x.1) }) p = cc in
+    let same : ◌≡◌ {A = HeaderParameter} (record { name = trimmed x.0; value = Some (trimmed x.1) }) p = cc in
     let assigned : IsAssigned text (trimmed x.0) (trimmed x.1) = record { left = x.0; right = x.1; whole = split.whole; is_name = refl; is_value = refl } in
     subst (IsParameter text) same (assigned, token, fits)
 
-by_split : (text : List ℕ) (p : Parameter) (o : Option (List ℕ × List ℕ)) → split_outside 61 text ≡ o → parameter_by text o ≡ Some p → IsParameter text p
+by_split : (text : List ℕ) (p : HeaderParameter) (o : Option (List ℕ × List ℕ)) → split_outside 61 text ≡ o → parameter_by text o ≡ Some p → IsParameter text p
 by_split text p None split e = bare_back text p (is_token_text (trimmed text)) (needs_value (trimmed text)) refl refl e
 by_split text p (Some x) split e = valued_back text x p (is_token_text (trimmed x.0)) (is_value (trimmed x.1)) (split_back Outside 61 text x split) refl refl e
 
-pub written_parameter : (text : List ℕ) (p : Parameter) → parameter_in text ≡ Some p → IsParameter text p
+pub written_parameter : (text : List ℕ) (p : HeaderParameter) → parameter_in text ≡ Some p → IsParameter text p
 written_parameter text p e = by_split text p (split_outside 61 text) refl e
 
 -- ---- several
 
-pub read_parameters : (texts : List (List ℕ)) (ps : List Parameter) → AllZip IsParameter texts ps → parameters_in texts ≡ Some ps
+pub read_parameters : (texts : List (List ℕ)) (ps : List HeaderParameter) → AllZip IsParameter texts ps → parameters_in texts ≡ Some ps
 read_parameters [] [] h = refl
 read_parameters [] (p ∷ ps) h = absurd h
 read_parameters (text ∷ texts) [] h = absurd h
 read_parameters (text ∷ texts) (p ∷ ps) h =
     ap (option_and_then (λ parameter. option_map (λ others. parameter ∷ others) (parameters_in texts))) (read_parameter text p h.0)
-    ∙ ap (option_map (λ (others : List Parameter). p ∷ others)) (read_parameters texts ps h.1)
+    ∙ ap (option_map (λ (others : List HeaderParameter). p ∷ others)) (read_parameters texts ps h.1)
 
-several_back : (text : List ℕ) (texts : List (List ℕ)) (ps : List Parameter) (first : Option Parameter) (others : Option (List Parameter)) → parameter_in text ≡ first
-    → ((rest : List Parameter) → others ≡ Some rest → AllZip IsParameter texts rest) →
+several_back : (text : List ℕ) (texts : List (List ℕ)) (ps : List HeaderParameter) (first : Option HeaderParameter) (others : Option (List HeaderParameter))
+    → parameter_in text ≡ first
+    → ((rest : List HeaderParameter) → others ≡ Some rest → AllZip IsParameter texts rest) →
     option_and_then (λ parameter. option_map (λ xs. parameter ∷ xs) others) first ≡ Some ps → AllZip IsParameter (text ∷ texts) ps
 several_back text texts ps None others is rest e = absurd cc
 several_back text texts ps (Some p) None is rest e = absurd cc
@@ -167,11 +169,11 @@ several_back text texts ps (Some p) (Some xs) is rest e =
     let same : p ∷ xs ≡ ps = cc in
     subst (AllZip IsParameter (text ∷ texts)) same (written_parameter text p is, rest xs refl)
 
-none_back : (ps : List Parameter) → Some [] ≡ Some ps → AllZip IsParameter [] ps
+none_back : (ps : List HeaderParameter) → Some [] ≡ Some ps → AllZip IsParameter [] ps
 none_back [] e = tt
 none_back (p ∷ ps) e = absurd cc
 
-pub written_parameters : (texts : List (List ℕ)) (ps : List Parameter) → parameters_in texts ≡ Some ps → AllZip IsParameter texts ps
+pub written_parameters : (texts : List (List ℕ)) (ps : List HeaderParameter) → parameters_in texts ≡ Some ps → AllZip IsParameter texts ps
 written_parameters [] ps e = none_back ps e
 written_parameters (text ∷ texts) ps e = several_back text texts ps (parameter_in text) (parameters_in texts) refl (λ rest h. written_parameters texts rest h) e
 
@@ -181,10 +183,11 @@ pub read_via : (value : List ℕ) (via : Via) → IsVia value via → via_of val
 read_via value via is =
     ap via_in (sym (only_parts 59 value (is.first ∷ is.texts) is.parted))
     ∙ ap (option_and_then (λ s. option_map (λ p. via_from s p) (parameters_in is.texts))) is.is_sender
-    ∙ ap (option_map (λ (p : List Parameter). via_from (record { transport = via.transport; host = via.host; port = via.port }) p))
+    ∙ ap (option_map (λ (p : List HeaderParameter). via_from (record { transport = via.transport; host = via.host; port = via.port }) p))
     (read_parameters is.texts via.parameters is.are_parameters)
 
-via_back : (value : List ℕ) (via : Via) (first : List ℕ) (texts : List (List ℕ)) (s : Option Sender) (ps : Option (List Parameter)) → IsParted 59 value (first ∷ texts)
+via_back : (value : List ℕ) (via : Via) (first : List ℕ) (texts : List (List ℕ)) (s : Option Sender) (ps : Option (List HeaderParameter))
+    → IsParted 59 value (first ∷ texts)
     → sender_of first ≡ s → parameters_in texts ≡ ps
     → option_and_then (λ sender. option_map (λ p. via_from sender p) ps) s ≡ Some via → IsVia value via
 via_back value via first texts None ps parted is_s is_ps e = absurd cc

@@ -13,7 +13,7 @@ use Rattle.sip_text.specs.Splits.{in_front}
 use Rattle.sip_text.specs.Cuts.{split_from, parts_at, parts_behind}
 use Rattle.sip_text.proofs.CutsOutside.{parts_split, one_part}
 use Rattle.sip_text.proofs.Trims as Trims
-use Rattle.sip_header.specs.declared.parameters.Parameter.{Parameter}
+use Rattle.sip_header.specs.declared.parameters.HeaderParameter.{HeaderParameter}
 use Rattle.sip_text.specs.Escapes.{unquoted}
 use Rattle.sip_text.proofs.QuotedFronts.{passed_quoted, quoted_trimmed}
 use Rattle.sip_uri.specs.Host.{is_host}
@@ -57,7 +57,7 @@ less_close : (front : List ℕ) (behind : Option (List ℕ)) → IsLess (front +
 less_close front None = tt
 less_close front (Some rest) = omega (arith, length-append front (59 ∷ rest))
 
-begins : (p : ℕ → Bool) (front : List ℕ) (parameter : Parameter) (behind : Option (List ℕ)) → p 59 ≡ false → p 34 ≡ false → AllPassing p front
+begins : (p : ℕ → Bool) (front : List ℕ) (parameter : HeaderParameter) (behind : Option (List ℕ)) → p 59 ≡ false → p 34 ≡ false → AllPassing p front
     → parameter_in front ≡ Some parameter → Begins (front ++ closing behind) parameter behind
 begins p front parameter behind fails quote all is =
     record {
@@ -234,7 +234,7 @@ value_at_begins name text value rest kept given behind token at closed same is =
     ∙ ap (λ (w : List ℕ). name ++ 61 ∷ w) (sym whole) in
     rw (same, is) (subst (λ (w : List ℕ). Begins w (record { name = name; value = Some value }) behind) parts (said_here name value behind token at.is_said))
 
-pub part_begins : (text part : List ℕ) (parameter : Parameter) (behind : Option (List ℕ)) → parts_at 59 text ≡ part ∷ parts_behind 59 behind → IsLess text behind
+pub part_begins : (text part : List ℕ) (parameter : HeaderParameter) (behind : Option (List ℕ)) → parts_at 59 text ≡ part ∷ parts_behind 59 behind → IsLess text behind
     → parameter_in part ≡ Some parameter → Begins text parameter behind
 part_begins text part parameter behind parted less is =
     record {
@@ -248,28 +248,29 @@ some_by : {X : Type 0} (parameter : X) (o : Option (List X)) → is_some (option
 some_by parameter None = refl
 some_by parameter (Some ps) = refl
 
-pub goes_on : (text : List ℕ) (parameter : Parameter) (behind : Option (List ℕ)) → Begins text parameter behind → GoesOn text behind
+pub goes_on : (text : List ℕ) (parameter : HeaderParameter) (behind : Option (List ℕ)) → Begins text parameter behind → GoesOn text behind
 goes_on text parameter behind b = record { says = ap is_some b.says ∙ some_by parameter (parameters_in (parts_behind 59 behind)); less = b.less }
 
-pub some_behind : (text : List ℕ) (parameter : Parameter) (behind : Option (List ℕ)) → Begins text parameter behind → is_some (parameters_in (parts_at 59 text)) ≡ true
+pub some_behind : (text : List ℕ) (parameter : HeaderParameter) (behind : Option (List ℕ)) → Begins text parameter behind
+    → is_some (parameters_in (parts_at 59 text)) ≡ true
     → is_some (parameters_in (parts_behind 59 behind)) ≡ true
 some_behind text parameter behind b e = sym (goes_on text parameter behind b).says ∙ e
 
-said : (text : List ℕ) (parameter : Parameter) (behind : Option (List ℕ)) → Begins text parameter behind → is_some (parameters_in (parts_at 59 text)) ≡ true
+said : (text : List ℕ) (parameter : HeaderParameter) (behind : Option (List ℕ)) → Begins text parameter behind → is_some (parameters_in (parts_at 59 text)) ≡ true
     → said_in (parts_at 59 text) ≡ parameter ∷ said_in (parts_behind 59 behind)
 said text parameter behind b e =
     let rest : parameters_in (parts_behind 59 behind) ≡ Some (said_in (parts_behind 59 behind)) =
     some_said (parts_behind 59 behind) (some_behind text parameter behind b e) in
     let here : parameters_in (parts_at 59 text) ≡ Some (parameter ∷ said_in (parts_behind 59 behind)) = b.says
-    ∙ ap (λ (o : Option (List Parameter)). option_map (λ others. parameter ∷ others) o) rest in
+    ∙ ap (λ (o : Option (List HeaderParameter)). option_map (λ others. parameter ∷ others) o) rest in
     rw here refl
 
-pub named_here : (name text : List ℕ) (parameter : Parameter) (behind : Option (List ℕ)) → Begins text parameter behind
+pub named_here : (name text : List ℕ) (parameter : HeaderParameter) (behind : Option (List ℕ)) → Begins text parameter behind
     → is_some (parameters_in (parts_at 59 text)) ≡ true → is_same_text parameter.name name ≡ true
     → Some parameter ≡ parameter_of name (said_in (parts_at 59 text))
 named_here name text parameter behind b e same = rw (said text parameter behind b e, same) refl
 
-pub named_later : (name text : List ℕ) (parameter : Parameter) (behind : Option (List ℕ)) → Begins text parameter behind
+pub named_later : (name text : List ℕ) (parameter : HeaderParameter) (behind : Option (List ℕ)) → Begins text parameter behind
     → is_some (parameters_in (parts_at 59 text)) ≡ true → is_same_text parameter.name name ≡ false
     → parameter_of name (said_in (parts_at 59 text)) ≡ parameter_of name (said_in (parts_behind 59 behind))
 named_later name text parameter behind b e other = rw (said text parameter behind b e, other) refl
@@ -290,10 +291,11 @@ none_by : {X : Type 0} (parameter : X) (o : Option (List X)) → is_some o ≡ f
 none_by parameter None e = refl
 none_by parameter (Some ps) e = absurd cc
 
-pub none_begun : (text : List ℕ) (parameter : Parameter) (behind : Option (List ℕ)) → Begins text parameter behind
+pub none_begun : (text : List ℕ) (parameter : HeaderParameter) (behind : Option (List ℕ)) → Begins text parameter behind
     → is_some (parameters_in (parts_behind 59 behind)) ≡ false → None ≡ parameters_in (parts_at 59 text)
 none_begun text parameter behind b e = none_by parameter (parameters_in (parts_behind 59 behind)) e ∙ sym b.says
 
-pub begun : (text : List ℕ) (parameter : Parameter) (behind : Option (List ℕ)) → Begins text parameter behind → is_some (parameters_in (parts_behind 59 behind)) ≡ true
+pub begun : (text : List ℕ) (parameter : HeaderParameter) (behind : Option (List ℕ)) → Begins text parameter behind
+    → is_some (parameters_in (parts_behind 59 behind)) ≡ true
     → parameters_in (parts_at 59 text) ≡ Some (parameter ∷ said_in (parts_behind 59 behind))
-begun text parameter behind b e = b.says ∙ ap (λ (o : Option (List Parameter)). option_map (λ others. parameter ∷ others) o) (some_said (parts_behind 59 behind) e)
+begun text parameter behind b e = b.says ∙ ap (λ (o : Option (List HeaderParameter)). option_map (λ others. parameter ∷ others) o) (some_said (parts_behind 59 behind) e)

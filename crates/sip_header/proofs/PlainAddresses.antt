@@ -13,7 +13,7 @@ use Rattle.sip_uri.specs.PlainPlace.{IsPlain, loose_routing, is_plain_byte, IsUr
 use Rattle.sip_header.specs.declared.name_addr.AnyUri.TheVariants.{Sip}
 use Rattle.sip_header.specs.declared.contact_item.ContactItem.TheVariants.{Star, Address}
 use Rattle.sip_header.specs.NameAddr.{name_addr_by, name_addr_of, bracketed_by, uri_by, with_parameters}
-use Rattle.sip_header.specs.PlainAddress.{IsBracketedPlace}
+use Rattle.sip_header.specs.PlainAddress.{IsBracketedHostPort}
 use Rattle.sip_header.proofs.Words.{AllPassing, all_passing, all_weaker}
 use Rattle.sip_header.proofs.Plain.{through}
 use Rattle.sip_header.proofs.PlainVias.{all_behind}
@@ -33,7 +33,7 @@ not_star value rest opens true e = let star : value ≡ codes "*" = (bytes_eq-De
     let never : ◌≡◌ {A = Option (List ℕ × List ℕ)} (Some ([], rest)) None = opens ∙ ap (split_outside 60) star in absurd cc
 
 pub bracketed_is : (value rest inner host : List ℕ) (port : Option ℕ) → Some ([], rest) ≡ split_outside 60 value → Some (inner, []) ≡ split_outside 62 rest
-    → IsPlain (trimmed inner) host port → IsBracketedPlace value host port
+    → IsPlain (trimmed inner) host port → IsBracketedHostPort value host port
 bracketed_is value rest inner host port opens closes p =
     let is : name_addr_of value ≡ Some (record { uri = Sip p.uri; parameters = [] }) = in_brackets value rest inner host port p opens closes in record {
       address = record { uri = Sip p.uri; parameters = [] };
@@ -53,7 +53,7 @@ bracketed_is value rest inner host port opens closes p =
 -- the same of slices none of which has anything before the `<` or behind the `>`
 pub bracketed_slices : (value display rest inner behind trim host : List ℕ) (port : Option ℕ) → Some (display, rest) ≡ split_outside 60 value → display ≡ []
     → Some (inner, behind) ≡ split_outside 62 rest → behind ≡ [] → trim ≡ trimmed inner
-    → IsPlain trim host port → IsBracketedPlace value host port
+    → IsPlain trim host port → IsBracketedHostPort value host port
 bracketed_slices value display rest inner behind trim host port opens none closes nothing same p =
     bracketed_is value rest inner host port (ap (λ (w : List ℕ). Some (w, rest)) (sym none) ∙ opens) (ap (λ (w : List ℕ). Some (inner, w)) (sym nothing) ∙ closes)
     (subst (λ (w : List ℕ). IsPlain w host port) same p)
@@ -64,7 +64,7 @@ nothing (x ∷ xs) e = absurd (omega (arith, eqb-true (length (x ∷ xs)) 0 e))
 
 pub place_there : (value display rest inner behind trim : List ℕ) (r : Option (Bor (List ℕ) × Option ℕ)) → Some (display, rest) ≡ split_outside 60 value
     → (length display == 0) ≡ true → Some (inner, behind) ≡ split_outside 62 rest → (length behind == 0) ≡ true
-    → trim ≡ trimmed inner → IfSome r (λ x. IsPlain trim x.0.now x.1) → IfSome r (λ x. IsBracketedPlace value x.0.now x.1)
+    → trim ≡ trimmed inner → IfSome r (λ x. IsPlain trim x.0.now x.1) → IfSome r (λ x. IsBracketedHostPort value x.0.now x.1)
 place_there value display rest inner behind trim None opens none closes end same p = tt
 place_there value display rest inner behind trim (Some x) opens none closes end same p =
     bracketed_slices value display rest inner behind trim x.0.now x.1 opens (nothing display none) closes (nothing behind end) same p
@@ -90,14 +90,14 @@ tight p full [] all = Trims.tight_again [] tt
 tight p full (b ∷ bs) all = Trims.tight_again (b ∷ bs) (full b all.0, ends p full b bs all)
 
 inside : (value text inner host : List ℕ) (port : Option ℕ) → value ≡ 60 ∷ text → text ≡ inner ++ codes ">" → AllPassing is_inside inner → IsPlain inner host port
-    → IsBracketedPlace value host port
+    → IsBracketedHostPort value host port
 inside value text inner host port whole cut all p =
     let opens : Some ([], text) ≡ split_outside 60 value = sym (ap (split_outside 60) whole ∙ through is_inside 60 [] text refl refl tt) in
     let closes : Some (inner, []) ≡ split_outside 62 text = sym (ap (split_outside 62) cut ∙ through is_inside 62 inner [] refl refl all) in
     bracketed_is value text inner host port opens closes (subst (λ (w : List ℕ). IsPlain w host port) (sym (tight is_inside inside_not_blank inner all)) p)
 
 pub usual_is : (value text host end : List ℕ) (port : Option ℕ) → value ≡ 60 ∷ text → IsUriAt text host port end → (end ≡ codes ">") ⊎ (end ≡ codes ";lr>")
-    → IsBracketedPlace value host port
+    → IsBracketedHostPort value host port
 usual_is value text host end port whole at (inl e) =
     let all : AllPassing is_inside at.front = all_weaker is_plain_byte is_inside at.front plain_inside (all_passing is_plain_byte at.front at.plain) in
     let p : IsPlain at.front host port = record {

@@ -9,7 +9,7 @@ use Rattle.sip_text.specs.Cuts.{is_full, behind_word, parts_at, parts_behind}
 use Rattle.sip_text.proofs.Trims as Trims
 use Rattle.sip_uri.specs.Host.{is_place_byte, place_of, host_port_of, IsPlaceAt}
 use Rattle.sip_uri.specs.Port.{port_number, port_value}
-use Rattle.sip_header.specs.declared.parameters.Parameter.{Parameter}
+use Rattle.sip_header.specs.declared.parameters.HeaderParameter.{HeaderParameter}
 use Rattle.sip_header.specs.declared.via.Sender.{Sender}
 use Rattle.sip_header.specs.Parameters.{parameters_in, closing, Begins}
 use Rattle.sip_header.specs.Via.{sender_behind, sender_of, via_from, via_in, via_of, is_sender_byte, IsSenderAt, IsBeforeBranch}
@@ -120,7 +120,7 @@ sender_via b e = rw e refl
 version_passes : AllPassing is_via_byte (codes "SIP/2.0/")
 version_passes = (refl, (refl, (refl, (refl, (refl, (refl, (refl, (refl, tt))))))))
 
-pub via_is : (value text rest : List ℕ) (sender : Sender) (behind : Option (List ℕ)) (parameters : List Parameter) → value ≡ codes "SIP/2.0/" ++ text
+pub via_is : (value text rest : List ℕ) (sender : Sender) (behind : Option (List ℕ)) (parameters : List HeaderParameter) → value ≡ codes "SIP/2.0/" ++ text
     → IsSenderAt text sender rest → rest ≡ closing behind
     → parameters_in (parts_behind 59 behind) ≡ Some parameters → via_of value ≡ Some (via_from sender parameters)
 via_is value text rest sender behind parameters whole at closed are =
@@ -135,11 +135,11 @@ via_is value text rest sender behind parameters whole at closed are =
     let is_sender : sender_of (codes "SIP/2.0/" ++ at.front) ≡ Some sender = version_is at.front ∙ at.is_sender in
     ap via_in parted
     ∙ ap (option_and_then (λ s. option_map (λ p. via_from s p) (parameters_in (parts_behind 59 behind)))) is_sender
-    ∙ ap (option_map (λ (p : List Parameter). via_from sender p)) are
+    ∙ ap (option_map (λ (p : List HeaderParameter). via_from sender p)) are
 
 -- ---- what stands before a branch
 
-abbrev branched : List ℕ → Parameter
+abbrev branched : List ℕ → HeaderParameter
 branched branch = record { name = codes "branch"; value = Some branch }
 
 sender_before : (text rest branch : List ℕ) (sender : Sender) → IsSenderAt text sender rest → IsSenderAt (text ++ branch) sender (rest ++ branch)
@@ -156,7 +156,7 @@ branch_alone branch token =
     subst (λ (w : List ℕ). Begins w (branched branch) None) (append-nil (codes "branch" ++ 61 ∷ branch)) (value_here (codes "branch") branch None refl token) in
     begun (codes "branch" ++ 61 ∷ branch) (branched branch) None here refl
 
-pub before_branch : (front text rest : List ℕ) (sender : Sender) (parameters : List Parameter) → front ≡ codes "SIP/2.0/" ++ text → IsSenderAt text sender rest
+pub before_branch : (front text rest : List ℕ) (sender : Sender) (parameters : List HeaderParameter) → front ≡ codes "SIP/2.0/" ++ text → IsSenderAt text sender rest
     → rest ≡ codes ";branch=" → IsBeforeBranch front (via_from sender parameters)
 before_branch front text rest sender parameters whole at closed =
     record {

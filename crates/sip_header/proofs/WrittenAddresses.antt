@@ -15,7 +15,7 @@ use Rattle.sip_uri.specs.Port.{port_number}
 use Rattle.sip_uri.specs.Reading.{reading_of}
 use Rattle.sip_uri.specs.PlainPlace.{is_plain_byte, IsUriAt}
 use Rattle.sip_uri_ref.specs.PlainUri.{IsRefAt}
-use Rattle.sip_header.specs.declared.parameters.Parameter.{Parameter}
+use Rattle.sip_header.specs.declared.parameters.HeaderParameter.{HeaderParameter}
 use Rattle.sip_header.specs.declared.name_addr.AnyUri.TheVariants.{Sip}
 use Rattle.sip_header.specs.Parameters.{parameters_in, closing}
 use Rattle.sip_header.specs.NameAddr.{any_uri_of, uri_by, with_parameters, behind_bracket, bracketed_by, name_addr_by, name_addr_of, is_word_byte, is_display}
@@ -71,7 +71,7 @@ opened_behind value quoted behind rest text whole is from begins =
           ∙ ap (in_front quoted) (through is_blank 60 s.front text refl refl s.passing);
     }
 
-pub plain_is : (value text host last rest : List ℕ) (port : Option ℕ) (at : IsUriAt text host port last) (behind : Option (List ℕ)) (parameters : List Parameter)
+pub plain_is : (value text host last rest : List ℕ) (port : Option ℕ) (at : IsUriAt text host port last) (behind : Option (List ℕ)) (parameters : List HeaderParameter)
     → IsOpened value text → last ≡ 62 ∷ rest → rest ≡ closing behind
     → parameters_in (parts_behind 59 behind) ≡ Some parameters → name_addr_of value ≡ with_parameters (Some parameters) (any_uri_of at.front)
 plain_is value text host last rest port at behind parameters o mark closed are =
@@ -82,7 +82,7 @@ plain_is value text host last rest port at behind parameters o mark closed are =
     let said : behind_bracket (parts_at 59 rest) ≡ Some parameters = ap behind_bracket parted ∙ are in
     let named : name_addr_by value (Some (o.display, text)) ≡ bracketed_by (split_outside 62 text) = rw o.is_name refl in
     ap (name_addr_by value) o.cut ∙ named ∙ ap bracketed_by ended
-    ∙ ap (λ (p : Option (List Parameter)). with_parameters p (any_uri_of (trimmed at.front))) said
+    ∙ ap (λ (p : Option (List HeaderParameter)). with_parameters p (any_uri_of (trimmed at.front))) said
     ∙ ap (λ (w : List ℕ). with_parameters (Some parameters) (any_uri_of w)) (tight is_plain_byte plain_not_blank at.front all)
 
 pub address_in_brackets : (value text last rest : List ℕ) (uri : Uri) (behind : Option (List ℕ)) → IsOpened value text → IsRefAt text uri last
@@ -130,6 +130,6 @@ address_without_brackets value rest uri behind r none closed = λ parameters are
     let first : bare_in (r.at.front ∷ parts_behind 59 behind) ≡ with_parameters (parameters_in (parts_behind 59 behind)) (any_uri_of (trimmed r.at.front)) = rw bare refl
     in
     ap (name_addr_by value) unopened ∙ ap bare_in parted ∙ first
-    ∙ ap (λ (p : Option (List Parameter)). with_parameters p (any_uri_of (trimmed r.at.front))) are
+    ∙ ap (λ (p : Option (List HeaderParameter)). with_parameters p (any_uri_of (trimmed r.at.front))) are
     ∙ ap (λ (w : List ℕ). with_parameters (Some parameters) (any_uri_of w)) (tight is_plain_byte plain_not_blank r.at.front all)
     ∙ ap (with_parameters (Some parameters)) (any_sip r.at.front uri r.is)

@@ -6,7 +6,7 @@ use Rattle.sip_message_form.specs.declared.message.Start.TheVariants.{Request}
 use Rattle.sip_message_form.specs.declared.message.Message.{Message}
 use Rattle.sip_uri.specs.declared.scheme.Scheme.TheVariants as Scheme
 use Rattle.sip_uri.specs.declared.uri.Uri.{Uri}
-use Rattle.sip_header.specs.declared.parameters.Parameter.{Parameter}
+use Rattle.sip_header.specs.declared.parameters.HeaderParameter.{HeaderParameter}
 use Rattle.sip_header.specs.declared.name_addr.AnyUri.TheVariants.{Sip}
 use Rattle.sip_header.specs.declared.name_addr.NameAddr.{NameAddr}
 
@@ -22,10 +22,10 @@ mufasa = record {
 }
 
 -- the address of that URI with some parameters
-abbrev pub address_with : List Parameter → NameAddr
+abbrev pub address_with : List HeaderParameter → NameAddr
 address_with parameters = record { uri = Sip mufasa; parameters = parameters }
 
-abbrev pub tag_a1 : Parameter
+abbrev pub tag_a1 : HeaderParameter
 tag_a1 = record { name = codes "tag"; value = Some (codes "a1") }
 
 abbrev pub first_fields : List Field

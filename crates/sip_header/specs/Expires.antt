@@ -4,7 +4,7 @@ use Rattle.std.specs.Option.{option_and_then}
 use Rattle.sip_text.specs.Words.{decimal_of}
 use Rattle.sip_message_fields.specs.declared.field.Field.{Field}
 use Rattle.sip_message_fields.specs.declared.field_name.FieldName.TheVariants as Name
-use Rattle.sip_header.specs.declared.parameters.Parameter.{Parameter}
+use Rattle.sip_header.specs.declared.parameters.HeaderParameter.{HeaderParameter}
 use Rattle.sip_header.specs.declared.contact_item.ContactItem.{ContactItem}
 use Rattle.sip_header.specs.declared.contact_item.ContactItem.TheVariants.{Star, Address}
 use Rattle.sip_header.specs.declared.expires.Expires.{Expires}
@@ -32,12 +32,12 @@ abbrev pub expires_of : List Field → Expires
 expires_of fields = expires_in (values_of Name.Expires fields)
 
 -- what an `expires` parameter says, if there is one
-abbrev pub parameter_expires : Option Parameter → Expires
+abbrev pub parameter_expires : Option HeaderParameter → Expires
 parameter_expires None = Absent
 parameter_expires (Some parameter) = expires_from (option_and_then seconds_of parameter.value)
 
 -- what the `expires` among the parameters of a contact says
-abbrev pub parameters_expires : List Parameter → Expires
+abbrev pub parameters_expires : List HeaderParameter → Expires
 parameters_expires parameters = parameter_expires (parameter_of (codes "expires") parameters)
 
 -- What the `expires` of a contact says (RFC 3261 20.10); without a value, or quoted, it is malformed.

@@ -4,7 +4,7 @@ use Rattle.sip_message_fields.specs.declared.field.Field.{Field}
 use Rattle.sip_message_fields.specs.declared.field_name.FieldName.{FieldName}
 use Rattle.sip_uri.specs.declared.scheme.Scheme.TheVariants as Scheme
 use Rattle.sip_uri.specs.declared.uri.Uri.{Uri}
-use Rattle.sip_header.specs.declared.parameters.Parameter.{Parameter}
+use Rattle.sip_header.specs.declared.parameters.HeaderParameter.{HeaderParameter}
 use Rattle.sip_header.specs.declared.name_addr.AnyUri.TheVariants.{Sip}
 use Rattle.sip_header.specs.declared.contact_item.ContactItem.{ContactItem}
 use Rattle.sip_header.specs.declared.contact_item.ContactItem.TheVariants.{Address}
@@ -14,7 +14,7 @@ abbrev pub uri_at : List ℕ → Option (List ℕ) → Uri
 uri_at host port = record { scheme = Scheme.Sip; userinfo = None; host = host; port = port; parameters = []; headers = [] }
 
 -- an address with one header parameter
-abbrev pub contact_with : Parameter → ContactItem
+abbrev pub contact_with : HeaderParameter → ContactItem
 contact_with parameter = Address (record { uri = Sip (uri_at (codes "host.com") None); parameters = parameter ∷ [] })
 
 -- an address without header parameters

@@ -15,7 +15,7 @@ use Rattle.sip_uri.specs.Uri.{IsWritten}
 use Rattle.sip_uri.specs.Reading.{reading_of}
 use Rattle.sip_text.specs.Cuts.{split_outside, parts_at, IsCutAt, IsParted}
 use Rattle.sip_header.specs.Parameters.{parameters_in, IsParameter}
-use Rattle.sip_header.specs.declared.parameters.Parameter.{Parameter}
+use Rattle.sip_header.specs.declared.parameters.HeaderParameter.{HeaderParameter}
 use Rattle.sip_header.specs.declared.name_addr.AnyUri.{AnyUri}
 use Rattle.sip_header.specs.declared.name_addr.AnyUri.TheVariants.{Sip, Other}
 use Rattle.sip_header.specs.declared.name_addr.NameAddr.{NameAddr}
@@ -54,7 +54,7 @@ sip_uri (Other text) = None
 -- ---- the whole
 
 -- a URI and its header parameters
-abbrev pub with_parameters : Option (List Parameter) → Option AnyUri → Option NameAddr
+abbrev pub with_parameters : Option (List HeaderParameter) → Option AnyUri → Option NameAddr
 with_parameters parameters uri = option_and_then (λ u. option_map (λ p. record { uri = u; parameters = p }) parameters) uri
 
 -- a byte that may stand without brackets
@@ -76,7 +76,7 @@ abbrev pub is_display : List ℕ → Bool
 is_display text = if list_all is_word_byte text then true else is_some (unquoted (trimmed text))
 
 -- parameters behind the `>`
-abbrev pub behind_bracket : List (List ℕ) → Option (List Parameter)
+abbrev pub behind_bracket : List (List ℕ) → Option (List HeaderParameter)
 behind_bracket [] = None
 behind_bracket (gap ∷ parameters) = if is_nil (trimmed gap) then parameters_in parameters else None
 

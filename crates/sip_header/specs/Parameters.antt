@@ -8,7 +8,7 @@ use Rattle.sip_text.specs.Lists.{trimmed}
 use Rattle.sip_text.specs.Escapes.{unquoted}
 use Rattle.sip_text.specs.Cuts.{split_outside, parts_at, parts_behind}
 use Rattle.sip_uri.specs.Host.{is_host}
-use Rattle.sip_header.specs.declared.parameters.Parameter.{Parameter}
+use Rattle.sip_header.specs.declared.parameters.HeaderParameter.{HeaderParameter}
 
 -- a token, a host or quoted text
 abbrev pub is_value : List ℕ → Bool
@@ -32,35 +32,35 @@ IsParameterBy text name None = (trimmed text ≡ name) × (is_token_text name �
 IsParameterBy text name (Some value) = IsAssigned text name value × (is_token_text name ≡ true) × (is_value value ≡ true)
 
 -- a text writes a parameter
-abbrev pub IsParameter : List ℕ → Parameter → Type 0
+abbrev pub IsParameter : List ℕ → HeaderParameter → Type 0
 IsParameter text parameter = IsParameterBy text parameter.name parameter.value
 
 -- a parameter without a value
-abbrev pub bare_parameter : List ℕ → Option Parameter
+abbrev pub bare_parameter : List ℕ → Option HeaderParameter
 bare_parameter name =
     if is_token_text name then (if needs_value name then None else Some (record { name = name; value = None })) else None
 
 -- a parameter with a value
-abbrev pub valued_parameter : List ℕ → List ℕ → Option Parameter
+abbrev pub valued_parameter : List ℕ → List ℕ → Option HeaderParameter
 valued_parameter name value =
     if is_token_text name then (if is_value value then Some (record { name = name; value = Some value }) else None) else None
 
 -- a parameter by whether there is a `=`
-abbrev pub parameter_by : List ℕ → Option (List ℕ × List ℕ) → Option Parameter
+abbrev pub parameter_by : List ℕ → Option (List ℕ × List ℕ) → Option HeaderParameter
 parameter_by text None = bare_parameter (trimmed text)
 parameter_by text (Some x) = valued_parameter (trimmed x.0) (trimmed x.1)
 
 -- a name, and behind `=` its value as it was written
-abbrev pub parameter_in : List ℕ → Option Parameter
+abbrev pub parameter_in : List ℕ → Option HeaderParameter
 parameter_in text = parameter_by text (split_outside (byte "=") text)
 
 -- the parameters that texts write, if each writes one
-abbrev pub parameters_in : List (List ℕ) → Option (List Parameter)
+abbrev pub parameters_in : List (List ℕ) → Option (List HeaderParameter)
 parameters_in [] = Some []
 parameters_in (text ∷ texts) = option_and_then (λ parameter. option_map (λ others. parameter ∷ others) (parameters_in texts)) (parameter_in text)
 
 -- the parameters that texts write; none where one of them writes none
-abbrev pub said_in : List (List ℕ) → List Parameter
+abbrev pub said_in : List (List ℕ) → List HeaderParameter
 said_in texts = unwrap_or (parameters_in texts) []
 
 -- nothing, or a `;` and what follows it
@@ -79,7 +79,7 @@ IsLess text None = Unit {0}
 IsLess text (Some rest) = length rest < length text
 
 -- A text begins with a parameter: it says this one, and then what the rest behind its `;` says.
-pub record Begins (text : List ℕ) (parameter : Parameter) (behind : Option (List ℕ)) : Type 0 where
+pub record Begins (text : List ℕ) (parameter : HeaderParameter) (behind : Option (List ℕ)) : Type 0 where
   pub says : parameters_in (parts_at (byte ";") text) ≡ option_map (λ others. parameter ∷ others) (parameters_in (parts_behind (byte ";") behind))
   pub less : IsLess text behind
 
@@ -89,18 +89,18 @@ pub record GoesOn (text : List ℕ) (behind : Option (List ℕ)) : Type 0 where
   pub less : IsLess text behind
 
 -- the first parameter of a name, without case
-abbrev pub parameter_of : List ℕ → List Parameter → Option Parameter
+abbrev pub parameter_of : List ℕ → List HeaderParameter → Option HeaderParameter
 parameter_of name [] = None
 parameter_of name (parameter ∷ others) = if is_same_text parameter.name name then Some parameter else parameter_of name others
 
 -- the value of the first parameter of a name, if it has one
-abbrev pub value_of : List ℕ → List Parameter → Option (List ℕ)
+abbrev pub value_of : List ℕ → List HeaderParameter → Option (List ℕ)
 value_of name parameters = option_and_then (λ parameter. parameter.value) (parameter_of name parameters)
 
 -- the tag (RFC 3261 19.3)
-abbrev pub tag_of : List Parameter → Option (List ℕ)
+abbrev pub tag_of : List HeaderParameter → Option (List ℕ)
 tag_of parameters = value_of (codes "tag") parameters
 
 -- the branch (RFC 3261 8.1.1.7)
-abbrev pub branch_of : List Parameter → Option (List ℕ)
+abbrev pub branch_of : List HeaderParameter → Option (List ℕ)
 branch_of parameters = value_of (codes "branch") parameters

@@ -13,7 +13,7 @@ use Rattle.sip_header.specs.ContactItem.{contact_of}
 
 -- A value is an address in brackets, whose URI is a `sip` one with this host and this number of a port, if it has one, and with no parameters but,
 -- perhaps, `lr`; behind the brackets nothing stands (RFC 3261 20.10, 20.30, 20.34).
-pub record IsBracketedPlace (value host : List ℕ) (port : Option ℕ) : Type 0 where
+pub record IsBracketedHostPort (value host : List ℕ) (port : Option ℕ) : Type 0 where
   pub address : NameAddr
   pub uri : Uri
   pub is_address : name_addr_of value ≡ Some address

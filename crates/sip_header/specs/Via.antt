@@ -8,7 +8,7 @@ use Rattle.sip_text.specs.Lists.{trimmed}
 use Rattle.sip_text.specs.Cuts.{split_outside, parts_at, IsParted, word_at, behind_word}
 use Rattle.sip_uri.specs.Host.{host_port_of, is_place_byte}
 use Rattle.sip_header.specs.Parameters.{parameters_in, IsParameter}
-use Rattle.sip_header.specs.declared.parameters.Parameter.{Parameter}
+use Rattle.sip_header.specs.declared.parameters.HeaderParameter.{HeaderParameter}
 use Rattle.sip_header.specs.declared.via.Sender.{Sender}
 use Rattle.sip_header.specs.declared.via.Via.{Via}
 
@@ -30,7 +30,7 @@ sender_of text = option_and_then (λ first. option_and_then (λ second. versione
     (split_outside (byte "/") first.1)) (split_outside (byte "/") text)
 
 -- a Via of its parts
-abbrev pub via_from : Sender → List Parameter → Via
+abbrev pub via_from : Sender → List HeaderParameter → Via
 via_from sender parameters = record { transport = sender.transport; host = sender.host; port = sender.port; parameters = parameters }
 
 -- the same of the parts between the `;`

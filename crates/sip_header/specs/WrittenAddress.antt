@@ -3,7 +3,7 @@ use Rattle.std.specs.Prelude.{◌≡◌, ℕ, true, List, Option, Some}
 use Rattle.std.specs.Str.{byte}
 use Rattle.sip_text.specs.Cuts.{split_outside, parts_behind}
 use Rattle.sip_uri.specs.declared.uri.Uri.{Uri}
-use Rattle.sip_header.specs.declared.parameters.Parameter.{Parameter}
+use Rattle.sip_header.specs.declared.parameters.HeaderParameter.{HeaderParameter}
 use Rattle.sip_header.specs.declared.name_addr.AnyUri.{AnyUri}
 use Rattle.sip_header.specs.declared.name_addr.AnyUri.TheVariants as Uris
 use Rattle.sip_header.specs.declared.written_uri.WrittenUri.{WrittenUri}
@@ -24,5 +24,5 @@ pub record IsOpened (value text : List ℕ) : Type 0 where
 
 -- a value writes the address of this URI with the parameters that stand behind it
 abbrev pub IsAddressBy : List ℕ → Uri → Option (List ℕ) → Type 0
-IsAddressBy value uri behind = (parameters : List Parameter) → parameters_in (parts_behind (byte ";") behind) ≡ Some parameters
+IsAddressBy value uri behind = (parameters : List HeaderParameter) → parameters_in (parts_behind (byte ";") behind) ≡ Some parameters
     → name_addr_of value ≡ Some (record { uri = Uris.Sip uri; parameters = parameters })

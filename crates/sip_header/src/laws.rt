@@ -2,7 +2,7 @@ ghost use Rattle.std.specs.Prelude.{◌≡◌, ℕ, List, Some};
 ghost use Rattle.std.specs.List.{AllZip};
 ghost use Rattle.sip_header.specs.Parameters.{IsParameter, parameters_in};
 ghost use Rattle.sip_header.specs.Via.{IsVia, via_of};
-ghost use Rattle.sip_header.specs.declared.parameters.Parameter.{Parameter};
+ghost use Rattle.sip_header.specs.declared.parameters.HeaderParameter.{HeaderParameter};
 ghost use Rattle.sip_header.specs.declared.via.Via.{Via};
 ghost use Rattle.sip_header.specs.CSeq.{IsCSeq, cseq_of};
 ghost use Rattle.sip_header.specs.declared.cseq.CSeq.{CSeq};
@@ -21,9 +21,9 @@ pub fn cseq_law()
 
 /// Texts are read as parameters exactly where they write them, one by one (RFC 3261 25.1, generic-param).
 pub fn parameters_law()
-    ensures read { (texts : List (List ℕ)) (parameters : List Parameter) → AllZip IsParameter texts parameters → parameters_in texts
-        ≡ Some parameters }
-    ensures written { (texts : List (List ℕ)) (parameters : List Parameter) → parameters_in texts ≡ Some parameters
+    ensures read { (texts : List (List ℕ)) (parameters : List HeaderParameter) → AllZip IsParameter texts parameters
+        → parameters_in texts ≡ Some parameters }
+    ensures written { (texts : List (List ℕ)) (parameters : List HeaderParameter) → parameters_in texts ≡ Some parameters
         → AllZip IsParameter texts parameters }
 {}
 

@@ -36,9 +36,9 @@ pub use expires::{Expires, contact_expires, expires_of, parameters_expires};
 pub use max_forwards::{MaxForwards, max_forwards_of};
 pub use name_addr::{AnyUri, NameAddr, name_addr_of, parameters_behind_bracket};
 pub use parameters::{
-    Parameter, Parameters, branch_of, one_before_rport, parameter_of, tag_of, value_of,
+    HeaderParameter, Parameters, branch_of, one_before_rport, parameter_of, tag_of, value_of,
 };
-pub use plain_address::bracketed_place;
+pub use plain_address::bracketed_host_port;
 pub use route::route_of;
 pub use via::{Via, via_before_branch, via_of};
 pub use written_address::{WrittenAddress, written_address_of};

@@ -148,13 +148,13 @@ fn other_uri(bytes: &[u8]) -> Option<AnyUri<'_>>
 
 /// The text of an address's URI, and its parameters: what stands where in a value, of whose URI nothing is known.
 #[derive(Drop)]
-pub(crate) struct Parts<'v> {
+pub(crate) struct NameAddrParts<'v> {
     uri: &'v [u8],
     parameters: Parameters<'v>,
 }
 
 /// An address of a URI of another scheme, and of these parameters.
-fn other_address(parts: Parts<'_>) -> Option<NameAddr<'_>>
+fn other_address(parts: NameAddrParts<'_>) -> Option<NameAddr<'_>>
     ensures { result ≡ with_parameters (Some parts.entry.parameters) (other_of parts.entry.uri.now) }
 {
     let uri = other_uri(parts.uri)?;
@@ -167,7 +167,7 @@ fn other_address(parts: Parts<'_>) -> Option<NameAddr<'_>>
 /// The address of these parts, if their URI is one of any scheme.
 pub(crate) fn address_of<'v>(
     alloc: Global,
-    parts: Option<Parts<'v>>,
+    parts: Option<NameAddrParts<'v>>,
 ) -> Result<Option<NameAddr<'v>>, AllocError>
     ensures { IfOk result (λ found. found ≡ parts_say parts.entry) }
 {
@@ -197,7 +197,7 @@ fn is_display_name(bytes: &[u8]) -> bool
 
 /// A URI without brackets, and parameters.
 #[tactic(auto, using(crate::proofs::Unread::no_parameters))]
-fn bare(bytes: &[u8]) -> Option<Parts<'_>>
+fn bare(bytes: &[u8]) -> Option<NameAddrParts<'_>>
     ensures { parts_say result ≡ bare_in (parts_at 59 bytes.now) }
 {
     let (uri, behind) = first_part(bytes, b';');
@@ -206,7 +206,7 @@ fn bare(bytes: &[u8]) -> Option<Parts<'_>>
     }
     let parameters = parameters_from(behind)?;
     let uri = without_blanks(uri);
-    Some(Parts { uri, parameters })
+    Some(NameAddrParts { uri, parameters })
 }
 
 /// The parameters behind the `>` of an address (RFC 3261 20.10), each behind its `;`. None where something else stands there. Takes no
@@ -223,17 +223,17 @@ pub fn parameters_behind_bracket(bytes: &[u8]) -> Option<Parameters<'_>>
 
 /// A URI up to its `>`, and parameters.
 #[tactic(auto, using(crate::proofs::Unread::no_parameters))]
-fn bracketed(bytes: &[u8]) -> Option<Parts<'_>>
+fn bracketed(bytes: &[u8]) -> Option<NameAddrParts<'_>>
     ensures { parts_say result ≡ bracketed_by (split_outside 62 bytes.now) }
 {
     let (uri, behind) = split_outside(bytes, b'>')?;
     let parameters = parameters_behind_bracket(behind)?;
     let uri = without_blanks(uri);
-    Some(Parts { uri, parameters })
+    Some(NameAddrParts { uri, parameters })
 }
 
 /// The parts of an address in brackets: what stands before its `<`, and what stands behind.
-fn in_brackets<'v>(display: &[u8], rest: &'v [u8]) -> Option<Parts<'v>>
+fn in_brackets<'v>(display: &[u8], rest: &'v [u8]) -> Option<NameAddrParts<'v>>
     ensures { parts_say result ≡ (if is_display display.now then bracketed_by (split_outside 62 rest.now) else None) }
 {
     if !is_display_name(display) {
@@ -243,7 +243,7 @@ fn in_brackets<'v>(display: &[u8], rest: &'v [u8]) -> Option<Parts<'v>>
 }
 
 /// The parts of the value of a field that holds an address.
-fn parts_in(value: &[u8]) -> Option<Parts<'_>>
+fn parts_in(value: &[u8]) -> Option<NameAddrParts<'_>>
     ensures { parts_say result ≡ name_addr_of value.now }
 {
     match split_outside(value, b'<') {
@@ -253,7 +253,7 @@ fn parts_in(value: &[u8]) -> Option<Parts<'_>>
 }
 
 /// The parts of a value that is an address in brackets.
-pub(crate) fn bracketed_parts_in(value: &[u8]) -> Option<Parts<'_>>
+pub(crate) fn bracketed_parts_in(value: &[u8]) -> Option<NameAddrParts<'_>>
     ensures { parts_say result ≡ route_of value.now }
 {
     let (display, rest) = split_outside(value, b'<')?;

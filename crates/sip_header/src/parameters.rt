@@ -15,7 +15,7 @@ use std::marker::Model;
 
 /// A header parameter: its name, and its value as it was written, quotes included.
 #[derive(Drop)]
-pub struct Parameter<'a> {
+pub struct HeaderParameter<'a> {
     pub name: Text<'a>,
     pub value: Option<Text<'a>>,
 }
@@ -41,9 +41,9 @@ impl<'a> Model for Parameters<'a> {
     ghost use Rattle.sip_text.specs.Cuts.{parts_behind};
     ghost use Rattle.sip_header.specs.Parameters.{parameters_in, said_in};
     ghost use Rattle.sip_header.specs.FirstParameter.{behind_first};
-    ghost use Rattle.sip_header.specs.declared.parameters.Parameter.{Parameter};
+    ghost use Rattle.sip_header.specs.declared.parameters.HeaderParameter.{HeaderParameter};
 
-    ghost Value = { List Parameter };
+    ghost Value = { List HeaderParameter };
 
     ghost view = { λ p. behind_first p.first (said_in (parts_behind 59 (option_map (λ x. x.now) p.others))) };
 
@@ -53,16 +53,16 @@ impl<'a> Model for Parameters<'a> {
 
 /// The parameter that a text of one writes.
 #[tactic(auto, using(crate::proofs::Lookup::assigned_is, crate::proofs::Lookup::bare_is))]
-fn said_by(text: &[u8]) -> Parameter<'_>
+fn said_by(text: &[u8]) -> HeaderParameter<'_>
     requires { is_some (parameter_in text.now) ≡ true }
     ensures { parameter_in text.now ≡ Some result }
 {
     match split_outside(text, b'=') {
-        Some((name, value)) => Parameter {
+        Some((name, value)) => HeaderParameter {
             name: Text::new(without_blanks(name)),
             value: Some(Text::new(without_blanks(value))),
         },
-        None => Parameter {
+        None => HeaderParameter {
             name: Text::new(without_blanks(text)),
             value: None,
         },
@@ -83,7 +83,7 @@ pub(crate) fn plain_end(rest: &[u8]) -> Option<Option<&[u8]>>
 
 /// A parameter of a name without a value, and what follows it.
 #[inline(always)]
-fn plain_name<'v>(name: &'v [u8], rest: &'v [u8]) -> Option<(Parameter<'v>, Option<&'v [u8]>)>
+fn plain_name<'v>(name: &'v [u8], rest: &'v [u8]) -> Option<(HeaderParameter<'v>, Option<&'v [u8]>)>
     requires { is_token_text name.now ≡ true }
     ensures { IfSome result (λ x. Begins (name.now ++ rest.now) x.0 (option_map (λ y. y.now) x.1)) }
 {
@@ -91,7 +91,7 @@ fn plain_name<'v>(name: &'v [u8], rest: &'v [u8]) -> Option<(Parameter<'v>, Opti
     if wants_value(name) {
         return None;
     }
-    let parameter = Parameter {
+    let parameter = HeaderParameter {
         name: Text::new(name),
         value: None,
     };
@@ -114,13 +114,16 @@ fn plain_value_at(text: &[u8]) -> Option<(&[u8], &[u8])>
 
 /// A parameter of a name and the token or the quoted text behind its `=`, and what follows it.
 #[inline(always)]
-fn plain_value<'v>(name: &'v [u8], text: &'v [u8]) -> Option<(Parameter<'v>, Option<&'v [u8]>)>
+fn plain_value<'v>(
+    name: &'v [u8],
+    text: &'v [u8],
+) -> Option<(HeaderParameter<'v>, Option<&'v [u8]>)>
     requires { is_token_text name.now ≡ true }
     ensures { IfSome result (λ x. Begins (name.now ++ byte "=" ∷ text.now) x.0 (option_map (λ y. y.now) x.1)) }
 {
     let (value, rest) = plain_value_at(text)?;
     let behind = plain_end(rest)?;
-    let parameter = Parameter {
+    let parameter = HeaderParameter {
         name: Text::new(name),
         value: Some(Text::new(value)),
     };
@@ -130,7 +133,7 @@ fn plain_value<'v>(name: &'v [u8], text: &'v [u8]) -> Option<(Parameter<'v>, Opt
 /// The parameter at the front of a text, and what follows its `;`, where its name is a token and its value one or quoted text, with
 /// nothing round them, as phones write them: so each byte is read once. None says nothing.
 #[inline(always)]
-fn plain_parameter(text: &[u8]) -> Option<(Parameter<'_>, Option<&[u8]>)>
+fn plain_parameter(text: &[u8]) -> Option<(HeaderParameter<'_>, Option<&[u8]>)>
     ensures { IfSome result (λ x. Begins text.now x.0 (option_map (λ y. y.now) x.1)) }
 {
     let (name, rest) = split_token(text);
@@ -145,7 +148,7 @@ fn plain_parameter(text: &[u8]) -> Option<(Parameter<'_>, Option<&[u8]>)>
 
 /// The first of the parameters of a text that were read, and what follows it.
 #[tactic(auto, using(crate::proofs::Plain::part_begins))]
-fn first_said(text: &[u8]) -> (Parameter<'_>, Option<&[u8]>)
+fn first_said(text: &[u8]) -> (HeaderParameter<'_>, Option<&[u8]>)
     requires { is_some (parameters_in (parts_at 59 text.now)) ≡ true }
     ensures { Begins text.now result.0 (option_map (λ y. y.now) result.1) }
 {
@@ -158,7 +161,7 @@ fn first_said(text: &[u8]) -> (Parameter<'_>, Option<&[u8]>)
 
 /// The first parameter of a name among those that were read.
 #[tactic(auto, using(crate::proofs::Plain::named_here, crate::proofs::Plain::named_later))]
-fn first_named<'v>(behind: Option<&'v [u8]>, name: &[u8]) -> Option<Parameter<'v>>
+fn first_named<'v>(behind: Option<&'v [u8]>, name: &[u8]) -> Option<HeaderParameter<'v>>
     requires { is_some (parameters_in (parts_behind 59 (option_map (λ x. x.now) behind))) ≡ true }
     ensures { result ≡ parameter_of name.now (said_in (parts_behind 59 (option_map (λ x. x.now) behind.entry))) }
 {
@@ -175,12 +178,12 @@ fn first_named<'v>(behind: Option<&'v [u8]>, name: &[u8]) -> Option<Parameter<'v
 
 /// The first parameter of a name, which is compared without case. Takes no memory.
 #[tactic(auto, using(crate::proofs::FirstParameters::first_is, crate::proofs::FirstParameters::is_behind_first, crate::proofs::FirstParameters::none_first))]
-pub fn parameter_of<'v>(parameters: &Parameters<'v>, name: &[u8]) -> Option<Parameter<'v>>
+pub fn parameter_of<'v>(parameters: &Parameters<'v>, name: &[u8]) -> Option<HeaderParameter<'v>>
     ensures { result ≡ parameter_of name.now parameters.now }
 {
     if let Some(first) = &parameters.first {
         if same_no_case(first.name, name) {
-            return Some(Parameter {
+            return Some(HeaderParameter {
                 name: Text::new(first.name),
                 value: Some(Text::new(first.value)),
             });
@@ -216,7 +219,7 @@ pub fn branch_of<'v>(parameters: &Parameters<'v>) -> Option<&'v [u8]>
 
 /// The first of two parameters, of which the second is an `rport` with nothing round it, as clients ask for their port (RFC 3581
 /// 3). None says nothing. Takes no memory.
-pub fn one_before_rport<'v>(parameters: &Parameters<'v>) -> Option<Parameter<'v>>
+pub fn one_before_rport<'v>(parameters: &Parameters<'v>) -> Option<HeaderParameter<'v>>
     ensures { IfSome result (λ first. parameters.now ≡ first ∷ record { name = codes "rport"; value = None } ∷ []) }
 {
     let first = parameters.first.as_ref()?;
@@ -224,7 +227,7 @@ pub fn one_before_rport<'v>(parameters: &Parameters<'v>) -> Option<Parameter<'v>
     if !same_bytes(others, b"rport") {
         return None;
     }
-    Some(Parameter {
+    Some(HeaderParameter {
         name: Text::new(first.name),
         value: Some(Text::new(first.value)),
     })
@@ -250,7 +253,7 @@ fn wants_value(name: &[u8]) -> bool
     same_no_case(name, b"tag") || same_no_case(name, b"branch")
 }
 
-fn without_value(name: &[u8]) -> Option<Parameter<'_>>
+fn without_value(name: &[u8]) -> Option<HeaderParameter<'_>>
     ensures { result ≡ bare_parameter name.now }
 {
     if !is_token(name) {
@@ -259,13 +262,13 @@ fn without_value(name: &[u8]) -> Option<Parameter<'_>>
     if wants_value(name) {
         return None;
     }
-    Some(Parameter {
+    Some(HeaderParameter {
         name: Text::new(name),
         value: None,
     })
 }
 
-fn with_value<'v>(name: &'v [u8], value: &'v [u8]) -> Option<Parameter<'v>>
+fn with_value<'v>(name: &'v [u8], value: &'v [u8]) -> Option<HeaderParameter<'v>>
     ensures { result ≡ valued_parameter name.now value.now }
 {
     if !is_token(name) {
@@ -274,14 +277,14 @@ fn with_value<'v>(name: &'v [u8], value: &'v [u8]) -> Option<Parameter<'v>>
     if !is_value_text(value) {
         return None;
     }
-    Some(Parameter {
+    Some(HeaderParameter {
         name: Text::new(name),
         value: Some(Text::new(value)),
     })
 }
 
 /// The parameter that bytes write.
-fn parameter_from(bytes: &[u8]) -> Option<Parameter<'_>>
+fn parameter_from(bytes: &[u8]) -> Option<HeaderParameter<'_>>
     ensures { result ≡ parameter_in bytes.now }
 {
     match split_outside(bytes, b'=') {

@@ -1,8 +1,8 @@
 ghost use Rattle.std.specs.Prelude.{◌≡◌, ◌⊎◌, IfSome, codes, true};
-ghost use Rattle.sip_header.specs.PlainAddress.{IsBracketedPlace};
+ghost use Rattle.sip_header.specs.PlainAddress.{IsBracketedHostPort};
 
 use sip_text::{same_bytes, split_outside, without_blanks};
-use sip_uri::{plain_place, plain_uri_at};
+use sip_uri::{plain_host_port, plain_uri_at};
 
 /// Whether a text ends an address in brackets that has no header parameters: by `>` alone, or by `;lr>`.
 #[inline]
@@ -17,10 +17,10 @@ fn ends_place(text: &[u8]) -> bool
     }
 }
 
-/// The host and the number of the port of an address that `bracketed_place` reads, without blanks, and whose user, if it
+/// The host and the number of the port of an address that `bracketed_host_port` reads, without blanks, and whose user, if it
 /// has one, is of bytes of a host name: each byte is read once. None says nothing.
-fn usual_place(value: &[u8]) -> Option<(&[u8], Option<u16>)>
-    ensures { IfSome result (λ x. IsBracketedPlace value.now x.0.now x.1) }
+fn usual_host_port(value: &[u8]) -> Option<(&[u8], Option<u16>)>
+    ensures { IfSome result (λ x. IsBracketedHostPort value.now x.0.now x.1) }
 {
     let Some((b'<', text)) = value.split_first() else {
         return None;
@@ -33,8 +33,8 @@ fn usual_place(value: &[u8]) -> Option<(&[u8], Option<u16>)>
 }
 
 /// The same of an address in any form.
-fn any_place(value: &[u8]) -> Option<(&[u8], Option<u16>)>
-    ensures { IfSome result (λ x. IsBracketedPlace value.now x.0.now x.1) }
+fn any_host_port(value: &[u8]) -> Option<(&[u8], Option<u16>)>
+    ensures { IfSome result (λ x. IsBracketedHostPort value.now x.0.now x.1) }
 {
     let (display, rest) = split_outside(value, b'<')?;
     if !display.is_empty() {
@@ -44,17 +44,17 @@ fn any_place(value: &[u8]) -> Option<(&[u8], Option<u16>)>
     if !behind.is_empty() {
         return None;
     }
-    plain_place(without_blanks(uri))
+    plain_host_port(without_blanks(uri))
 }
 
 /// The host and the number of the port, if one is written, of an address that is a URI in brackets and nothing else, in
-/// the form that `plain_place` reads: as most values of Route, Record-Route and Contact are. None says nothing. Takes no
+/// the form that `plain_host_port` reads: as most values of Route, Record-Route and Contact are. None says nothing. Takes no
 /// memory.
-pub fn bracketed_place(value: &[u8]) -> Option<(&[u8], Option<u16>)>
-    ensures { IfSome result (λ x. IsBracketedPlace value.now x.0.now x.1) }
+pub fn bracketed_host_port(value: &[u8]) -> Option<(&[u8], Option<u16>)>
+    ensures { IfSome result (λ x. IsBracketedHostPort value.now x.0.now x.1) }
 {
-    match usual_place(value) {
+    match usual_host_port(value) {
         Some(place) => Some(place),
-        None => any_place(value),
+        None => any_host_port(value),
     }
 }

@@ -8,7 +8,7 @@ use sip_text::{
     Text, first_part, is_token, same_bytes, same_no_case, split_outside, split_token, split_word,
     without_blanks,
 };
-use sip_uri::{host_port, place_at};
+use sip_uri::{host_port, host_port_at};
 use std::alloc::{AllocError, Global};
 
 /// What a Via says.
@@ -138,7 +138,7 @@ fn plain_sender(text: &[u8]) -> Option<(Sender<'_>, &[u8])>
     let Some((b' ', place)) = rest.split_first() else {
         return None;
     };
-    let (host, port, rest) = place_at(place)?;
+    let (host, port, rest) = host_port_at(place)?;
     let sender = Sender {
         transport: Text::new(transport),
         host: Text::new(host),

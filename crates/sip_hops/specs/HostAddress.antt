@@ -5,7 +5,7 @@ use Rattle.std.specs.List.{list_any}
 use Rattle.sip_text.specs.Words.{is_same_text}
 use Rattle.sip_uri.specs.declared.scheme.Scheme.{Scheme}
 use Rattle.sip_uri.specs.declared.scheme.Scheme.TheVariants.{Sip, Sips}
-use Rattle.sip_uri.specs.declared.parameters.Parameter.{Parameter}
+use Rattle.sip_uri.specs.declared.parameters.UriParameter.{UriParameter}
 use Rattle.sip_uri.specs.declared.uri.Uri.{Uri}
 use Rattle.sip_uri.specs.Port.{port_value}
 use Rattle.sip_uri_equality.specs.Equality.{says_same_no_case}
@@ -19,7 +19,7 @@ is_udp None = false
 is_udp (Some value) = says_same_no_case value (codes "udp")
 
 -- whether a parameter asks for another way than UDP to the host: `maddr`, or a `transport` other than udp. Escapes in names are resolved.
-abbrev pub leads_elsewhere : Parameter → Bool
+abbrev pub leads_elsewhere : UriParameter → Bool
 leads_elsewhere p = says_same_no_case p.name (codes "maddr") || (says_same_no_case p.name (codes "transport") && not (is_udp p.value))
 
 -- whether a scheme is `sip`

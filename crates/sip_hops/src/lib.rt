@@ -1,7 +1,7 @@
 //! Addresses of the next hop: the configured tables that give the address of a URI and of a hop. A
 //! table stands in for DNS (RFC 3263).
 //!
-//! - Used: `sip_targets` and `sip_context_places`: whatever goes out needs an address.
+//! - Used: `sip_targets` and `sip_route_facts`: whatever goes out needs an address.
 //! - Not here: DNS, which this server never asks.
 //! - Tried: worked examples in `src/examples.rt`, as contracts that compute; `test_parts`.
 //!

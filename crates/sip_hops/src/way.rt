@@ -3,7 +3,7 @@ ghost use Rattle.std.specs.List.{list_any};
 ghost use Rattle.sip_hops.specs.HostAddress as Definitions;
 
 use sip_text::Bytes;
-use sip_uri::{Parameter, Scheme, Uri, port_value};
+use sip_uri::{Scheme, Uri, UriParameter, port_value};
 use sip_uri_equality::says_same_no_case;
 
 /// Whether a transport is udp, in any case, escapes resolved. One without a value is not.
@@ -18,7 +18,7 @@ fn is_udp(value: &Option<Bytes>) -> bool
 
 /// Whether a parameter asks for another way than UDP to the host: `maddr`, or a `transport` other than udp
 /// (RFC 3261 19.1.1).
-fn leads_elsewhere(parameter: &Parameter) -> bool
+fn leads_elsewhere(parameter: &UriParameter) -> bool
     ensures { result ≡ Definitions.leads_elsewhere parameter.now }
 {
     let name = parameter.name.as_slice();
@@ -28,7 +28,7 @@ fn leads_elsewhere(parameter: &Parameter) -> bool
     says_same_no_case(name, b"transport") && !is_udp(&parameter.value)
 }
 
-fn some_leads_elsewhere(parameters: &[Parameter]) -> bool
+fn some_leads_elsewhere(parameters: &[UriParameter]) -> bool
     ensures { result ≡ list_any Definitions.leads_elsewhere parameters.now }
 {
     parameters

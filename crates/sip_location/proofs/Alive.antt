@@ -10,12 +10,12 @@ use Rattle.sip_uri.specs.declared.aor.Aor.{Aor}
 use Rattle.sip_uri.specs.declared.uri.Uri.{Uri}
 use Rattle.sip_uri.specs.Aor.{is_same_aor}
 use Rattle.sip_location.specs.declared.binding.Binding.{Binding}
-use Rattle.sip_location.specs.declared.filed.Filed.{Filed}
+use Rattle.sip_location.specs.declared.aor_bindings.AorBindings.{AorBindings}
 use Rattle.sip_location.specs.Binding.{is_live, is_of, live}
 use Rattle.sip_location.specs.KeptBinding.{KeptBinding, binding_of}
 use Rattle.sip_location.specs.Code.{code_of}
 use Rattle.sip_location.specs.Locations.{of_aor}
-use Rattle.sip_location.specs.Filed.{bindings_of, rows_in, is_filed_of, filed_of, first_rows, AreFiled}
+use Rattle.sip_location.specs.AorBindings.{bindings_of, rows_in, is_filed_of, filed_of, first_rows, AreFiled}
 use Rattle.sip_location.specs.Alive.{lives, LivesAlike}
 use Rattle.sip_location.proofs.Updates.{same_is}
 use Rattle.sip_location.proofs.Keeping.{live_of_kept}
@@ -104,8 +104,8 @@ found_holds {K = K} {X = X} P test (e ∷ es) v got all = by_test (test e.0) got
   by_test false is rest = rest is all.1
 
 -- what stands in a place
-placed : {K : Type 0} (P : Filed → Type 0) (test : K → Bool) (es : List (K × Filed)) (o : Option Filed) → lookup test es ≡ o
-    → AllByRecursion P (map (λ (e : K × Filed). e.1) es) → AllByRecursion P (option_to_list o)
+placed : {K : Type 0} (P : AorBindings → Type 0) (test : K → Bool) (es : List (K × AorBindings)) (o : Option AorBindings) → lookup test es ≡ o
+    → AllByRecursion P (map (λ (e : K × AorBindings). e.1) es) → AllByRecursion P (option_to_list o)
 placed P test es None is all = tt
 placed P test es (Some f) is all = (found_holds P test es f is all, tt)
 
@@ -114,7 +114,7 @@ both_hold P [] ys all others = others
 both_hold P (x ∷ xs) ys all others = (all.0, both_hold P xs ys all.1 others)
 
 -- the first that is filed of an address says what others say, if any is
-first_alive : (aor : Aor) (now : ℕ) (others : List Binding) (fs : List Filed) → AllByRecursion (LivesAlike others now) fs
+first_alive : (aor : Aor) (now : ℕ) (others : List Binding) (fs : List AorBindings) → AllByRecursion (LivesAlike others now) fs
     → bindings_of aor (first_rows (filter (is_filed_of aor) fs)) ≢ []
     → filter (is_live now) (bindings_of aor (first_rows (filter (is_filed_of aor) fs))) ≡ live aor now others
 first_alive aor now others [] all some = absurd (some refl)
@@ -130,12 +130,12 @@ first_alive aor now others (f ∷ fs) all some = by_test (is_same_aor f.aor aor)
   by_test false other there rest = rest there
 
 -- each address that is filed says what others say, where that holds of all that is filed
-pub lives_in : {K : Type 0} (es : List (K × Filed)) (test : ℕ → K → Bool) (crowd : List Filed) (others : List Binding) (now : ℕ)
-    → AreFiled (λ code. lookup (test code) es) crowd → AllByRecursion (LivesAlike others now) (map (λ (e : K × Filed). e.1) es)
+pub lives_in : {K : Type 0} (es : List (K × AorBindings)) (test : ℕ → K → Bool) (crowd : List AorBindings) (others : List Binding) (now : ℕ)
+    → AreFiled (λ code. lookup (test code) es) crowd → AllByRecursion (LivesAlike others now) (map (λ (e : K × AorBindings). e.1) es)
     → AllByRecursion (LivesAlike others now) crowd → (aor : Aor) → of_aor aor (rows_in (λ code. lookup (test code) es) crowd) ≢ []
     → live aor now (rows_in (λ code. lookup (test code) es) crowd) ≡ live aor now others
 lives_in es test crowd others now filed under among aor some =
-    let by_code : ℕ → Option Filed = λ code. lookup (test code) es in
+    let by_code : ℕ → Option AorBindings = λ code. lookup (test code) es in
     let first : of_aor aor (rows_in by_code crowd) ≡ bindings_of aor (first_rows (filed_of aor by_code crowd)) = of_first aor by_code crowd filed in
     let all : AllByRecursion (LivesAlike others now) (option_to_list (by_code (code_of aor)) ++ crowd) =
     both_hold (LivesAlike others now) (option_to_list (by_code (code_of aor))) crowd

@@ -7,13 +7,13 @@ use Rattle.std.proofs.lemmas.Bool.Decides.{nat_tests}
 use Rattle.std.proofs.lemmas.List.Elements.{filter-append}
 use Rattle.sip_uri.specs.declared.aor.Aor.{Aor}
 use Rattle.sip_uri.specs.Aor.{is_same_aor}
-use Rattle.sip_location.specs.declared.filed.Filed.{Filed}
+use Rattle.sip_location.specs.declared.aor_bindings.AorBindings.{AorBindings}
 use Rattle.sip_location.specs.Binding.{is_of}
 use Rattle.sip_base.specs.Code.{mixed}
 use Rattle.sip_location.specs.Code.{code_count, code_of}
 use Rattle.sip_location.specs.KeptBinding.{KeptBinding}
 use Rattle.sip_location.specs.Locations.{of_aor}
-use Rattle.sip_location.specs.Filed.{bindings_of, all_bindings, filed_below, rows_in, is_filed_of, filed_of, first_rows, with_rows, AreFiled, IsReplaced}
+use Rattle.sip_location.specs.AorBindings.{bindings_of, all_bindings, filed_below, rows_in, is_filed_of, filed_of, first_rows, with_rows, AreFiled, IsReplaced}
 use Rattle.sip_location.proofs.Filters.{filter-wider}
 use Rattle.sip_location.proofs.Keeping.{all_of, none_of}
 use Rattle.sip_location.proofs.Updates.{same_is, same_itself}
@@ -27,7 +27,7 @@ unlike_turned left right unlike = by_test (is_same_aor right left) refl where
 
 -- ---- the bindings of an address are those of what is filed of it
 
-of_all : (aor : Aor) (fs : List Filed) → of_aor aor (all_bindings fs) ≡ all_bindings (filter (is_filed_of aor) fs)
+of_all : (aor : Aor) (fs : List AorBindings) → of_aor aor (all_bindings fs) ≡ all_bindings (filter (is_filed_of aor) fs)
 of_all aor [] = refl
 of_all aor (f ∷ fs) = filter-append (is_of aor) (bindings_of f.aor f.rows) (all_bindings fs) ∙ by_test (is_same_aor f.aor aor) refl (of_all aor fs)
   where
@@ -41,7 +41,7 @@ of_all aor (f ∷ fs) = filter-append (is_of aor) (bindings_of f.aor f.rows) (al
     by_test false other rest = rw (none_of aor f.aor f.rows other) rest
 
 -- nothing of an address stands under another code than its own
-elsewhere : (aor : Aor) (code : ℕ) (o : Option Filed) → IfSome o (λ filed. code_of filed.aor ≡ code) → code ≢ code_of aor
+elsewhere : (aor : Aor) (code : ℕ) (o : Option AorBindings) → IfSome o (λ filed. code_of filed.aor ≡ code) → code ≢ code_of aor
     → filter (is_filed_of aor) (option_to_list o) ≡ []
 elsewhere aor code None coded apart = refl
 elsewhere aor code (Some f) coded apart = by_test (is_same_aor f.aor aor) refl where
@@ -49,7 +49,7 @@ elsewhere aor code (Some f) coded apart = by_test (is_same_aor f.aor aor) refl w
   by_test true same = absurd (apart (sym coded ∙ ap code_of (same_is f.aor aor same)))
   by_test false other = refl
 
-module _ (aor : Aor) (by_code : ℕ → Option Filed) (coded : (code : ℕ) → IfSome (by_code code) (λ filed. code_of filed.aor ≡ code)) where
+module _ (aor : Aor) (by_code : ℕ → Option AorBindings) (coded : (code : ℕ) → IfSome (by_code code) (λ filed. code_of filed.aor ≡ code)) where
   below_code : (n : ℕ) → n ≤ code_of aor → filter (is_filed_of aor) (filed_below n by_code) ≡ []
   below_code zero le = refl
   below_code (suc n) le =
@@ -81,7 +81,7 @@ small aor =
     let user = fold mixed 14695981039346656037 aor.user in
     folded_small (mixed user 64) aor.host (mod-lt (bit_xor user 64 * 1099511628211) (omega arith))
 
-of_filed : (aor : Aor) (by_code : ℕ → Option Filed) (crowd : List Filed) → ((code : ℕ) → IfSome (by_code code) (λ filed. code_of filed.aor ≡ code))
+of_filed : (aor : Aor) (by_code : ℕ → Option AorBindings) (crowd : List AorBindings) → ((code : ℕ) → IfSome (by_code code) (λ filed. code_of filed.aor ≡ code))
     → of_aor aor (rows_in by_code crowd) ≡ all_bindings (filed_of aor by_code crowd)
 of_filed aor by_code crowd coded =
     let p = is_filed_of aor in
@@ -91,11 +91,11 @@ of_filed aor by_code crowd coded =
 
 -- ---- looking up
 
-nothing : (fs : List Filed) → length fs ≤ 0 → fs ≡ []
+nothing : (fs : List AorBindings) → length fs ≤ 0 → fs ≡ []
 nothing [] le = refl
 nothing (f ∷ fs) le = absurd (omega arith)
 
-only_first : (aor : Aor) (fs : List Filed) → length (filter (is_filed_of aor) fs) ≤ 1
+only_first : (aor : Aor) (fs : List AorBindings) → length (filter (is_filed_of aor) fs) ≤ 1
     → all_bindings (filter (is_filed_of aor) fs) ≡ bindings_of aor (first_rows (filter (is_filed_of aor) fs))
 only_first aor [] le = refl
 only_first aor (f ∷ fs) le = by_test (is_same_aor f.aor aor) refl le (only_first aor fs) where
@@ -108,12 +108,12 @@ only_first aor (f ∷ fs) le = by_test (is_same_aor f.aor aor) refl le (only_fir
   by_test false other few rest = rest few
 
 -- the bindings of an address are those of the first that is filed of it
-pub of_first : (aor : Aor) (by_code : ℕ → Option Filed) (crowd : List Filed) → AreFiled by_code crowd
+pub of_first : (aor : Aor) (by_code : ℕ → Option AorBindings) (crowd : List AorBindings) → AreFiled by_code crowd
     → of_aor aor (rows_in by_code crowd) ≡ bindings_of aor (first_rows (filed_of aor by_code crowd))
 of_first aor by_code crowd h = of_filed aor by_code crowd h.coded ∙ only_first aor (option_to_list (by_code (code_of aor)) ++ crowd) (h.once aor)
 
 -- where an address is filed under its code
-pub under_code : (aor sought : Aor) (code : ℕ) (by_code : ℕ → Option Filed) (crowd : List Filed) (f : Filed) → AreFiled by_code crowd → sought ≡ aor
+pub under_code : (aor sought : Aor) (code : ℕ) (by_code : ℕ → Option AorBindings) (crowd : List AorBindings) (f : AorBindings) → AreFiled by_code crowd → sought ≡ aor
     → code ≡ code_of sought → by_code code ≡ Some f → is_same_aor f.aor sought ≡ true
     → bindings_of aor f.rows ≡ of_aor aor (rows_in by_code crowd)
 under_code aor sought code by_code crowd f h same is there own =
@@ -123,7 +123,8 @@ under_code aor sought code by_code crowd f h same is there own =
     sym (of_first aor by_code crowd h ∙ ap (bindings_of aor) first)
 
 -- where it isn't
-pub in_crowd : (aor sought : Aor) (code : ℕ) (by_code : ℕ → Option Filed) (crowd among : List Filed) (rows : List KeptBinding) → AreFiled by_code crowd → sought ≡ aor
+pub in_crowd : (aor sought : Aor) (code : ℕ) (by_code : ℕ → Option AorBindings) (crowd among : List AorBindings) (rows : List KeptBinding) → AreFiled by_code crowd
+    → sought ≡ aor
     → code ≡ code_of sought
     → filter (is_filed_of sought) (option_to_list (by_code code)) ≡ [] → among ≡ crowd → rows ≡ first_rows (filter (is_filed_of sought) among)
     → bindings_of aor rows ≡ of_aor aor (rows_in by_code crowd)
@@ -133,24 +134,24 @@ in_crowd aor sought code by_code crowd among rows h same is none all found =
     let there : filed_of sought by_code crowd ≡ filter (is_filed_of sought) crowd = filter-append (is_filed_of sought) (option_to_list (by_code (code_of sought))) crowd
     ∙ rw place refl in
     let first : rows ≡ first_rows (filed_of aor by_code crowd) =
-    found ∙ ap (λ (fs : List Filed). first_rows (filter (is_filed_of sought) fs)) all ∙ ap first_rows (sym there)
+    found ∙ ap (λ (fs : List AorBindings). first_rows (filter (is_filed_of sought) fs)) all ∙ ap first_rows (sym there)
     ∙ ap (λ (a : Aor). first_rows (filed_of a by_code crowd)) same in
     sym (of_first aor by_code crowd h ∙ ap (bindings_of aor) (sym first))
 
-pub none_there : (sought : Aor) (place : Option Filed) → place ≡ None → filter (is_filed_of sought) (option_to_list place) ≡ []
+pub none_there : (sought : Aor) (place : Option AorBindings) → place ≡ None → filter (is_filed_of sought) (option_to_list place) ≡ []
 none_there sought place none = rw none refl
 
-pub other_there : (sought : Aor) (place : Option Filed) (f : Filed) → place ≡ Some f → is_same_aor f.aor sought ≡ false
+pub other_there : (sought : Aor) (place : Option AorBindings) (f : AorBindings) → place ≡ Some f → is_same_aor f.aor sought ≡ false
     → filter (is_filed_of sought) (option_to_list place) ≡ []
 other_there sought place f there other = rw (there, other) refl
 
 -- ---- nothing is filed at first
 
-none_below : (n : ℕ) (by_code : ℕ → Option Filed) → ((code : ℕ) → by_code code ≡ None) → filed_below n by_code ≡ []
+none_below : (n : ℕ) (by_code : ℕ → Option AorBindings) → ((code : ℕ) → by_code code ≡ None) → filed_below n by_code ≡ []
 none_below zero by_code none = refl
 none_below (suc n) by_code none = rw (none_below n by_code none, none n) refl
 
-pub no_rows : (by_code : ℕ → Option Filed) → ((code : ℕ) → by_code code ≡ None) → rows_in by_code [] ≡ []
+pub no_rows : (by_code : ℕ → Option AorBindings) → ((code : ℕ) → by_code code ≡ None) → rows_in by_code [] ≡ []
 no_rows by_code none = rw (none_below code_count by_code none) refl
 
 -- ---- filing
@@ -160,35 +161,35 @@ none_left [] e = refl
 none_left (b ∷ bs) e = let none : length (b ∷ bs) ≡ 0 = grind (arith, nat_tests) in absurd (omega (arith, none))
 
 -- what is filed has the bindings of its rows
-all_of_rows : (f : Filed) → all_bindings (option_to_list (with_rows f)) ≡ bindings_of f.aor f.rows
+all_of_rows : (f : AorBindings) → all_bindings (option_to_list (with_rows f)) ≡ bindings_of f.aor f.rows
 all_of_rows f = by_test (eqb (length f.rows) 0) refl where
   by_test : (t : Bool) → eqb (length f.rows) 0 ≡ t → all_bindings (option_to_list (cond t None (Some f))) ≡ bindings_of f.aor f.rows
   by_test true none = ap (bindings_of f.aor) (sym (none_left f.rows none))
   by_test false some = append-nil (bindings_of f.aor f.rows)
 
-own_stays : (f : Filed) → filter (is_filed_of f.aor) (option_to_list (with_rows f)) ≡ option_to_list (with_rows f)
+own_stays : (f : AorBindings) → filter (is_filed_of f.aor) (option_to_list (with_rows f)) ≡ option_to_list (with_rows f)
 own_stays f = by_test (eqb (length f.rows) 0) where
   by_test : (t : Bool) → filter (is_filed_of f.aor) (option_to_list (cond t None (Some f))) ≡ option_to_list (cond t None (Some f))
   by_test true = refl
   by_test false = rw (same_itself f.aor) refl
 
-other_goes : (f : Filed) (other : Aor) → is_same_aor other f.aor ≡ false → filter (is_filed_of other) (option_to_list (with_rows f)) ≡ []
+other_goes : (f : AorBindings) (other : Aor) → is_same_aor other f.aor ≡ false → filter (is_filed_of other) (option_to_list (with_rows f)) ≡ []
 other_goes f other unlike = by_test (eqb (length f.rows) 0) where
   by_test : (t : Bool) → filter (is_filed_of other) (option_to_list (cond t None (Some f))) ≡ []
   by_test true = refl
   by_test false = rw (unlike_turned other f.aor unlike) refl
 
-one_at_most : (f : Filed) → length (option_to_list (with_rows f)) ≤ 1
+one_at_most : (f : AorBindings) → length (option_to_list (with_rows f)) ≤ 1
 one_at_most f = by_test (eqb (length f.rows) 0) where
   by_test : (t : Bool) → length (option_to_list (cond t None (Some f))) ≤ 1
   by_test true = omega arith
   by_test false = omega arith
 
 -- a crowd that an address has left
-abbrev pub without : Aor → List Filed → List Filed
+abbrev pub without : Aor → List AorBindings → List AorBindings
 without aor crowd = filter (λ filed. not (is_filed_of aor filed)) crowd
 
-gone : (aor : Aor) (crowd : List Filed) → filter (is_filed_of aor) (without aor crowd) ≡ []
+gone : (aor : Aor) (crowd : List AorBindings) → filter (is_filed_of aor) (without aor crowd) ≡ []
 gone aor [] = refl
 gone aor (f ∷ fs) = by_test (is_same_aor f.aor aor) refl (gone aor fs) where
   by_test : (t : Bool) → is_same_aor f.aor aor ≡ t → filter (is_filed_of aor) (without aor fs) ≡ []
@@ -196,24 +197,27 @@ gone aor (f ∷ fs) = by_test (is_same_aor f.aor aor) refl (gone aor fs) where
   by_test true same rest = rest
   by_test false other rest = rw other rest
 
-others_stay : (aor other : Aor) (crowd : List Filed) → is_same_aor other aor ≡ false → filter (is_filed_of other) (without aor crowd) ≡ filter (is_filed_of other) crowd
+others_stay : (aor other : Aor) (crowd : List AorBindings) → is_same_aor other aor ≡ false
+    → filter (is_filed_of other) (without aor crowd) ≡ filter (is_filed_of other) crowd
 others_stay aor other crowd unlike = filter-wider (is_filed_of other) (λ filed. not (is_filed_of aor filed)) crowd
     (λ f same. ap not (subst (λ (a : Aor). is_same_aor a aor ≡ false) (sym (same_is f.aor other same)) unlike))
 
 -- What is filed of an address is replaced: it has this, and every other its own.
-pub record IsFiled (old : ℕ → Option Filed) (crowd : List Filed) (f : Filed) (new : ℕ → Option Filed) (left : List Filed) : Type 0 where
+pub record IsFiled (old : ℕ → Option AorBindings) (crowd : List AorBindings) (f : AorBindings) (new : ℕ → Option AorBindings) (left : List AorBindings) : Type 0 where
   pub coded : (code : ℕ) → IfSome (new code) (λ filed. code_of filed.aor ≡ code)
   pub own : filed_of f.aor new left ≡ option_to_list (with_rows f)
   pub others : (other : Aor) → is_same_aor other f.aor ≡ false → filed_of other new left ≡ filed_of other old crowd
 
-pub still_filed : (old : ℕ → Option Filed) (crowd : List Filed) (f : Filed) (new : ℕ → Option Filed) (left : List Filed) → AreFiled old crowd
+pub still_filed : (old : ℕ → Option AorBindings) (crowd : List AorBindings) (f : AorBindings) (new : ℕ → Option AorBindings) (left : List AorBindings)
+    → AreFiled old crowd
     → IsFiled old crowd f new left → AreFiled new left
 still_filed old crowd f new left h is = record { coded = is.coded; once = λ other. by_test other (is_same_aor other f.aor) refl } where
   by_test : (other : Aor) (t : Bool) → is_same_aor other f.aor ≡ t → length (filed_of other new left) ≤ 1
   by_test other true same = subst (λ (a : Aor). length (filed_of a new left) ≤ 1) (sym (same_is other f.aor same)) (rw is.own (one_at_most f))
   by_test other false unlike = rw (is.others other unlike) (h.once other)
 
-pub replaced : (old : ℕ → Option Filed) (crowd : List Filed) (f : Filed) (new : ℕ → Option Filed) (left : List Filed) → AreFiled old crowd → IsFiled old crowd f new left
+pub replaced : (old : ℕ → Option AorBindings) (crowd : List AorBindings) (f : AorBindings) (new : ℕ → Option AorBindings) (left : List AorBindings) → AreFiled old crowd
+    → IsFiled old crowd f new left
     → IsReplaced (rows_in old crowd) f.aor f.rows (rows_in new left)
 replaced old crowd f new left h is = record {
   own = of_filed f.aor new left is.coded ∙ ap all_bindings is.own ∙ all_of_rows f;
@@ -221,10 +225,10 @@ replaced old crowd f new left h is = record {
 }
 
 -- whether what stands somewhere is of another address
-abbrev pub is_anothers : Aor → Option Filed → Bool
+abbrev pub is_anothers : Aor → Option AorBindings → Bool
 is_anothers aor place = option_map_or (λ filed. not (is_filed_of aor filed)) place false
 
-anothers : (aor : Aor) (place : Option Filed) → is_anothers aor place ≡ true → filter (is_filed_of aor) (option_to_list place) ≡ []
+anothers : (aor : Aor) (place : Option AorBindings) → is_anothers aor place ≡ true → filter (is_filed_of aor) (option_to_list place) ≡ []
 anothers aor None e = refl
 anothers aor (Some f) e = by_test (is_same_aor f.aor aor) e where
   by_test : (t : Bool) → not t ≡ true → cond t (f ∷ []) [] ≡ []
@@ -232,7 +236,7 @@ anothers aor (Some f) e = by_test (is_same_aor f.aor aor) e where
   by_test false ok = refl
 
 -- the place of one address is no other's
-no_others : (aor other : Aor) (place : Option Filed) → is_anothers aor place ≡ false → is_same_aor other aor ≡ false
+no_others : (aor other : Aor) (place : Option AorBindings) → is_anothers aor place ≡ false → is_same_aor other aor ≡ false
     → filter (is_filed_of other) (option_to_list place) ≡ []
 no_others aor other None e unlike = refl
 no_others aor other (Some f) e unlike = by_test (is_same_aor f.aor aor) refl e where
@@ -241,14 +245,15 @@ no_others aor other (Some f) e unlike = by_test (is_same_aor f.aor aor) refl e w
       (unlike_turned other aor unlike) in rw apart refl
   by_test false differs bad = absurd (cc)
 
-apart_of : (aor : Aor) (place : Option Filed) (crowd more : List Filed)
+apart_of : (aor : Aor) (place : Option AorBindings) (crowd more : List AorBindings)
     → filter (is_filed_of aor) (option_to_list place ++ (crowd ++ more)) ≡ filter (is_filed_of aor) (option_to_list place)
     ++ (filter (is_filed_of aor) crowd ++ filter (is_filed_of aor) more)
 apart_of aor place crowd more = filter-append (is_filed_of aor) (option_to_list place) (crowd ++ more)
     ∙ ap (λ fs. filter (is_filed_of aor) (option_to_list place) ++ fs) (filter-append (is_filed_of aor) crowd more)
 
 -- in the crowd, where another address has the place under the code
-pub filed_in_crowd : (by_code : ℕ → Option Filed) (crowd : List Filed) (f : Filed) → ((code : ℕ) → IfSome (by_code code) (λ filed. code_of filed.aor ≡ code))
+pub filed_in_crowd : (by_code : ℕ → Option AorBindings) (crowd : List AorBindings) (f : AorBindings)
+    → ((code : ℕ) → IfSome (by_code code) (λ filed. code_of filed.aor ≡ code))
     → is_anothers f.aor (by_code (code_of f.aor)) ≡ true
     → IsFiled by_code crowd f by_code (without f.aor crowd ++ option_to_list (with_rows f))
 filed_in_crowd by_code crowd f coded taken = record {
@@ -261,7 +266,8 @@ filed_in_crowd by_code crowd f coded taken = record {
 }
 
 -- under its code
-module _ (by_code new : ℕ → Option Filed) (crowd : List Filed) (f : Filed) (coded : (code : ℕ) → IfSome (by_code code) (λ filed. code_of filed.aor ≡ code))
+module _ (by_code new : ℕ → Option AorBindings) (crowd : List AorBindings) (f : AorBindings) (coded : (code : ℕ)
+    → IfSome (by_code code) (λ filed. code_of filed.aor ≡ code))
     (free : is_anothers f.aor (by_code (code_of f.aor)) ≡ false)
     (put : (code : ℕ) → new code ≡ cond (eqb (code_of f.aor) code) (with_rows f) (by_code code)) where
   coded_by : (t : Bool) (code : ℕ) → eqb (code_of f.aor) code ≡ t → IfSome (cond t (with_rows f) (by_code code)) (λ filed. code_of filed.aor ≡ code)
@@ -298,14 +304,16 @@ module _ (by_code new : ℕ → Option Filed) (crowd : List Filed) (f : Filed) (
 
 -- ---- as the code goes
 
-pub joined : (by_code : ℕ → Option Filed) (crowd left last : List Filed) (f : Filed) (aor : Aor) (code : ℕ) → AreFiled by_code crowd → aor ≡ f.aor → code ≡ code_of aor
+pub joined : (by_code : ℕ → Option AorBindings) (crowd left last : List AorBindings) (f : AorBindings) (aor : Aor) (code : ℕ) → AreFiled by_code crowd → aor ≡ f.aor
+    → code ≡ code_of aor
     → is_anothers aor (by_code code) ≡ true
     → left ≡ without aor crowd → last ≡ left ++ option_to_list (with_rows f) → IsFiled by_code crowd f by_code last
 joined by_code crowd left last f aor code h same is taken left_is last_is =
     let there : is_anothers aor (by_code (code_of aor)) ≡ true = subst (λ (k : ℕ). is_anothers aor (by_code k) ≡ true) is taken in
     rw (last_is, left_is, same) (filed_in_crowd by_code crowd f h.coded (subst (λ (a : Aor). is_anothers a (by_code (code_of a)) ≡ true) same there))
 
-pub placed : (by_code new : ℕ → Option Filed) (crowd left : List Filed) (f : Filed) (aor : Aor) (code : ℕ) → AreFiled by_code crowd → aor ≡ f.aor → code ≡ code_of aor
+pub placed : (by_code new : ℕ → Option AorBindings) (crowd left : List AorBindings) (f : AorBindings) (aor : Aor) (code : ℕ) → AreFiled by_code crowd → aor ≡ f.aor
+    → code ≡ code_of aor
     → is_anothers aor (by_code code) ≡ false
     → left ≡ without aor crowd → ((k : ℕ) → new k ≡ cond (eqb code k) (with_rows f) (by_code k)) → IsFiled by_code crowd f new left
 placed by_code new crowd left f aor code h same is free left_is puts =

@@ -7,7 +7,7 @@ use Rattle.sip_uri.specs.Aor.{is_same_aor}
 use Rattle.sip_location.specs.declared.binding.Binding.{Binding}
 use Rattle.sip_location.specs.Binding.{is_of, is_live, live}
 use Rattle.sip_location.specs.KeptBinding.{KeptBinding, binding_of, kept_of}
-use Rattle.sip_location.specs.Filed.{bindings_of}
+use Rattle.sip_location.specs.AorBindings.{bindings_of}
 use Rattle.sip_location.proofs.Updates.{same_is, same_itself}
 
 -- a binding that is kept under its own address is that binding

@@ -9,7 +9,7 @@ use Rattle.std.proofs.lemmas.Bool.Decides.{nat_tests}
 use Rattle.sip_text.specs.Lists.{is_blank, trimmed}
 use Rattle.sip_text.specs.Cuts.{split_outside, parts_at}
 use Rattle.sip_text.specs.Splits.{in_front, split_at_byte}
-use Rattle.sip_uri.specs.declared.parameters.Parameter.{Parameter as UriParameter}
+use Rattle.sip_uri.specs.declared.parameters.UriParameter.{UriParameter}
 use Rattle.sip_uri.specs.declared.uri.Uri.{Uri}
 use Rattle.sip_uri.specs.Reading.{reading_of}
 use Rattle.sip_uri.specs.Parts.{is_unmarked}
@@ -22,7 +22,7 @@ use Rattle.sip_uri_equality.proofs.Equal.{reflexive}
 use Rattle.sip_header.specs.declared.name_addr.AnyUri.TheVariants.{Sip}
 use Rattle.sip_header.specs.declared.contact_item.ContactItem.{ContactItem}
 use Rattle.sip_header.specs.declared.contact_item.ContactItem.TheVariants.{Star, Address}
-use Rattle.sip_header.specs.declared.parameters.Parameter.{Parameter}
+use Rattle.sip_header.specs.declared.parameters.HeaderParameter.{HeaderParameter}
 use Rattle.sip_header.specs.Expires.{parameters_expires}
 use Rattle.sip_header.specs.NameAddr.{name_addr_by, name_addr_of, behind_bracket, bracketed_by, uri_by, with_parameters}
 use Rattle.sip_header.specs.ContactItem.{contact_of}
@@ -35,7 +35,7 @@ use Rattle.sip_location.specs.Binding.{live, of_others}
 use Rattle.sip_location.specs.Interval.{own_or, granted, is_brief}
 use Rattle.sip_location.specs.Newer.{is_of_call}
 use Rattle.sip_location.specs.KeptBinding.{KeptBinding, binding_of, uri_in, kept_in, IsUriText}
-use Rattle.sip_location.specs.Filed.{bindings_of}
+use Rattle.sip_location.specs.AorBindings.{bindings_of}
 use Rattle.sip_location.specs.Registration.{seconds_for, has_bad_star, is_too_brief, has_old_cseq, bound, after_uri, after_contacts, edited, asks_nothing, registered}
 use Rattle.sip_location.specs.Refreshing.{semicolons, IsContactOf, IsAskedAgain, IsMade}
 use Rattle.sip_location.proofs.Older.{none_of_call}
@@ -131,7 +131,7 @@ few_names text u written few =
 unmarked_not_blank : (b : ℕ) → is_unmarked b ≡ true → is_blank b ≡ false
 unmarked_not_blank b e = rw (differs is_unmarked 32 refl b e, differs is_unmarked 9 refl b e) refl
 
-pub contact_is : (value rest text behind : List ℕ) (parameters : List Parameter) → value ≡ 60 ∷ rest → rest ≡ text ++ 62 ∷ behind → IsUriText text
+pub contact_is : (value rest text behind : List ℕ) (parameters : List HeaderParameter) → value ≡ 60 ∷ rest → rest ≡ text ++ 62 ∷ behind → IsUriText text
     → semicolons text ≤ 1 → Some parameters ≡ behind_bracket (parts_at 59 behind) → IsContactOf value text parameters
 contact_is value rest text behind parameters opens closes is few are =
     let u : Uri = uri_in text in
@@ -143,7 +143,7 @@ contact_is value rest text behind parameters opens closes is few are =
     let closed : split_outside 62 rest ≡ Some (text, behind) = ap (split_outside 62) closes ∙ through is_unmarked 62 text behind refl refl all in
     let read : uri_by (trimmed text) (reading_of (trimmed text)) ≡ Some (Sip u) = ap (λ (w : List ℕ). uri_by w (reading_of w)) trim ∙ ap (uri_by text) is.reads in
     let address : name_addr_of value ≡ Some (record { uri = Sip u; parameters = parameters }) = ap (name_addr_by value) opened ∙ ap bracketed_by closed
-    ∙ ap (λ (o : Option (List Parameter)). with_parameters o (uri_by (trimmed text) (reading_of (trimmed text)))) (sym are)
+    ∙ ap (λ (o : Option (List HeaderParameter)). with_parameters o (uri_by (trimmed text) (reading_of (trimmed text)))) (sym are)
     ∙ ap (with_parameters (Some parameters)) read in
     let not_star : bytes_eq value (codes "*") ≡ false = ap (λ (w : List ℕ). bytes_eq w (codes "*")) opens in
     record {
@@ -152,7 +152,7 @@ contact_is value rest text behind parameters opens closes is few are =
     }
 
 -- the same of a value that was cut
-pub contact_cut : (value rest front end text behind : List ℕ) (parameters : List Parameter) → value ≡ 60 ∷ rest → rest ≡ front ++ end → front ≡ text
+pub contact_cut : (value rest front end text behind : List ℕ) (parameters : List HeaderParameter) → value ≡ 60 ∷ rest → rest ≡ front ++ end → front ≡ text
     → end ≡ 62 ∷ behind → IsUriText text → semicolons text ≤ 1 → Some parameters ≡ behind_bracket (parts_at 59 behind) → IsContactOf value text parameters
 contact_cut value rest front end text behind parameters opens cut same closes is few are =
     contact_is value rest text behind parameters opens (cut ∙ ap (λ (w : List ℕ). w ++ end) same ∙ ap (λ (w : List ℕ). text ++ w) closes) is few are
@@ -169,7 +169,7 @@ not_brief seconds le = grind (arith, nat_tests)
 not_zero : (seconds : ℕ) → 60 ≤ seconds → (seconds == 0) ≡ false
 not_zero seconds le = grind (arith, nat_tests)
 
-module _ (r : Registration) (row : KeptBinding) (now : ℕ) (uri : Uri) (parameters : List Parameter) (seconds : ℕ)
+module _ (r : Registration) (row : KeptBinding) (now : ℕ) (uri : Uri) (parameters : List HeaderParameter) (seconds : ℕ)
     (contacts : r.contacts ≡ Address (record { uri = Sip uri; parameters = parameters }) ∷ [])
     (lives : nat_lt now row.expires_at ≡ true)
     (granted_so : seconds ≡ seconds_for (Address (record { uri = Sip uri; parameters = parameters })) r.expires) (long : 60 ≤ seconds)
@@ -213,7 +213,7 @@ kept_so : (text call_id : List ℕ) (cseq expires_at : ℕ) → kept_in (text ++
     ≡ record { uri = uri_in text; call_id = call_id; cseq = cseq; expires_at = expires_at }
 kept_so text call_id cseq expires_at = rw (take-append_seam text call_id, drop-append_seam text call_id) refl
 
-pub asked : (r : Registration) (contact text : List ℕ) (b : Binding) (now seconds : ℕ) (parameters : List Parameter) → nat_lt now b.expires_at ≡ true
+pub asked : (r : Registration) (contact text : List ℕ) (b : Binding) (now seconds : ℕ) (parameters : List HeaderParameter) → nat_lt now b.expires_at ≡ true
     → is_of_call r b ≡ false → IsContactOf contact text parameters → uri_in text ≡ b.uri
     → seconds ≡ granted (own_or (parameters_expires parameters) r.expires) → 60 ≤ seconds → IsAskedAgain r contact text b now seconds
 asked r contact text b now seconds parameters lives not_newer is uri granted_so long = record {

@@ -10,7 +10,7 @@ pub mod Registering
 pub mod Sameness
 pub mod Locations
 pub mod Code
-pub mod Filed
-pub mod FiledAor
+pub mod AorBindings
+pub mod KeptAor
 pub mod Alive
 pub mod Refreshing

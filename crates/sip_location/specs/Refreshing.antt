@@ -3,7 +3,7 @@ use Rattle.std.specs.Prelude.{◌≡◌, ◌≤◌, ◌==◌, ℕ, suc, true, fa
 use Rattle.std.specs.Str.{byte}
 use Rattle.std.specs.List.{filter_map}
 use Rattle.sip_uri_equality.specs.Equality.{names_say_different}
-use Rattle.sip_header.specs.declared.parameters.Parameter.{Parameter}
+use Rattle.sip_header.specs.declared.parameters.HeaderParameter.{HeaderParameter}
 use Rattle.sip_header.specs.declared.name_addr.AnyUri.TheVariants.{Sip}
 use Rattle.sip_header.specs.declared.contact_item.ContactItem.TheVariants.{Address}
 use Rattle.sip_header.specs.ContactItem.{contact_of}
@@ -12,7 +12,7 @@ use Rattle.sip_location.specs.declared.registration.Refresh.{Refresh}
 use Rattle.sip_location.specs.declared.registration.Registration.{Registration}
 use Rattle.sip_location.specs.Newer.{is_of_call}
 use Rattle.sip_location.specs.KeptBinding.{KeptBinding, uri_in}
-use Rattle.sip_location.specs.Filed.{bindings_of}
+use Rattle.sip_location.specs.AorBindings.{bindings_of}
 use Rattle.sip_location.specs.Registration.{seconds_for, edited, registered}
 
 -- what a REGISTER asks for whose only Contact has this value
@@ -32,14 +32,14 @@ semicolons (b ∷ bs) = if b == byte ";" then suc (semicolons bs) else semicolon
 
 -- A value of Contact is the URI of a text in brackets, and these parameters behind them; no two parameters of the URI have one name, so that it
 -- equals itself (RFC 3261 19.1.4).
-pub record IsContactOf (value text : List ℕ) (parameters : List Parameter) : Type 0 where
+pub record IsContactOf (value text : List ℕ) (parameters : List HeaderParameter) : Type 0 where
   pub is_contact : contact_of value ≡ Some (Address (record { uri = Sip (uri_in text); parameters = parameters }))
   pub names_differ : names_say_different (uri_in text).parameters ≡ true
 
 -- A binding is asked for again by the value of a Contact, for so many seconds, a minute at least: it lives, was made by nothing newer, and has the URI
 -- of this text.
 pub record IsAskedAgain (r : Registration) (contact text : List ℕ) (b : Binding) (now seconds : ℕ) : Type 0 where
-  pub parameters : List Parameter
+  pub parameters : List HeaderParameter
   pub lives : nat_lt now b.expires_at ≡ true
   pub not_newer : is_of_call r b ≡ false
   pub has_contact : IsContactOf contact text parameters

@@ -3,7 +3,7 @@ ghost use Rattle.sip_uri.specs.Uri.{text_of};
 ghost use Rattle.sip_location.specs.KeptBinding.{uri_in, IsUriText};
 
 use crate::aor_ref::AorRef;
-use crate::row::Row;
+use crate::row::BindingRow;
 use sip_text::Bytes;
 use sip_uri::{Aor, Uri};
 use std::marker::Model;
@@ -36,7 +36,7 @@ impl Drop for Binding {
 #[derive(Drop)]
 pub struct BindingRef<'a> {
     aor: AorRef<'a>,
-    row: &'a Row,
+    row: &'a BindingRow,
 }
 
 impl<'a> Model for BindingRef<'a> {
@@ -51,7 +51,7 @@ impl<'a> Model for BindingRef<'a> {
 impl<'a> BindingRef<'a> {
     ghost use Rattle.sip_location.specs.KeptBinding.{binding_of};
 
-    pub(crate) fn new(aor: AorRef<'a>, row: &'a Row) -> Self
+    pub(crate) fn new(aor: AorRef<'a>, row: &'a BindingRow) -> Self
         ensures { result ≡ binding_of aor.entry row.now }
     {
         BindingRef { aor, row }

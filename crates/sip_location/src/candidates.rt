@@ -5,8 +5,8 @@ ghost use Rattle.std.specs.List.{list_any, position_or_len};
 ghost use Rattle.sip_uri_equality.specs.Equality as Equality;
 ghost use Rattle.sip_location.specs.Binding.{without_contact, put};
 
-use crate::candidate::Candidate;
-use crate::standing::Standing;
+use crate::candidate_binding::CandidateBinding;
+use crate::read_binding::ReadBinding;
 use sip_uri_equality::Ordered;
 use std::alloc::{AllocError, Global};
 use std::marker::Model;
@@ -14,7 +14,7 @@ use std::marker::Model;
 /// The bindings that an address of record may have after a REGISTER, in their order.
 #[derive(Drop)]
 pub(crate) struct Candidates<'a> {
-    list: Vec<Candidate<'a>>,
+    list: Vec<CandidateBinding<'a>>,
 }
 
 impl<'a> Model for Candidates<'a> {
@@ -28,14 +28,14 @@ impl<'a> Model for Candidates<'a> {
 
 impl<'a> Candidates<'a> {
     /// The bindings that stand.
-    pub(crate) fn of(alloc: Global, bindings: &'a [Standing<'_>]) -> Result<Self, AllocError>
+    pub(crate) fn of(alloc: Global, bindings: &'a [ReadBinding<'_>]) -> Result<Self, AllocError>
         ensures { IfOk result (λ candidates. candidates ≡ bindings.now) }
     {
         let list = lent(alloc, bindings)?;
         Ok(Candidates { list })
     }
 
-    pub(crate) fn as_slice(&self) -> &[Candidate<'a>]
+    pub(crate) fn as_slice(&self) -> &[CandidateBinding<'a>]
         ensures { result.now ≡ self.now }
     {
         self.list.as_slice()
@@ -57,14 +57,17 @@ impl<'a> Candidates<'a> {
 
     /// Puts a binding into the place of the first whose contact is equal to its own, or last; the others that
     /// are equal go.
-    pub(crate) fn put(&mut self, binding: Candidate<'a>) -> Result<(), AllocError>
+    pub(crate) fn put(&mut self, binding: CandidateBinding<'a>) -> Result<(), AllocError>
         ensures { OnOk result (self.new ≡ put binding.entry self.old) }
     {
         put_in_place(&mut self.list, binding)
     }
 }
 
-fn lent<'a>(alloc: Global, bindings: &'a [Standing<'_>]) -> Result<Vec<Candidate<'a>>, AllocError>
+fn lent<'a>(
+    alloc: Global,
+    bindings: &'a [ReadBinding<'_>],
+) -> Result<Vec<CandidateBinding<'a>>, AllocError>
     ensures { IfOk result (λ candidates. candidates.items ≡ bindings.now) }
 {
     let mut list = Vec::with_capacity(alloc, bindings.len().saturating_add(1))?;
@@ -74,14 +77,14 @@ fn lent<'a>(alloc: Global, bindings: &'a [Standing<'_>]) -> Result<Vec<Candidate
     Ok(list)
 }
 
-fn remove_equal(list: &mut Vec<Candidate<'_>>, uri: &Ordered<'_>)
+fn remove_equal(list: &mut Vec<CandidateBinding<'_>>, uri: &Ordered<'_>)
     ensures { list.new.items ≡ without_contact uri.now list.old.items }
 {
     list.retain(|binding| !binding.uri().same(uri));
 }
 
 /// The place of the first binding whose contact is equal to a URI; where there is none, their number.
-fn place_of(bindings: &[Candidate<'_>], uri: &Ordered<'_>) -> usize
+fn place_of(bindings: &[CandidateBinding<'_>], uri: &Ordered<'_>) -> usize
     ensures { result ≡ position_or_len (λ b. Equality.same b.uri uri.now) bindings.now }
 {
     for (i, binding) in bindings.iter().enumerate() {
@@ -93,7 +96,7 @@ fn place_of(bindings: &[Candidate<'_>], uri: &Ordered<'_>) -> usize
 }
 
 /// Whether a binding among some has a contact that is equal to a URI.
-fn any_is_equal(bindings: &[Candidate<'_>], uri: &Ordered<'_>) -> bool
+fn any_is_equal(bindings: &[CandidateBinding<'_>], uri: &Ordered<'_>) -> bool
     ensures { result ≡ list_any (λ b. Equality.same b.uri uri.now) bindings.now }
 {
     bindings.iter().any(|binding| binding.uri().same(uri))
@@ -102,9 +105,9 @@ fn any_is_equal(bindings: &[Candidate<'_>], uri: &Ordered<'_>) -> bool
 /// Puts a binding into the place of the first whose contact is equal to its own; the others that are equal go, but
 /// mostly there is none.
 fn put_at<'a>(
-    list: &mut Vec<Candidate<'a>>,
+    list: &mut Vec<CandidateBinding<'a>>,
     place: usize,
-    binding: Candidate<'a>,
+    binding: CandidateBinding<'a>,
 ) -> Result<(), AllocError>
     requires first { place ≡ position_or_len (λ b. Equality.same b.uri binding.uri) list.old.items }
     requires within { place < length list.old.items }
@@ -120,7 +123,10 @@ fn put_at<'a>(
 }
 
 /// Puts a binding among others, each of which is compared with it once, unless several are equal to it.
-fn put_in_place<'a>(list: &mut Vec<Candidate<'a>>, binding: Candidate<'a>) -> Result<(), AllocError>
+fn put_in_place<'a>(
+    list: &mut Vec<CandidateBinding<'a>>,
+    binding: CandidateBinding<'a>,
+) -> Result<(), AllocError>
     ensures { OnOk result (list.new.items ≡ put binding.entry list.old.items) }
 {
     let place = place_of(list, binding.uri());

@@ -6,7 +6,7 @@ ghost use Rattle.sip_uri.specs.Uri.{IsValid};
 ghost use Rattle.sip_location.specs.ReadContacts.{IsValidUri, IsValidContact};
 ghost use Rattle.sip_location.specs.Registration as Definitions;
 
-use crate::candidate::Candidate;
+use crate::candidate_binding::CandidateBinding;
 use crate::candidates::Candidates;
 use crate::interval::seconds_for;
 use crate::registration::Registration;
@@ -34,7 +34,7 @@ fn apply_uri<'a>(
         bindings.remove(&uri);
         return Ok(());
     }
-    bindings.put(Candidate::bound(request, now, uri, seconds))
+    bindings.put(CandidateBinding::bound(request, now, uri, seconds))
 }
 
 /// Does the same for a URI of any scheme. One of another than `sip` and `sips` leaves the bindings as they are.

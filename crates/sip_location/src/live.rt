@@ -1,23 +1,23 @@
 ghost use Rattle.std.specs.Prelude.{◌≡◌, ◌∷◌, [], IfSome, IfNone};
 ghost use Rattle.sip_location.specs.Binding.{is_live};
-ghost use Rattle.sip_location.specs.Filed.{bindings_of};
+ghost use Rattle.sip_location.specs.AorBindings.{bindings_of};
 
 use crate::aor_ref::AorRef;
 use crate::binding::BindingRef;
-use crate::row::Row;
+use crate::row::BindingRow;
 use std::marker::Model;
 
 /// Bindings of an address of record in their order, lent as they are kept: those that are left to be given.
 #[derive(Drop)]
 pub struct Bindings<'a> {
     aor: AorRef<'a>,
-    rows: &'a [Row],
+    rows: &'a [BindingRow],
 }
 
 impl<'a> Model for Bindings<'a> {
     ghost use Rattle.std.specs.Prelude.{List};
     ghost use Rattle.sip_location.specs.declared.binding.Binding.{Binding};
-    ghost use Rattle.sip_location.specs.Filed.{bindings_of};
+    ghost use Rattle.sip_location.specs.AorBindings.{bindings_of};
 
     ghost Value = { List Binding };
 
@@ -25,7 +25,7 @@ impl<'a> Model for Bindings<'a> {
 }
 
 impl<'a> Bindings<'a> {
-    pub(crate) fn new(aor: AorRef<'a>, rows: &'a [Row]) -> Self
+    pub(crate) fn new(aor: AorRef<'a>, rows: &'a [BindingRow]) -> Self
         ensures { result ≡ bindings_of aor.entry rows.now }
     {
         Bindings { aor, rows }

@@ -1,5 +1,5 @@
 //! The calls of the registrar: bindings are looked up, a REGISTER is planned, and its plan is taken (RFC 3261 10.3 steps 6 to 8).
-//! Who may register or list is decided before (`sip_core`).
+//! Who may register or list is decided before (`sip_verdict`).
 ghost use Rattle.std.specs.Prelude.{◌≡◌, ◌≤◌, ◌<◌, ◌^◌, ℕ, List, [], true, false, nat_lt, length, filter, Ok, IsOk, IfOk, IfErr, IfSome, OnOk, OnErr};
 ghost use Rattle.sip_uri.specs.declared.aor.Aor.{Aor};
 ghost use Rattle.sip_uri.specs.Aor.{is_same_aor};
@@ -7,27 +7,27 @@ ghost use Rattle.sip_location.specs.declared.binding.Binding.{Binding};
 ghost use Rattle.sip_location.specs.declared.error.LocationError.TheVariants.{NoMemory};
 ghost use Rattle.sip_location.specs.declared.registration.Registration.{Registration};
 ghost use Rattle.sip_location.specs.Binding.{live};
-ghost use Rattle.sip_location.specs.Filed.{bindings_of};
+ghost use Rattle.sip_location.specs.AorBindings.{bindings_of};
 ghost use Rattle.sip_location.specs.Locations.{of_aor, IsPlan, IsRefusal};
 ghost use Rattle.sip_location.specs.Registration.{edited, registered};
 ghost use Rattle.sip_location.specs.Refreshing.{asked_by};
 ghost use Rattle.sip_location.specs.Sameness.{SameBindings, SameOutcome};
 
+use crate::aor_bindings::AorBindings;
 use crate::aor_ref::AorRef;
+use crate::binding_table::BindingTable;
 use crate::candidates::Candidates;
 use crate::edits::apply_contacts;
 use crate::error::LocationError;
-use crate::filed::Filed;
-use crate::filed_aor::FiledAor;
-use crate::filing::Filing;
+use crate::kept_aor::KeptAor;
 use crate::live::{Bindings, LiveBindings};
-use crate::plan::Plan;
+use crate::plan::RegisterPlan;
+use crate::read_binding::{ReadBinding, is_live_row, standing_of};
 use crate::refreshing::refreshed;
 use crate::refusals::{has_bad_star, has_old_cseq, is_too_brief};
 use crate::registration::{Refresh, Registration};
-use crate::row::Row;
-use crate::rows::Rows;
-use crate::standing::{Standing, is_live_row, standing_of};
+use crate::row::BindingRow;
+use crate::rows::BindingRows;
 use sip_uri::Aor;
 use std::alloc::{AllocError, Global};
 use std::marker::Model;
@@ -40,7 +40,7 @@ const MOST: usize = 16;
 /// handed in, in milliseconds.
 #[derive(Drop)]
 pub struct Locations {
-    filing: Filing,
+    filing: BindingTable,
 }
 
 impl Model for Locations {
@@ -57,7 +57,7 @@ impl Locations {
         ensures ok { IfOk result (λ locations. locations.rows ≡ []) }
         ensures refused { IfErr result (λ e. e ≡ NoMemory) }
     {
-        let filing = Filing::new(alloc);
+        let filing = BindingTable::new(alloc);
         Ok(Locations { filing })
     }
 
@@ -92,7 +92,11 @@ impl Locations {
     /// What a REGISTER is to make of the bindings of its address of record (RFC 3261 10.3). It changes no binding, and
     /// makes the room that [`Locations::apply`] uses. Refused with BadStar, TooBrief, OldCSeq or TooMany, in this order;
     /// with NoMemory, possibly in place of any other answer, where memory runs out. Moments are below 2^62.
-    pub fn plan(&mut self, request: &Registration<'_>, now: u64) -> Result<Plan, LocationError>
+    pub fn plan(
+        &mut self,
+        request: &Registration<'_>,
+        now: u64,
+    ) -> Result<RegisterPlan, LocationError>
         requires { now < 2 ^ 62 }
         ensures plan { IfOk result (IsPlan self.old.rows request.now now) }
         ensures refused { IfErr result (IsRefusal self.old.rows request.now now) }
@@ -102,10 +106,10 @@ impl Locations {
         let alloc = self.filing.alloc();
         let kept = self.filing.rows_of(&request.aor);
         let rows = planned(alloc, kept, &*request, now)?;
-        let aor = FiledAor::of(alloc, &request.aor)?;
+        let aor = KeptAor::of(alloc, &request.aor)?;
         self.filing.reserve_one()?;
-        Ok(Plan {
-            filed: Filed { aor, rows },
+        Ok(RegisterPlan {
+            filed: AorBindings { aor, rows },
         })
     }
 
@@ -116,7 +120,7 @@ impl Locations {
         &mut self,
         request: &Refresh<'_>,
         now: u64,
-    ) -> Result<Option<Plan>, AllocError>
+    ) -> Result<Option<RegisterPlan>, AllocError>
         requires { now < 2 ^ 62 }
         ensures plan { IfOk result (λ made. IfSome made (IsPlan self.old.rows (asked_by request.now) now)) }
         ensures unchanged { self.new.rows ≡ self.old.rows }
@@ -127,23 +131,23 @@ impl Locations {
         let Some(rows) = refreshed(alloc, kept, request, now)? else {
             return Ok(None);
         };
-        let aor = FiledAor::of(alloc, request.aor)?;
+        let aor = KeptAor::of(alloc, request.aor)?;
         self.filing.reserve_one()?;
-        Ok(Some(Plan {
-            filed: Filed { aor, rows },
+        Ok(Some(RegisterPlan {
+            filed: AorBindings { aor, rows },
         }))
     }
 
     /// Gives the address of record of a plan its bindings, in place of all that it has. Takes no memory: `plan` made the
     /// room.
-    pub fn apply(&mut self, plan: Plan)
+    pub fn apply(&mut self, plan: RegisterPlan)
         requires { 1 ≤ self.old.room }
         ensures own { of_aor plan.aor self.new.rows ≡ plan.bindings }
         ensures others { (other : Aor) → is_same_aor other plan.aor ≡ false → of_aor other self.new.rows ≡ of_aor other self.old.rows }
         ensures registered { (r : Registration) (now : ℕ) → IsPlan self.old.rows r now plan
             → SameOutcome now (Ok self.new.rows) (registered self.old.rows r now) }
     {
-        let Plan { filed } = plan;
+        let RegisterPlan { filed } = plan;
         self.filing.file(filed);
     }
 
@@ -161,7 +165,7 @@ impl Locations {
 }
 
 /// How many of some rows are live.
-fn live_count(rows: &[Row], now: u64) -> usize
+fn live_count(rows: &[BindingRow], now: u64) -> usize
     ensures { result ≡ length (filter (λ kept. nat_lt now kept.expires_at) rows.now) }
 {
     rows.iter().filter(|row| is_live_row(row, now)).count()
@@ -170,7 +174,7 @@ fn live_count(rows: &[Row], now: u64) -> usize
 /// The bindings that an address of record is to have, made of those that stand.
 fn edited<'a>(
     alloc: Global,
-    standing: &'a [Standing<'_>],
+    standing: &'a [ReadBinding<'_>],
     request: &'a Registration<'_>,
     now: u64,
 ) -> Result<Candidates<'a>, LocationError>
@@ -202,10 +206,10 @@ fn edited<'a>(
 /// What is to be kept of an address of record, made of what is kept.
 fn planned<'a>(
     alloc: Global,
-    rows: &'a [Row],
+    rows: &'a [BindingRow],
     request: &'a Registration<'_>,
     now: u64,
-) -> Result<Rows, LocationError>
+) -> Result<BindingRows, LocationError>
     requires { now < 2 ^ 62 }
     ensures plan { IfOk result (λ planned. IsOk (registered (bindings_of request.now.aor rows.now) request.now now)
         × (bindings_of request.now.aor planned ≡ edited (bindings_of request.now.aor rows.now) request.now now)) }
@@ -213,6 +217,6 @@ fn planned<'a>(
 {
     let standing = standing_of(alloc, &request.aor, rows, now)?;
     let bindings = edited(alloc, standing.as_slice(), &*request, now)?;
-    let rows = Rows::of(alloc, bindings.as_slice())?;
+    let rows = BindingRows::of(alloc, bindings.as_slice())?;
     Ok(rows)
 }

@@ -10,16 +10,16 @@ ghost use Rattle.sip_location.specs.Newer as Newer;
 ghost use Rattle.sip_location.specs.Refreshing.{asked_by, semicolons, IsContactOf, IsAskedAgain, IsMade};
 
 use crate::interval::{MINUTE, granted, own_or};
+use crate::read_binding::is_live_row;
 use crate::registration::Refresh;
-use crate::row::Row;
-use crate::rows::Rows;
-use crate::standing::is_live_row;
+use crate::row::BindingRow;
+use crate::rows::BindingRows;
 use sip_header::{Parameters, parameters_behind_bracket, parameters_expires};
 use sip_text::{same_bytes, split_once};
 use std::alloc::{AllocError, Global};
 
 /// The row of the only binding that is kept.
-fn only_row(rows: &[Row]) -> Option<&Row>
+fn only_row(rows: &[BindingRow]) -> Option<&BindingRow>
     ensures { IfSome result (λ row. rows.now ≡ row.now ∷ []) }
 {
     let (row, others) = rows.split_first()?;
@@ -71,14 +71,14 @@ fn behind_contact_of<'v>(value: &'v [u8], text: &[u8]) -> Option<Parameters<'v>>
 }
 
 /// Whether a binding was made in the same Call-ID by a CSeq that isn't lower.
-fn is_of_call(row: &Row, request: &Refresh<'_>) -> bool
+fn is_of_call(row: &BindingRow, request: &Refresh<'_>) -> bool
     ensures { result ≡ Newer.is_of_call (asked_by request.now) (binding_of request.now.aor.now row.now) }
 {
     same_bytes(row.call_id(), request.call_id) && request.cseq <= row.cseq()
 }
 
 /// For how many seconds a REGISTER asks for a binding again, if it does. None says nothing.
-fn asked_again(request: &Refresh<'_>, row: &Row, now: u64) -> Option<u64>
+fn asked_again(request: &Refresh<'_>, row: &BindingRow, now: u64) -> Option<u64>
     ensures asked { IfSome result (IsAskedAgain (asked_by request.now) request.now.contact.now (text_of row.now.uri)
         (binding_of request.now.aor.now row.now) now) }
     ensures small { IfSome result (λ seconds. seconds ≤ 86400) }
@@ -100,10 +100,10 @@ fn asked_again(request: &Refresh<'_>, row: &Row, now: u64) -> Option<u64>
 /// What is to be kept of an address of record whose only binding is asked for again. None says nothing.
 pub(crate) fn refreshed(
     alloc: Global,
-    rows: &[Row],
+    rows: &[BindingRow],
     request: &Refresh<'_>,
     now: u64,
-) -> Result<Option<Rows>, AllocError>
+) -> Result<Option<BindingRows>, AllocError>
     requires { now < 2 ^ 62 }
     ensures { IfOk result (λ made. IfSome made (IsMade rows.now (asked_by request.now) now)) }
 {
@@ -115,6 +115,6 @@ pub(crate) fn refreshed(
     };
     let expires_at = now + 1000 * seconds;
     let text = row.uri_text();
-    let row = Row::new(alloc, text, request.call_id, request.cseq, expires_at)?;
-    Ok(Some(Rows::one(alloc, row)?))
+    let row = BindingRow::new(alloc, text, request.call_id, request.cseq, expires_at)?;
+    Ok(Some(BindingRows::one(alloc, row)?))
 }

@@ -6,7 +6,7 @@ ghost use Rattle.std.specs.List.{list_any};
 ghost use Rattle.sip_header.specs.NameAddr.{sip_uri};
 ghost use Rattle.sip_location.specs.Registration as Definitions;
 
-use crate::candidate::Candidate;
+use crate::candidate_binding::CandidateBinding;
 use crate::interval::{is_brief, is_zero, seconds_for};
 use crate::registration::Registration;
 use sip_header::{AnyUri, ContactItem, Expires};
@@ -70,13 +70,13 @@ pub(crate) fn is_too_brief(request: &Registration<'_>) -> bool
 }
 
 /// Whether a binding was made in the same Call-ID by a CSeq that isn't lower.
-fn is_of_call(binding: &Candidate<'_>, request: &Registration<'_>) -> bool
+fn is_of_call(binding: &CandidateBinding<'_>, request: &Registration<'_>) -> bool
     ensures { result ≡ is_of_call request.now binding.now }
 {
     same_bytes(binding.call_id(), request.call_id.as_slice()) && request.cseq <= binding.cseq()
 }
 
-fn any_of_call(bindings: &[Candidate<'_>], request: &Registration<'_>) -> bool
+fn any_of_call(bindings: &[CandidateBinding<'_>], request: &Registration<'_>) -> bool
     ensures { result ≡ list_any (is_of_call request.now) bindings.now }
 {
     bindings.iter().any(|binding| is_of_call(binding, request))
@@ -84,7 +84,7 @@ fn any_of_call(bindings: &[Candidate<'_>], request: &Registration<'_>) -> bool
 
 /// Whether such a binding's contact is equal to a URI.
 fn any_equal_of_call(
-    bindings: &[Candidate<'_>],
+    bindings: &[CandidateBinding<'_>],
     request: &Registration<'_>,
     uri: &Ordered<'_>,
 ) -> bool
@@ -98,7 +98,7 @@ fn speaks_of_newer(
     alloc: Global,
     contact: &ContactItem<'_>,
     request: &Registration<'_>,
-    bindings: &[Candidate<'_>],
+    bindings: &[CandidateBinding<'_>],
 ) -> Result<bool, AllocError>
     ensures { IfOk result (λ speaks. speaks ≡ list_any (λ b. is_of_call request.now b && Definitions.speaks_of b contact.now) bindings.now) }
 {
@@ -120,7 +120,7 @@ fn any_speaks_of_newer(
     alloc: Global,
     contacts: &[ContactItem<'_>],
     request: &Registration<'_>,
-    bindings: &[Candidate<'_>],
+    bindings: &[CandidateBinding<'_>],
 ) -> Result<bool, AllocError>
     ensures { IfOk result
         (λ speaks. speaks ≡ list_any (λ c. list_any (λ b. is_of_call request.now b && Definitions.speaks_of b c) bindings.now) contacts.now) }
@@ -138,7 +138,7 @@ fn any_speaks_of_newer(
 pub(crate) fn has_old_cseq(
     alloc: Global,
     request: &Registration<'_>,
-    bindings: &[Candidate<'_>],
+    bindings: &[CandidateBinding<'_>],
 ) -> Result<bool, AllocError>
     ensures { IfOk result (λ old. old ≡ Definitions.has_old_cseq request.now bindings.now) }
 {

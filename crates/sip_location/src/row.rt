@@ -13,14 +13,14 @@ use std::marker::Model;
 /// A binding as it is kept under its address of record: in one block of memory the text of its URI, and behind it the
 /// Call-ID.
 #[derive(Drop)]
-pub(crate) struct Row {
+pub(crate) struct BindingRow {
     block: BoxedSlice<u8, Global>,
     expires_at: u64,
     uri_length: u32,
     cseq: u32,
 }
 
-impl Model for Row {
+impl Model for BindingRow {
     ghost use Rattle.std.specs.Prelude.{◌≤◌, length, take};
     ghost use Rattle.std.specs.Box.{boxed_slice_items};
     ghost use Rattle.sip_location.specs.KeptBinding.{KeptBinding, kept_in, IsUriText};
@@ -32,7 +32,7 @@ impl Model for Row {
     ghost invariant = { λ r. (r.uri_length ≤ length (boxed_slice_items r.block)) × IsUriText (take r.uri_length (boxed_slice_items r.block)) };
 }
 
-impl Row {
+impl BindingRow {
     ghost use Rattle.sip_location.specs.KeptBinding.{kept_in};
 
     /// The row of the text of a URI, a Call-ID and two numbers. A text of 4 GiB or more, which no datagram brings, is
@@ -43,13 +43,13 @@ impl Row {
         call_id: &[u8],
         cseq: u32,
         expires_at: u64,
-    ) -> Result<Row, AllocError>
+    ) -> Result<BindingRow, AllocError>
         requires { IsUriText text.now }
         ensures { IfOk result (λ row. row ≡ kept_in (text.now ++ call_id.now) (length text.now) cseq expires_at) }
     {
         let uri_length = u32::try_from(text.len()).map_err(|_| AllocError)?;
         let block = joined(alloc, text, call_id)?;
-        Ok(Row {
+        Ok(BindingRow {
             block,
             expires_at,
             uri_length,
@@ -86,14 +86,14 @@ impl Row {
     }
 
     /// Only where another row has its CSeq, and lives as long.
-    fn counts_as(&self, other: &Row) -> bool
+    fn counts_as(&self, other: &BindingRow) -> bool
         ensures { result ≡ true → (self.now.cseq ≡ other.now.cseq) × (self.now.expires_at ≡ other.now.expires_at) }
     {
         self.cseq == other.cseq && self.expires_at == other.expires_at
     }
 
     /// Only where another row says the same. Takes no memory.
-    pub(crate) fn is_same(&self, other: &Row) -> bool
+    pub(crate) fn is_same(&self, other: &BindingRow) -> bool
         ensures { result ≡ true → self.now ≡ other.now }
     {
         if !self.counts_as(other) {

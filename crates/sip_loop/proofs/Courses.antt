@@ -4,14 +4,14 @@ use Rattle.sip_replay_script.specs.EventText.{is_sayable}
 use Rattle.std.proofs.Common.{◌≡◌, ◌≢◌, true, false, ℕ, ◌+◌, List, [], ◌∷◌, ◌++◌, length, length-append, Option, None, Some, refl, sym, ◌∙◌, ap, ap₂, subst, append-nil}
 use Rattle.std.proofs.Common.{append_assoc}
 use Rattle.rand_core.specs.Stream.{Stream}
-use Rattle.sip_loop_link.specs.declared.datagram.Given.{Given}
-use Rattle.sip_loop_link.specs.declared.datagram.Heard.{Heard}
-use Rattle.sip_loop_link.specs.declared.datagram.Sending.{Sending}
+use Rattle.sip_transport.specs.declared.datagram.Given.{Given}
+use Rattle.sip_transport.specs.declared.datagram.HeardDatagram.{HeardDatagram}
+use Rattle.sip_transport.specs.declared.datagram.SendOutcome.{SendOutcome}
 use Rattle.sip_event.specs.declared.event.Event.{Event}
 use Rattle.sip_event.specs.declared.event.StepOut.{StepOut}
 use Rattle.sip_event.specs.declared.packet.Packet.{Packet}
 use Rattle.sip_audit.specs.declared.record.Record.{Record}
-use Rattle.sip_record.specs.Record.{Notes}
+use Rattle.sip_journal.specs.Record.{Notes}
 use Rattle.model_bounds.specs.state.declared.server.Server.{Server}
 use Rattle.model_order.specs.Order.{Standing, queue_from}
 use Rattle.model_bounds.specs.model.Run.{Link, IsRun}
@@ -141,7 +141,8 @@ module _ (server : Server) where
   -- ---- one doing
 
   -- the clock is read
-  pub course_reads : (state : Standing) (m at : ℕ) (h : Option (List (Option Heard))) (g : Option (List Given)) (r r2 : Option (List ℕ)) (w p : Kept) (ws : Stream)
+  pub course_reads : (state : Standing) (m at : ℕ) (h : Option (List (Option HeardDatagram))) (g : Option (List Given)) (r r2 : Option (List ℕ)) (w p : Kept)
+      (ws : Stream)
       → IsToldMore r (at ∷ []) r2
       → Course server state state (between_turns m) (waiting_at (Some at) [] m) (told_by h g r w p ws) (told_by h g r2 w p ws) [] 1 0
   course_reads state m at h g r r2 w p ws told = record {
@@ -163,7 +164,7 @@ module _ (server : Server) where
   }
 
   -- the link is asked
-  pub course_asks : (state : Standing) (m at : ℕ) (turn : Turn) (h h2 : Option (List (Option Heard))) (g : Option (List Given)) (r : Option (List ℕ)) (w p : Kept)
+  pub course_asks : (state : Standing) (m at : ℕ) (turn : Turn) (h h2 : Option (List (Option HeardDatagram))) (g : Option (List Given)) (r : Option (List ℕ)) (w p : Kept)
       (ws ws2 : Stream) → reading_of turn ≡ at
       → h2 ≡ told_more h (heard_of_turn turn ∷ []) → AreDrawn ws (turn ∷ []) ws2
       → Course server state state (waiting_at (Some at) [] m) (asked_at at turn m) (told_by h g r w p ws) (told_by h2 g r w p ws2) [] 0 1
@@ -186,7 +187,7 @@ module _ (server : Server) where
   }
 
   -- a packet is given to the link
-  pub course_sends : (state : Standing) (turn : Option ℕ) (p : Packet) (sending : Sending) (rest : List Packet) (m : ℕ) (h : Option (List (Option Heard)))
+  pub course_sends : (state : Standing) (turn : Option ℕ) (p : Packet) (sending : SendOutcome) (rest : List Packet) (m : ℕ) (h : Option (List (Option HeardDatagram)))
       (g g2 : Option (List Given)) (r : Option (List ℕ)) (w l : Kept) (ws : Stream)
       → g2 ≡ told_more g (record { to = p.to; bytes = p.bytes; sending = sending } ∷ [])
       → Course server state state (waiting_at turn (p ∷ rest) m) (sent_at turn (failing p sending) rest m) (told_by h g r w l ws) (told_by h g2 r w l ws) [] 0 0
@@ -265,7 +266,7 @@ module _ (server : Server) where
     }
 
     -- it was told, and its lines aren't printed
-    pub course_tells : (h : Option (List (Option Heard))) (g : Option (List Given)) (r : Option (List ℕ)) (w w2 l l2 : Kept) (ws : Stream)
+    pub course_tells : (h : Option (List (Option HeardDatagram))) (g : Option (List Given)) (r : Option (List ℕ)) (w w2 l l2 : Kept) (ws : Stream)
         → Notes w.bytes w2.bytes (event_for cause ∷ []) → (w.faulted ≡ false) × (w2.faulted ≡ false) → Prints l.bytes l2.bytes [] → HasFailed l2
         → Course server old new p (unlogged_at p cause outs own) (told_by h g r w l ws) (told_by h g r w2 l2 ws) own.records 0 0
     course_tells h g r w w2 l l2 ws noted whole printed failed = record {
@@ -291,7 +292,8 @@ module _ (server : Server) where
     }
 
     -- and they are
-    pub course_event : (waiting : List Packet) (m : ℕ) (h : Option (List (Option Heard))) (g : Option (List Given)) (r : Option (List ℕ)) (w w2 l l2 : Kept) (ws : Stream)
+    pub course_event : (waiting : List Packet) (m : ℕ) (h : Option (List (Option HeardDatagram))) (g : Option (List Given)) (r : Option (List ℕ)) (w w2 l l2 : Kept)
+        (ws : Stream)
         → waiting ≡ p.waiting ++ packets_of (outs ++ own ∷ []) → m ≡ own.at → Notes w.bytes w2.bytes (event_for cause ∷ []) → (w.faulted ≡ false) × (w2.faulted ≡ false)
         → Prints l.bytes l2.bytes own.records → (own.records ≢ [] → l.faulted ≡ false) → l2.faulted ≡ l.faulted
         → Course server old new p (waiting_at (turn_behind cause p.turn) waiting m) (told_by h g r w l ws) (told_by h g r w2 l2 ws) own.records 0 0

@@ -5,11 +5,11 @@ use Rattle.rand_core.specs.Stream.{Stream}
 use Rattle.sip_event.specs.declared.event.StepOut.{StepOut}
 use Rattle.std.proofs.lemmas.Grind.{flat_map-append}
 use Rattle.sip_audit.specs.declared.record.Record.{Record}
-use Rattle.sip_loop_link.specs.declared.datagram.Given.{Given}
-use Rattle.sip_loop_link.specs.declared.datagram.Heard.{Heard}
-use Rattle.sip_loop_link.specs.Told.{and_counted, and_then, most}
+use Rattle.sip_transport.specs.declared.datagram.Given.{Given}
+use Rattle.sip_transport.specs.declared.datagram.HeardDatagram.{HeardDatagram}
+use Rattle.sip_transport.specs.Told.{and_counted, and_then, most}
 use Rattle.sip_event.specs.declared.event.Event.{Event}
-use Rattle.sip_record.specs.Record.{Notes}
+use Rattle.sip_journal.specs.Record.{Notes}
 use Rattle.sip_loop.specs.Printing.{Prints}
 use Rattle.sip_loop.proofs.Noted.{notes_nothing, notes_both, notes_untold}
 use Rattle.sip_loop.proofs.Printed.{prints_nothing, prints_both}
@@ -88,7 +88,7 @@ told_nothing t = record {
 }
 
 -- a journal that failed tells nothing
-pub told_failed : (h : Option (List (Option Heard))) (g : Option (List Given)) (r : Option (List ℕ)) (w w2 l : Kept) (ws : Stream) → w2.bytes ≡ None
+pub told_failed : (h : Option (List (Option HeardDatagram))) (g : Option (List Given)) (r : Option (List ℕ)) (w w2 l : Kept) (ws : Stream) → w2.bytes ≡ None
     → AreTold (told_by h g r w l ws) (told_by h g r w2 l ws) []
 told_failed h g r w w2 l ws none = record {
   heard = told_none h;

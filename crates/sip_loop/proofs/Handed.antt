@@ -3,15 +3,15 @@ use Rattle.std.proofs.Common.{◌≡◌, ℕ, ◌+◌, ◌≤◌, ◌<◌, ◌^�
 use Rattle.std.proofs.Common.{append-nil}
 use Rattle.std.specs.Prelude.{find, get_or, ◌==◌}
 use Rattle.std.proofs.lemmas.List.{drop_more}
-use Rattle.sip_loop_link.specs.declared.datagram.Given.{Given}
-use Rattle.sip_loop_link.specs.declared.datagram.Sending.TheVariants.{Went, Failed}
-use Rattle.sip_loop_link.specs.Told.{and_then}
+use Rattle.sip_transport.specs.declared.datagram.Given.{Given}
+use Rattle.sip_transport.specs.declared.datagram.SendOutcome.TheVariants.{Went, Failed}
+use Rattle.sip_transport.specs.Told.{and_then}
 use Rattle.sip_event.specs.declared.event.Event.TheVariants.{Fault}
 use Rattle.sip_event.specs.declared.event.StepOut.{StepOut}
 use Rattle.sip_event.specs.declared.packet.Packet.{Packet}
 use Rattle.sip_event.specs.declared.packet.Ticket.{Ticket}
 use Rattle.sip_audit.specs.declared.record.Record.{Record}
-use Rattle.sip_record.specs.Record.{Notes}
+use Rattle.sip_journal.specs.Record.{Notes}
 use Rattle.model_bounds.specs.state.declared.branch.Branch.{Branch}
 use Rattle.model_bounds.specs.state.declared.open_request.OpenRequest.{OpenRequest}
 use Rattle.model_bounds.specs.state.declared.proxy_state.ProxyState.{ProxyState}
@@ -26,8 +26,8 @@ use Rattle.sip_run.specs.engine.StepError.{refusal_at}
 use Rattle.sip_loop.specs.Printing.{Prints}
 use Rattle.sip_loop.specs.Serving.{HasFailed, IsWhy, Kept, MayFail, Point, Told, Unsent, untold_in}
 use Rattle.sip_loop.specs.Courses.{Breaks, Course, IsNoFurther, IsThrough, Others, TakesFault, told_with, waiting_at}
-use Rattle.sip_loop.specs.declared.served.ServeError.{ServeError}
-use Rattle.sip_loop.specs.declared.served.ServeError.TheVariants as refusals
+use Rattle.sip_loop.specs.declared.serve_error.ServeError.{ServeError}
+use Rattle.sip_loop.specs.declared.serve_error.ServeError.TheVariants as refusals
 use Rattle.sip_loop.proofs.Courses.{course_event, course_nothing, course_on, course_sends, course_takes, sent_at, taken_at}
 use Rattle.sip_loop.proofs.FaultsLeaveNone.{FaultLeaves, fault_leaves_none}
 use Rattle.sip_loop.proofs.Gathering.{told_failed, told_one}

@@ -2,8 +2,8 @@
 use Rattle.std.proofs.Common.{◌≡◌, ℕ, List, [], ◌++◌, Option, None, sym, subst}
 use Rattle.sip_event.specs.declared.event.Event.{Event}
 use Rattle.sip_replay_script.proofs.RecordTexts.{record_all}
-use Rattle.sip_record.specs.Record.{Notes}
-use Rattle.sip_record.proofs.Noting.{notes_nothing as nothing_noted, notes_both as both_noted}
+use Rattle.sip_journal.specs.Record.{Notes}
+use Rattle.sip_journal.proofs.Noting.{notes_nothing as nothing_noted, notes_both as both_noted}
 
 pub notes_nothing : (old : Option (Option (List ℕ))) → Notes old old []
 notes_nothing = nothing_noted

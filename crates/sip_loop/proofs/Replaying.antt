@@ -1,7 +1,7 @@
 -- What was served, as a replay takes it.
 use Rattle.std.proofs.Common.{◌≡◌, ℕ, List, [], ◌∷◌, ◌++◌, Option, None, Some, refl, sym, ◌∙◌, ap, subst, append-nil}
 use Rattle.sip_event.specs.declared.event.Event.{Event}
-use Rattle.sip_record.specs.Record.{Notes, NotesText}
+use Rattle.sip_journal.specs.Record.{Notes, NotesText}
 use Rattle.sip_replay_script.proofs.RecordTexts.{record_says}
 use Rattle.sip_replay_script.specs.Events.{SaysEvents}
 use Rattle.model_bounds.specs.state.declared.server.Server.{Server}
@@ -10,7 +10,7 @@ use Rattle.sip_loop.specs.Replays.{ReplaysTo}
 use Rattle.sip_loop.specs.Serving.{AreFaulted, Asked, Asks, Clear, Doing, Fires, IsPath, IsServed, IsUnserved, Logs, Point, Reads, Sends, Serves, Stage, Stopped, Takes}
 use Rattle.sip_loop.specs.Serving.{Tells, Told, Unlogged, Untold}
 use Rattle.sip_loop.specs.Serving.{ahead, between_turns, event_taken, event_told, gathered, steps_taken, untold_in}
-use Rattle.sip_loop.specs.declared.served.ServeError.{ServeError}
+use Rattle.sip_loop.specs.declared.serve_error.ServeError.{ServeError}
 
 -- between two turns no event is left that wasn't taken
 over : (first : Point) (done : List Doing) (m : ℕ) → IsPath first done (between_turns m) → ahead done ≡ None

@@ -3,7 +3,7 @@ use Rattle.std.proofs.Common.{◌≡◌, ◌≢◌, ℕ, ◌≤◌, ◌<◌, ◌
 use Rattle.std.specs.Prelude.{◌&&◌, ◌==◌, nat_le, nat_lt}
 use Rattle.std.proofs.lemmas.Bool.Decides.{nat_tests}
 use Rattle.sip_event.specs.declared.event.Event.TheVariants.{Datagram}
-use Rattle.sip_loop_link.specs.Told.{IsWritable}
+use Rattle.sip_transport.specs.Told.{IsWritable}
 use Rattle.sip_uri.specs.declared.addr.Addr.{Addr}
 use Rattle.sip_replay_script.specs.EventText.{is_moment, is_sayable}
 use Rattle.model_bounds.specs.state.declared.proxy_state.ProxyState.{ProxyState}

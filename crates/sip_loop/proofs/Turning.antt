@@ -2,14 +2,14 @@
 use Rattle.std.proofs.Common.{◌≡◌, ◌≢◌, ◌⊎◌, false, inl, inr, ℕ, ◌+◌, ◌≤◌, ◌<◌, zero, suc, List, [], ◌∷◌, ◌++◌, Option, None, Some, refl, sym, ◌∙◌, ap, subst, arith}
 use Rattle.std.proofs.Common.{append-nil}
 use Rattle.rand_core.specs.Stream.{Stream}
-use Rattle.sip_loop_link.specs.declared.datagram.Given.{Given}
-use Rattle.sip_loop_link.specs.declared.datagram.Heard.{Heard}
-use Rattle.sip_loop_link.specs.Told.{IsWritable, and_then, counted}
+use Rattle.sip_transport.specs.declared.datagram.Given.{Given}
+use Rattle.sip_transport.specs.declared.datagram.HeardDatagram.{HeardDatagram}
+use Rattle.sip_transport.specs.Told.{IsWritable, and_then, counted}
 use Rattle.sip_event.specs.declared.event.Event.TheVariants.{Datagram, Time}
 use Rattle.sip_event.specs.declared.event.StepOut.{StepOut}
 use Rattle.sip_uri.specs.declared.addr.Addr.{Addr}
 use Rattle.sip_audit.specs.declared.record.Record.{Record}
-use Rattle.sip_record.specs.Record.{Notes}
+use Rattle.sip_journal.specs.Record.{Notes}
 use Rattle.model_bounds.specs.state.declared.server.Server.{Server}
 use Rattle.model_bounds.specs.state.declared.proxy_state.ProxyState.{ProxyState}
 use Rattle.model_order.specs.Order.{IsQueueAfter, Standing}
@@ -31,8 +31,8 @@ use Rattle.sip_loop.specs.Serving.{AreInTurn, Arrival, Brought, HasFailed, IsSer
 use Rattle.sip_loop.specs.Serving.{Told, Turn}
 use Rattle.sip_loop.specs.Serving.{behind_word, between_turns, event_of_turn, reading_of, told_by, word_from}
 use Rattle.sip_loop.specs.Courses.{Breaks, BreaksOff, Course, Goes, IsWhyStep, LinkFails, StepFails, TakesTurn, TurnBreaks, TurnGoes, waiting_at}
-use Rattle.sip_loop.specs.declared.served.ServeError.{ServeError}
-use Rattle.sip_loop.specs.declared.served.ServeError.TheVariants as refusals
+use Rattle.sip_loop.specs.declared.serve_error.ServeError.{ServeError}
+use Rattle.sip_loop.specs.declared.serve_error.ServeError.TheVariants as refusals
 use Rattle.sip_loop.proofs.Courses.{asked_at, course_asks, course_event, course_nothing, course_on, course_reads, course_takes, course_tells, taken_at, unlogged_at}
 use Rattle.sip_loop.proofs.Gathering.{told_failed, told_one}
 use Rattle.sip_loop.proofs.Handed.{breaks_on}
@@ -77,7 +77,7 @@ not_journal steps.Worn e = cc
 
 -- ---- a turn's event
 
-pub takes_arrival : (server : Server) (old new : Standing) (at word : ℕ) (from : Addr) (bytes held : List ℕ) (heard heard_now : Option (List (Option Heard)))
+pub takes_arrival : (server : Server) (old new : Standing) (at word : ℕ) (from : Addr) (bytes held : List ℕ) (heard heard_now : Option (List (Option HeardDatagram)))
     (words left : Stream) (out : StepOut) → bytes ≡ held
     → heard_now ≡ and_then heard (Some (record { from = from; bytes = held })) → word ≡ word_from words → left ≡ behind_word words → refusal_of old.state at ≡ None
     → IsWritable from held
@@ -93,7 +93,7 @@ takes_arrival server old new at word from bytes held heard heard_now words left 
   draws = (drawn, behind);
 }
 
-pub takes_silence : (server : Server) (old new : Standing) (at : ℕ) (heard heard_now : Option (List (Option Heard))) (words : Stream) (out : StepOut)
+pub takes_silence : (server : Server) (old new : Standing) (at : ℕ) (heard heard_now : Option (List (Option HeardDatagram))) (words : Stream) (out : StepOut)
     → heard_now ≡ and_then heard None → refusal_at at ≡ None
     → IsStep server old.state (ForEvent (Time at)) out new.state → IsQueueAfter old new → TakesTurn server old at heard heard_now words words (Silence at) out new
 takes_silence server old new at heard heard_now words out told none step queue = record {
@@ -106,7 +106,8 @@ takes_silence server old new at heard heard_now words out told none step queue =
   draws = refl;
 }
 
-pub fails_arrival : (old : ProxyState) (at word : ℕ) (from : Addr) (held : List ℕ) (heard heard_now : Option (List (Option Heard))) (words left : Stream) (e : StepError)
+pub fails_arrival : (old : ProxyState) (at word : ℕ) (from : Addr) (held : List ℕ) (heard heard_now : Option (List (Option HeardDatagram))) (words left : Stream)
+    (e : StepError)
     → heard_now ≡ and_then heard (Some (record { from = from; bytes = held })) → word ≡ word_from words → left ≡ behind_word words
     → (refusal_of old at ≡ None → e ≡ steps.NoMemory)
     → StepFails old at heard heard_now words left (refusal_of_step e)
@@ -118,7 +119,8 @@ fails_arrival old at word from held heard heard_now words left e told drawn behi
   why = why_step (Arrival at (record { from = from; bytes = held }) word) old e refused;
 }
 
-pub fails_silence : (old : ProxyState) (at : ℕ) (heard heard_now : Option (List (Option Heard))) (words : Stream) (e : StepError) → heard_now ≡ and_then heard None
+pub fails_silence : (old : ProxyState) (at : ℕ) (heard heard_now : Option (List (Option HeardDatagram))) (words : Stream) (e : StepError)
+    → heard_now ≡ and_then heard None
     → (refusal_at at ≡ None → e ≡ steps.NoMemory)
     → StepFails old at heard heard_now words words (refusal_of_step e)
 fails_silence old at heard heard_now words e told refused = record {
@@ -141,7 +143,7 @@ in_turn server queue old new (Arrival at heard word) out none not_refused = reco
 
 -- ---- the rest of a turn
 
-module _ (server : Server) (old : Standing) (at : ℕ) (none_due : NothingDueBy (moment_of old.state at) old.state) (h h2 : Option (List (Option Heard)))
+module _ (server : Server) (old : Standing) (at : ℕ) (none_due : NothingDueBy (moment_of old.state at) old.state) (h h2 : Option (List (Option HeardDatagram)))
     (g : Option (List Given)) (r : Option (List ℕ)) (w l : Kept) (ws ws2 : Stream) where
   -- the link failed
   pub turn_unheard : (new : Standing) (e : ServeError) → new ≡ old → LinkFails h h2 ws ws2 e
@@ -149,7 +151,7 @@ module _ (server : Server) (old : Standing) (at : ℕ) (none_due : NothingDueBy 
   turn_unheard new e same fails =
       subst (λ (x : ServeError). TurnBreaks server old new at (told_by h g r w l ws) (told_by h2 g r w l ws2) x) (sym fails.failed)
       (subst (λ (s : Standing). TurnBreaks server old s at (told_by h g r w l ws) (told_by h2 g r w l ws2) refusals.Link) (sym same)
-      (subst (λ (o : Option (List (Option Heard))). TurnBreaks server old old at (told_by h g r w l ws) (told_by o g r w l ws2) refusals.Link) (sym fails.hears)
+      (subst (λ (o : Option (List (Option HeardDatagram))). TurnBreaks server old old at (told_by h g r w l ws) (told_by o g r w l ws2) refusals.Link) (sym fails.hears)
       (subst (λ (s : Stream). TurnBreaks server old old at (told_by h g r w l ws) (told_by h g r w l s) refusals.Link) (sym fails.draws)
       (record {
         to = waiting_at (Some at) [] old.state.moment;
@@ -287,7 +289,8 @@ module _ (server : Server) (old : Standing) (at : ℕ) (none_due : NothingDueBy 
 
 module _ (server : Server) where
   -- the clock was read, and what was due by then happened
-  pub turn_begun : (old middle : Standing) (at : ℕ) (h : Option (List (Option Heard))) (g g2 : Option (List Given)) (r r2 : Option (List ℕ)) (w w2 l : Kept) (ws : Stream)
+  pub turn_begun : (old middle : Standing) (at : ℕ) (h : Option (List (Option HeardDatagram))) (g g2 : Option (List Given)) (r r2 : Option (List ℕ)) (w w2 l : Kept)
+      (ws : Stream)
       → IsToldMore r (at ∷ []) r2
       → Course server old middle (waiting_at (Some at) [] old.state.moment) (waiting_at (Some at) [] middle.state.moment) (told_by h g r2 w l ws)
       (told_by h g2 r2 w2 l ws) [] 0 0
@@ -297,7 +300,8 @@ module _ (server : Server) where
       (told_by h g r w l ws) (told_by h g r2 w l ws) (told_by h g2 r2 w2 l ws) [] [] 1 0 0 0 tt (course_reads server old old.state.moment at h g r r2 w l ws read) course
 
   -- not all of it
-  pub turn_undue : (old new : Standing) (at : ℕ) (h : Option (List (Option Heard))) (g g2 : Option (List Given)) (r r2 : Option (List ℕ)) (w w2 l : Kept) (ws : Stream)
+  pub turn_undue : (old new : Standing) (at : ℕ) (h : Option (List (Option HeardDatagram))) (g g2 : Option (List Given)) (r r2 : Option (List ℕ)) (w w2 l : Kept)
+      (ws : Stream)
       (e : ServeError) → IsToldMore r (at ∷ []) r2
       → Breaks server old new (waiting_at (Some at) [] old.state.moment) (told_by h g r2 w l ws) (told_by h g2 r2 w2 l ws) 0 e
       → Breaks server old new (between_turns old.state.moment) (told_by h g r w l ws) (told_by h g2 r2 w2 l ws) 1 e

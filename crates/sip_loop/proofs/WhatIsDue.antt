@@ -5,7 +5,7 @@ use Rattle.std.specs.Prelude.{IfSome, IsSome}
 use Rattle.std.specs.List.{AllByRecursion}
 use Rattle.sip_loop.specs.Printing.{Prints}
 use Rattle.std.proofs.lemmas.List.{reverse-append}
-use Rattle.sip_loop_link.specs.declared.datagram.Given.{Given}
+use Rattle.sip_transport.specs.declared.datagram.Given.{Given}
 use Rattle.sip_event.specs.declared.event.Event.{Event}
 use Rattle.sip_event.specs.declared.event.Event.TheVariants.{Time}
 use Rattle.sip_event.specs.declared.event.StepOut.{StepOut}
@@ -27,14 +27,14 @@ use Rattle.model_order.proofs.Along.{queue_next}
 use Rattle.model_order.proofs.Settled.{stays_settled}
 use Rattle.sip_run.specs.Due.{Fires, NothingDueBy}
 use Rattle.sip_run.specs.Refusals.{RefusesStep}
-use Rattle.sip_record.specs.Record.{Notes}
+use Rattle.sip_journal.specs.Record.{Notes}
 use Rattle.sip_loop.specs.ServeErrors.{refusal_of_step}
 use Rattle.sip_run.specs.engine.engine_time.Next.{IsNext}
 use Rattle.sip_loop.specs.Serving.{AreAt, FallsDue, HasFailed, IsWhy, Kept, MayFallDue, Point, Told, packets_of, untold_in}
 use Rattle.sip_loop.specs.Courses.{Breaks, Course, FiresOne, Happens, HappensAll, HappensSome, HappensTo, IsNoFurther, IsWhyDue, LeavesFewer, Others, TakesDue, told_with}
 use Rattle.sip_loop.specs.Courses.{waiting_at}
-use Rattle.sip_loop.specs.declared.served.ServeError.{ServeError}
-use Rattle.sip_loop.specs.declared.served.ServeError.TheVariants as refusals
+use Rattle.sip_loop.specs.declared.serve_error.ServeError.{ServeError}
+use Rattle.sip_loop.specs.declared.serve_error.ServeError.TheVariants as refusals
 use Rattle.sip_loop.proofs.Courses.{course_event, course_fires, course_nothing, course_takes, stopped_at, taken_at}
 use Rattle.sip_loop.proofs.Gathering.{packets_both, records_both, told_failed}
 use Rattle.sip_loop.proofs.Printed.{prints_nothing}

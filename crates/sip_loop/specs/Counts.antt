@@ -1,6 +1,6 @@
 -- How often a link was asked.
 use Rattle.std.specs.Prelude.{ℕ, zero, suc, ◌≡◌, ◌≤◌}
-use Rattle.sip_loop_link.specs.Told.{counted}
+use Rattle.sip_transport.specs.Told.{counted}
 
 -- so many more
 abbrev pub counted_times : ℕ → ℕ → ℕ

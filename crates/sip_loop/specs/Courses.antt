@@ -1,8 +1,8 @@
 -- How serving goes on, piece by piece: what each piece does leads on from what was done before it.
 use Rattle.std.specs.Prelude.{ℕ, ◌≡◌, ◌≢◌, ◌≤◌, ◌+◌, ◌⊎◌, ⊤, true, List, [], ◌∷◌, ◌++◌, length, Option, Some, None, IsSome}
 use Rattle.rand_core.specs.Stream.{Stream}
-use Rattle.sip_loop_link.specs.declared.datagram.Given.{Given}
-use Rattle.sip_loop_link.specs.declared.datagram.Heard.{Heard}
+use Rattle.sip_transport.specs.declared.datagram.Given.{Given}
+use Rattle.sip_transport.specs.declared.datagram.HeardDatagram.{HeardDatagram}
 use Rattle.std.specs.List.{AllByRecursion}
 use Rattle.sip_replay_script.specs.EventText.{is_sayable}
 use Rattle.sip_event.specs.declared.event.Event.{Event}
@@ -25,8 +25,8 @@ use Rattle.sip_loop.specs.Serving.{AreAt, AreDrawn, AreFaulted, AreInTurn, AreTo
 use Rattle.sip_loop.specs.Serving.{Unlogged, Untold}
 use Rattle.sip_loop.specs.Serving.{ahead, between_turns, event_of_turn, event_taken, event_told, gathered, heard_of_turn, moment_read, packets_of, reading_of}
 use Rattle.sip_loop.specs.Serving.{records_logged, records_of, steps_taken, told_more, turn_asked, untold_in}
-use Rattle.sip_loop.specs.declared.served.ServeError.{ServeError}
-use Rattle.sip_loop.specs.declared.served.ServeError.TheVariants.{NoMemory, Journal, Audit, Link as LinkFailed, Step}
+use Rattle.sip_loop.specs.declared.serve_error.ServeError.{ServeError}
+use Rattle.sip_loop.specs.declared.serve_error.ServeError.TheVariants.{NoMemory, Journal, Audit, Link as LinkFailed, Step}
 
 -- ---- pieces
 
@@ -91,7 +91,7 @@ TurnBreaks server old new at before after e = Breaks server old new (waiting_at 
 
 -- what the devices tell that have no part in sending
 pub record Others : Type 0 where
-  pub heard : Option (List (Option Heard))
+  pub heard : Option (List (Option HeardDatagram))
   pub readings : Option (List ℕ)
   pub log : Kept
   pub words : Stream
@@ -110,7 +110,7 @@ told_with others given journal = record {
 -- ---- a turn's event
 
 -- It was asked for and taken: the link heard it, its word was drawn, and the step is its own.
-pub record TakesTurn (server : Server) (old : Standing) (at : ℕ) (heard heard_now : Option (List (Option Heard))) (words left : Stream)
+pub record TakesTurn (server : Server) (old : Standing) (at : ℕ) (heard heard_now : Option (List (Option HeardDatagram))) (words left : Stream)
     (turn : Turn) (out : StepOut) (new : Standing) : Type 0 where
   pub is_at : reading_of turn ≡ at
   pub step : IsStep server old.state (ForEvent (event_of_turn turn)) out new.state
@@ -121,7 +121,7 @@ pub record TakesTurn (server : Server) (old : Standing) (at : ℕ) (heard heard_
   pub draws : AreDrawn words (turn ∷ []) left
 
 -- The link failed, and no word was drawn.
-pub record LinkFails (heard heard_now : Option (List (Option Heard))) (words left : Stream) (e : ServeError) : Type 0 where
+pub record LinkFails (heard heard_now : Option (List (Option HeardDatagram))) (words left : Stream) (e : ServeError) : Type 0 where
   pub failed : e ≡ LinkFailed
   pub hears : heard_now ≡ heard
   pub draws : left ≡ words
@@ -135,7 +135,7 @@ IsWhyStep LinkFailed old turn = ⊥
 IsWhyStep Step old turn = IsSome (refusal_of_event old (event_of_turn turn))
 
 -- The link heard this, and its word was drawn, and the step wasn't taken.
-pub record StepFails (old : ProxyState) (at : ℕ) (heard heard_now : Option (List (Option Heard))) (words left : Stream) (e : ServeError) : Type 0 where
+pub record StepFails (old : ProxyState) (at : ℕ) (heard heard_now : Option (List (Option HeardDatagram))) (words left : Stream) (e : ServeError) : Type 0 where
   pub turn : Turn
   pub is_at : reading_of turn ≡ at
   pub hears : heard_now ≡ told_more heard (heard_of_turn turn ∷ [])

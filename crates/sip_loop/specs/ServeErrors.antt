@@ -4,8 +4,8 @@ use Rattle.sip_run.specs.engine.declared.error.StepError.{StepError}
 use Rattle.sip_run.specs.engine.declared.error.StepError.TheVariants as steps
 use Rattle.sip_loop.specs.declared.audit_log.AuditFault.{AuditFault}
 use Rattle.sip_loop.specs.declared.audit_log.AuditFault.TheVariants as faults
-use Rattle.sip_loop.specs.declared.served.ServeError.{ServeError}
-use Rattle.sip_loop.specs.declared.served.ServeError.TheVariants.{NoMemory, Link, Step, Journal, Audit}
+use Rattle.sip_loop.specs.declared.serve_error.ServeError.{ServeError}
+use Rattle.sip_loop.specs.declared.serve_error.ServeError.TheVariants.{NoMemory, Link, Step, Journal, Audit}
 
 -- this project's profile
 abbrev pub number_of_refusal : ServeError → ℕ

@@ -3,17 +3,17 @@
 use Rattle.std.specs.Prelude.{ℕ, ◌≡◌, ◌≢◌, ◌≤◌, ◌+◌, ◌*◌, ◌^◌, max, ⊤, Bool, true, false, List, [], ◌∷◌, ◌++◌, length, Option, Some, None, IsSome}
 use Rattle.std.specs.List.{flat_map, AllByRecursion}
 use Rattle.rand_core.specs.Stream.{Stream, next_u64}
-use Rattle.sip_loop_link.specs.declared.datagram.Given.{Given}
-use Rattle.sip_loop_link.specs.declared.datagram.Heard.{Heard}
-use Rattle.sip_loop_link.specs.declared.datagram.Sending.{Sending}
-use Rattle.sip_loop_link.specs.declared.datagram.Sending.TheVariants.{Went, Failed}
+use Rattle.sip_transport.specs.declared.datagram.Given.{Given}
+use Rattle.sip_transport.specs.declared.datagram.HeardDatagram.{HeardDatagram}
+use Rattle.sip_transport.specs.declared.datagram.SendOutcome.{SendOutcome}
+use Rattle.sip_transport.specs.declared.datagram.SendOutcome.TheVariants.{Went, Failed}
 use Rattle.sip_event.specs.declared.event.Event.{Event}
 use Rattle.sip_event.specs.declared.event.Event.TheVariants.{Datagram, Time, Fault}
 use Rattle.sip_event.specs.declared.event.StepOut.{StepOut}
 use Rattle.sip_event.specs.declared.packet.Packet.{Packet}
 use Rattle.sip_audit.specs.declared.record.Record.{Record}
 use Rattle.sip_replay_script.specs.EventText.{is_sayable}
-use Rattle.sip_record.specs.Record.{Notes}
+use Rattle.sip_journal.specs.Record.{Notes}
 use Rattle.model_bounds.specs.state.declared.server.Server.{Server}
 use Rattle.model_bounds.specs.state.declared.proxy_state.ProxyState.{ProxyState}
 use Rattle.model_bounds.specs.state.State.{first_state}
@@ -29,15 +29,15 @@ use Rattle.sip_run.specs.Refusals.{refusal_of_event}
 use Rattle.sip_run.specs.Runs.{IsInTurn}
 use Rattle.sip_loop.specs.Printing.{Prints}
 use Rattle.sip_loop.specs.declared.serving.Arrived.{Arrived}
-use Rattle.sip_loop.specs.declared.served.ServeError.{ServeError}
-use Rattle.sip_loop.specs.declared.served.ServeError.TheVariants.{NoMemory, Journal, Audit, Link as LinkFailed, Step}
+use Rattle.sip_loop.specs.declared.serve_error.ServeError.{ServeError}
+use Rattle.sip_loop.specs.declared.serve_error.ServeError.TheVariants.{NoMemory, Journal, Audit, Link as LinkFailed, Step}
 
 -- ---- turns
 
 -- What a turn brings: the clock's reading, and, if the link heard a datagram then, that and the word that was drawn for it.
 pub data Turn : Type 0 where
   Silence : ℕ → Turn
-  Arrival : ℕ → Heard → ℕ → Turn
+  Arrival : ℕ → HeardDatagram → ℕ → Turn
 
 -- the clock's reading
 abbrev pub reading_of : Turn → ℕ
@@ -45,7 +45,7 @@ reading_of (Silence at) = at
 reading_of (Arrival at heard word) = at
 
 -- what the link heard
-abbrev pub heard_of_turn : Turn → Option Heard
+abbrev pub heard_of_turn : Turn → Option HeardDatagram
 heard_of_turn (Silence at) = None
 heard_of_turn (Arrival at heard word) = Some heard
 
@@ -96,7 +96,7 @@ pub data Doing : Type 0 where
   Fires : Cause → List StepOut → Doing
   Tells : Event → Doing
   Logs : List Record → Doing
-  Sends : Packet → Sending → Doing
+  Sends : Packet → SendOutcome → Doing
 
 -- what steps hand out, and what they record
 abbrev pub packets_of : List StepOut → List Packet
@@ -151,7 +151,7 @@ turn_asked (Logs records) = []
 turn_asked (Sends p sending) = []
 
 -- what it heard then
-abbrev pub heard_then : Doing → List (Option Heard)
+abbrev pub heard_then : Doing → List (Option HeardDatagram)
 heard_then (Reads at) = []
 heard_then (Asks turn) = heard_of_turn turn ∷ []
 heard_then (Takes cause due own) = []
@@ -305,12 +305,12 @@ pub record LogsAt (before : Point) (records : List Record) (after : Point) : Typ
   pub leads : after ≡ record before { stage = Clear }
 
 -- a packet that failed
-abbrev pub failing : Packet → Sending → Option Packet
+abbrev pub failing : Packet → SendOutcome → Option Packet
 failing p Went = None
 failing p Failed = Some p
 
 -- then the packet that waits first is given to the link
-pub record SendsAt (before : Point) (p : Packet) (sending : Sending) (after : Point) : Type 0 where
+pub record SendsAt (before : Point) (p : Packet) (sending : SendOutcome) (after : Point) : Type 0 where
   pub clear : before.stage ≡ Clear
   pub whole : before.failed ≡ None
   pub rest : List Packet
@@ -367,7 +367,7 @@ kept bytes faulted = record { bytes = bytes; faulted = faulted }
 -- What devices tell: what the link heard, call by call, and was given, and what the clock showed, oldest first, where they tell it;
 -- what the journal and the log tell; and what a source of words will give.
 pub record Told : Type 0 where
-  pub heard : Option (List (Option Heard))
+  pub heard : Option (List (Option HeardDatagram))
   pub given : Option (List Given)
   pub readings : Option (List ℕ)
   pub journal : Kept
@@ -375,7 +375,7 @@ pub record Told : Type 0 where
   pub words : Stream
 
 -- by what each device tells of itself
-abbrev pub told_by : Option (List (Option Heard)) → Option (List Given) → Option (List ℕ) → Kept → Kept → Stream → Told
+abbrev pub told_by : Option (List (Option HeardDatagram)) → Option (List Given) → Option (List ℕ) → Kept → Kept → Stream → Told
 told_by heard given readings journal log words =
     record { heard = heard; given = given; readings = readings; journal = journal; log = log; words = words }
 

@@ -6,20 +6,20 @@ ghost use Rattle.sip_loop.specs.Courses.{Breaks, Course, IsNoFurther, Others, Ta
 ghost use Rattle.sip_run.specs.Due.{NothingDueBy, standing_of};
 ghost use Rattle.sip_loop.specs.ServeErrors.{IsOfHanding};
 ghost use Rattle.sip_loop.specs.Serving.{kept};
-ghost use Rattle.sip_loop.specs.declared.served.ServeError.TheVariants.{NoMemory};
+ghost use Rattle.sip_loop.specs.declared.serve_error.ServeError.TheVariants.{NoMemory};
 
-use crate::served::ServeError;
+use crate::serve_error::ServeError;
 use model_bounds::model::histories::steps_stand_at_their_moments;
 use model_bounds::model::order::no_deadline_passed;
 use model_bounds::model::runs::failed_sends_end;
 use model_ties::laws::fault_leaves_nothing_due;
 use sip_event::{Packet, StepOut, Ticket};
-use sip_loop_link::{Link, Sending};
+use sip_journal::Journal;
 use sip_policy::Rules;
-use sip_record::Journal;
 use sip_run::engine::Engine;
 use sip_text::Items;
 use sip_timers::Timers;
+use sip_transport::{Link, SendOutcome};
 use std::alloc::AllocError;
 use std::mem::swap;
 
@@ -116,8 +116,8 @@ fn hand_one<T: Timers, R: Rules, L: Link, J: Journal>(
     let packet = &packets.as_slice()[place];
     let ticket = packet.ticket;
     match link.send(packet.to, packet.bytes.as_slice())? {
-        Sending::Went => Ok(()),
-        Sending::Failed => {
+        SendOutcome::Went => Ok(()),
+        SendOutcome::Failed => {
             let at = engine.moment();
             let out = take_fault(engine, ticket)?;
             journal.failed(at, ticket)?;

@@ -3,7 +3,7 @@ ghost use Rattle.model_order.specs.Order.{Standing};
 ghost use Rattle.model_bounds.specs.state.declared.server.Server.{Server};
 ghost use Rattle.sip_loop.specs.Replays.{ReplaysTo};
 ghost use Rattle.sip_loop.specs.Serving.{IsServed, IsUnserved, Told, ahead, gathered, steps_taken};
-ghost use Rattle.sip_loop.specs.declared.served.ServeError.{ServeError};
+ghost use Rattle.sip_loop.specs.declared.serve_error.ServeError.{ServeError};
 
 /// What a record replays is what was served: where the journal tells its bytes, these grew by a text that says exactly the events that
 /// were taken, and the steps that were taken, from the state in which the engine was to the one in which it is, are a run over these

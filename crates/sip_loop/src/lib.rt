@@ -2,7 +2,7 @@
 //! and printed, and then the packets that the engine hands out are given to the link.
 //!
 //! - Used: `sipd_command`, turn by turn.
-//! - Not here: the socket itself (`sip_loop_link`), what a journal writes (`sip_record`), and what lines are printed on.
+//! - Not here: the socket itself (`sip_transport`), what a journal writes (`sip_journal`), and what lines are printed on.
 //! - Tried: `test_serve`, and over sockets `tests/serve.py`.
 //!
 //! ```text
@@ -11,16 +11,16 @@
 #![tactic(auto)]
 
 mod audit_log;
-mod due;
+mod due_moments;
 mod handing;
 pub mod laws;
 mod no_audit;
-mod served;
+mod serve_error;
 mod serving;
 
 pub use audit_log::{AuditFault, AuditLog};
 pub use no_audit::NoAudit;
-pub use served::ServeError;
+pub use serve_error::ServeError;
 pub use serving::serve;
 
 /// Of `sip_engine`.

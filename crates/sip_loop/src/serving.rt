@@ -1,20 +1,21 @@
-//! The public call that serves turn by turn: one reading of the clock, what is due by it (`due`), and one question to the link.
+//! The public call that serves turn by turn: one reading of the clock, what is due by it (`due_moments`), and one question to the
+//! link.
 //! It never waits: who serves phones does that between two turns (`sipd_service`).
 ghost use Rattle.std.specs.Prelude.{◌≡◌, ◌≢◌, ◌⊎◌, ℕ, ◌∷◌, [], true, false, List, Option, None, Some, Err, IfOk, IfErr, OnOk, OnErr};
-ghost use Rattle.sip_loop_link.specs.Told.{counted};
+ghost use Rattle.sip_transport.specs.Told.{counted};
 ghost use Rattle.sip_loop.specs.Counts.{counted_times, IsAskedWithin};
 ghost use Rattle.model_bounds.specs.steps_model.Step.{moment_of};
 ghost use Rattle.sip_run.specs.Due.{NothingDueBy, standing_of};
 ghost use Rattle.sip_loop.specs.Courses.{Breaks, Goes, LinkFails, StepFails, TakesTurn, TurnBreaks, TurnGoes};
 ghost use Rattle.sip_loop.specs.Printing.{Prints};
-ghost use Rattle.sip_record.specs.Record.{Notes};
+ghost use Rattle.sip_journal.specs.Record.{Notes};
 ghost use Rattle.sip_loop.specs.Serving.{IsServed, IsUnserved, behind_word, between_turns, event_of_turn, kept, told_by, turn_at, word_from};
-ghost use Rattle.sip_loop.specs.declared.served.ServeError.TheVariants as Refusal;
+ghost use Rattle.sip_loop.specs.declared.serve_error.ServeError.TheVariants as Refusal;
 
 use crate::audit_log::AuditLog;
-use crate::due::pass_due;
+use crate::due_moments::pass_due;
 use crate::handing::hand_out;
-use crate::served::ServeError;
+use crate::serve_error::ServeError;
 use model_bounds::bounds::every_history_is_bounded;
 use model_bounds::model::histories::steps_stand_at_their_moments;
 use model_bounds::model::laws::every_history_has_access;
@@ -22,11 +23,11 @@ use model_bounds::model::order::no_deadline_passed;
 use rand_core::Rng;
 use sip_audit::Record;
 use sip_event::StepOut;
-use sip_loop_link::{Clock, Link};
+use sip_journal::Journal;
 use sip_policy::Rules;
-use sip_record::Journal;
 use sip_run::engine::Engine;
 use sip_timers::Timers;
+use sip_transport::{Clock, Link};
 use sip_uri::Addr;
 use std::alloc::Global;
 
@@ -41,7 +42,7 @@ struct Arrived {
 }
 
 /// The step of a turn's event, and the datagram that it was, if one was heard.
-struct Taken {
+struct TakenEvent {
     out: StepOut,
     arrived: Option<Arrived>,
 }
@@ -62,7 +63,7 @@ fn take_event<T: Timers, R: Rules, L: Link, W: Rng>(
     link: &mut L,
     words: &mut W,
     at: u64,
-) -> Result<Taken, ServeError>
+) -> Result<TakenEvent, ServeError>
     requires { NothingDueBy (moment_of engine.old.state at) engine.old.state }
     ensures server { engine.new.server ≡ engine.old.server }
     ensures asked { L.receives link.new ≡ counted (L.receives link.old) }
@@ -85,11 +86,11 @@ fn take_event<T: Timers, R: Rules, L: Link, W: Rng>(
             let word = next_word(words);
             let out = engine.deliver(at, word, from, link.bytes())?;
             let arrived = Some(Arrived { word, from });
-            Ok(Taken { out, arrived })
+            Ok(TakenEvent { out, arrived })
         }
         None => {
             let out = engine.fire(at)?;
-            Ok(Taken { out, arrived: None })
+            Ok(TakenEvent { out, arrived: None })
         }
     }
 }
@@ -159,7 +160,7 @@ fn take_turn<T: Timers, R: Rules, L: Link, J: Journal, A: AuditLog, W: Rng>(
 {
     steps_stand_at_their_moments();
     let taken = take_event(engine, link, words, at)?;
-    let Taken { mut out, arrived } = taken;
+    let TakenEvent { mut out, arrived } = taken;
     note_turn(journal, at, arrived, link.bytes())?;
     log_records(audit, out.records.as_slice())?;
     hand_out(engine, link, journal, &mut out.packets)

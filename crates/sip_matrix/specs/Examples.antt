@@ -12,7 +12,7 @@ use Rattle.sip_matrix.specs.Address.{column_of}
 use Rattle.sip_matrix.specs.Cell.{decision_in}
 use Rattle.sip_matrix.specs.declared.expectation.Askers.{Askers}
 use Rattle.sip_matrix.specs.declared.expectation.Times.{Times}
-use Rattle.sip_matrix.specs.declared.expectation.Place.{Place}
+use Rattle.sip_matrix.specs.declared.expectation.ExpectedDestination.{ExpectedDestination}
 use Rattle.sip_matrix.specs.Expected.{is_fault}
 
 -- what is decided in a cell of the sample's table of INVITE, for an address that isn't the asker's own
@@ -20,7 +20,7 @@ abbrev pub invited : Option (List ℕ) → Column → Decision
 invited row column = decision_in sample_rules sample_users row (Operation.Send (codes "INVITE")) column false 0
 
 -- whether it is a fault that somebody calls a number outside, where everybody is expected to reach it by some place at some times
-abbrev pub is_outside_fault : Times → Place → Option (List ℕ) → Bool
+abbrev pub is_outside_fault : Times → ExpectedDestination → Option (List ℕ) → Bool
 is_outside_fault times place proven =
     is_fault sample_rules sample_users sample_domains
     (record {

@@ -17,12 +17,12 @@ use Rattle.sip_matrix.specs.declared.expectation.Askers.{Askers}
 use Rattle.sip_matrix.specs.declared.expectation.Askers.TheVariants.{Nobody, Users, Everybody}
 use Rattle.sip_matrix.specs.declared.expectation.Times.{Times}
 use Rattle.sip_matrix.specs.declared.expectation.Times.TheVariants.{Always, Never, Within}
-use Rattle.sip_matrix.specs.declared.expectation.Place.{Place}
-use Rattle.sip_matrix.specs.declared.expectation.Place.TheVariants.{Anywhere, Bindings, Hop}
+use Rattle.sip_matrix.specs.declared.expectation.ExpectedDestination.{ExpectedDestination}
+use Rattle.sip_matrix.specs.declared.expectation.ExpectedDestination.TheVariants.{Anywhere, Bindings, Hop}
 use Rattle.sip_matrix.specs.declared.expectation.Expectation.{Expectation}
 use Rattle.sip_matrix.specs.declared.expectation.Fault.{Fault}
-use Rattle.sip_matrix.specs.declared.standing.Standing.{Standing}
-use Rattle.sip_matrix.specs.declared.standing.Standing.TheVariants.{Holds, Fails, Unsaid}
+use Rattle.sip_matrix.specs.declared.expectation_outcome.ExpectationOutcome.{ExpectationOutcome}
+use Rattle.sip_matrix.specs.declared.expectation_outcome.ExpectationOutcome.TheVariants.{Holds, Fails, Unsaid}
 use Rattle.sip_matrix.specs.Day.{pieces_of}
 use Rattle.sip_matrix.specs.Example.{are_plain, example_of, operations_of}
 use Rattle.sip_matrix.specs.Table.{all_columns}
@@ -67,7 +67,7 @@ lets_through (Decision.Deny id) = false
 lets_through Decision.Challenge = false
 
 -- whether it lets it through to this place: by the hop, or to the registrar or the bindings, which a known address has
-abbrev pub goes_there : Place → Bool → Decision → Bool
+abbrev pub goes_there : ExpectedDestination → Bool → Decision → Bool
 goes_there Anywhere known decision = lets_through decision
 goes_there Bindings known (Decision.Allow id) = known
 goes_there Bindings known (Decision.Via id hop) = false
@@ -79,7 +79,7 @@ goes_there (Hop place) known (Decision.Deny id) = false
 goes_there (Hop place) known Decision.Challenge = false
 
 -- whether a decision is as expected: there, where it is due, and else not let through
-abbrev pub is_so : Place → Bool → Bool → Decision → Bool
+abbrev pub is_so : ExpectedDestination → Bool → Bool → Decision → Bool
 is_so place due known decision = if due then goes_there place known decision else not (lets_through decision)
 
 -- ---- faults
@@ -110,7 +110,7 @@ is_fault_of rules users domains e fault = is_fault rules users domains e fault.p
 -- ---- how an expectation stands
 
 -- there is none; or this is one; or there aren't examples of all that is asked
-abbrev pub StandsSo : List Rule → List User → List (List ℕ) → Expectation → Standing → Type 0
+abbrev pub StandsSo : List Rule → List User → List (List ℕ) → Expectation → ExpectationOutcome → Type 0
 StandsSo rules users domains e Holds =
     (proven : Option (List ℕ)) (operation : Operation) (aor : Aor) (minute : ℕ) → is_fault rules users domains e proven operation aor minute ≡ false
 StandsSo rules users domains e (Fails fault) = is_fault_of rules users domains e fault ≡ true

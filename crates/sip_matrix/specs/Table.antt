@@ -7,7 +7,7 @@ use Rattle.sip_policy.specs.declared.target_pattern.TargetPattern.{TargetPattern
 use Rattle.sip_policy.specs.declared.target_pattern.TargetPattern.TheVariants.{Exact, Prefix, SelfTarget, Any}
 use Rattle.sip_matrix.specs.declared.column.Column.{Column}
 use Rattle.sip_matrix.specs.declared.column.Column.TheVariants.{Named, Begins, Elsewhere}
-use Rattle.sip_matrix.specs.declared.table.Table.{Table}
+use Rattle.sip_matrix.specs.declared.table.PolicyTable.{PolicyTable}
 use Rattle.sip_matrix.specs.Kinds.{kinds_of}
 use Rattle.sip_matrix.specs.Asker.{rows_of}
 use Rattle.sip_matrix.specs.Column.{are_asked_alike, is_same_column}
@@ -46,7 +46,7 @@ abbrev pub classes_of : List Rule → List User → List (List ℕ) → List Col
 classes_of rules users domains = kinds_of (are_asked_alike rules users domains) (all_columns rules users domains)
 
 -- the table of rules, users and own domains
-abbrev pub table_of : List Rule → List User → List (List ℕ) → Table
+abbrev pub table_of : List Rule → List User → List (List ℕ) → PolicyTable
 table_of rules users domains =
     record {
       rows = rows_of rules users;

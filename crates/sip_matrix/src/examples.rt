@@ -7,7 +7,7 @@ ghost use Rattle.sip_matrix.specs.declared.column.Column.TheVariants.{Elsewhere}
 ghost use Rattle.sip_matrix.specs.Asker.{rows_of};
 ghost use Rattle.sip_matrix.specs.Table.{columns_of, classes_of, named, begins};
 ghost use Rattle.sip_matrix.specs.declared.expectation.Times.{Times};
-ghost use Rattle.sip_matrix.specs.declared.expectation.Place.{Place};
+ghost use Rattle.sip_matrix.specs.declared.expectation.ExpectedDestination.{ExpectedDestination};
 ghost use Rattle.sip_matrix.specs.Examples.{column_at, invited, is_outside_fault};
 
 /// The sample has two rows of users, since no rule tells `help` from `alice`, and seven columns: six at host.com, of
@@ -53,12 +53,13 @@ pub fn sample_cells()
 
 /// What of calls to 911, at 8:00, isn't as it is expected to be: staff goes by the hop, others are let through, and nobody is.
 pub fn sample_faults()
-    ensures staff { is_outside_fault Times.Always (Place.Hop 0) (Some (codes "Mufasa")) ≡ false }
-    ensures others { is_outside_fault Times.Always (Place.Hop 0) (Some (codes "alice")) ≡ true }
-    ensures anywhere { is_outside_fault Times.Always Place.Anywhere (Some (codes "alice")) ≡ false }
-    ensures bindings { is_outside_fault Times.Always Place.Bindings (Some (codes "alice")) ≡ true }
-    ensures no_user { is_outside_fault Times.Never Place.Anywhere (Some (codes "scar")) ≡ false }
-    ensures nobody { is_outside_fault Times.Always Place.Anywhere None ≡ true }
-    ensures never { is_outside_fault Times.Never Place.Anywhere None ≡ false }
-    ensures outside_of_times { is_outside_fault (Times.Within (record { from = 481; until = 480 })) Place.Anywhere (Some (codes "alice")) ≡ true }
+    ensures staff { is_outside_fault Times.Always (ExpectedDestination.Hop 0) (Some (codes "Mufasa")) ≡ false }
+    ensures others { is_outside_fault Times.Always (ExpectedDestination.Hop 0) (Some (codes "alice")) ≡ true }
+    ensures anywhere { is_outside_fault Times.Always ExpectedDestination.Anywhere (Some (codes "alice")) ≡ false }
+    ensures bindings { is_outside_fault Times.Always ExpectedDestination.Bindings (Some (codes "alice")) ≡ true }
+    ensures no_user { is_outside_fault Times.Never ExpectedDestination.Anywhere (Some (codes "scar")) ≡ false }
+    ensures nobody { is_outside_fault Times.Always ExpectedDestination.Anywhere None ≡ true }
+    ensures never { is_outside_fault Times.Never ExpectedDestination.Anywhere None ≡ false }
+    ensures outside_of_times { is_outside_fault (Times.Within (record { from = 481; until = 480 })) ExpectedDestination.Anywhere
+        (Some (codes "alice")) ≡ true }
 {}

@@ -33,7 +33,7 @@ pub enum Times {
 
 /// Where it is to go then.
 #[derive(Clone, Copy)]
-pub enum Place {
+pub enum ExpectedDestination {
     /// Wherever it may.
     Anywhere,
     /// To the registrar or to the bindings of a configured user.
@@ -50,7 +50,7 @@ pub struct Expectation {
     pub operation: OperationPattern,
     pub target: TargetPattern,
     pub times: Times,
-    pub place: Place,
+    pub place: ExpectedDestination,
 }
 
 /// Written out, so that it is proved once and not wherever one is dropped.
@@ -147,18 +147,18 @@ fn lets_through(decision: Decision) -> bool
     }
 }
 
-fn goes_there(place: Place, known: bool, decision: Decision) -> bool
+fn goes_there(place: ExpectedDestination, known: bool, decision: Decision) -> bool
     ensures { result ≡ Definitions.goes_there place known decision }
 {
     match (place, decision) {
-        (Place::Anywhere, _) => lets_through(decision),
-        (Place::Bindings, Decision::Allow(_)) => known,
-        (Place::Hop(place), Decision::Via(_, hop)) => hop == place,
+        (ExpectedDestination::Anywhere, _) => lets_through(decision),
+        (ExpectedDestination::Bindings, Decision::Allow(_)) => known,
+        (ExpectedDestination::Hop(place), Decision::Via(_, hop)) => hop == place,
         _ => false,
     }
 }
 
-fn is_so(place: Place, due: bool, known: bool, decision: Decision) -> bool
+fn is_so(place: ExpectedDestination, due: bool, known: bool, decision: Decision) -> bool
     ensures { result ≡ Definitions.is_so place due known decision }
 {
     if due {

@@ -9,21 +9,21 @@
 
 mod cell;
 mod column;
+mod column_examples;
 pub mod examples;
 mod expectation;
+mod expectation_outcome;
 pub mod laws;
 mod listing;
 mod pieces;
-mod plain;
 mod rows;
-mod standing;
 mod table;
 
 pub use cell::rule_in;
 pub use column::{Column, agree};
-pub use expectation::{Askers, Expectation, Fault, Place, Times};
+pub use expectation::{Askers, Expectation, ExpectedDestination, Fault, Times};
+pub use expectation_outcome::{ExpectationOutcome, standing_of};
 pub use listing::{all_columns, columns_among};
 pub use pieces::pieces_of;
 pub use rows::ask_alike;
-pub use standing::{Standing, standing_of};
-pub use table::{Table, table_of};
+pub use table::{PolicyTable, table_of};

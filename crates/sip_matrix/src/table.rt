@@ -10,7 +10,7 @@ use sip_text::{Bytes, Items};
 use std::alloc::{AllocError, Global};
 
 /// The rows, the columns and the pieces of the day of a policy's table.
-pub struct Table {
+pub struct PolicyTable {
     /// The first user of each row; that of nobody stands before them.
     pub rows: Items<Bytes>,
     /// Each column once.
@@ -22,9 +22,9 @@ pub struct Table {
 }
 
 /// Written out, so that it is proved once and not wherever one is dropped.
-impl Drop for Table {
+impl Drop for PolicyTable {
     fn drop(self) {
-        let Table {
+        let PolicyTable {
             rows: _,
             columns: _,
             classes: _,
@@ -39,7 +39,7 @@ pub fn table_of(
     rules: &[Rule],
     users: &Users,
     domains: &[Bytes],
-) -> Result<Table, AllocError>
+) -> Result<PolicyTable, AllocError>
     ensures { IfOk result (λ table. table ≡ Definitions.table_of rules.now users.now domains.now) }
 {
     let rows = rows(alloc, rules, users)?;
@@ -47,7 +47,7 @@ pub fn table_of(
     let columns = columns_among(alloc, all.as_slice())?;
     let classes = classes_among(alloc, rules, users, domains, all.as_slice())?;
     let pieces = pieces_of(alloc, rules)?;
-    Ok(Table {
+    Ok(PolicyTable {
         rows,
         columns,
         classes,

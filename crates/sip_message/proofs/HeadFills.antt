@@ -12,7 +12,7 @@ use Rattle.sip_message_fields.specs.declared.field_name.FieldName.{FieldName}
 use Rattle.sip_message_fields.specs.FieldName.{is_length, is_list}
 use Rattle.sip_message_form.specs.declared.error.ReadError.{ReadError}
 use Rattle.sip_message_form.specs.declared.error.ReadError.TheVariants.{NoMemory, NotSip, BadField}
-use Rattle.sip_message.specs.declared.line.Line.{Line}
+use Rattle.sip_message.specs.declared.line.WholeLine.{WholeLine}
 use Rattle.sip_message.specs.declared.filling.Filling.{Filling}
 use Rattle.sip_message.specs.declared.line_fault.LineFault.{LineFault}
 use Rattle.sip_message.specs.declared.line_fault.LineFault.TheVariants as Fault
@@ -100,7 +100,7 @@ pub line_taken : (old new : Filling) (line after : Bor (List ℕ)) (field : Fiel
 line_taken old new line after field is says one =
     record { whole = line.now; field = field; bytes = (without_folds line after is).bytes; says = says; taken = one; shorter = omega arith }
 
-pub folded_taken : (old new : Filling) (line after rest : Bor (List ℕ)) (whole : Line) (field : Field) → IsWhole line after whole rest
+pub folded_taken : (old new : Filling) (line after rest : Bor (List ℕ)) (whole : WholeLine) (field : Field) → IsWhole line after whole rest
     → field_of (line_bytes whole) ≡ Some field → IsFieldFilled old field new
     → IsLineFilled old line.now after.now new rest.now
 folded_taken old new line after rest whole field is says one =

@@ -3,11 +3,11 @@ use Rattle.std.proofs.Common.{◌≡◌, ◌⊎◌, ℕ, false, List, Option, So
 use Rattle.std.specs.Option.{option_and_then}
 use denote.Ref.{Bor}
 use Rattle.sip_message_fields.specs.declared.field.Field.{Field}
-use Rattle.sip_message_fields.specs.declared.piece.Piece.TheVariants as Whole
+use Rattle.sip_message_fields.specs.declared.piece.ViewPiece.TheVariants as Whole
 use Rattle.sip_message_fields.specs.Slice.{IsCutFrom, IsPieceCutFrom}
 use Rattle.sip_message.specs.declared.content.Content.{Content}
-use Rattle.sip_message.specs.declared.line.Line.{Line}
-use Rattle.sip_message.specs.declared.line.Line.TheVariants.{Part}
+use Rattle.sip_message.specs.declared.line.WholeLine.{WholeLine}
+use Rattle.sip_message.specs.declared.line.WholeLine.TheVariants.{Part}
 use Rattle.sip_message.specs.declared.line_fault.LineFault.{LineFault}
 use Rattle.sip_message.specs.declared.line_fault.LineFault.TheVariants.{NoMemory}
 use Rattle.sip_message.specs.declared.part_field.PartField.{PartField}
@@ -19,21 +19,22 @@ use Rattle.sip_message.specs.HeadContent.{IsFault, field_taken, line_taken, IsWh
 use Rattle.sip_message.proofs.Wholes.{without_folds}
 
 -- a line with its folds is refused whose field is
-refused : (n : Option ℕ) (line after rest : Bor (List ℕ)) (whole : Line) → IsWhole line after whole rest → line_taken n (line_bytes whole) ≡ None
+refused : (n : Option ℕ) (line after rest : Bor (List ℕ)) (whole : WholeLine) → IsWhole line after whole rest → line_taken n (line_bytes whole) ≡ None
     → IsLineRefused n line.now after.now
 refused n line after rest whole is none = record { whole = line_bytes whole; more = head_at rest.now; bytes = is.bytes; none = none }
 
-pub no_field : (n : Option ℕ) (line after rest : Bor (List ℕ)) (whole : Line) (e : LineFault) → IsWhole line after whole rest → IsFault e (field_of (line_bytes whole))
+pub no_field : (n : Option ℕ) (line after rest : Bor (List ℕ)) (whole : WholeLine) (e : LineFault) → IsWhole line after whole rest
+    → IsFault e (field_of (line_bytes whole))
     → (e ≡ NoMemory) ⊎ IsLineRefused n line.now after.now
 no_field n line after rest whole e is (inl none) = inl none
 no_field n line after rest whole e is (inr none) = inr (refused n line after rest whole is (rw none refl))
 
-pub not_taken : (n : Option ℕ) (line after rest : Bor (List ℕ)) (whole : Line) (field : Field) (e : LineFault) → IsWhole line after whole rest
+pub not_taken : (n : Option ℕ) (line after rest : Bor (List ℕ)) (whole : WholeLine) (field : Field) (e : LineFault) → IsWhole line after whole rest
     → field_of (line_bytes whole) ≡ Some field → IsFault e (field_taken n field) → (e ≡ NoMemory) ⊎ IsLineRefused n line.now after.now
 not_taken n line after rest whole field e is says (inl none) = inl none
 not_taken n line after rest whole field e is says (inr none) = inr (refused n line after rest whole is (ap (option_and_then (field_taken n)) says ∙ none))
 
-pub taken : (old new : Content) (line after rest : Bor (List ℕ)) (whole : Line) (field : PartField) → IsWhole line after whole rest
+pub taken : (old new : Content) (line after rest : Bor (List ℕ)) (whole : WholeLine) (field : PartField) → IsWhole line after whole rest
     → field_of (line_bytes whole) ≡ Some (field_seen field) → IsPieceCutFrom (line_piece whole) field.value → IsFieldTaken old field new
     → IsLineTaken old line after new rest
 taken old new line after rest whole field is says stands t = record { whole = whole; field = field; is_whole = is; says = says; stands = stands; taken = t }

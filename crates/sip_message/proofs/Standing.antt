@@ -9,7 +9,7 @@ use Rattle.sip_message_form.specs.declared.error.ReadError.{ReadError}
 use Rattle.sip_message_form.specs.declared.error.ReadError.TheVariants.{NoMemory, NotSip, BadField}
 use Rattle.sip_message_fields.specs.Slice.{IsSliceOf, IsCutFrom}
 use Rattle.sip_message.specs.declared.content.Content.{Content}
-use Rattle.sip_message.specs.declared.datagram_parts.Parts.{Parts}
+use Rattle.sip_message.specs.declared.datagram_parts.DatagramParts.{DatagramParts}
 use Rattle.sip_message.specs.Lines.{after_blanks, line_at, head_at}
 use Rattle.sip_message.specs.Start.{start_of}
 use Rattle.sip_message.specs.Field.{entries_of, kept}
@@ -19,7 +19,7 @@ use Rattle.sip_message.specs.HeadContent.{IsContentOf}
 use Rattle.sip_message.specs.Parts.{joined_values, folds_of_head, AreSlicesOf, ArePartsOf}
 use Rattle.sip_message.proofs.Wholes.{all_of_it}
 
-pub parts_are : (datagram blankless line head rest : Bor (List ℕ)) (content : Content) (parts : Parts) → blankless.now ≡ after_blanks datagram.now
+pub parts_are : (datagram blankless line head rest : Bor (List ℕ)) (content : Content) (parts : DatagramParts) → blankless.now ≡ after_blanks datagram.now
     → IsCutFrom datagram blankless → Some (line.now, head.now) ≡ line_at blankless.now → IsCutFrom blankless head
     → IsContentOf head content rest → parts.fields ≡ content.fields → IsCutFrom rest parts.body → ArePartsOf datagram parts
 parts_are datagram blankless line head rest content parts after after_cut first head_cut are same body =

@@ -9,8 +9,8 @@ use Rattle.sip_message_fields.specs.Lines.{line_of}
 use Rattle.sip_message_form.specs.Text.{field_text}
 use Rattle.sip_message.specs.declared.stands.Stands.{Stands}
 use Rattle.sip_message.specs.declared.stands.Stands.TheVariants.{AsField, AsLength, Apart}
-use Rattle.sip_message.specs.declared.stands.Run.{Run}
-use Rattle.sip_message.specs.declared.stands.Run.TheVariants.{Going, Ended, Parted}
+use Rattle.sip_message.specs.declared.stands.HeadLayout.{HeadLayout}
+use Rattle.sip_message.specs.declared.stands.HeadLayout.TheVariants.{Going, Ended, Parted}
 use Rattle.sip_message.specs.Lines.{line_at}
 use Rattle.sip_message.specs.Stands.{IsStanding, IsTakenAs, run_ended, run_behind, AreStanding}
 use Rattle.sip_message.proofs.CutLaws as Cut
@@ -44,7 +44,8 @@ take_some zero fields more fits = refl
 take_some (suc n) [] more fits = absurd (omega (arith, fits))
 take_some (suc n) (f ∷ fields) more fits = ap (λ (w : List Field). f ∷ w) (take_some n fields more (omega (arith, fits)))
 
-field_behind : (run : Run) (head text after next : List ℕ) (old new : List Field) → AreStanding run head old (text ++ after) → IsTakenAs AsField text after old new next
+field_behind : (run : HeadLayout) (head text after next : List ℕ) (old new : List Field) → AreStanding run head old (text ++ after)
+    → IsTakenAs AsField text after old new next
     → AreStanding run head new next
 field_behind Going head text after next old new are taken =
     goes_on (flat_map field_text old) (flat_map field_text new) text after next head are
@@ -56,7 +57,7 @@ field_behind (Ended count left) head text after next old new are taken = (
 )
 field_behind Parted head text after next old new are taken = tt
 
-length_behind : (run : Run) (head rest next : List ℕ) (fields : List Field) (count left : ℕ) → AreStanding run head fields rest → left ≡ length rest
+length_behind : (run : HeadLayout) (head rest next : List ℕ) (fields : List Field) (count left : ℕ) → AreStanding run head fields rest → left ≡ length rest
     → count ≡ length fields → AreStanding (run_ended run count left) head fields next
 length_behind Going head rest next fields count left are is same =
     (omega (arith, same), in_front (flat_map field_text fields) rest head left are is ∙ ap (flat_map field_text) (sym (take_all count fields (omega (arith, same)))))
@@ -64,7 +65,7 @@ length_behind (Ended n m) head rest next fields count left are is same = tt
 length_behind Parted head rest next fields count left are is same = tt
 
 -- one more line is taken
-pub line_behind : (run : Run) (stands : Stands) (head rest line text after next : List ℕ) (old new : List Field) (count left : ℕ) → AreStanding run head old rest
+pub line_behind : (run : HeadLayout) (stands : Stands) (head rest line text after next : List ℕ) (old new : List Field) (count left : ℕ) → AreStanding run head old rest
     → Some (line, after) ≡ line_at rest → text ≡ line ++ 13 ∷ 10 ∷ [] → left ≡ length rest
     → count ≡ length new → IsTakenAs stands text after old new next → AreStanding (run_behind run stands count left) head new next
 line_behind run AsField head rest line text after next old new count left are is whole behind same taken =

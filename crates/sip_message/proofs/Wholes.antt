@@ -4,11 +4,11 @@ use Rattle.std.specs.Prelude.{option_map, MatchOption}
 use Rattle.std.proofs.lemmas.List.{take_all, length-take, length-drop}
 use denote.Ref.{Bor}
 use Rattle.sip_text.specs.Splits.{in_front}
-use Rattle.sip_message_fields.specs.declared.piece.Piece.{Piece}
-use Rattle.sip_message_fields.specs.declared.piece.Piece.TheVariants as Whole
+use Rattle.sip_message_fields.specs.declared.piece.ViewPiece.{ViewPiece}
+use Rattle.sip_message_fields.specs.declared.piece.ViewPiece.TheVariants as Whole
 use Rattle.sip_message_fields.specs.Slice.{IsSliceOf, IsCutFrom, IsPieceOf, is_joined}
-use Rattle.sip_message.specs.declared.line.Line.{Line}
-use Rattle.sip_message.specs.declared.line.Line.TheVariants.{Part}
+use Rattle.sip_message.specs.declared.line.WholeLine.{WholeLine}
+use Rattle.sip_message.specs.declared.line.WholeLine.TheVariants.{Part}
 use Rattle.sip_message.specs.Lines.{is_crlf, is_fold, joined, unfolded, line_at, lines_at, head_at, folds_of}
 use Rattle.sip_message.specs.Line.{line_piece, line_bytes, has_fold}
 use Rattle.sip_message.specs.HeadContent.{heads_on, flags_on, before, flags_before, IsWhole}
@@ -138,20 +138,20 @@ anew rest is = by_front (line_at rest) refl
 
 -- ---- a line, once some of its folds were joined to it
 
-pub record GoesOn (first : Line) (after : Bor (List ℕ)) (whole : Line) (rest : Bor (List ℕ)) : Type 0 where
+pub record GoesOn (first : WholeLine) (after : Bor (List ℕ)) (whole : WholeLine) (rest : Bor (List ℕ)) : Type 0 where
   pub bytes : heads_on (line_bytes first) (lines_at false after.now) ≡ heads_on (line_bytes whole) (lines_at false rest.now)
   pub folds : flags_on (has_fold first) (lines_at false after.now) ≡ flags_on (has_fold whole) (lines_at false rest.now)
   pub slice : (source : Bor (List ℕ)) → IsPieceOf source (line_piece first) → IsPieceOf source (line_piece whole)
   pub cut : IsCutFrom after rest
 
-pub begun : (first : Line) (after : Bor (List ℕ)) → GoesOn first after first after
+pub begun : (first : WholeLine) (after : Bor (List ℕ)) → GoesOn first after first after
 begun first after = record { bytes = refl; folds = refl; slice = λ source is. is; cut = itself after }
 
-joined_stands : (source : Bor (List ℕ)) (piece : Piece) → is_joined piece ≡ true → IsPieceOf source piece
+joined_stands : (source : Bor (List ℕ)) (piece : ViewPiece) → is_joined piece ≡ true → IsPieceOf source piece
 joined_stands source (Whole.Part slice) is = absurd cc
 joined_stands source (Whole.Joined bytes) is = tt
 
-pub fold_more : (first : Line) (after rest fold next : Bor (List ℕ)) (old new : Line) → GoesOn first after old rest → is_fold rest.now ≡ true
+pub fold_more : (first : WholeLine) (after rest fold next : Bor (List ℕ)) (old new : WholeLine) → GoesOn first after old rest → is_fold rest.now ≡ true
     → Some (fold.now, next.now) ≡ line_at rest.now → IsCutFrom rest next
     → line_bytes new ≡ joined (line_bytes old) fold.now → has_fold new ≡ true → GoesOn first after new next
 fold_more first after rest fold next old new so_far is some next_cut bytes flag =
@@ -166,7 +166,8 @@ fold_more first after rest fold next old new so_far is some next_cut bytes flag 
       cut = cut_again after rest next so_far.cut next_cut;
     }
 
-whole_of : (line after rest : Bor (List ℕ)) (whole : Line) → GoesOn (Part line) after whole rest → StartsAnew (lines_at false rest.now) → IsWhole line after whole rest
+whole_of : (line after rest : Bor (List ℕ)) (whole : WholeLine) → GoesOn (Part line) after whole rest → StartsAnew (lines_at false rest.now)
+    → IsWhole line after whole rest
 whole_of line after rest whole so_far new = record {
   bytes = so_far.bytes ∙ heads_anew (line_bytes whole) (lines_at false rest.now) new;
   folds = so_far.folds ∙ flags_anew (has_fold whole) (lines_at false rest.now) new;
@@ -174,10 +175,10 @@ whole_of line after rest whole so_far new = record {
   cut = so_far.cut;
 }
 
-pub no_more_folds : (line after rest : Bor (List ℕ)) (whole : Line) → GoesOn (Part line) after whole rest → is_fold rest.now ≡ false → IsWhole line after whole rest
+pub no_more_folds : (line after rest : Bor (List ℕ)) (whole : WholeLine) → GoesOn (Part line) after whole rest → is_fold rest.now ≡ false → IsWhole line after whole rest
 no_more_folds line after rest whole so_far is = whole_of line after rest whole so_far (anew rest.now is)
 
-pub never_ends : (line after rest : Bor (List ℕ)) (whole : Line) → GoesOn (Part line) after whole rest → None ≡ line_at rest.now → IsWhole line after whole rest
+pub never_ends : (line after rest : Bor (List ℕ)) (whole : WholeLine) → GoesOn (Part line) after whole rest → None ≡ line_at rest.now → IsWhole line after whole rest
 never_ends line after rest whole so_far none = whole_of line after rest whole so_far (subst StartsAnew (sym (no_lines rest.now none)) tt)
 
 pub without_folds : (line after : Bor (List ℕ)) → is_fold after.now ≡ false → IsWhole line after (Part line) after

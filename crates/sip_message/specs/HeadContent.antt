@@ -6,9 +6,9 @@ use Rattle.sip_text.specs.Words.{decimal_of}
 use Rattle.sip_message_fields.specs.declared.field.Field.{Field}
 use Rattle.sip_message_fields.specs.declared.field_name.FieldName.{FieldName}
 use Rattle.sip_message_fields.specs.FieldName.{is_length}
-use Rattle.sip_message_fields.specs.declared.piece.Piece.TheVariants.{Part}
+use Rattle.sip_message_fields.specs.declared.piece.ViewPiece.TheVariants.{Part}
 use Rattle.sip_message_fields.specs.Slice.{IsSliceOf, IsCutFrom, IsPieceOf, IsPieceCutFrom}
-use Rattle.sip_message.specs.declared.line.Line.{Line}
+use Rattle.sip_message.specs.declared.line.WholeLine.{WholeLine}
 use Rattle.sip_message.specs.declared.line_fault.LineFault.{LineFault}
 use Rattle.sip_message.specs.declared.line_fault.LineFault.TheVariants.{NoMemory}
 use Rattle.sip_message.specs.declared.part_field.PartField.{PartField}
@@ -70,7 +70,7 @@ abbrev pub flags_before : List Bool → Option (List Bool) → Option (List Bool
 flags_before flags o = option_map (λ more. flags ++ more) o
 
 -- a line with its folds, and what follows them
-pub record IsWhole (line after : Bor (List ℕ)) (whole : Line) (rest : Bor (List ℕ)) : Type 0 where
+pub record IsWhole (line after : Bor (List ℕ)) (whole : WholeLine) (rest : Bor (List ℕ)) : Type 0 where
   pub bytes : heads_on line.now (lines_at false after.now) ≡ before (line_bytes whole ∷ []) (head_at rest.now)
   pub folds : flags_on false (lines_at false after.now) ≡ flags_before (has_fold whole ∷ []) (flags_at rest.now)
   pub slice : (source : Bor (List ℕ)) → IsSliceOf source line → IsPieceOf source (line_piece whole)
@@ -78,7 +78,7 @@ pub record IsWhole (line after : Bor (List ℕ)) (whole : Line) (rest : Bor (Lis
 
 -- A line was taken: with its folds it writes a field, which was taken.
 pub record IsLineTaken (old : Content) (line after : Bor (List ℕ)) (new : Content) (rest : Bor (List ℕ)) : Type 0 where
-  pub whole : Line
+  pub whole : WholeLine
   pub field : PartField
   pub is_whole : IsWhole line after whole rest
   pub says : field_of (line_bytes whole) ≡ Some (field_seen field)

@@ -11,7 +11,7 @@ use Rattle.sip_message_form.specs.ViewStart.{start_seen}
 use Rattle.sip_message_fields.specs.Piece.{bytes_of}
 use Rattle.sip_message_fields.specs.Slice.{IsSliceOf, IsPieceOf, is_joined}
 use Rattle.sip_message.specs.declared.part_field.PartField.{PartField}
-use Rattle.sip_message.specs.declared.datagram_parts.Parts.{Parts}
+use Rattle.sip_message.specs.declared.datagram_parts.DatagramParts.{DatagramParts}
 use Rattle.sip_message.specs.Lines.{after_blanks, line_at, lines_at, unfolded, folds_of}
 use Rattle.sip_message.specs.Field.{entries_of, pieces}
 
@@ -23,7 +23,7 @@ abbrev pub fields_seen : List PartField → List Field
 fields_seen fields = map field_seen fields
 
 -- the message of the parts, and whether its body is short
-abbrev pub parts_seen : Parts → Bool × Message
+abbrev pub parts_seen : DatagramParts → Bool × Message
 parts_seen parts = (parts.is_short, record { start = start_seen parts.start; fields = fields_seen parts.fields.items; body = parts.body.now })
 
 -- of which values bytes were joined
@@ -51,7 +51,7 @@ folds_said bytes = option_and_then (λ first. folds_of_head first.1) (line_at (a
 
 -- Parts stand in a datagram: the value of each field whose line has no fold is a slice of the datagram, that of the others was joined,
 -- and the body is a slice.
-pub record ArePartsOf (datagram : Bor (List ℕ)) (parts : Parts) : Type 0 where
+pub record ArePartsOf (datagram : Bor (List ℕ)) (parts : DatagramParts) : Type 0 where
   pub folds : folds_said datagram.now ≡ Some (joined_values parts.fields.items)
   pub slices : AreSlicesOf datagram parts.fields.items
   pub body : IsSliceOf datagram parts.body

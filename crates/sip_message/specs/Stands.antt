@@ -5,8 +5,8 @@ use Rattle.sip_message_fields.specs.declared.field.Field.{Field}
 use Rattle.sip_message_form.specs.Text.{field_text}
 use Rattle.sip_message.specs.declared.stands.Stands.{Stands}
 use Rattle.sip_message.specs.declared.stands.Stands.TheVariants.{AsField, AsLength, Apart}
-use Rattle.sip_message.specs.declared.stands.Run.{Run}
-use Rattle.sip_message.specs.declared.stands.Run.TheVariants.{Going, Ended, Parted}
+use Rattle.sip_message.specs.declared.stands.HeadLayout.{HeadLayout}
+use Rattle.sip_message.specs.declared.stands.HeadLayout.TheVariants.{Going, Ended, Parted}
 
 -- a line with its CRLF is that of a field, which came behind others
 pub record IsFieldBehind (text : List ℕ) (old new : List Field) : Type 0 where
@@ -27,20 +27,20 @@ IsTakenAs AsLength text after old new next = IsStanding AsLength text old new ×
 IsTakenAs Apart text after old new next = Unit {0}
 
 -- how lines stand once the Content-Length is taken, behind so many fields, from which on so many bytes are left
-abbrev pub run_ended : Run → ℕ → ℕ → Run
+abbrev pub run_ended : HeadLayout → ℕ → ℕ → HeadLayout
 run_ended Going count left = Ended count left
 run_ended (Ended n m) count left = Parted
 run_ended Parted count left = Parted
 
 -- how they stand once a line is taken
-abbrev pub run_behind : Run → Stands → ℕ → ℕ → Run
+abbrev pub run_behind : HeadLayout → Stands → ℕ → ℕ → HeadLayout
 run_behind run AsField count left = run
 run_behind run AsLength count left = run_ended run count left
 run_behind run Apart count left = Parted
 
 -- the lines of a head in front of a rest are those of fields; or those in front of so many last bytes are those of the first so many
 -- fields; or nothing is said
-abbrev pub AreStanding : Run → List ℕ → List Field → List ℕ → Type 0
+abbrev pub AreStanding : HeadLayout → List ℕ → List Field → List ℕ → Type 0
 AreStanding Going head fields rest = head ≡ flat_map field_text fields ++ rest
 AreStanding (Ended count left) head fields rest = (count ≤ length fields) × (take (length head - left) head ≡ flat_map field_text (take count fields))
 AreStanding Parted head fields rest = Unit {0}

@@ -13,7 +13,7 @@ use crate::keeping::{keep, keep_items};
 use crate::line_fault::LineFault;
 use crate::lines::{Slice, first_line, has_end, is_fold_line, whole_line};
 use crate::part_field::PartField;
-use sip_message_fields::{Piece, ViewName};
+use sip_message_fields::{ViewName, ViewPiece};
 use sip_message_form::{ViewError, ViewRefusal};
 use sip_text::{decimal, is_one_item};
 use std::alloc::Global;
@@ -68,7 +68,7 @@ impl<'a> Content<'a> {
             return self.take_length(value);
         }
         let is_cut = name.is_list() && !is_one_item(value);
-        let value = Piece::Part(value);
+        let value = ViewPiece::Part(value);
         if is_cut {
             return keep_items(alloc, &mut self.fields, &PartField { name, value });
         }

@@ -3,7 +3,7 @@ use sip_message_form::ViewStart;
 
 /// A datagram taken apart: its first line, its fields, its body, and whether that is shorter than Content-Length says.
 #[derive(Drop)]
-pub struct Parts<'a> {
+pub struct DatagramParts<'a> {
     pub start: ViewStart<'a>,
     pub fields: Vec<PartField<'a>>,
     pub body: &'a [u8],

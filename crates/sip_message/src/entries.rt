@@ -5,7 +5,7 @@ ghost use Rattle.std.specs.List.{list_all};
 ghost use Rattle.sip_text.specs.Lists.{trimmed, end_trimmed};
 ghost use Rattle.sip_text.specs.Words.{is_token_text};
 ghost use Rattle.sip_text.specs.Splits.{split_at_byte};
-ghost use Rattle.sip_message_fields.specs.declared.piece.Piece.TheVariants.{Part, Joined};
+ghost use Rattle.sip_message_fields.specs.declared.piece.ViewPiece.TheVariants.{Part, Joined};
 ghost use Rattle.sip_message_fields.specs.Slice.{IsCutFrom, IsPieceCutFrom};
 ghost use Rattle.sip_message.specs.HeadContent.{IsFault};
 ghost use Rattle.sip_text_runs.specs.TextRun.{is_text};
@@ -16,11 +16,11 @@ ghost use Rattle.sip_message.specs.Parts.{field_seen};
 ghost use Rattle.sip_message.specs.Seen.{seen_field};
 
 use crate::joined_line::JoinedLine;
-use crate::line::Line;
+use crate::line::WholeLine;
 use crate::line_fault::LineFault;
 use crate::part_field::PartField;
 use httparse::is_header_value;
-use sip_message_fields::{Piece, ViewName, slice_before, slice_from};
+use sip_message_fields::{ViewName, ViewPiece, slice_before, slice_from};
 use sip_text::{Buffer, is_token, split_once, without_end_blanks, without_front_blanks};
 use sip_text_runs::name_length;
 use std::alloc::{AllocError, Global};
@@ -146,7 +146,7 @@ pub(crate) fn parts_of_line(line: &[u8]) -> Option<(&[u8], &[u8])>
 /// The written name and the value of the field that a line writes, where each byte of it may stand in a value and a `:`
 /// follows the name at once, as in most. None says nothing.
 #[inline]
-pub(crate) fn usual_parts(line: &[u8]) -> Option<(&[u8], &[u8])>
+pub(crate) fn plain_parts(line: &[u8]) -> Option<(&[u8], &[u8])>
     requires text { list_all is_text line.now ≡ true }
     ensures { IfSome result (λ x. Some (seen_field x.0.now x.1.now) ≡ field_of line.now) }
 {
@@ -161,7 +161,7 @@ fn copied<'a>(alloc: Global, name: &'a [u8], value: &[u8]) -> Result<PartField<'
     ensures field { IfOk result (λ field. field_seen field ≡ seen_field name.now value.now) }
     ensures joined { IfOk result (λ field. IsPieceCutFrom (Joined value.now) field.value) }
 {
-    let value = Piece::Joined(Buffer::copy(alloc, value)?);
+    let value = ViewPiece::Joined(Buffer::copy(alloc, value)?);
     Ok(PartField {
         name: ViewName::of_part(name),
         value,
@@ -176,7 +176,7 @@ fn field_of_part<'a>(line: &'a [u8]) -> Option<PartField<'a>>
     let (name, value) = parts_of_line(line)?;
     Some(PartField {
         name: ViewName::of_part(name),
-        value: Piece::Part(value),
+        value: ViewPiece::Part(value),
     })
 }
 
@@ -193,13 +193,16 @@ fn field_of_joined<'a>(alloc: Global, line: &JoinedLine<'a>) -> Result<PartField
 }
 
 /// The field that a line writes.
-pub(crate) fn field_of_line<'a>(alloc: Global, line: &Line<'a>) -> Result<PartField<'a>, LineFault>
+pub(crate) fn field_of_line<'a>(
+    alloc: Global,
+    line: &WholeLine<'a>,
+) -> Result<PartField<'a>, LineFault>
     ensures field { MatchResult result (λ field. field_of (line_bytes line.now) ≡ Some (field_seen field))
         (λ e. IsFault e (field_of (line_bytes line.now))) }
     ensures cut { IfOk result (λ field. IsPieceCutFrom (line_piece line.now) field.value) }
 {
     match line {
-        Line::Part(part) => field_of_part(part).ok_or(LineFault::BadField),
-        Line::Unfolded(joined) => field_of_joined(alloc, joined),
+        WholeLine::Part(part) => field_of_part(part).ok_or(LineFault::BadField),
+        WholeLine::Unfolded(joined) => field_of_joined(alloc, joined),
     }
 }

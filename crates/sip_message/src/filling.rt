@@ -18,13 +18,13 @@ ghost use Rattle.sip_message.specs.Lines.{is_fold};
 
 use crate::content::{USUAL_FIELDS, length_behind, refusal_of};
 use crate::entries::{
-    any_parts, behind_space, field_of_line, parts_of_line, trimmed_slice, usual_parts,
+    any_parts, behind_space, field_of_line, parts_of_line, plain_parts, trimmed_slice,
 };
 use crate::keeping::items_of;
 use crate::line_fault::LineFault;
 use crate::lines::{HeadLine, NamedLine, Slice, head_line, is_fold_line, named_line, whole_line};
 use crate::part_field::PartField;
-use crate::stands::{Run, Stands, Taken, go_on, lines_in};
+use crate::stands::{HeadLayout, Stands, TakenLine, go_on, lines_in};
 use sip_message_fields::{Value, ViewField, ViewFields, ViewName};
 use sip_message_form::{ViewError, ViewRefusal};
 use sip_text::{Span, is_one_item};
@@ -254,7 +254,7 @@ impl<'a> Filling<'a> {
         if !next.is_text {
             return self.take_other(alloc, next);
         }
-        let Some((name, value)) = usual_parts(next.line) else {
+        let Some((name, value)) = plain_parts(next.line) else {
             return self.take_unnamed(alloc, next);
         };
         self.take_parts(alloc, name, value)?;
@@ -276,7 +276,7 @@ impl<'a> Filling<'a> {
 
     /// Takes a line with a name and its folds, and gives what follows them, and whether the line stands as its field is written.
     #[inline(always)]
-    fn take_named(&mut self, alloc: Global, next: NamedLine<'a>) -> Result<Taken<'a>, LineFault>
+    fn take_named(&mut self, alloc: Global, next: NamedLine<'a>) -> Result<TakenLine<'a>, LineFault>
         requires named { IsNamed next.line.now next.name.now next.value.now }
         requires text { list_all is_text next.value.now ≡ true }
         requires whole { next.text.now ≡ next.line.now ++ 13 ∷ 10 ∷ [] }
@@ -287,24 +287,24 @@ impl<'a> Filling<'a> {
     {
         if is_fold_line(next.after) {
             let after = self.take_folded(alloc, next.line, next.after)?;
-            return Ok(Taken::apart(after));
+            return Ok(TakenLine::apart(after));
         }
         let Some(value) = behind_space(next.value) else {
             let after = self.take_unusual(alloc, next)?;
-            return Ok(Taken::apart(after));
+            return Ok(TakenLine::apart(after));
         };
         let (name, is_full) = ViewName::of_written(next.name);
         if !is_full {
             let after = self.take_unusual(alloc, next)?;
-            return Ok(Taken::apart(after));
+            return Ok(TakenLine::apart(after));
         }
         if !is_one_field(&name, value) {
             self.take_parts(alloc, next.name, value)?;
-            return Ok(Taken::apart(next.after));
+            return Ok(TakenLine::apart(next.after));
         }
         let stands = self.take_field(name, value, next.text)?;
         let after = next.after;
-        Ok(Taken { after, stands })
+        Ok(TakenLine { after, stands })
     }
 }
 
@@ -325,7 +325,7 @@ pub(crate) fn filling_of_head<'a>(
         lines: None,
     };
     let mut rest = Slice { bytes: head };
-    let mut run = Run::Going;
+    let mut run = HeadLayout::Going;
     'by_lines: loop {
         if let Some(next) = named_line(rest.bytes) {
             match filling.take_named(alloc, next) {
@@ -348,7 +348,7 @@ pub(crate) fn filling_of_head<'a>(
         }
         match filling.take_line(alloc, next) {
             Ok(after) => {
-                run = Run::Parted;
+                run = HeadLayout::Parted;
                 rest = Slice { bytes: after };
             }
             Err(fault) => return Err(refusal_of(fault, next.after)),

@@ -2,7 +2,7 @@
 //! profile, as parts of itself; `read` gives the same message with bytes of its own, and `write` the written
 //! form of a message. A text that is read says one message, and what is written of it says it again.
 //!
-//! - Used: `sip_core` reads each datagram once.
+//! - Used: `sip_verdict` reads each datagram once.
 //! - Not here: the meaning of a value (`sip_header`), and which messages are refused (`sip_validate`).
 //! - Tried: worked examples in `src/examples.rt`, as contracts that compute; `test_parts`.
 //!
@@ -30,12 +30,12 @@ mod stands;
 mod start_line;
 mod viewing;
 
-pub use datagram_parts::Parts;
+pub use datagram_parts::DatagramParts;
 pub use part_field::PartField;
 pub use parting::parts;
 pub use reading::read;
 pub use sip_message_fields::{
-    Field, FieldName, Fields, Piece, Value, ViewField, ViewFields, ViewName,
+    Field, FieldName, Fields, Value, ViewField, ViewFields, ViewName, ViewPiece,
 };
 pub use sip_message_form::{
     Kept, Message, ReadError, Start, View, ViewError, ViewRefusal, ViewStart, write, written_length,

@@ -7,31 +7,31 @@ use std::alloc::{AllocError, Global};
 
 /// A line of a head: a part of the datagram, and bytes of its own only once a fold was joined to it, so that a line
 /// without folds is not copied.
-pub(crate) enum Line<'a> {
+pub(crate) enum WholeLine<'a> {
     Part(&'a [u8]),
     Unfolded(JoinedLine<'a>),
 }
 
 /// Written out, so that it is proved once and not wherever a line is dropped.
-impl<'a> Drop for Line<'a> {
+impl<'a> Drop for WholeLine<'a> {
     fn drop(self) {
         match self {
-            Line::Part(_) => {}
-            Line::Unfolded(_) => {}
+            WholeLine::Part(_) => {}
+            WholeLine::Unfolded(_) => {}
         }
     }
 }
 
-impl<'a> Line<'a> {
+impl<'a> WholeLine<'a> {
     /// The line with a fold of it.
     pub(crate) fn with_fold(self, alloc: Global, fold: &[u8]) -> Result<Self, AllocError>
         ensures bytes { IfOk result (λ both. line_bytes both ≡ joined (line_bytes self.entry) fold.now) }
         ensures fold { IfOk result (λ both. has_fold both ≡ true) }
     {
         let line = match self {
-            Line::Part(part) => JoinedLine::begun(alloc, part)?,
-            Line::Unfolded(line) => line,
+            WholeLine::Part(part) => JoinedLine::begun(alloc, part)?,
+            WholeLine::Unfolded(line) => line,
         };
-        Ok(Line::Unfolded(line.with_fold(fold)?))
+        Ok(WholeLine::Unfolded(line.with_fold(fold)?))
     }
 }

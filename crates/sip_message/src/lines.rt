@@ -8,7 +8,7 @@ ghost use Rattle.sip_message.specs.HeadContent.{IsWhole};
 ghost use Rattle.sip_message.specs.Named.{IsNamed};
 ghost use Rattle.sip_message.specs.Lines.{after_blanks, line_at, is_fold, head_at};
 
-use crate::line::Line;
+use crate::line::WholeLine;
 use sip_message_fields::{slice_before, slice_from};
 use sip_text::is_space_or_tab;
 use sip_text_runs::{find_crlf, name_end, text_length};
@@ -168,10 +168,10 @@ pub(crate) fn whole_line<'a>(
     alloc: Global,
     line: &'a [u8],
     after: &'a [u8],
-) -> Result<(Line<'a>, &'a [u8]), AllocError>
+) -> Result<(WholeLine<'a>, &'a [u8]), AllocError>
     ensures { IfOk result (λ x. IsWhole line.entry after.entry x.0 x.1) }
 {
-    let mut whole = Line::Part(line);
+    let mut whole = WholeLine::Part(line);
     let mut rest = Slice { bytes: after };
     while is_fold_line(rest.bytes) {
         let Some((fold, next)) = first_line(rest.bytes) else {

@@ -4,7 +4,7 @@ ghost use Rattle.sip_message.specs.Reading.{Gives, content_of, parts_of};
 
 use crate::body::{body_part, is_cut_short};
 use crate::content::{Content, content_of_head};
-use crate::datagram_parts::Parts;
+use crate::datagram_parts::DatagramParts;
 use crate::lines::{first_line, without_blank_lines};
 use crate::start_line::start_of_line;
 use sip_message_form::{ViewError, ViewRefusal};
@@ -12,7 +12,7 @@ use std::alloc::Global;
 
 /// The parts of bytes that aren't too many.
 #[tactic(auto, unfolding(crate::specs::Reading::content_of))]
-fn parts_of_datagram<'a>(alloc: Global, bytes: &'a [u8]) -> Result<Parts<'a>, ViewError<'a>>
+fn parts_of_datagram<'a>(alloc: Global, bytes: &'a [u8]) -> Result<DatagramParts<'a>, ViewError<'a>>
     ensures parts { Gives parts_seen result (content_of bytes.now) }
     ensures cut { IfOk result (λ parts. ArePartsOf bytes.entry parts) }
 {
@@ -21,7 +21,7 @@ fn parts_of_datagram<'a>(alloc: Global, bytes: &'a [u8]) -> Result<Parts<'a>, Vi
     };
     let start = start_of_line(alloc, line)?;
     let (Content { fields, length }, rest) = content_of_head(alloc, head)?;
-    Ok(Parts {
+    Ok(DatagramParts {
         start,
         fields,
         body: body_part(length, rest),
@@ -33,7 +33,7 @@ fn parts_of_datagram<'a>(alloc: Global, bytes: &'a [u8]) -> Result<Parts<'a>, Vi
 /// value is the slice of the datagram that it is. The refusals, in their order: `TooLong` (more than 65,507 bytes),
 /// `NotSip`, `BadField`; `NoMemory` at any point.
 #[tactic(auto, unfolding(crate::specs::Reading::parts_of))]
-pub fn parts<'a>(alloc: Global, bytes: &'a [u8]) -> Result<Parts<'a>, ViewError<'a>>
+pub fn parts<'a>(alloc: Global, bytes: &'a [u8]) -> Result<DatagramParts<'a>, ViewError<'a>>
     // What the bytes say, or the first refusal, unless memory runs out.
     ensures exact { Gives parts_seen result (parts_of bytes.now) }
     // Where it stands: not bytes that are the same, but the same memory.

@@ -152,7 +152,7 @@ fn request_from<'a>(
 
 /// A request line as most write it: the method is few letters, and the version is `SIP/2.0` in upper case. No space is looked
 /// for in it. None says nothing.
-fn usual_request(line: &[u8]) -> Option<ViewStart<'_>>
+fn plain_request(line: &[u8]) -> Option<ViewStart<'_>>
     ensures { IfSome result (λ start. start_of line.now ≡ Some (start_seen start)) }
 {
     let (method, behind) = line.split_at(name_end(line, b' ')?);
@@ -189,7 +189,7 @@ pub(crate) fn start_of_line<'a>(
 ) -> Result<ViewStart<'a>, ViewError<'a>>
     ensures { Gives start_seen result (ok_or (start_of line.now) NotSip) }
 {
-    if let Some(start) = usual_request(line) {
+    if let Some(start) = plain_request(line) {
         return Ok(start);
     }
     let Some((first, second, third)) = three_words(line) else {

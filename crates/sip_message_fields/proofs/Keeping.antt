@@ -8,7 +8,7 @@ use Rattle.std.proofs.lemmas.List.Elements.{All-push}
 use Rattle.sip_text.specs.declared.span.Span.{Span}
 use Rattle.sip_text.specs.Span.{part, IsWithin}
 use Rattle.sip_message_fields.specs.declared.field_name.FieldName.{FieldName}
-use Rattle.sip_message_fields.specs.declared.known.KnownName.{KnownName}
+use Rattle.sip_message_fields.specs.declared.known_names.KnownName.{KnownName}
 use Rattle.sip_message_fields.specs.KnownName.{name_seen}
 use Rattle.sip_message_fields.specs.declared.field.Field.{Field}
 use Rattle.sip_message_fields.specs.declared.kept_field.KeptField.{KeptField}

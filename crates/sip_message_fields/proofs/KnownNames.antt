@@ -2,14 +2,16 @@
 use Rattle.std.proofs.Common.{◌≡◌, ℕ, zero, suc, ◌<◌, Bool, true, false, List, [], ◌∷◌, length, get_or, refl, sym, ap, ◌∙◌, rules, arith, lit<}
 use Rattle.std.specs.Prelude.{not, ◌&&◌}
 use denote.Enum.Bare.{sameb}
-use Rattle.sip_message_fields.specs.contracts.known.KnownName.{the_type}
+use Rattle.sip_message_fields.specs.contracts.known_names.KnownName.{the_type}
 use Rattle.sip_message_fields.specs.declared.field_name.FieldName.{FieldName}
 use Rattle.sip_message_fields.specs.declared.field_name.FieldName.TheVariants as Name
-use Rattle.sip_message_fields.specs.declared.known.KnownName.{KnownName}
-use Rattle.sip_message_fields.specs.declared.known.KnownName.TheVariants.{Via, From, To, CallId, CSeq, Contact, MaxForwards, ContentLength, ContentType, ContentEncoding}
-use Rattle.sip_message_fields.specs.declared.known.KnownName.TheVariants.{Subject, Supported, Route, RecordRoute, Expires, Require, ProxyRequire, Unsupported}
-use Rattle.sip_message_fields.specs.declared.known.KnownName.TheVariants.{Authorization, ProxyAuthorization, WwwAuthenticate, ProxyAuthenticate, Warning, MinExpires}
-use Rattle.sip_message_fields.specs.declared.known.KnownName.TheVariants.{Timestamp}
+use Rattle.sip_message_fields.specs.declared.known_names.KnownName.{KnownName}
+use Rattle.sip_message_fields.specs.declared.known_names.KnownName.TheVariants.{Via, From, To, CallId, CSeq, Contact, MaxForwards, ContentLength, ContentType}
+use Rattle.sip_message_fields.specs.declared.known_names.KnownName.TheVariants.{ContentEncoding}
+use Rattle.sip_message_fields.specs.declared.known_names.KnownName.TheVariants.{Subject, Supported, Route, RecordRoute, Expires, Require, ProxyRequire, Unsupported}
+use Rattle.sip_message_fields.specs.declared.known_names.KnownName.TheVariants.{Authorization, ProxyAuthorization, WwwAuthenticate, ProxyAuthenticate, Warning}
+use Rattle.sip_message_fields.specs.declared.known_names.KnownName.TheVariants.{MinExpires}
+use Rattle.sip_message_fields.specs.declared.known_names.KnownName.TheVariants.{Timestamp}
 use Rattle.std.specs.Str.{bytes_eq}
 use Rattle.sip_message_fields.specs.FieldName.{spelling, is_same_name, name_of}
 use Rattle.sip_message_fields.specs.KnownName.{field_name_of, known_of, name_seen}

@@ -5,11 +5,13 @@ use Rattle.std.specs.List.{AllByRecursion}
 use Rattle.sip_text.specs.Words.{is_same_text}
 use Rattle.sip_message_fields.specs.declared.field_name.FieldName.{FieldName}
 use Rattle.sip_message_fields.specs.declared.field_name.FieldName.TheVariants.{Other}
-use Rattle.sip_message_fields.specs.declared.known.KnownName.{KnownName}
-use Rattle.sip_message_fields.specs.declared.known.KnownName.TheVariants.{Via, From, To, CallId, CSeq, Contact, MaxForwards, ContentLength, ContentType, ContentEncoding}
-use Rattle.sip_message_fields.specs.declared.known.KnownName.TheVariants.{Subject, Supported, Route, RecordRoute, Expires, Require, ProxyRequire, Unsupported}
-use Rattle.sip_message_fields.specs.declared.known.KnownName.TheVariants.{Authorization, ProxyAuthorization, WwwAuthenticate, ProxyAuthenticate, Warning, MinExpires}
-use Rattle.sip_message_fields.specs.declared.known.KnownName.TheVariants.{Timestamp}
+use Rattle.sip_message_fields.specs.declared.known_names.KnownName.{KnownName}
+use Rattle.sip_message_fields.specs.declared.known_names.KnownName.TheVariants.{Via, From, To, CallId, CSeq, Contact, MaxForwards, ContentLength, ContentType}
+use Rattle.sip_message_fields.specs.declared.known_names.KnownName.TheVariants.{ContentEncoding}
+use Rattle.sip_message_fields.specs.declared.known_names.KnownName.TheVariants.{Subject, Supported, Route, RecordRoute, Expires, Require, ProxyRequire, Unsupported}
+use Rattle.sip_message_fields.specs.declared.known_names.KnownName.TheVariants.{Authorization, ProxyAuthorization, WwwAuthenticate, ProxyAuthenticate, Warning}
+use Rattle.sip_message_fields.specs.declared.known_names.KnownName.TheVariants.{MinExpires}
+use Rattle.sip_message_fields.specs.declared.known_names.KnownName.TheVariants.{Timestamp}
 use Rattle.sip_message_fields.specs.FieldName.{Known, spelling, known_names, is_named, named_in, name_of, is_same_name}
 use Rattle.sip_message_fields.specs.KnownName.{field_name_of, known_of, name_seen, told_as, IsTold}
 

@@ -4,12 +4,12 @@ use Rattle.std.specs.Option.{unwrap_or}
 use Rattle.sip_message_fields.specs.declared.field_name.FieldName.{FieldName}
 use Rattle.sip_message_fields.specs.declared.field_name.FieldName.TheVariants as Name
 use Rattle.sip_message_fields.specs.FieldName.{name_of}
-use Rattle.sip_message_fields.specs.declared.known.KnownName.{KnownName}
-use Rattle.sip_message_fields.specs.declared.known.KnownName.TheVariants.{Via, From, To, CallId, CSeq, Contact, MaxForwards, ContentLength}
-use Rattle.sip_message_fields.specs.declared.known.KnownName.TheVariants.{ContentType, ContentEncoding, Subject, Supported, Route}
-use Rattle.sip_message_fields.specs.declared.known.KnownName.TheVariants.{RecordRoute, Expires, Require, ProxyRequire, Unsupported}
-use Rattle.sip_message_fields.specs.declared.known.KnownName.TheVariants.{Authorization, ProxyAuthorization, WwwAuthenticate}
-use Rattle.sip_message_fields.specs.declared.known.KnownName.TheVariants.{ProxyAuthenticate, Warning, MinExpires, Timestamp}
+use Rattle.sip_message_fields.specs.declared.known_names.KnownName.{KnownName}
+use Rattle.sip_message_fields.specs.declared.known_names.KnownName.TheVariants.{Via, From, To, CallId, CSeq, Contact, MaxForwards, ContentLength}
+use Rattle.sip_message_fields.specs.declared.known_names.KnownName.TheVariants.{ContentType, ContentEncoding, Subject, Supported, Route}
+use Rattle.sip_message_fields.specs.declared.known_names.KnownName.TheVariants.{RecordRoute, Expires, Require, ProxyRequire, Unsupported}
+use Rattle.sip_message_fields.specs.declared.known_names.KnownName.TheVariants.{Authorization, ProxyAuthorization, WwwAuthenticate}
+use Rattle.sip_message_fields.specs.declared.known_names.KnownName.TheVariants.{ProxyAuthenticate, Warning, MinExpires, Timestamp}
 
 -- the name of a field that it is
 abbrev pub field_name_of : KnownName → FieldName

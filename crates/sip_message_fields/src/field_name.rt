@@ -3,7 +3,7 @@ ghost use Rattle.std.specs.Prelude.{◌≡◌, IfOk, MatchOption};
 ghost use Rattle.sip_message_fields.specs.FieldName.{spelling, name_of, is_length, is_list, is_same_name};
 ghost use Rattle.sip_message_fields.specs.declared.field_name.FieldName.TheVariants.{Other};
 
-use crate::known::KnownName;
+use crate::known_names::KnownName;
 use sip_text::{Bytes, same_no_case};
 use std::alloc::{AllocError, Global};
 

@@ -4,7 +4,7 @@ ghost use Rattle.std.specs.Prelude.{◌≡◌, [], ◌∷◌, ◌++◌, IfOk, On
 
 use crate::field::Field;
 use crate::field_name::FieldName;
-use crate::named::values_in;
+use crate::named_values::values_in;
 use std::alloc::{AllocError, Global};
 use std::marker::Model;
 

@@ -2,7 +2,7 @@ ghost use Rattle.std.specs.Prelude.{◌≡◌, IfSome};
 ghost use Rattle.sip_message_fields.specs.FieldName.{spelling};
 ghost use Rattle.sip_message_fields.specs.KnownName.{field_name_of};
 
-use crate::known::KnownName;
+use crate::known_names::KnownName;
 use sip_text::same_bytes;
 
 /// The names whose full spelling has seven letters.

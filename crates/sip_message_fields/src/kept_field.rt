@@ -1,7 +1,7 @@
 ghost use Rattle.std.specs.Prelude.{◌≡◌, true};
 
 use crate::KnownName;
-use crate::known::same_known;
+use crate::known_names::same_known;
 use sip_text::Span;
 
 /// A field whose bytes stand in a store: a name that this project knows, or the span of its spelling, and the span

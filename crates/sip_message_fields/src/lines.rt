@@ -22,14 +22,14 @@ pub fn put_marked(store: &mut Buffer, more: &[u8], mark: &[u8]) -> Result<Span, 
 
 /// A field as its line stands in a text, and where the next line begins.
 #[derive(Clone, Copy)]
-struct Line {
+struct FieldLine {
     kept: KeptField,
     end: usize,
 }
 
 /// The line of a field that begins at a byte of a text (RFC 3261 7.3.1); none where no text is so long.
 #[inline]
-fn line_at(field: &ViewField<'_>, start: usize) -> Option<Line>
+fn line_at(field: &ViewField<'_>, start: usize) -> Option<FieldLine>
     ensures { IfSome result (λ line. IsLineAt start field.now line.kept line.end) }
 {
     let name = field.name();
@@ -48,19 +48,23 @@ fn line_at(field: &ViewField<'_>, start: usize) -> Option<Line>
             end: value_end,
         },
     };
-    Some(Line { kept, end })
+    Some(FieldLine { kept, end })
 }
 
 /// Fields as their lines stand in a text, one behind the other, and where the last one ends.
 #[derive(Drop)]
-pub struct Lines {
+pub struct FieldLines {
     pub list: Vec<KeptField>,
     pub end: usize,
 }
 
 /// Where the lines of fields stand in a text in which the first of them begins at a byte (RFC 3261 7.3.1). `AllocError` is
 /// the only refusal.
-pub fn lines_at(alloc: Global, fields: &[ViewField<'_>], start: usize) -> Result<Lines, AllocError>
+pub fn lines_at(
+    alloc: Global,
+    fields: &[ViewField<'_>],
+    start: usize,
+) -> Result<FieldLines, AllocError>
     ensures { IfOk result (λ lines. AreLinesAt start fields.now lines.list.items lines.end) }
 {
     let mut list = Vec::with_capacity(alloc, fields.len())?;
@@ -72,5 +76,5 @@ pub fn lines_at(alloc: Global, fields: &[ViewField<'_>], start: usize) -> Result
         list.push(line.kept)?;
         end = line.end;
     }
-    Ok(Lines { list, end })
+    Ok(FieldLines { list, end })
 }

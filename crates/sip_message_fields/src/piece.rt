@@ -9,30 +9,30 @@ use std::alloc::{AllocError, Global};
 
 /// Bytes as a view has them: a part of what was read, or bytes of their own where no part is the same.
 #[derive(Clone)]
-pub enum Piece<'a> {
+pub enum ViewPiece<'a> {
     Part(&'a [u8]),
     Joined(Buffer),
 }
 
 /// Written out, so that it is proved once and not wherever a piece is dropped.
-impl<'a> Drop for Piece<'a> {
+impl<'a> Drop for ViewPiece<'a> {
     fn drop(self) {
         match self {
-            Piece::Part(_) => {}
-            Piece::Joined(_) => {}
+            ViewPiece::Part(_) => {}
+            ViewPiece::Joined(_) => {}
         }
     }
 }
 
-impl<'a> Piece<'a> {
+impl<'a> ViewPiece<'a> {
     /// The bytes, wherever they stand.
     #[inline]
     pub fn as_slice(&self) -> &[u8]
         ensures { result.now ≡ bytes_of self.now }
     {
         match self {
-            Piece::Part(part) => part,
-            Piece::Joined(bytes) => bytes.as_slice(),
+            ViewPiece::Part(part) => part,
+            ViewPiece::Joined(bytes) => bytes.as_slice(),
         }
     }
 
@@ -43,10 +43,10 @@ impl<'a> Piece<'a> {
         ensures cut { IfOk result (λ piece. IsPieceCutFrom self.now piece) }
     {
         match self {
-            Piece::Part(slice) => Ok(Piece::Part(slice_of(slice, span))),
-            Piece::Joined(bytes) => {
+            ViewPiece::Part(slice) => Ok(ViewPiece::Part(slice_of(slice, span))),
+            ViewPiece::Joined(bytes) => {
                 let bytes = Buffer::copy(alloc, span.of(bytes.as_slice()))?;
-                Ok(Piece::Joined(bytes))
+                Ok(ViewPiece::Joined(bytes))
             }
         }
     }

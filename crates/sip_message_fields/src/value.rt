@@ -1,6 +1,6 @@
 ghost use Rattle.std.specs.Prelude.{◌≡◌, IfOk, IfSome};
 
-use crate::piece::Piece;
+use crate::piece::ViewPiece;
 use sip_text::{Bytes, Span};
 use std::alloc::{AllocError, Global};
 use std::marker::Model;
@@ -8,7 +8,7 @@ use std::marker::Model;
 /// A value of a view, seen as its bytes, wherever they stand.
 #[derive(Clone, Drop)]
 pub struct Value<'a> {
-    piece: Piece<'a>,
+    piece: ViewPiece<'a>,
 }
 
 impl<'a> Model for Value<'a> {
@@ -31,7 +31,7 @@ impl<'a> Value<'a> {
         ensures { result ≡ part.now }
     {
         Value {
-            piece: Piece::Part(part),
+            piece: ViewPiece::Part(part),
         }
     }
 
@@ -41,13 +41,13 @@ impl<'a> Value<'a> {
     {
         let buffer = bytes.into_buffer(alloc)?;
         Ok(Value {
-            piece: Piece::Joined(buffer),
+            piece: ViewPiece::Joined(buffer),
         })
     }
 
     /// The bytes of a piece.
     #[inline]
-    pub fn of_piece(piece: Piece<'a>) -> Self
+    pub fn of_piece(piece: ViewPiece<'a>) -> Self
         ensures { result ≡ bytes_of piece.entry }
     {
         Value { piece }
@@ -66,8 +66,8 @@ impl<'a> Value<'a> {
         ensures { IfSome result (λ part. part.now ≡ self.now) }
     {
         match &self.piece {
-            Piece::Part(part) => Some(*part),
-            Piece::Joined(_) => None,
+            ViewPiece::Part(part) => Some(*part),
+            ViewPiece::Joined(_) => None,
         }
     }
 

@@ -11,7 +11,7 @@ use Rattle.sip_message_form.specs.declared.message.Start.TheVariants.{Request, S
 use Rattle.sip_message_form.specs.declared.message.Message.{Message}
 use Rattle.sip_message.specs.Reading.{reading_of}
 use Rattle.sip_route.specs.declared.own.Own.{Own}
-use Rattle.sip_transaction_table.specs.declared.key.Key.{Key}
+use Rattle.sip_transaction_table.specs.declared.key.TransactionKey.{TransactionKey}
 use Rattle.sip_header.specs.declared.cseq.CSeq.{CSeq}
 use Rattle.sip_header.specs.declared.core_fields.CoreFields.{CoreFields}
 use Rattle.sip_transaction_table.specs.Key.{key_of}
@@ -26,8 +26,8 @@ use Rattle.sip_location.specs.declared.error.LocationError.{LocationError}
 use Rattle.sip_location.specs.declared.error.LocationError.TheVariants.{NoMemory, BadStar, TooBrief, OldCSeq, TooMany}
 use Rattle.sip_location.specs.Registration.{registered}
 use Rattle.sip_targets.specs.declared.targets.Targets.{Targets}
-use Rattle.sip_validate.specs.Candidate.{Candidate}
-use Rattle.sip_validate.specs.Refusal.{Row, rows, refusal, candidate_by, candidate_of, refusal_of, is_bad_request}
+use Rattle.sip_validate.specs.UncheckedRequest.{UncheckedRequest}
+use Rattle.sip_validate.specs.Refusal.{Row, rows, refusal, unchecked_by, unchecked_of, refusal_of, is_bad_request}
 use Rattle.sip_dialog.specs.declared.dialog.DialogId.{DialogId}
 use Rattle.sip_dialog.specs.Dialogs.{IsInDialog, is_in_dialog}
 use Rattle.std.proofs.lemmas.Slice.Eq.{bytes_eq-Decides}
@@ -67,14 +67,14 @@ pub record IsResponding (server : Server) (state : ProxyState) (m : Message) (sh
 
 -- a request came that is new and no ACK
 pub record IsBrought (state : ProxyState) (m : Message) : Type 0 where
-  pub key : Key
+  pub key : TransactionKey
   pub key_is : key_of m ≡ Some key
   pub is_new : find (has_key key) state.requests ≡ None
   pub is_no_ack : bytes_eq (method_of m.start) (codes "ACK") ≡ false
 
 -- a request came whose key is that of an open request
 pub record IsCopy (state : ProxyState) (m : Message) (r : OpenRequest) : Type 0 where
-  pub key : Key
+  pub key : TransactionKey
   pub key_is : key_of m ≡ Some key
   pub is_open : find (has_key key) state.requests ≡ Some r
   pub there : Contains state.requests r
@@ -82,7 +82,7 @@ pub record IsCopy (state : ProxyState) (m : Message) (r : OpenRequest) : Type 0 
 -- a CANCEL came that is new, and this is the open request that it names, if it names one
 pub record IsNaming (state : ProxyState) (a : Arrival) (m : Message) (found : Option OpenRequest) : Type 0 where
   pub brought : IsBrought state m
-  pub key : Key
+  pub key : TransactionKey
   pub key_is : key_of m ≡ Some key
   pub is_cancel : bytes_eq (method_of m.start) (codes "CANCEL") ≡ true
   pub found_is : found_for_cancel state key a.from ≡ found
@@ -185,8 +185,8 @@ ok_is (Err f) x e = absurd (cc)
 
 -- each check refuses by a final status, and none by 403
 refusal_other : (own : Own) (m : Message) (short : Bool) → IfSome (refusal_of own m short) (λ refused. IsOtherFinal refused.0)
-refusal_other own m short = by_candidate (candidate_of own m short) where
-  by_row : (r : Candidate) (o : Option Row) → IfSome o (λ row. IsOtherFinal row.status)
+refusal_other own m short = by_candidate (unchecked_of own m short) where
+  by_row : (r : UncheckedRequest) (o : Option Row) → IfSome o (λ row. IsOtherFinal row.status)
       → IfSome {T = ℕ × List ℕ} (option_map (λ row. (row.status, row.extra r)) o) (λ refused. IsOtherFinal refused.0)
   by_row r None h = tt
   by_row r (Some row) h = h
@@ -209,7 +209,7 @@ refusal_other own m short = by_candidate (candidate_of own m short) where
     ),
   )
 
-  by_candidate : (o : Option Candidate) → IfSome (option_map_or refusal o None) (λ refused. IsOtherFinal refused.0)
+  by_candidate : (o : Option UncheckedRequest) → IfSome (option_map_or refusal o None) (λ refused. IsOtherFinal refused.0)
   by_candidate None = tt
   by_candidate (Some r) = by_row r (find (λ row. row.applies r) rows) (all_find (λ (row : Row). IsOtherFinal row.status) (λ row. row.applies r) rows others)
 
@@ -217,7 +217,7 @@ refusal_other own m short = by_candidate (candidate_of own m short) where
 passes_whole : (own : Own) (m : Message) (method uri version : List ℕ) (short : Bool) → m.start ≡ Request method uri version → refusal_of own m short ≡ None
     → short ≡ false
 passes_whole own m method uri version true is_request passes =
-    let refused : refusal_of own m true ≡ Some (400, []) = ap (λ start. option_map_or refusal (candidate_by own m.fields true start) None) is_request in
+    let refused : refusal_of own m true ≡ Some (400, []) = ap (λ start. option_map_or refusal (unchecked_by own m.fields true start) None) is_request in
     absurd (cc)
 passes_whole own m method uri version false is_request passes = refl
 
@@ -287,7 +287,7 @@ passing server m short method uri version is_request no_register no_cancel valid
     }
 
 -- what is no ACK by its method is none
-pub brought : (state : ProxyState) (m : Message) (method uri version : List ℕ) (key : Key) → m.start ≡ Request method uri version → key_of m ≡ Some key
+pub brought : (state : ProxyState) (m : Message) (method uri version : List ℕ) (key : TransactionKey) → m.start ≡ Request method uri version → key_of m ≡ Some key
     → find (has_key key) state.requests ≡ None
     → bytes_eq method (codes "ACK") ≡ false → IsBrought state m
 brought state m method uri version key is_request key_is is_new no_ack =
@@ -336,7 +336,8 @@ module _ (server : Server) (state : ProxyState) (a : Arrival) (bytes : List ℕ)
         (λ address id h. (h, is_ack)) tt
 
   -- a CANCEL whose key isn't open
-  cancel_fits : (method uri version : List ℕ) (key : Key) → m.start ≡ Request method uri version → bytes_eq method (codes "CANCEL") ≡ true → key_of m ≡ Some key
+  cancel_fits : (method uri version : List ℕ) (key : TransactionKey) → m.start ≡ Request method uri version → bytes_eq method (codes "CANCEL") ≡ true
+      → key_of m ≡ Some key
       → IsBrought state m
       → Fits server state a bytes m short (cancel_verdict server state a m short key)
   cancel_fits method uri version key is_request cancel key_is fresh = by_tests (is_bad_request server.config.own m short) (is_full state) where
@@ -398,7 +399,8 @@ module _ (server : Server) (state : ProxyState) (a : Arrival) (bytes : List ℕ)
     by_decision (Decision.Via id hop) is = let_fits (Decision.Via id hop) id refl is (is_register method) refl
 
 -- a request is valid, new and outside a dialog
-new_request : (server : Server) (state : ProxyState) (bytes : List ℕ) (m : Message) (method uri version : List ℕ) (short : Bool) (key : Key) (core : CoreFields)
+new_request : (server : Server) (state : ProxyState) (bytes : List ℕ) (m : Message) (method uri version : List ℕ) (short : Bool) (key : TransactionKey)
+    (core : CoreFields)
     → message_in (reading_of bytes) ≡ Some (m, short) → m.start ≡ Request method uri version → key_of m ≡ Some key → find (has_key key) state.requests ≡ None
     → bytes_eq method (codes "ACK") ≡ false → bytes_eq method (codes "CANCEL") ≡ false → refusal_of server.config.own m short ≡ None → is_full state ≡ false
     → result_ok (core_of m) ≡ Some core → is_outside method core ≡ true → IsNewRequest server state bytes m method core
@@ -422,7 +424,8 @@ new_request server state bytes m method uri version short key core said is_reque
 
 module _ (server : Server) (state : ProxyState) (a : Arrival) (bytes : List ℕ) (m : Message) (short : Bool) (said : message_in (reading_of bytes) ≡ Some (m, short)) where
   -- a request that is neither ACK nor CANCEL, whose key isn't open
-  checked_fits : (method uri version : List ℕ) (key : Key) → m.start ≡ Request method uri version → key_of m ≡ Some key → find (has_key key) state.requests ≡ None
+  checked_fits : (method uri version : List ℕ) (key : TransactionKey) → m.start ≡ Request method uri version → key_of m ≡ Some key
+      → find (has_key key) state.requests ≡ None
       → bytes_eq method (codes "ACK") ≡ false → bytes_eq method (codes "CANCEL") ≡ false
       → Fits server state a bytes m short (checked_verdict server state a.now m method (refusal_of server.config.own m short))
   checked_fits method uri version key is_request key_is is_new no_ack no_cancel = by_refusal (refusal_of server.config.own m short) refl
@@ -463,7 +466,7 @@ module _ (server : Server) (state : ProxyState) (a : Arrival) (bytes : List ℕ)
         by_refusal (Some refused) valid other = (fresh, other)
 
   -- a request whose key isn't open
-  new_fits : (method uri version : List ℕ) (key : Key) → m.start ≡ Request method uri version → key_of m ≡ Some key → find (has_key key) state.requests ≡ None
+  new_fits : (method uri version : List ℕ) (key : TransactionKey) → m.start ≡ Request method uri version → key_of m ≡ Some key → find (has_key key) state.requests ≡ None
       → Fits server state a bytes m short (new_verdict server state a m short method key)
   new_fits method uri version key is_request key_is is_new = by_tests (bytes_eq method (codes "ACK")) refl (bytes_eq method (codes "CANCEL")) refl where
     by_tests : (t : Bool) → bytes_eq method (codes "ACK") ≡ t → (u : Bool) → bytes_eq method (codes "CANCEL") ≡ u
@@ -484,13 +487,13 @@ module _ (server : Server) (state : ProxyState) (a : Arrival) (bytes : List ℕ)
     copy_fits r copy true ack false = copy
     copy_fits r copy false ack u = copy
 
-    by_found : (key : Key) → key_of m ≡ Some key → (o : Option OpenRequest) → find (has_key key) state.requests ≡ o → IfSome o (Contains state.requests)
+    by_found : (key : TransactionKey) → key_of m ≡ Some key → (o : Option OpenRequest) → find (has_key key) state.requests ≡ o → IfSome o (Contains state.requests)
         → Fits server state a bytes m short (by_open server state a m short method key o)
     by_found key key_is None is there = new_fits method uri version key is_request key_is is
     by_found key key_is (Some r) is there = copy_fits r (record { key = key; key_is = key_is; is_open = is; there = there }) (bytes_eq method (codes "ACK")) refl
         (is_accepted r)
 
-    by_option : (o : Option Key) → key_of m ≡ o → Fits server state a bytes m short (by_key server state a m short method o)
+    by_option : (o : Option TransactionKey) → key_of m ≡ o → Fits server state a bytes m short (by_key server state a m short method o)
     by_option None key_is = tt
     by_option (Some key) key_is = by_found key key_is (find (has_key key) state.requests) refl
         (all_find (Contains state.requests) (has_key key) state.requests (all_there state.requests))

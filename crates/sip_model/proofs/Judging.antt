@@ -10,12 +10,12 @@ use Rattle.sip_message_form.specs.declared.message.Start.TheVariants as Begins
 use Rattle.sip_message_form.specs.declared.message.Message.{Message}
 use Rattle.sip_message.specs.Reading.{reading_of}
 use Rattle.sip_route.specs.declared.own.Own.{Own}
-use Rattle.sip_transaction_table.specs.declared.key.Key.{Key}
+use Rattle.sip_transaction_table.specs.declared.key.TransactionKey.{TransactionKey}
 use Rattle.sip_header.specs.declared.core_fields.CoreFields.{CoreFields}
 use Rattle.sip_transaction_table.specs.Key.{key_of}
 use Rattle.sip_header.specs.CoreFields.{core_of}
 use Rattle.sip_uri.specs.declared.addr.Addr.{Addr}
-use Rattle.sip_validate.specs.Refusal.{refusal, refusal_of, candidate_by, is_bad_request}
+use Rattle.sip_validate.specs.Refusal.{refusal, refusal_of, unchecked_by, is_bad_request}
 use Rattle.sip_dialog.specs.declared.dialog.DialogId.{DialogId}
 use Rattle.sip_dialog.specs.Dialogs.{is_in_dialog}
 use Rattle.model_steps.specs.state.declared.server.Server.{Server}
@@ -89,14 +89,14 @@ within_not_by_policy state now (Some id) None = refl
 within_not_by_policy state now (Some id) (Some address) = neither_by_policy (is_in_dialog now state.dialogs id address) (InDialog address id) (Answer 481 []) refl refl
 
 -- a CANCEL
-cancel_not_by_policy : (server : Server) (state : ProxyState) (a : Arrival) (m : Message) (short : Bool) (key : Key)
+cancel_not_by_policy : (server : Server) (state : ProxyState) (a : Arrival) (m : Message) (short : Bool) (key : TransactionKey)
     → is_by_policy (cancel_verdict server state a m short key) ≡ false
 cancel_not_by_policy server state a m short key =
     neither_by_policy (is_bad_request server.config.own m short) (Answer 400 []) _ refl
     (neither_by_policy (is_full state) (Answer 503 []) (Cancel (found_for_cancel state key a.from)) refl refl)
 
 -- a request whose key is open
-copy_not_by_policy : (server : Server) (state : ProxyState) (a : Arrival) (m : Message) (short : Bool) (method : List ℕ) (key : Key) (r : OpenRequest)
+copy_not_by_policy : (server : Server) (state : ProxyState) (a : Arrival) (m : Message) (short : Bool) (method : List ℕ) (key : TransactionKey) (r : OpenRequest)
     → is_by_policy (by_open server state a m short method key (Some r)) ≡ false
 copy_not_by_policy server state a m short method key r =
     neither_by_policy (bytes_eq method (codes "ACK") && is_accepted r) (ack_verdict server state a.now m short) (Copy r) (ack_not_by_policy server state a.now m short)
@@ -122,7 +122,7 @@ checked_by_policy server state now m method None h =
     let k = second_by_policy (is_full state) (Answer 503 []) (core_verdict server state now m method (result_ok (core_of m))) refl h in (refl, k.0, k.1)
 
 -- it is neither ACK nor CANCEL
-new_by_policy : (server : Server) (state : ProxyState) (a : Arrival) (m : Message) (short : Bool) (method : List ℕ) (key : Key)
+new_by_policy : (server : Server) (state : ProxyState) (a : Arrival) (m : Message) (short : Bool) (method : List ℕ) (key : TransactionKey)
     → is_by_policy (new_verdict server state a m short method key) ≡ true
     → (bytes_eq method (codes "ACK") ≡ false) × (bytes_eq method (codes "CANCEL") ≡ false)
     × (is_by_policy (checked_verdict server state a.now m method (refusal_of server.config.own m short)) ≡ true)
@@ -135,15 +135,15 @@ new_by_policy server state a m short method key h =
     (k.0, l.0, l.1)
 
 -- its key isn't open
-open_by_policy : (server : Server) (state : ProxyState) (a : Arrival) (m : Message) (short : Bool) (method : List ℕ) (key : Key) (found : Option OpenRequest)
+open_by_policy : (server : Server) (state : ProxyState) (a : Arrival) (m : Message) (short : Bool) (method : List ℕ) (key : TransactionKey) (found : Option OpenRequest)
     → is_by_policy (by_open server state a m short method key found) ≡ true → (found ≡ None) × (is_by_policy (new_verdict server state a m short method key) ≡ true)
 open_by_policy server state a m short method key None h = (refl, h)
 open_by_policy server state a m short method key (Some r) h = cc (copy_not_by_policy server state a m short method key r)
 
 -- it has a key
-key_by_policy : (server : Server) (state : ProxyState) (a : Arrival) (m : Message) (short : Bool) (method : List ℕ) (read : Option Key)
+key_by_policy : (server : Server) (state : ProxyState) (a : Arrival) (m : Message) (short : Bool) (method : List ℕ) (read : Option TransactionKey)
     → is_by_policy (by_key server state a m short method read) ≡ true
-    → (key : Key) × (read ≡ Some key) × (is_by_policy (by_open server state a m short method key (find (has_key key) state.requests)) ≡ true)
+    → (key : TransactionKey) × (read ≡ Some key) × (is_by_policy (by_open server state a m short method key (find (has_key key) state.requests)) ≡ true)
 key_by_policy server state a m short method None h = cc
 key_by_policy server state a m short method (Some key) h = (key, refl, h)
 
@@ -165,7 +165,7 @@ start_by_policy server state a m short (Begins.Request method uri version) h = (
 
 -- a request with a short body is refused
 short_refused : (own : Own) (m : Message) (method uri version : List ℕ) → m.start ≡ Begins.Request method uri version → refusal_of own m true ≡ Some (400, [])
-short_refused own m method uri version h = ap (λ start. option_map_or refusal (candidate_by own m.fields true start) None) h
+short_refused own m method uri version h = ap (λ start. option_map_or refusal (unchecked_by own m.fields true start) None) h
 
 -- where a request isn't refused its body isn't short
 not_short : (own : Own) (m : Message) (short : Bool) (method uri version : List ℕ) → m.start ≡ Begins.Request method uri version → refusal_of own m short ≡ None
@@ -214,7 +214,7 @@ judged server state a bytes m short said h =
     let started = start_by_policy server state a m short m.start h in
     let method : List ℕ = started.0 in
     let keyed = key_by_policy server state a m short method (key_of m) started.4 in
-    let key : Key = keyed.0 in
+    let key : TransactionKey = keyed.0 in
     let fresh = open_by_policy server state a m short method key (find (has_key key) state.requests) keyed.2 in
     let other = new_by_policy server state a m short method key fresh.1 in
     let checked = checked_by_policy server state a.now m method (refusal_of server.config.own m short) other.2 in

@@ -4,7 +4,7 @@ use Rattle.std.proofs.Common.{arith, count_by, bytes_eq, codes, nat_le}
 use Rattle.std.specs.List.{AllByRecursion}
 use Rattle.std.proofs.lemmas.Bool.Decides.{nat_tests}
 use Rattle.sip_message_form.specs.declared.message.Message.{Message}
-use Rattle.sip_transaction_table.specs.declared.key.Key.{Key}
+use Rattle.sip_transaction_table.specs.declared.key.TransactionKey.{TransactionKey}
 use Rattle.sip_event.specs.declared.packet.Packet.{Packet}
 use Rattle.model_steps.specs.state.declared.server.Server.{Server}
 use Rattle.model_steps.specs.state.declared.branch.Branch.{Branch}
@@ -183,7 +183,7 @@ fit_replaced finals sent new old (x ∷ xs) own e few there fit all =
 
 -- requests of one key are both INVITEs or neither is
 pub same_invite : (a b : OpenRequest) → a.key ≡ b.key → is_invite a ≡ is_invite b
-same_invite a b e = ap (λ (k : Key). bytes_eq k.method (codes "INVITE")) e
+same_invite a b e = ap (λ (k : TransactionKey). bytes_eq k.method (codes "INVITE")) e
 
 -- a change of an open request
 change_answers : (server : Server) (now : ℕ) (sent : List FinalAnswer) (r : OpenRequest) (change : Change) (owes : Bool) → is_answering r.side ≡ owes

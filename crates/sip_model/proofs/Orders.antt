@@ -2,7 +2,7 @@
 use Rattle.std.proofs.Common.{◌≡◌, ℕ, ◌+◌, ◌≤◌, Bool, true, false, cond, ◌&&◌, ◌==◌, List, [], ◌∷◌, ◌++◌, refl, sym, ap, subst, ◌∙◌, arith, count_by, bytes_eq}
 use Rattle.std.proofs.lemmas.Bool.Decides.{nat_tests}
 use Rattle.std.proofs.lemmas.Slice.Eq.{bytes_eq-Decides}
-use Rattle.sip_transaction_table.specs.declared.key.Key.{Key}
+use Rattle.sip_transaction_table.specs.declared.key.TransactionKey.{TransactionKey}
 use Rattle.sip_transaction_table.specs.Key.{same_key}
 use Rattle.model_steps.specs.state.declared.server.Server.{Server}
 use Rattle.model_steps.specs.state.declared.open_request.OpenRequest.{OpenRequest}
@@ -22,7 +22,7 @@ use Rattle.sip_model.proofs.Steps.{stands_at, step_taken}
 -- ---- keys
 
 -- keys that are the same have the same parts
-same_key_parts : (a b : Key) → same_key a b ≡ true → (a.branch ≡ b.branch) × (a.host ≡ b.host) × (a.port ≡ b.port) × (a.method ≡ b.method)
+same_key_parts : (a b : TransactionKey) → same_key a b ≡ true → (a.branch ≡ b.branch) × (a.host ≡ b.host) × (a.port ≡ b.port) × (a.method ≡ b.method)
 same_key_parts a b e =
     let branch : bytes_eq a.branch b.branch ≡ true = grind (arith, nat_tests) in
     let host : bytes_eq a.host b.host ≡ true = grind (arith, nat_tests) in
@@ -31,7 +31,7 @@ same_key_parts a b e =
     ((bytes_eq-Decides a.branch b.branch).0 branch, (bytes_eq-Decides a.host b.host).0 host, port, (bytes_eq-Decides a.method b.method).0 method)
 
 -- keys that are the same are one
-same_key_is : (a b : Key) → same_key a b ≡ true → a ≡ b
+same_key_is : (a b : TransactionKey) → same_key a b ≡ true → a ≡ b
 same_key_is a b e =
     let parts = same_key_parts a b e in
     ap (λ v. record { branch = v; host = a.host; port = a.port; method = a.method }) parts.0
@@ -61,12 +61,12 @@ pub record AreNamed (requests : List OpenRequest) (next : ℕ) : Type 0 where
   pub numbers : AreNumbered next requests
 
 -- one more request, whose key is new
-one_more_key : (requests : List OpenRequest) (r : OpenRequest) (key : Key) → KeysDiffer requests → count_by (has_key r.key) requests ≡ 0
+one_more_key : (requests : List OpenRequest) (r : OpenRequest) (key : TransactionKey) → KeysDiffer requests → count_by (has_key r.key) requests ≡ 0
     → count_by (has_key key) (requests ++ r ∷ []) ≤ 1
 one_more_key requests r key differ is_new = by_test (same_key r.key key) refl where
   by_test : (t : Bool) → same_key r.key key ≡ t → count_by (has_key key) (requests ++ r ∷ []) ≤ 1
   by_test true is =
-      let none : count_by (has_key key) requests ≡ 0 = subst (λ (k : Key). count_by (has_key k) requests ≡ 0) (same_key_is r.key key is) is_new in
+      let none : count_by (has_key key) requests ≡ 0 = subst (λ (k : TransactionKey). count_by (has_key k) requests ≡ 0) (same_key_is r.key key is) is_new in
       omega (arith, count_push (has_key key) requests r, one_at (same_key r.key key) is, none)
   by_test false is = omega (arith, count_push (has_key key) requests r, none_at (same_key r.key key) is, differ key)
 
@@ -95,7 +95,7 @@ replaced_named : (requests : List OpenRequest) (next after_next : ℕ) (new old 
 replaced_named requests next after_next new old there key number more h =
     let fewer = λ (p : OpenRequest → Bool) (same : p new ≡ p old). count_replaced p new old requests there number (h.numbers.differ old.number) same in
     record {
-      keys = λ k. omega (arith, fewer (has_key k) (ap (λ (v : Key). same_key v k) key), h.keys k);
+      keys = λ k. omega (arith, fewer (has_key k) (ap (λ (v : TransactionKey). same_key v k) key), h.keys k);
       numbers = record {
         differ = λ n. omega (arith, fewer (is_numbered n) (ap (λ (v : ℕ). v == n) number), h.numbers.differ n);
         are_below = λ n high. let none = h.numbers.are_below n (omega arith) in omega (arith, fewer (is_numbered n) (ap (λ (v : ℕ). v == n) number), none);

@@ -13,7 +13,7 @@ use Rattle.sip_location.specs.declared.binding.Binding.{Binding}
 use Rattle.sip_targets.specs.declared.target.Target.{Target}
 use Rattle.sip_targets.specs.declared.targets.Targets.{Targets}
 use Rattle.sip_targets.specs.Targets.{target_list}
-use Rattle.sip_audit.specs.declared.record.Outcome.{Outcome}
+use Rattle.sip_audit.specs.declared.record.AuditOutcome.{AuditOutcome}
 use Rattle.sip_event.specs.declared.event.StepOut.{StepOut}
 use Rattle.sip_event.specs.declared.event.Event.TheVariants.{Datagram, Time, Fault}
 use Rattle.sip_event.specs.declared.packet.Packet.{Packet}
@@ -68,7 +68,7 @@ either_empty false targets h = h
 sent_reaches : (server : Server) (a : Arrival) (m : Message) (q : Question) (id : ℕ) (targets : List Target) (state : ProxyState)
     → of_branches (sent_to server a m q id targets state).originals ≡ requests_to server a m targets
 sent_reaches server a m q id targets state =
-    forked_sends server a.now (forking a m (branches_from a.now 1 targets)) (record_of server a m q (Outcome.Sent id (length targets)) ∷ []) (asked a q state)
+    forked_sends server a.now (forking a m (branches_from a.now 1 targets)) (record_of server a m q (AuditOutcome.Sent id (length targets)) ∷ []) (asked a q state)
     (none_cancellable a.now 1 targets)
     ∙ all_kept server (forking a m (branches_from a.now 1 targets)) a.now 1 targets (omega arith)
 

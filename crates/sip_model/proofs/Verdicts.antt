@@ -9,7 +9,7 @@ use Rattle.sip_message_fields.specs.declared.field.Field.{Field}
 use Rattle.sip_message_form.specs.declared.message.Start.{Start}
 use Rattle.sip_message_form.specs.declared.message.Start.TheVariants.{Request, Status}
 use Rattle.sip_message_form.specs.declared.message.Message.{Message}
-use Rattle.sip_transaction_table.specs.declared.key.Key.{Key}
+use Rattle.sip_transaction_table.specs.declared.key.TransactionKey.{TransactionKey}
 use Rattle.sip_header.specs.declared.core_fields.CoreFields.{CoreFields}
 use Rattle.sip_transaction_table.specs.Key.{key_of}
 use Rattle.sip_header.specs.CoreFields.{core_of, cseq_in}
@@ -161,7 +161,7 @@ there_after requests test None h = tt
 there_after requests test (Some r) h = there_if requests r (test r) (h r refl)
 
 -- a CANCEL
-cancel_fits : (server : Server) (state : ProxyState) (a : Arrival) (m : Message) (short : Bool) (key : Key) → IsNewKey state.requests m
+cancel_fits : (server : Server) (state : ProxyState) (a : Arrival) (m : Message) (short : Bool) (key : TransactionKey) → IsNewKey state.requests m
     → Fits state.requests m (cancel_verdict server state a m short key)
 cancel_fits server state a m short key is_new =
     fits_either state.requests m (is_bad_request server.config.own m short) (Answer 400 []) _ is_new
@@ -243,7 +243,7 @@ checked_fits server state now m method None is_new =
     (core_fits server state now m method (result_ok (core_of m)) is_new)
 
 -- a request whose key isn't open
-new_fits : (server : Server) (state : ProxyState) (a : Arrival) (m : Message) (short : Bool) (method : List ℕ) (key : Key) → IsNewKey state.requests m
+new_fits : (server : Server) (state : ProxyState) (a : Arrival) (m : Message) (short : Bool) (method : List ℕ) (key : TransactionKey) → IsNewKey state.requests m
     → Fits state.requests m (new_verdict server state a m short method key)
 new_fits server state a m short method key is_new =
     fits_either state.requests m (bytes_eq method (codes "ACK")) (ack_verdict server state a.now m short) _ (ack_fits server state a.now m short)
@@ -252,7 +252,7 @@ new_fits server state a m short method key is_new =
     (cancel_fits server state a m short key is_new) (checked_fits server state a.now m method (refusal_of server.config.own m short) is_new))
 
 -- a request whose key may be open
-open_fits : (server : Server) (state : ProxyState) (a : Arrival) (m : Message) (short : Bool) (method : List ℕ) (key : Key) (o : Option OpenRequest)
+open_fits : (server : Server) (state : ProxyState) (a : Arrival) (m : Message) (short : Bool) (method : List ℕ) (key : TransactionKey) (o : Option OpenRequest)
     → find (has_key key) state.requests ≡ o → request_key m ≡ key → Fits state.requests m (by_open server state a m short method key o)
 open_fits server state a m short method key (Some r) e is =
     fits_either state.requests m (bytes_eq method (codes "ACK") && is_accepted r) (ack_verdict server state a.now m short) (Copy r) (ack_fits server state a.now m short)
@@ -262,7 +262,7 @@ open_fits server state a m short method key None e is =
     new_fits server state a m short method key is_new
 
 -- a request that may have a key
-key_fits : (server : Server) (state : ProxyState) (a : Arrival) (m : Message) (short : Bool) (method : List ℕ) (key : Option Key) → key_of m ≡ key
+key_fits : (server : Server) (state : ProxyState) (a : Arrival) (m : Message) (short : Bool) (method : List ℕ) (key : Option TransactionKey) → key_of m ≡ key
     → Fits state.requests m (by_key server state a m short method key)
 key_fits server state a m short method None e = tt
 key_fits server state a m short method (Some key) e =

@@ -11,7 +11,7 @@ use Rattle.sip_message_fields.specs.declared.field_name.FieldName.TheVariants as
 use Rattle.sip_message_fields.specs.Values.{first_value}
 use Rattle.sip_message.specs.Reading.{reading_of}
 use Rattle.sip_message_form.specs.Text.{text_of}
-use Rattle.sip_transaction_table.specs.declared.key.Key.{Key}
+use Rattle.sip_transaction_table.specs.declared.key.TransactionKey.{TransactionKey}
 use Rattle.sip_header.specs.declared.core_fields.CoreFields.{CoreFields}
 use Rattle.sip_transaction_table.specs.Key.{key_of}
 use Rattle.sip_header.specs.CoreFields.{core_of}
@@ -71,7 +71,7 @@ use Rattle.sip_model.specs.Histories.{records_at}
 pub record IsNewRequest (server : Server) (state : ProxyState) (bytes : List ℕ) (m : Message) (method : List ℕ) (core : CoreFields) : Type 0 where
   pub uri : List ℕ
   pub version : List ℕ
-  pub key : Key
+  pub key : TransactionKey
   pub says : message_in (reading_of bytes) ≡ Some (m, false)
   pub is_request : m.start ≡ Request method uri version
   pub key_is : key_of m ≡ Some key
@@ -202,7 +202,7 @@ pub record IsTakenAlong (server : Server) (history : List Link) (number : ℕ) (
 -- is open in its own step.
 pub data IsOpen (state : ProxyState) (act : Act) : ℕ → Message → Addr → Type 0 where
   Before : (r : OpenRequest) → Contains state.requests r → IsOpen state act r.number r.request.message r.request.source
-  Brought : (a : Arrival) (bytes : List ℕ) (m : Message) (short : Bool) (key : Key) → IsSaidAt state act a bytes m short → key_of m ≡ Some key
+  Brought : (a : Arrival) (bytes : List ℕ) (m : Message) (short : Bool) (key : TransactionKey) → IsSaidAt state act a bytes m short → key_of m ≡ Some key
       → find (has_key key) state.requests ≡ None → bytes_eq (method_of m.start) (codes "ACK") ≡ false → IsOpen state act a.number m a.from
 
 -- the step denies this request, by the rule that these fields name
@@ -407,7 +407,7 @@ pub record WasCancelled (server : Server) (history : List Link) (number : ℕ) :
   pub bytes : List ℕ
   pub m : Message
   pub short : Bool
-  pub key : Key
+  pub key : TransactionKey
   pub request : OpenRequest
   pub is_there : Contains history link
   pub is_said : IsSaidAt link.before link.act a bytes m short
@@ -459,7 +459,7 @@ pub record IsAllSent (server : Server) (history : List Link) (state : ProxyState
 -- its moment then (RFC 3261 17).
 pub data GoesAgain (server : Server) (state : ProxyState) (act : Act) (at : ℕ) : List Packet → Type 0 where
   Nothing : GoesAgain server state act at []
-  ByCopy : (a : Arrival) (bytes : List ℕ) (m : Message) (short : Bool) (key : Key) (r : OpenRequest) → IsSaidAt state act a bytes m short
+  ByCopy : (a : Arrival) (bytes : List ℕ) (m : Message) (short : Bool) (key : TransactionKey) (r : OpenRequest) → IsSaidAt state act a bytes m short
       → bytes_eq (method_of m.start) (codes "ACK") ≡ false
       → key_of m ≡ Some key → find (has_key key) state.requests ≡ Some r → GoesAgain server state act at (answers_again r r.answer)
   ByFinal : (a : Arrival) (bytes : List ℕ) (m : Message) (status : ℕ) (reason : List ℕ) (r : OpenRequest) (b : Branch)

@@ -11,7 +11,7 @@ use Rattle.sip_digest.specs.Nonces.{issued}
 use Rattle.sip_auth.specs.Proof.{Proof, Right, Stale, Wrong, used}
 use Rattle.sip_targets.specs.declared.targets.Targets.{Targets}
 use Rattle.sip_targets.specs.Targets.{target_list}
-use Rattle.sip_audit.specs.declared.record.Outcome.{Outcome}
+use Rattle.sip_audit.specs.declared.record.AuditOutcome.{AuditOutcome}
 use Rattle.sip_audit.specs.declared.record.Record.{Record}
 use Rattle.sip_dialog.specs.declared.dialog.Dialog.{Dialog}
 use Rattle.sip_event.specs.declared.packet.Ticket.{Ticket}
@@ -106,21 +106,21 @@ pub record WasChallenged (server : Server) (history : List Link) (now : ℕ) (te
 -- ---- the audit log
 
 -- what became of a request that was let through, by its targets
-abbrev pub sending_outcome : ℕ → Targets → Outcome
-sending_outcome id Targets.NotFound = Outcome.Answer id 404
-sending_outcome id Targets.Unavailable = Outcome.Answer id 480
-sending_outcome id (Targets.Bindings targets) = Outcome.Sent id (length (target_list (Targets.Bindings targets)))
-sending_outcome id (Targets.Hop uri address) = Outcome.Sent id (length (target_list (Targets.Hop uri address)))
+abbrev pub sending_outcome : ℕ → Targets → AuditOutcome
+sending_outcome id Targets.NotFound = AuditOutcome.Answer id 404
+sending_outcome id Targets.Unavailable = AuditOutcome.Answer id 480
+sending_outcome id (Targets.Bindings targets) = AuditOutcome.Sent id (length (target_list (Targets.Bindings targets)))
+sending_outcome id (Targets.Hop uri address) = AuditOutcome.Sent id (length (target_list (Targets.Hop uri address)))
 
 -- what became of a REGISTER that was let through
-abbrev pub registering_outcome : ℕ → Registered → Outcome
-registering_outcome id (Bound rows) = Outcome.Answer id 200
-registering_outcome id (Refused status extras) = Outcome.Answer id status
+abbrev pub registering_outcome : ℕ → Registered → AuditOutcome
+registering_outcome id (Bound rows) = AuditOutcome.Answer id 200
+registering_outcome id (Refused status extras) = AuditOutcome.Answer id status
 
 -- one record of each request that policy was asked about, with what became of it, and none of all else (this project's profile)
 abbrev pub records_of : Server → Arrival → Message → Verdict → List Record
-records_of server a m (Challenge q) = record_of server a m q (Outcome.Challenge (challenge_status q.operation)) ∷ []
-records_of server a m (Deny q id) = record_of server a m q (Outcome.Deny id) ∷ []
+records_of server a m (Challenge q) = record_of server a m q (AuditOutcome.Challenge (challenge_status q.operation)) ∷ []
+records_of server a m (Deny q id) = record_of server a m q (AuditOutcome.Deny id) ∷ []
 records_of server a m (Send q id targets) = record_of server a m q (sending_outcome id targets) ∷ []
 records_of server a m (Register q id outcome) = record_of server a m q (registering_outcome id outcome) ∷ []
 records_of server a m Drop = []

@@ -6,7 +6,7 @@ use Rattle.std.specs.Prelude.{filter, find, sum_by, count_by, Contains, Option, 
 use mathlib.Core.Logic.{inl, inr}
 use Rattle.std.specs.List.{AllByRecursion}
 use Rattle.sip_message_form.specs.declared.message.Message.{Message}
-use Rattle.sip_transaction_table.specs.declared.key.Key.{Key}
+use Rattle.sip_transaction_table.specs.declared.key.TransactionKey.{TransactionKey}
 use Rattle.sip_targets.specs.declared.targets.Targets.{Targets}
 use Rattle.sip_targets.specs.Targets.{target_list}
 use Rattle.sip_event.specs.declared.packet.Ticket.{Ticket}
@@ -35,7 +35,7 @@ use Rattle.sip_model.specs.Run.{Link, IsChain, under}
 
 -- no key is that of two open requests (RFC 3261 17.2.3)
 abbrev pub KeysDiffer : List OpenRequest → Type 0
-KeysDiffer requests = (key : Key) → count_by (has_key key) requests ≤ 1
+KeysDiffer requests = (key : TransactionKey) → count_by (has_key key) requests ≤ 1
 
 -- whether a request came in the datagram of this number
 abbrev pub is_numbered : ℕ → OpenRequest → Bool

@@ -9,7 +9,7 @@ use Rattle.sip_message_fields.specs.declared.field.Field.{Field}
 use Rattle.sip_message_form.specs.declared.message.Start.TheVariants.{Status}
 use Rattle.sip_message_form.specs.declared.message.Message.{Message}
 use Rattle.sip_message_form.specs.Text.{text_of}
-use Rattle.sip_transaction_table.specs.declared.key.Key.{Key}
+use Rattle.sip_transaction_table.specs.declared.key.TransactionKey.{TransactionKey}
 use Rattle.sip_transaction_table.specs.Key.{key_of}
 use Rattle.sip_uri.specs.declared.addr.Addr.{Addr}
 use Rattle.sip_event.specs.declared.packet.Packet.{Packet}
@@ -77,7 +77,7 @@ pub data IsChangeAt (server : Server) (state : ProxyState) (act : Act) (now : �
   ByFault : (at : ℕ) (ticket : Ticket) (b : Branch) → act ≡ Given (Fault at ticket) → ticket.datagram ≡ r.number
       → find (is_failed ticket.branch) r.branches ≡ Some b
       → IsChangeAt server state act now r (send_failed server now r b) []
-  ByCancel : (a : Arrival) (bytes : List ℕ) (m : Message) (short : Bool) (key : Key) → IsSaidAt state act a bytes m short
+  ByCancel : (a : Arrival) (bytes : List ℕ) (m : Message) (short : Bool) (key : TransactionKey) → IsSaidAt state act a bytes m short
       → bytes_eq (method_of m.start) (codes "CANCEL") ≡ true → key_of m ≡ Some key
       → found_for_cancel state key a.from ≡ Some r → IsChangeAt server state act now r (cancelled server now r) []
 
@@ -89,7 +89,7 @@ pub data IsPart (server : Server) (state : ProxyState) (act : Act) (now : ℕ) (
   Stays : after ≡ requests → firsts ≡ [] → again ≡ [] → IsPart server state act now requests after firsts again
   Passes : (a : Arrival) (m : Message) (address : Addr) → IsWithin server state act a m address → bytes_eq (method_of m.start) (codes "ACK") ≡ true
       → after ≡ requests → firsts ≡ ack_packet server a m address ∷ [] → again ≡ [] → IsPart server state act now requests after firsts again
-  Copies : (a : Arrival) (bytes : List ℕ) (m : Message) (short : Bool) (key : Key) (r : OpenRequest) → IsSaidAt state act a bytes m short
+  Copies : (a : Arrival) (bytes : List ℕ) (m : Message) (short : Bool) (key : TransactionKey) (r : OpenRequest) → IsSaidAt state act a bytes m short
       → bytes_eq (method_of m.start) (codes "ACK") ≡ false
       → key_of m ≡ Some key → find (has_key key) requests ≡ Some r → after ≡ requests → firsts ≡ [] → again ≡ answers_again r r.answer
       → IsPart server state act now requests after firsts again

@@ -3,7 +3,7 @@
 //!
 //! - Used: `sip_engine` and the laws above.
 //! - Not here: a body.
-//! - Tried: other laws, by other means, in `model_meanings`.
+//! - Tried: other laws, by other means, in `model_laws`.
 #![tactic(auto)]
 
 pub mod histories;

@@ -11,8 +11,8 @@ use Rattle.sip_header.specs.Via.{IsBeforeBranch}
 use Rattle.sip_header.specs.declared.via.Via.{Via}
 use Rattle.sip_route.specs.Own.{is_own_via, own_branch}
 use Rattle.sip_route.specs.declared.own.Own.{Own}
-use Rattle.sip_own_via.specs.declared.own_front.OwnFront.{OwnFront}
-use Rattle.sip_own_via.specs.OwnFront.{branch_said, IsOwnPlace, IsOwnFront, EndsIn}
+use Rattle.sip_own_via.specs.declared.own_via_prefix.OwnViaPrefix.{OwnViaPrefix}
+use Rattle.sip_own_via.specs.OwnViaPrefix.{branch_said, IsOwnHostPort, IsOwnViaPrefix, EndsIn}
 
 -- ---- up to the branch
 
@@ -23,7 +23,7 @@ branched via branch = record { transport = via.transport; host = via.host; port 
 own_by : (own : Own) (via : Via) (branch : List ℕ) → is_own_via own via ≡ true → own_branch own (branched via branch) ≡ Some branch
 own_by own via branch is = rw is refl
 
-pub place_is : (own : Own) (via : Via) (text : List ℕ) → IsBeforeBranch text via → is_own_via own via ≡ true → IsOwnPlace own text
+pub place_is : (own : Own) (via : Via) (text : List ℕ) → IsBeforeBranch text via → is_own_via own via ≡ true → IsOwnHostPort own text
 place_is own via text before is =
     record { says = λ branch token. ap (λ (o : Option Via). option_and_then (own_branch own) o) (before.says branch token) ∙ own_by own via branch is }
 
@@ -40,8 +40,8 @@ token_join (b ∷ xs) (c ∷ ys) x y = list_all-append is_token_byte (b ∷ xs) 
 
 -- ---- up to the numbers of the branch
 
-pub front_is : (own : Own) (place begun text : List ℕ) (at : ℕ) → IsOwnPlace own place → is_token_text begun ≡ true → text ≡ place ++ begun → at ≡ length place
-    → IsOwnFront own (record { text = text; before_branch = at })
+pub front_is : (own : Own) (place begun text : List ℕ) (at : ℕ) → IsOwnHostPort own place → is_token_text begun ≡ true → text ≡ place ++ begun → at ≡ length place
+    → IsOwnViaPrefix own (record { text = text; before_branch = at })
 front_is own place begun text at of_place token whole before =
     rw (whole, before) (record {
       says = λ rest is.
@@ -50,11 +50,11 @@ front_is own place begun text at of_place token whole before =
           ∙ ap (λ (w : List ℕ). Some w) (sym (ap (drop (length place)) (append_assoc place begun rest) ∙ drop-append_seam place (begun ++ rest)));
     })
 
-pub ends_in : (front : OwnFront) (value rest branch : List ℕ) → value ≡ front.text ++ rest → is_token_text rest ≡ true → branch ≡ drop front.before_branch value
+pub ends_in : (front : OwnViaPrefix) (value rest branch : List ℕ) → value ≡ front.text ++ rest → is_token_text rest ≡ true → branch ≡ drop front.before_branch value
     → EndsIn front value branch
 ends_in front value rest branch whole token is = record { rest = rest; whole = whole; token = token; is_branch = is }
 
-pub branch_is : (own : Own) (front : OwnFront) (value branch : List ℕ) → IsOwnFront own front → EndsIn front value branch → Some branch ≡ branch_said own value
+pub branch_is : (own : Own) (front : OwnViaPrefix) (value branch : List ℕ) → IsOwnViaPrefix own front → EndsIn front value branch → Some branch ≡ branch_said own value
 branch_is own front value branch of ends =
     ap (λ (w : List ℕ). Some w) (ends.is_branch ∙ ap (drop front.before_branch) ends.whole) ∙ sym (of.says ends.rest ends.token) ∙ sym (ap (branch_said own) ends.whole)
 

@@ -1,1 +1,1 @@
-pub mod OwnFront
+pub mod OwnViaPrefix

@@ -1,8 +1,8 @@
 ghost use Rattle.std.specs.Prelude.{◌≡◌, IfOk, IfSome, option_map};
-ghost use Rattle.sip_own_via.specs.OwnFront.{IsOwnFront, branch_said};
+ghost use Rattle.sip_own_via.specs.OwnViaPrefix.{IsOwnViaPrefix, branch_said};
 ghost use Rattle.sip_route.specs.Own.{own_branch};
 
-use crate::own_front::OwnFront;
+use crate::own_via_prefix::OwnViaPrefix;
 use sip_header::{Via, branch_of, via_of};
 use sip_route::Own;
 use std::alloc::{AllocError, Global};
@@ -36,10 +36,10 @@ fn read_branch<'v>(
 fn branch_by_front<'v>(
     alloc: Global,
     own: &Own,
-    front: &OwnFront,
+    front: &OwnViaPrefix,
     value: &'v [u8],
 ) -> Result<Option<&'v [u8]>, AllocError>
-    requires { IsOwnFront own.now front.now }
+    requires { IsOwnViaPrefix own.now front.now }
     ensures { IfOk result (λ branch. option_map (λ text. text.now) branch ≡ branch_said own.now value.now) }
 {
     match front.branch_in(value) {
@@ -52,10 +52,10 @@ fn branch_by_front<'v>(
 pub(crate) fn branch_in<'v>(
     alloc: Global,
     own: &Own,
-    front: Option<&OwnFront>,
+    front: Option<&OwnViaPrefix>,
     value: &'v [u8],
 ) -> Result<Option<&'v [u8]>, AllocError>
-    requires { IfSome front (λ f. IsOwnFront own.now f.now) }
+    requires { IfSome front (λ f. IsOwnViaPrefix own.now f.now) }
     ensures { IfOk result (λ branch. option_map (λ text. text.now) branch ≡ branch_said own.now value.now) }
 {
     match front {

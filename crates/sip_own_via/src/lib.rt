@@ -2,7 +2,7 @@
 //! each Via of a run of this server begins with, up to the numbers that end its branch, is read once, when the server is made:
 //! a Via that begins so isn't read, and any other one is.
 //!
-//! - Used: `sip_core`, of each response.
+//! - Used: `sip_verdict`, of each response.
 //! - Not here: how such a Via is written (`sip_edit`), and which open request has the branch (`sip_fork`).
 //! - Tried: `test_server` by its stored runs.
 //!
@@ -12,7 +12,7 @@
 #![tactic(auto)]
 
 mod branch;
-mod own_front;
+mod own_via_prefix;
 mod own_vias;
 
 pub use own_vias::OwnVias;

@@ -6,7 +6,7 @@ ghost use Rattle.sip_header.specs.Via.{via_of};
 ghost use Rattle.sip_route.specs.Own.{own_branch};
 
 use crate::branch::branch_in;
-use crate::own_front::OwnFront;
+use crate::own_via_prefix::OwnViaPrefix;
 use sip_message_fields::FieldName;
 use sip_message_form::View;
 use sip_route::Own;
@@ -18,19 +18,19 @@ use std::marker::Model;
 pub struct OwnVias {
     own: Own,
     /// What they begin with, where that could be told.
-    front: Option<OwnFront>,
+    front: Option<OwnViaPrefix>,
 }
 
 impl Model for OwnVias {
     ghost use Rattle.std.specs.Prelude.{IfSome};
-    ghost use Rattle.sip_own_via.specs.OwnFront.{IsOwnFront};
+    ghost use Rattle.sip_own_via.specs.OwnViaPrefix.{IsOwnViaPrefix};
     ghost use Rattle.sip_route.specs.declared.own.Own.{Own};
 
     ghost Value = { Own };
 
     ghost view = { λ v. v.own };
 
-    ghost invariant = { λ v. IfSome v.front (IsOwnFront v.own) };
+    ghost invariant = { λ v. IfSome v.front (IsOwnViaPrefix v.own) };
 }
 
 impl OwnVias {
@@ -39,7 +39,7 @@ impl OwnVias {
         ensures { IfOk result (λ vias. vias ≡ own.now) }
     {
         let own = own.clone()?;
-        let front = OwnFront::of(alloc, &own, word)?;
+        let front = OwnViaPrefix::of(alloc, &own, word)?;
         Ok(OwnVias { own, front })
     }
 

@@ -1,7 +1,7 @@
 //! Call policy: configured users, by their names, and rules in the order of the file, of which the first that holds at the
 //! minute of a request and matches it decides.
 //!
-//! - Used: `sip_core` asks it about each request outside a dialog; the configuration fills it.
+//! - Used: `sip_verdict` asks it about each request outside a dialog; the configuration fills it.
 //! - Not here: who proved to ask (`sip_auth`), and where an allowed request goes (`sip_targets`).
 //! - Tried: worked examples in `src/examples.rt`, as contracts that compute; `test_parts`, `test_kinds`.
 #![tactic(auto)]

@@ -21,8 +21,8 @@ use Rattle.sip_base.specs.Code.{mixed}
 use Rattle.sip_policy_index.specs.Code.{text_code, operation_code, class_code, is_of_class, is_of_classes, group_codes, class_codes}
 use Rattle.sip_policy.specs.Window.{holds}
 use Rattle.sip_policy.specs.TargetPattern.{matches_target}
-use Rattle.sip_policy_index.specs.declared.asked.Asked.{Asked}
-use Rattle.sip_policy_index.specs.Asked.{applies_to, is_looked_at, AreGroupsOf, AreGroupsOfProven}
+use Rattle.sip_policy_index.specs.declared.rule_question.RuleQuestion.{RuleQuestion}
+use Rattle.sip_policy_index.specs.RuleQuestion.{applies_to, is_looked_at, AreGroupsOf, AreGroupsOfProven}
 
 same_number : (n : ℕ) → nat_eq n n ≡ true
 same_number n = (Decides-eqb n n).1 refl
@@ -118,23 +118,23 @@ and_right true b e = e
 and_right false b e = absurd cc
 
 -- the operation of what is asked is of the pattern of a rule that applies
-operation_matches : (asked : Asked) (rule : Rule) → applies_to asked rule ≡ true → matches_operation asked.operation.now rule.operation ≡ true
+operation_matches : (asked : RuleQuestion) (rule : Rule) → applies_to asked rule ≡ true → matches_operation asked.operation.now rule.operation ≡ true
 operation_matches asked rule e = and_left _ _ (and_right (holds asked.minute rule.window) _ e)
 
-who_matches : (asked : Asked) (rule : Rule) → applies_to asked rule ≡ true → matches_who asked.users.now (option_copied asked.proven) rule.who ≡ true
+who_matches : (asked : RuleQuestion) (rule : Rule) → applies_to asked rule ≡ true → matches_who asked.users.now (option_copied asked.proven) rule.who ≡ true
 who_matches asked rule e =
     and_right (matches_target asked.users.now asked.domains.now (option_copied asked.proven) asked.aor.now rule.target) _
     (and_right (matches_operation asked.operation.now rule.operation) _ (and_right (holds asked.minute rule.window) _ e))
 
 -- a rule that applies is looked at under the code of its operation pattern
-looked_at_own : (asked : Asked) → AreGroupsOfProven asked.users.now (option_copied asked.proven) asked.groups.now → (rule : Rule) → applies_to asked rule ≡ true
+looked_at_own : (asked : RuleQuestion) → AreGroupsOfProven asked.users.now (option_copied asked.proven) asked.groups.now → (rule : Rule) → applies_to asked rule ≡ true
     → (code : ℕ) → operation_code rule.operation ≡ code → is_looked_at (option_copied asked.proven) asked.groups.now code rule ≡ true
 looked_at_own asked h rule e code is =
     subst (λ (n : ℕ). is_looked_at (option_copied asked.proven) asked.groups.now n rule ≡ true) is
     (looked_at asked.users.now (option_copied asked.proven) asked.groups.now h.are rule (who_matches asked rule e))
 
 -- where all patterns of an operation have one code, each rule that applies is looked at under it
-pub looked_at_one : (asked : Asked) → AreGroupsOfProven asked.users.now (option_copied asked.proven) asked.groups.now → (operation : Operation)
+pub looked_at_one : (asked : RuleQuestion) → AreGroupsOfProven asked.users.now (option_copied asked.proven) asked.groups.now → (operation : Operation)
     → asked.operation.now ≡ operation
     → (code : ℕ) → ((pattern : OperationPattern) → matches_operation operation pattern ≡ true → operation_code pattern ≡ code)
     → (rule : Rule) → applies_to asked rule ≡ true → is_looked_at (option_copied asked.proven) asked.groups.now code rule ≡ true
@@ -142,7 +142,7 @@ looked_at_one asked h operation is code one rule e =
     looked_at_own asked h rule e code (one rule.operation (subst (λ (o : Operation). matches_operation o rule.operation ≡ true) is (operation_matches asked rule e)))
 
 -- of a method, under the code of the method or of `send *`
-pub looked_at_either : (asked : Asked) → AreGroupsOfProven asked.users.now (option_copied asked.proven) asked.groups.now → (method : List ℕ)
+pub looked_at_either : (asked : RuleQuestion) → AreGroupsOfProven asked.users.now (option_copied asked.proven) asked.groups.now → (method : List ℕ)
     → asked.operation.now ≡ Operation.Send method
     → (code : ℕ) → code ≡ text_code 4 method → (rule : Rule) → applies_to asked rule ≡ true
     → (is_looked_at (option_copied asked.proven) asked.groups.now code rule || is_looked_at (option_copied asked.proven) asked.groups.now 3 rule) ≡ true

@@ -1,4 +1,4 @@
 pub mod Code
 pub mod Places
-pub mod Asked
+pub mod RuleQuestion
 pub mod Index

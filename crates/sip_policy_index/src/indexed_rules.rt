@@ -2,10 +2,10 @@
 ghost use Rattle.std.specs.Prelude.{◌≡◌};
 ghost use Rattle.std.specs.Option.{option_copied};
 ghost use Rattle.sip_policy.specs.Decision.{decision_of, recorded_minute};
-ghost use Rattle.sip_policy_index.specs.Asked.{AreGroupsOf, AreGroupsOfProven};
+ghost use Rattle.sip_policy_index.specs.RuleQuestion.{AreGroupsOf, AreGroupsOfProven};
 
-use crate::asked::Asked;
 use crate::index::Index;
+use crate::rule_question::RuleQuestion;
 use crate::search::first_place;
 use sip_policy::{Operation, PolicyError, Rule, Rules, Ruling, Users, ruling_by};
 use sip_text::{Bytes, Items};
@@ -86,7 +86,7 @@ impl IndexedRules {
         ensures minute { result.minute ≡ recorded_minute self.now.rules self.now.users self.now.domains (option_copied proven.entry)
             operation.now aor.now minute }
     {
-        let asked = Asked {
+        let asked = RuleQuestion {
             rules: self.rules.as_slice(),
             users: &self.users,
             domains: self.domains.as_slice(),

@@ -6,11 +6,11 @@
 //! - Tried: `test_kinds`, beside the list.
 #![tactic(auto)]
 
-mod asked;
 mod code;
 mod index;
 mod indexed_rules;
 mod places;
+mod rule_question;
 mod search;
 
 pub use indexed_rules::IndexedRules;

@@ -12,11 +12,11 @@ use std::marker::Model;
 /// Places of rules, rising, filed under codes. The codes come from what is configured, so nobody who sends requests
 /// chooses where they fall.
 #[derive(Drop)]
-pub(crate) struct Places {
+pub(crate) struct RulePlaces {
     by_code: HashMap<u64, Items<usize>>,
 }
 
-impl Model for Places {
+impl Model for RulePlaces {
     ghost use Rattle.std.specs.Prelude.{ℕ, List};
 
     ghost Value = { List (ℕ × List ℕ) };
@@ -24,12 +24,12 @@ impl Model for Places {
     ghost view = { λ p. p.by_code.entries };
 }
 
-impl Places {
+impl RulePlaces {
     /// None.
     fn new(alloc: Global) -> Self
         ensures { result ≡ [] }
     {
-        Places {
+        RulePlaces {
             by_code: HashMap::new(alloc),
         }
     }
@@ -59,10 +59,10 @@ impl Places {
     }
 
     /// Rules, filed under the codes of their operation patterns.
-    pub(crate) fn by_operation(alloc: Global, rules: &[Rule]) -> Result<Places, AllocError>
+    pub(crate) fn by_operation(alloc: Global, rules: &[Rule]) -> Result<RulePlaces, AllocError>
         ensures { IfOk result (AreFiled is_of_operation rules.now) }
     {
-        let mut places = Places::new(alloc);
+        let mut places = RulePlaces::new(alloc);
         for (at, rule) in rules.iter().enumerate() {
             places.file(alloc, operation_code(&rule.operation), at)?;
         }
@@ -70,10 +70,10 @@ impl Places {
     }
 
     /// Rules, filed under the codes of their operation and user patterns.
-    pub(crate) fn by_class(alloc: Global, rules: &[Rule]) -> Result<Places, AllocError>
+    pub(crate) fn by_class(alloc: Global, rules: &[Rule]) -> Result<RulePlaces, AllocError>
         ensures { IfOk result (AreFiled is_of_class rules.now) }
     {
-        let mut places = Places::new(alloc);
+        let mut places = RulePlaces::new(alloc);
         for (at, rule) in rules.iter().enumerate() {
             places.file(
                 alloc,

@@ -5,20 +5,20 @@ ghost use Rattle.sip_policy.specs.declared.rule.Rule.{Rule};
 ghost use Rattle.sip_policy_index.specs.Code.{is_of_class, is_of_classes, group_codes, class_codes};
 ghost use Rattle.sip_policy_index.specs.Places as Definitions;
 ghost use Rattle.sip_policy_index.specs.Places.{places_of, AreFiled};
-ghost use Rattle.sip_policy_index.specs.Asked.{applies_to, is_looked_at, AreGroupsOfProven};
+ghost use Rattle.sip_policy_index.specs.RuleQuestion.{applies_to, is_looked_at, AreGroupsOfProven};
 ghost use Rattle.sip_policy_index.specs.Index.{IsIndexOf};
 
-use crate::asked::Asked;
 use crate::code::{EACH_USER, GROUP, LIST, REGISTER, SEND, SEND_ANY, USER, text_code};
 use crate::index::Index;
-use crate::places::Places;
+use crate::places::RulePlaces;
+use crate::rule_question::RuleQuestion;
 use sip_base::mixed;
 use sip_policy::Operation;
 use sip_text::Bytes;
 
 /// Of some places those below `best` are looked at, up to the first whose rule applies: it, or `best` where none does.
 /// Where they are the places of a class of rules, it is the first of the class that applies, if that is below `best`.
-fn first_below(asked: &Asked<'_>, places: &[usize], best: usize) -> usize
+fn first_below(asked: &RuleQuestion<'_>, places: &[usize], best: usize) -> usize
     requires { best ≤ length asked.now.rules.now }
     ensures first { (class : Rule → Bool) → places.now ≡ places_of class asked.now.rules.now → result
         ≡ min best (Definitions.first_place (λ rule. class rule && applies_to asked.now rule) asked.now.rules.now) }
@@ -37,8 +37,8 @@ fn first_below(asked: &Asked<'_>, places: &[usize], best: usize) -> usize
 
 /// The least of `best` and of the places of the rules for one of some groups that apply.
 fn first_of_groups(
-    by_class: &Places,
-    asked: &Asked<'_>,
+    by_class: &RulePlaces,
+    asked: &RuleQuestion<'_>,
     groups: &[Bytes],
     operation: u64,
     best: usize,
@@ -60,8 +60,8 @@ fn first_of_groups(
 /// The least of `best` and of the places of the rules of an operation pattern's code that are for a proven user and
 /// apply.
 fn first_of_user(
-    by_class: &Places,
-    asked: &Asked<'_>,
+    by_class: &RulePlaces,
+    asked: &RuleQuestion<'_>,
     name: &[u8],
     operation: u64,
     best: usize,
@@ -80,7 +80,7 @@ fn first_of_user(
 }
 
 /// The least of `best` and of the places of the rules of an operation pattern's code that are for who asks and apply.
-fn first_of_pattern(index: &Index, asked: &Asked<'_>, operation: u64, best: usize) -> usize
+fn first_of_pattern(index: &Index, asked: &RuleQuestion<'_>, operation: u64, best: usize) -> usize
     requires index { IsIndexOf asked.now.rules.now index.now }
     requires within { best ≤ length asked.now.rules.now }
     ensures { result ≡ min best
@@ -94,7 +94,7 @@ fn first_of_pattern(index: &Index, asked: &Asked<'_>, operation: u64, best: usiz
 }
 
 /// The place of the first rule that applies, or the number of rules where none does. Takes no memory.
-pub(crate) fn first_place(index: &Index, asked: &Asked<'_>) -> usize
+pub(crate) fn first_place(index: &Index, asked: &RuleQuestion<'_>) -> usize
     requires index { IsIndexOf asked.now.rules.now index.now }
     requires groups { AreGroupsOfProven asked.now.users.now (option_copied asked.now.proven) asked.now.groups.now }
     ensures { result ≡ Definitions.first_place (applies_to asked.now) asked.now.rules.now }

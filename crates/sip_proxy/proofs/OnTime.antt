@@ -6,7 +6,7 @@ use Rattle.sip_fork.specs.Keeping.{IsKeptAs}
 use Rattle.sip_fork.specs.request.Near.{most_timers}
 use Rattle.sip_forwarding.specs.transactions_model.Fits.{Fits}
 use Rattle.sip_forwarding.specs.transactions_model.Near.{IsWithin}
-use Rattle.sip_dialog_lessons.specs.state.declared.open_request.OpenRequest.{OpenRequest}
+use Rattle.sip_dialog_updates.specs.state.declared.open_request.OpenRequest.{OpenRequest}
 
 -- what is near a moment is near every later one
 abbrev pub Passes : Type 0

@@ -2,22 +2,22 @@
 use Rattle.std.proofs.Common.{◌≡◌, ℕ, Bool, List, Result, IfOk, length, nat_le, sym, subst}
 use Rattle.std.proofs.lemmas.Result.{IfOk-weaker}
 use Rattle.std.specs.declared.alloc.AllocError.{AllocError}
-use Rattle.sip_core.specs.Verdict.{Is, Knows}
-use Rattle.sip_core.specs.declared.verdict.Verdict.{Verdict}
+use Rattle.sip_verdict.specs.Verdict.{Is, Knows}
+use Rattle.sip_verdict.specs.declared.verdict.Verdict.{Verdict}
 use Rattle.sip_dialog.specs.declared.dialog.Dialog.{Dialog}
 use Rattle.sip_message_form.specs.declared.message.Message.{Message}
-use Rattle.sip_transaction_table.specs.declared.key.Key.{Key}
+use Rattle.sip_transaction_table.specs.declared.key.TransactionKey.{TransactionKey}
 use Rattle.sip_location.specs.declared.binding.Binding.{Binding}
 use Rattle.sip_digest.specs.declared.nonces.Nonce.{Nonce}
-use Rattle.sip_dialog_lessons.specs.state.Arrival.{Arrival}
-use Rattle.sip_dialog_lessons.specs.state.declared.proxy_state.ProxyState.{ProxyState}
-use Rattle.sip_dialog_lessons.specs.state.declared.server.Server.{Server}
-use Rattle.sip_core.specs.verdict_model.Verdict as Definition
+use Rattle.sip_dialog_updates.specs.state.Arrival.{Arrival}
+use Rattle.sip_dialog_updates.specs.state.declared.proxy_state.ProxyState.{ProxyState}
+use Rattle.sip_dialog_updates.specs.state.declared.server.Server.{Server}
+use Rattle.sip_verdict.specs.verdict_model.Verdict as Definition
 
 -- what was decided is the verdict on a request in a state, over these bindings
 abbrev pub IsVerdict : Server → List Binding → ℕ → Message → Bool → List ℕ → ProxyState → Verdict → Type 0
 IsVerdict server rows now request short method state verdict =
-    (a : Arrival) (key : Key) → a.now ≡ now → Is server rows now (Definition.found_for_cancel state key a.from)
+    (a : Arrival) (key : TransactionKey) → a.now ≡ now → Is server rows now (Definition.found_for_cancel state key a.from)
     (Definition.new_verdict server state a request short method key) verdict
 
 -- what holds of each state with these parts holds of this one

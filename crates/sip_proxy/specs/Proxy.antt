@@ -1,18 +1,18 @@
 -- What a proxy knows while it runs (RFC 3261 16).
 use Rattle.std.specs.Prelude.{ℕ, ◌≡◌, ◌≤◌, ◌<◌, ◌+◌, ◌^◌, List}
 use Rattle.std.specs.List.{All}
-use Rattle.sip_base.specs.Keyed.{fed_first}
+use Rattle.sip_base.specs.KeyedHasher.{fed_first}
 use Rattle.sip_base.specs.declared.word_hasher.WordHasher.{WordHasher}
 use Rattle.sip_timers.specs.declared.timer.Timer.{Timer}
 use Rattle.sip_dialog.specs.Sameness.{SameDialogs}
-use Rattle.sip_dialog_lessons.specs.declared.lesson.Lesson.{Lesson}
-use Rattle.sip_dialog_lessons.specs.Lessons.{after_lessons}
+use Rattle.sip_dialog_updates.specs.declared.dialog_update.DialogUpdate.{DialogUpdate}
+use Rattle.sip_dialog_updates.specs.DialogUpdates.{after_updates}
 use Rattle.sip_location.specs.declared.binding.Binding.{Binding}
 use Rattle.sip_fork.specs.steps_model.Step.{NoneBefore, NoneAgainBefore}
 use Rattle.sip_digest.specs.declared.nonces.Nonce.{Nonce}
 use Rattle.sip_forwarding.specs.declared.arrival.Arrival.{Arrival}
-use Rattle.sip_dialog_lessons.specs.state.declared.open_request.OpenRequest.{OpenRequest}
-use Rattle.sip_dialog_lessons.specs.state.declared.proxy_state.ProxyState.{ProxyState}
+use Rattle.sip_dialog_updates.specs.state.declared.open_request.OpenRequest.{OpenRequest}
+use Rattle.sip_dialog_updates.specs.state.declared.proxy_state.ProxyState.{ProxyState}
 
 -- the secrets under which the tables are hashed whose keys peers choose: that of the open requests, and that of the dialogs
 pub record Secrets : Type 0 where
@@ -47,14 +47,14 @@ pub record IsComing (state : ProxyState) (a : Arrival) : Type 0 where
 
 -- ---- changes
 
--- At a moment the state became another one by these open requests and these lessons, and nothing else of it changed.
-pub record Becomes (now : ℕ) (requests : List OpenRequest) (lessons : List Lesson) (old new : ProxyState) : Type 0 where
+-- At a moment the state became another one by these open requests and these updates, and nothing else of it changed.
+pub record Becomes (now : ℕ) (requests : List OpenRequest) (updates : List DialogUpdate) (old new : ProxyState) : Type 0 where
   pub moment_is : new.moment ≡ now
   pub next_is : new.next ≡ old.next
   pub bindings_are : new.bindings ≡ old.bindings
   pub nonces_are : new.nonces ≡ old.nonces
   pub requests_are : new.requests ≡ requests
-  pub dialogs_are : SameDialogs now new.dialogs (after_lessons now lessons old.dialogs)
+  pub dialogs_are : SameDialogs now new.dialogs (after_updates now updates old.dialogs)
 
 -- The next number was taken, and nothing else of the state changed.
 pub record IsCounted (old new : ProxyState) : Type 0 where

@@ -6,21 +6,21 @@ ghost use Rattle.sip_fork.specs.Keeping.{IsKeptAs};
 ghost use Rattle.sip_fork.specs.request.Near.{most_timers};
 ghost use Rattle.sip_forwarding.specs.transactions_model.Fits.{Fits};
 ghost use Rattle.sip_forwarding.specs.transactions_model.Matching.{AreBranched};
-ghost use Rattle.sip_dialog_lessons.specs.Lessons.{beginnings};
+ghost use Rattle.sip_dialog_updates.specs.DialogUpdates.{beginnings};
 ghost use Rattle.sip_fork.specs.steps_model.Effect.{replaced};
 ghost use Rattle.sip_fork.specs.steps_model.Step.{NoneBefore, NoneAgainBefore};
 ghost use Rattle.sip_forwarding.specs.transactions_model.Near.{IsWithin};
-ghost use Rattle.sip_dialog_lessons.specs.state.State.{has_key, with_one_more};
-ghost use Rattle.sip_dialog_lessons.specs.state.declared.open_request.OpenRequest.{OpenRequest};
+ghost use Rattle.sip_dialog_updates.specs.state.State.{has_key, with_one_more};
+ghost use Rattle.sip_dialog_updates.specs.state.declared.open_request.OpenRequest.{OpenRequest};
 ghost use Rattle.sip_proxy.specs.Proxy.{Becomes, MayCome};
 
 use crate::changing::{fits_once_it_came, open_at, reserve_dialog};
-use crate::drafting::Draft;
+use crate::drafting::EventDraft;
 use crate::proxy::Proxy;
-use sip_dialog_lessons::state::OpenRequest;
+use sip_dialog_updates::state::OpenRequest;
 use sip_event::Packet;
 use sip_fork::firing::orders_join;
-use sip_fork::{Change, Contexts, Opening};
+use sip_fork::{ChangedRow, Contexts, NewRow};
 use sip_forwarding::Drafted;
 use sip_text::Items;
 use sip_timers::Timers;
@@ -87,9 +87,9 @@ fn others_keep_their_places()
 fn open_and_change_at<T: Timers>(
     contexts: &mut Contexts<T>,
     now: u64,
-    opened: Opening,
+    opened: NewRow,
     place: usize,
-    change: Change,
+    change: ChangedRow,
 )
     requires few { length contexts.old.requests < 1024 }
     requires places { 1 ≤ contexts.old.places }
@@ -128,9 +128,9 @@ impl<T: Timers> Proxy<T> {
     pub fn open_and_change(
         &mut self,
         now: u64,
-        opened: Opening,
+        opened: NewRow,
         place: usize,
-        draft: Draft,
+        draft: EventDraft,
     ) -> Result<Items<Packet>, AllocError>
         requires space { length self.old.state.requests < 1024 }
         requires place { place < length self.old.state.requests }
@@ -141,9 +141,9 @@ impl<T: Timers> Proxy<T> {
         requires within { IsWithin now opened }
         requires branched { AreBranched opened.branches }
         requires kept { (r : OpenRequest) → slice_get self.old.state.requests place ≡ Some r → IsKeptAs now r draft.change }
-        requires few { beginnings draft.drafted.lessons ≤ 1 }
+        requires few { beginnings draft.drafted.updates ≤ 1 }
         ensures becomes { OnOk result (Becomes now (replaced draft.change (with_one_more opened self.old.state.requests))
-            draft.drafted.lessons self.old.state self.new.state) }
+            draft.drafted.updates self.old.state self.new.state) }
         ensures queue { OnOk result (KeepsOrder self.old.timers self.new.timers self.new.state.requests) }
         ensures sent { IfOk result (λ packets. packets ≡ draft.drafted.packets) }
         ensures unchanged { OnErr result (self.new.state ≡ self.old.state) }
@@ -151,12 +151,12 @@ impl<T: Timers> Proxy<T> {
         ensures room { self.new.room ≡ self.old.room }
         ensures secrets { self.new.secrets ≡ self.old.secrets }
     {
-        let Draft { change, drafted } = draft;
-        let Drafted { packets, lessons } = drafted;
+        let EventDraft { change, drafted } = draft;
+        let Drafted { packets, updates } = drafted;
         reserve_both(&mut self.contexts, opened.request(), change.request())?;
-        reserve_dialog(&mut self.dialogs, &lessons)?;
+        reserve_dialog(&mut self.dialogs, &updates)?;
         open_and_change_at(&mut self.contexts, now, opened, place, change);
-        lessons.take(&mut self.dialogs, now);
+        updates.take(&mut self.dialogs, now);
         Ok(packets)
     }
 }

@@ -6,22 +6,22 @@ ghost use Rattle.sip_fork.specs.Firing.{KeepsOrder};
 ghost use Rattle.sip_fork.specs.request.Near.{most_timers};
 ghost use Rattle.sip_forwarding.specs.transactions_model.Fits.{Fits};
 ghost use Rattle.sip_forwarding.specs.transactions_model.Matching.{AreBranched};
-ghost use Rattle.sip_dialog_lessons.specs.Lessons.{beginnings};
+ghost use Rattle.sip_dialog_updates.specs.DialogUpdates.{beginnings};
 ghost use Rattle.sip_fork.specs.steps_model.Effect.{replaced};
 ghost use Rattle.sip_fork.specs.steps_model.Step.{NoneBefore, NoneAgainBefore};
 ghost use Rattle.sip_forwarding.specs.transactions_model.Near.{IsWithin};
-ghost use Rattle.sip_dialog_lessons.specs.state.State.{has_key, with_one_more};
-ghost use Rattle.sip_dialog_lessons.specs.state.declared.open_request.OpenRequest.{OpenRequest};
+ghost use Rattle.sip_dialog_updates.specs.state.State.{has_key, with_one_more};
+ghost use Rattle.sip_dialog_updates.specs.state.declared.open_request.OpenRequest.{OpenRequest};
 ghost use Rattle.sip_fork.specs.Keeping.{IsKeptAs};
 ghost use Rattle.sip_proxy.specs.Proxy.{Becomes, MayCome};
 
-use crate::drafting::Draft;
+use crate::drafting::EventDraft;
 use crate::proxy::Proxy;
 use sip_dialog::Dialogs;
-use sip_dialog_lessons::Lessons;
-use sip_dialog_lessons::state::OpenRequest;
+use sip_dialog_updates::DialogUpdates;
+use sip_dialog_updates::state::OpenRequest;
 use sip_event::Packet;
-use sip_fork::{Change, Contexts, Opening};
+use sip_fork::{ChangedRow, Contexts, NewRow};
 use sip_forwarding::Drafted;
 use sip_forwarding::transactions_model::bounds::time_passes;
 use sip_text::Items;
@@ -46,14 +46,17 @@ fn reserve_timers<T: Timers>(
     }
 }
 
-/// Makes room for a dialog that lessons may make known. `AllocError` is the only refusal.
-pub(crate) fn reserve_dialog(dialogs: &mut Dialogs, lessons: &Lessons) -> Result<(), AllocError>
-    requires few { beginnings lessons.now ≤ 1 }
+/// Makes room for a dialog that updates may make known. `AllocError` is the only refusal.
+pub(crate) fn reserve_dialog(
+    dialogs: &mut Dialogs,
+    updates: &DialogUpdates,
+) -> Result<(), AllocError>
+    requires few { beginnings updates.now ≤ 1 }
     ensures dialogs { dialogs.new.dialogs ≡ dialogs.old.dialogs }
-    ensures ok { OnOk result (beginnings lessons.now ≤ dialogs.new.room) }
+    ensures ok { OnOk result (beginnings updates.now ≤ dialogs.new.room) }
     ensures secret { dialogs.new.secret ≡ dialogs.old.secret }
 {
-    match lessons.reserve(dialogs) {
+    match updates.reserve(dialogs) {
         Ok(()) => Ok(()),
         Err(_) => Err(AllocError),
     }
@@ -70,7 +73,7 @@ pub(crate) fn fits_once_it_came()
 }
 
 /// A moment comes, and the open request at a place becomes what was prepared. Takes no memory.
-fn change_at<T: Timers>(contexts: &mut Contexts<T>, now: u64, place: usize, change: Change)
+fn change_at<T: Timers>(contexts: &mut Contexts<T>, now: u64, place: usize, change: ChangedRow)
     requires place { place < length contexts.old.requests }
     requires later { contexts.old.moment ≤ now }
     requires small { now < 2 ^ 62 }
@@ -90,7 +93,7 @@ fn change_at<T: Timers>(contexts: &mut Contexts<T>, now: u64, place: usize, chan
 }
 
 /// A moment comes, and a request is opened. Takes no memory.
-pub(crate) fn open_at<T: Timers>(contexts: &mut Contexts<T>, now: u64, opening: Opening)
+pub(crate) fn open_at<T: Timers>(contexts: &mut Contexts<T>, now: u64, opening: NewRow)
     requires few { length contexts.old.requests < 1024 }
     requires places { 1 ≤ contexts.old.places }
     requires last { All (λ (r : OpenRequest). r.number < opening.number) contexts.old.requests }
@@ -139,14 +142,14 @@ impl<T: Timers> Proxy<T> {
         &mut self,
         now: u64,
         place: usize,
-        draft: Draft,
+        draft: EventDraft,
     ) -> Result<Items<Packet>, AllocError>
         requires place { place < length self.old.state.requests }
         requires moment { MayCome self.old.state now }
         requires kept { (r : OpenRequest) → slice_get self.old.state.requests place ≡ Some r → IsKeptAs now r draft.change }
-        requires few { beginnings draft.drafted.lessons ≤ 1 }
-        ensures becomes { OnOk result (Becomes now (replaced draft.change self.old.state.requests) draft.drafted.lessons self.old.state
-            self.new.state) }
+        requires few { beginnings draft.drafted.updates ≤ 1 }
+        ensures becomes { OnOk result (Becomes now (replaced draft.change self.old.state.requests) draft.drafted.updates
+            self.old.state self.new.state) }
         ensures queue { OnOk result (KeepsOrder self.old.timers self.new.timers self.new.state.requests) }
         ensures sent { IfOk result (λ packets. packets ≡ draft.drafted.packets) }
         ensures unchanged { OnErr result (self.new.state ≡ self.old.state) }
@@ -155,18 +158,23 @@ impl<T: Timers> Proxy<T> {
         ensures secrets { self.new.secrets ≡ self.old.secrets }
     {
         reserve_timers(&mut self.contexts, draft.change.request())?;
-        reserve_dialog(&mut self.dialogs, &draft.drafted.lessons)?;
-        let Draft { change, drafted } = draft;
+        reserve_dialog(&mut self.dialogs, &draft.drafted.updates)?;
+        let EventDraft { change, drafted } = draft;
         change_at(&mut self.contexts, now, place, change);
-        let Drafted { packets, lessons } = drafted;
-        lessons.take(&mut self.dialogs, now);
+        let Drafted { packets, updates } = drafted;
+        updates.take(&mut self.dialogs, now);
         Ok(packets)
     }
 
     /// At a moment in milliseconds a request is opened whose number is above all others and whose key isn't open, and the
     /// dialogs learn of it. Refused with `AllocError` where there is no memory for it, its timers or a dialog; nothing is
     /// changed then.
-    pub fn open(&mut self, now: u64, opening: Opening, lessons: Lessons) -> Result<(), AllocError>
+    pub fn open(
+        &mut self,
+        now: u64,
+        opening: NewRow,
+        updates: DialogUpdates,
+    ) -> Result<(), AllocError>
         requires space { length self.old.state.requests < 1024 }
         requires moment { MayCome self.old.state now }
         requires last { All (λ (r : OpenRequest). r.number < opening.number) self.old.state.requests }
@@ -174,8 +182,9 @@ impl<T: Timers> Proxy<T> {
         requires fits { Fits opening }
         requires within { IsWithin now opening }
         requires branched { AreBranched opening.branches }
-        requires few { beginnings lessons ≤ 1 }
-        ensures becomes { OnOk result (Becomes now (with_one_more opening self.old.state.requests) lessons self.old.state self.new.state) }
+        requires few { beginnings updates ≤ 1 }
+        ensures becomes { OnOk result (Becomes now (with_one_more opening self.old.state.requests) updates self.old.state
+            self.new.state) }
         ensures queue { OnOk result (KeepsOrder self.old.timers self.new.timers self.new.state.requests) }
         ensures unchanged { OnErr result (self.new.state ≡ self.old.state) }
         ensures timers { OnErr result (self.new.timers ≡ self.old.timers) }
@@ -183,27 +192,27 @@ impl<T: Timers> Proxy<T> {
         ensures secrets { self.new.secrets ≡ self.old.secrets }
     {
         reserve_open(&mut self.contexts, opening.request())?;
-        reserve_dialog(&mut self.dialogs, &lessons)?;
+        reserve_dialog(&mut self.dialogs, &updates)?;
         open_at(&mut self.contexts, now, opening);
-        lessons.take(&mut self.dialogs, now);
+        updates.take(&mut self.dialogs, now);
         Ok(())
     }
 
     /// At a moment in milliseconds the dialogs learn, and no open request changes: an ACK that goes on renews its dialog (RFC
     /// 3261 12.2, 13.2.2.4). Refused with `AllocError` where there is no memory for a dialog; nothing is changed then.
-    pub fn learn(&mut self, now: u64, lessons: Lessons) -> Result<(), AllocError>
+    pub fn learn(&mut self, now: u64, updates: DialogUpdates) -> Result<(), AllocError>
         requires moment { MayCome self.old.state now }
-        requires few { beginnings lessons ≤ 1 }
-        ensures becomes { OnOk result (Becomes now self.old.state.requests lessons self.old.state self.new.state) }
+        requires few { beginnings updates ≤ 1 }
+        ensures becomes { OnOk result (Becomes now self.old.state.requests updates self.old.state self.new.state) }
         ensures unchanged { OnErr result (self.new.state ≡ self.old.state) }
         ensures queue { OnOk result (KeepsOrder self.old.timers self.new.timers self.new.state.requests) }
         ensures timers { self.new.timers ≡ self.old.timers }
         ensures room { self.new.room ≡ self.old.room }
         ensures secrets { self.new.secrets ≡ self.old.secrets }
     {
-        reserve_dialog(&mut self.dialogs, &lessons)?;
+        reserve_dialog(&mut self.dialogs, &updates)?;
         self.contexts.reach(now);
-        lessons.take(&mut self.dialogs, now);
+        updates.take(&mut self.dialogs, now);
         Ok(())
     }
 }

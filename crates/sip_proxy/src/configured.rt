@@ -1,6 +1,6 @@
 ghost use Rattle.std.specs.Prelude.{◌≡◌};
 
-use sip_dialog_lessons::state::Server;
+use sip_dialog_updates::state::Server;
 use sip_hops::Hops;
 
 /// What the steps are configured by, lent: the server, and the tables of its addresses.

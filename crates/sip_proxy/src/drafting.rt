@@ -2,21 +2,21 @@ ghost use Rattle.std.specs.Prelude.{◌≡◌, ◌≤◌, ◌<◌, ◌^◌, ℕ,
 ghost use Rattle.sip_fork.specs.Keeping.{IsOf};
 ghost use Rattle.sip_forwarding.specs.Forwarding.{IsInputTo};
 ghost use Rattle.sip_fork.specs.context.declared.input.Input.{Input};
-ghost use Rattle.sip_dialog_lessons.specs.state.declared.open_request.OpenRequest.{OpenRequest};
+ghost use Rattle.sip_dialog_updates.specs.state.declared.open_request.OpenRequest.{OpenRequest};
 ghost use Rattle.sip_proxy.specs.Drafts.{IsDrafted};
 
 use crate::configured::Configured;
 use crate::proxy::Proxy;
 use sip_fork::context::Input;
-use sip_fork::{Change, Prepared};
+use sip_fork::{ChangedRow, Prepared};
 use sip_forwarding::{Drafted, draft_change};
 use sip_timers::Timers;
 use std::alloc::{AllocError, Global};
 
 /// What an input is going to do: the open request as it becomes, what is sent, and what the dialogs learn of it.
 #[derive(Drop)]
-pub struct Draft {
-    pub change: Change,
+pub struct EventDraft {
+    pub change: ChangedRow,
     pub drafted: Drafted,
 }
 
@@ -35,7 +35,7 @@ impl<T: Timers> Proxy<T> {
         now: u64,
         place: usize,
         input: Input<'_>,
-    ) -> Result<Draft, AllocError>
+    ) -> Result<EventDraft, AllocError>
         requires place { place < length self.now.state.requests }
         requires later { self.now.state.moment ≤ now }
         requires small { now < 2 ^ 62 }
@@ -48,6 +48,6 @@ impl<T: Timers> Proxy<T> {
             .contexts
             .plan(alloc, configured.server, now, place, input)?;
         let drafted = draft_change(alloc, configured.hops, change.request(), sent)?;
-        Ok(Draft { change, drafted })
+        Ok(EventDraft { change, drafted })
     }
 }

@@ -1,6 +1,6 @@
 ghost use Rattle.std.specs.Prelude.{◌≡◌, ◌≤◌, ◌<◌, ◌^◌, ℕ, [], true, length, slice_get, Some};
-ghost use Rattle.sip_dialog_lessons.specs.state.declared.server.Server.{Server};
-ghost use Rattle.sip_dialog_lessons.specs.state.declared.open_request.OpenRequest.{OpenRequest};
+ghost use Rattle.sip_dialog_updates.specs.state.declared.server.Server.{Server};
+ghost use Rattle.sip_dialog_updates.specs.state.declared.open_request.OpenRequest.{OpenRequest};
 ghost use Rattle.sip_fork.specs.Ending.{IsDeadlineOf, ended, left_invite};
 ghost use Rattle.sip_fork.specs.Firing.{KeepsOrder};
 ghost use Rattle.sip_fork.specs.Keeping.{IsKeptAs, IsOf};

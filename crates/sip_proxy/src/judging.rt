@@ -1,18 +1,18 @@
 ghost use Rattle.std.specs.Prelude.{◌≡◌, ◌<◌, ◌^◌, IfOk, is_some, List, Option};
-ghost use Rattle.sip_core.specs.Verdict.{HasRoom, Is, IsRequestOf, goes_on};
-ghost use Rattle.sip_core.specs.state.Names.{AreNames};
-ghost use Rattle.sip_transaction_table.specs.declared.key.Key.{Key};
+ghost use Rattle.sip_verdict.specs.Verdict.{HasRoom, Is, IsRequestOf, goes_on};
+ghost use Rattle.sip_verdict.specs.state.Names.{AreNames};
+ghost use Rattle.sip_transaction_table.specs.declared.key.TransactionKey.{TransactionKey};
 ghost use Rattle.sip_location.specs.declared.binding.Binding.{Binding};
-ghost use Rattle.sip_dialog_lessons.specs.state.Arrival.{Arrival};
-ghost use Rattle.sip_dialog_lessons.specs.state.declared.open_request.OpenRequest.{OpenRequest};
-ghost use Rattle.sip_core.specs.verdict_model.Verdict as Definition;
+ghost use Rattle.sip_dialog_updates.specs.state.Arrival.{Arrival};
+ghost use Rattle.sip_dialog_updates.specs.state.declared.open_request.OpenRequest.{OpenRequest};
+ghost use Rattle.sip_verdict.specs.verdict_model.Verdict as Definition;
 
 use crate::proxy::Proxy;
 use crate::received_request::ReceivedRequest;
-use sip_core::state::Names;
-use sip_core::{Judge, Known, Received, Verdict, ack_verdict, new_verdict};
 use sip_policy::Rules;
 use sip_timers::Timers;
+use sip_verdict::state::DialogNames;
+use sip_verdict::{Judge, KnownTables, Received, Verdict, ack_verdict, new_verdict};
 use std::alloc::{AllocError, Global};
 
 impl<T: Timers> Proxy<T> {
@@ -24,11 +24,11 @@ impl<T: Timers> Proxy<T> {
         alloc: Global,
         judge: &Judge<R>,
         request: &ReceivedRequest<'v>,
-        names: &mut Option<Names>,
+        names: &mut Option<DialogNames>,
     ) -> Result<Verdict<'v>, AllocError>
         requires moment { request.now.arrival.now < 2 ^ 62 }
         requires request { IsRequestOf request.now.method.now request.now.message.now.start }
-        ensures verdict { IfOk result (λ verdict. (a : Arrival) (key : Key) → a.now ≡ request.now.arrival.now
+        ensures verdict { IfOk result (λ verdict. (a : Arrival) (key : TransactionKey) → a.now ≡ request.now.arrival.now
             → Is judge.now self.old.state.bindings request.now.arrival.now (Definition.found_for_cancel self.old.state key a.from)
             (Definition.new_verdict judge.now self.old.state a request.now.message.now request.now.short request.now.method.now key) verdict) }
         ensures room { IfOk result (HasRoom self.new.room) }
@@ -39,7 +39,7 @@ impl<T: Timers> Proxy<T> {
         ensures secrets { self.new.secrets ≡ self.old.secrets }
     {
         let is_full = self.contexts.is_full();
-        let known = Known {
+        let known = KnownTables {
             nonces: &self.nonces,
             dialogs: &self.dialogs,
             is_full,

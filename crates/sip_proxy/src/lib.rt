@@ -19,7 +19,7 @@ mod received_response;
 mod registering;
 
 pub use configured::Configured;
-pub use drafting::Draft;
+pub use drafting::EventDraft;
 pub use proxy::Proxy;
 pub use received_request::ReceivedRequest;
 pub use received_response::ReceivedResponse;
@@ -31,7 +31,7 @@ pub mod context {
 
 /// Of `sip_fork`.
 pub mod fork {
-    pub use sip_fork::{Due, First, Opening};
+    pub use sip_fork::{Due, FirstDue, NewRow};
 }
 
 /// Of `sip_transaction_table`.

@@ -10,24 +10,24 @@ ghost use Rattle.std.specs.Option.{option_and_then};
 ghost use Rattle.sip_fork.specs.Due.{IsFirst, IsFirstAt, IsNothingDue, IsOfFirst};
 ghost use Rattle.sip_fork.specs.Firing.{KeepsOrder};
 ghost use Rattle.sip_fork.specs.Places.{branch_at};
-ghost use Rattle.sip_core.specs.context_model.FoundBranch.{found_branch};
+ghost use Rattle.sip_verdict.specs.context_model.FoundBranch.{found_branch};
 ghost use Rattle.sip_timers.specs.declared.timer.Timer.{Timer};
 ghost use Rattle.sip_transaction_table.specs.Key.{same_key};
 ghost use Rattle.sip_location.specs.Binding.{live};
-ghost use Rattle.sip_dialog_lessons.specs.state.State.{first_state, has_key};
-ghost use Rattle.sip_dialog_lessons.specs.state.declared.branch.Branch.{Branch};
-ghost use Rattle.sip_dialog_lessons.specs.state.declared.open_request.OpenRequest.{OpenRequest};
-ghost use Rattle.sip_core.specs.verdict_model.Verdict.{is_cancelled_by};
-ghost use Rattle.sip_base.specs.Keyed.{fed_first};
+ghost use Rattle.sip_dialog_updates.specs.state.State.{first_state, has_key};
+ghost use Rattle.sip_dialog_updates.specs.state.declared.branch.Branch.{Branch};
+ghost use Rattle.sip_dialog_updates.specs.state.declared.open_request.OpenRequest.{OpenRequest};
+ghost use Rattle.sip_verdict.specs.verdict_model.Verdict.{is_cancelled_by};
+ghost use Rattle.sip_base.specs.KeyedHasher.{fed_first};
 ghost use Rattle.sip_proxy.specs.Proxy.{Becomes, IsCounted, MayCome, secrets_of};
 
 use sip_dialog::Dialogs;
-use sip_dialog_lessons::state::{OpenRequest, Server};
+use sip_dialog_updates::state::{OpenRequest, Server};
 use sip_digest::Nonces;
-use sip_fork::{Contexts, First};
+use sip_fork::{Contexts, FirstDue};
 use sip_location::{LiveBindings, Locations};
 use sip_timers::Timers;
-use sip_transaction_table::Key;
+use sip_transaction_table::TransactionKey;
 use sip_uri::Aor;
 use std::alloc::{AllocError, Global};
 use std::marker::Model;
@@ -215,7 +215,7 @@ impl<T: Timers> Proxy<T> {
     }
 
     /// The place of the open request with a key (RFC 3261 17.2.3).
-    pub fn find(&self, key: &Key) -> Option<usize>
+    pub fn find(&self, key: &TransactionKey) -> Option<usize>
         ensures place { result ≡ position (has_key key.now) self.now.state.requests }
         ensures request { option_and_then (slice_get self.now.state.requests) result ≡ find (has_key key.now) self.now.state.requests }
     {
@@ -223,7 +223,7 @@ impl<T: Timers> Proxy<T> {
     }
 
     /// The place of the earliest open request that a CANCEL with this key names (RFC 3261 9.2).
-    pub fn find_cancelled(&self, key: &Key) -> Option<usize>
+    pub fn find_cancelled(&self, key: &TransactionKey) -> Option<usize>
         ensures place { result ≡ position (is_cancelled_by key.now) self.now.state.requests }
         ensures request { option_and_then (slice_get self.now.state.requests) result ≡ find (is_cancelled_by key.now) self.now.state.requests }
     {
@@ -242,7 +242,7 @@ impl<T: Timers> Proxy<T> {
     /// What is due first of all open requests: no deadline stands before it, and nothing is to go again before it; of what is
     /// due at one moment, what a timer was set for first. None exactly where no deadline stands and nothing is to go again.
     /// Takes no memory.
-    pub fn first(&self) -> Option<First>
+    pub fn first(&self) -> Option<FirstDue>
         ensures first { MatchOption result (IsNothingDue self.now.state.requests) (IsFirst self.now.state.requests) }
         ensures in_order { IfSome result (IsOfFirst self.now.timers self.now.state.requests) }
     {

@@ -13,7 +13,7 @@ ghost use Rattle.sip_proxy.specs.Proxy.{with_bindings, with_nonces};
 
 use crate::proxy::Proxy;
 use sip_auth::Proof;
-use sip_location::Plan;
+use sip_location::RegisterPlan;
 use sip_timers::Timers;
 
 impl<T: Timers> Proxy<T> {
@@ -41,7 +41,7 @@ impl<T: Timers> Proxy<T> {
     }
 
     /// Gives the address of record of a plan its bindings, in place of all that it has. Takes no memory.
-    pub fn register(&mut self, plan: Plan)
+    pub fn register(&mut self, plan: RegisterPlan)
         requires { 1 ≤ self.old.room }
         ensures own { of_aor plan.aor self.new.state.bindings ≡ plan.bindings }
         ensures others { (other : Aor) → is_same_aor other plan.aor ≡ false → of_aor other self.new.state.bindings

@@ -21,7 +21,7 @@ use Rattle.model_ties.proofs.Orderly.{Orderly, orderly_joined}
 use Rattle.sip_replay.specs.resume.Resumes.{Runs}
 use Rattle.sip_replay.specs.resume.Whole.{AreStated, KeepsFrame, config_behind}
 use Rattle.sip_loop.specs.Serving.{Doing, IsUnserved, Told, ahead, event_told, gathered, steps_taken, untold_in}
-use Rattle.sip_loop.specs.declared.served.ServeError.{ServeError}
+use Rattle.sip_loop.specs.declared.serve_error.ServeError.{ServeError}
 use Rattle.sip_recorded.specs.Recorded.{IsRecordedUnder, RecordsFront}
 use Rattle.sip_recorded.proofs.Joining.{RunsJoin, grown, grown_same, joined, periods_joined}
 use Rattle.sip_recorded.proofs.Recorded.{events_on, noted_text, orderly_turns, period_is}

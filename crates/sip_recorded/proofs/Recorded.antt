@@ -12,7 +12,7 @@ use Rattle.sip_replay_script.specs.Recorded.{SaysRecord}
 use Rattle.sip_segment_text.specs.Segments.{SaysConfiguration, SaysWhole, Segment}
 use Rattle.sip_config.specs.Stated.{States}
 use Rattle.sip_replay_print.specs.Print.{printed}
-use Rattle.sip_record.specs.Record.{GrewBy, Notes, NotesConfiguration, NotesSegments, NotesText}
+use Rattle.sip_journal.specs.Record.{GrewBy, Notes, NotesConfiguration, NotesSegments, NotesText}
 use Rattle.model_bounds.specs.state.declared.proxy_state.ProxyState.{ProxyState}
 use Rattle.model_order.specs.Order.{Standing, first_standing}
 use Rattle.model_bounds.specs.state.declared.server.Server.{Server}

@@ -8,7 +8,7 @@ use Rattle.sip_segment_text.specs.Configurations.{IsLongConfiguration}
 use Rattle.sip_segment_text.specs.Segments.{Segment, SaysWhole}
 use Rattle.sip_segment_config.specs.Last.{IsDamagedPart}
 use Rattle.sip_segment_config.specs.Stops.{IsNext}
-use Rattle.sip_record.specs.Record.{GrewKnown, Notes, NotesSegments}
+use Rattle.sip_journal.specs.Record.{GrewKnown, Notes, NotesSegments}
 use Rattle.model_bounds.specs.state.declared.server.Server.{Server}
 use Rattle.model_order.specs.Order.{Standing}
 use Rattle.model_bounds.specs.model.Periods.{Period}

@@ -7,7 +7,7 @@ use Rattle.sip_replay_script.specs.Lines.{is_end}
 use Rattle.sip_replay_script.specs.Recorded.{SaysRecord}
 use Rattle.sip_segment_text.specs.Configurations.{IsLongConfiguration}
 use Rattle.sip_segment_text.specs.Segments.{SaysConfiguration}
-use Rattle.sip_record.specs.Record.{Notes}
+use Rattle.sip_journal.specs.Record.{Notes}
 use Rattle.sip_replay.specs.resume.Outputs.{Outputs, Shows}
 use Rattle.sip_replay.specs.resume.RecordErrors.{record_error_of}
 use Rattle.sip_replay.specs.resume.Resumes.{ResumeStops, Runs}

@@ -7,7 +7,7 @@ ghost use Rattle.sip_event.specs.declared.event.Event.{Event};
 ghost use Rattle.sip_event.specs.declared.event.StepOut.{StepOut};
 ghost use Rattle.sip_segment_text.specs.Segments.{SaysWhole, Segment};
 ghost use Rattle.sip_config.specs.Stated.{States};
-ghost use Rattle.sip_record.specs.Record.{NotesConfiguration};
+ghost use Rattle.sip_journal.specs.Record.{NotesConfiguration};
 ghost use Rattle.sip_replay_print.specs.Print.{printed};
 ghost use Rattle.sip_replay_script.specs.Lines.{IsSpent};
 ghost use Rattle.model_bounds.specs.state.declared.server.Server.{Server};
@@ -19,7 +19,7 @@ ghost use Rattle.sip_replay.specs.resume.declared.record_error.RecordError.{Reco
 ghost use Rattle.sip_replay.specs.Records.{IsRecordReplay};
 ghost use Rattle.sip_replay.specs.Replays.{server_with};
 ghost use Rattle.sip_loop.specs.Serving.{IsServed, IsUnserved, Told, gathered, steps_taken};
-ghost use Rattle.sip_loop.specs.declared.served.ServeError.{ServeError};
+ghost use Rattle.sip_loop.specs.declared.serve_error.ServeError.{ServeError};
 ghost use Rattle.sip_recorded.specs.Recorded.{IsRecordedUnder, PrintsFront, RecordsFront};
 ghost use Rattle.sip_recorded.specs.Unresumed.{BeginsNoConfiguration, IsUnresumed};
 

@@ -10,7 +10,7 @@
 //! ```
 #![tactic(auto)]
 
-mod due;
+mod due_steps;
 mod error;
 pub mod laws;
 mod playback;

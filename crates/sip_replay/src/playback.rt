@@ -13,7 +13,7 @@ ghost use Rattle.sip_replay.specs.Errors.{IsFaulted};
 ghost use Rattle.sip_replay.specs.Refusals.{IsRefused, Refuses, TakingStops};
 ghost use Rattle.sip_replay.specs.Replays.{server_with, IsLawfulReplay, IsReplay, Plays, PlaysNext};
 
-use crate::due::fire_due;
+use crate::due_steps::fire_due;
 use crate::error::ReplayError;
 use crate::stop::Stop;
 use model_bounds::bounds::every_history_is_bounded;
@@ -24,7 +24,9 @@ use sip_event::{Boot, StepOut};
 use sip_policy::Rules;
 use sip_replay_print::{PrintRoom, print_step};
 use sip_replay_script::laws::cut_event_is_none;
-use sip_replay_script::{Gathered, Line, Lines, TellingReader, TellingWriter, hand_on, next_line};
+use sip_replay_script::{
+    EventLine, Gathered, ScriptLines, TellingReader, TellingWriter, hand_on, next_line,
+};
 use sip_resume::engine::{Engine, StepError};
 use sip_resume::run::{event_moment, take_datagram, take_event};
 use sip_timers::Timers;
@@ -83,7 +85,7 @@ fn play<T: Timers, R: Rules, I: TellingReader, W: TellingWriter>(
         Ok(engine) => engine,
         Err(_) => return Err(ReplayError::NoMemory),
     };
-    let mut lines = match Lines::new(alloc) {
+    let mut lines = match ScriptLines::new(alloc) {
         Ok(lines) => lines,
         Err(_) => return Err(ReplayError::NoMemory),
     };
@@ -106,7 +108,7 @@ fn play<T: Timers, R: Rules, I: TellingReader, W: TellingWriter>(
 fn take_next<T: Timers, R: Rules, I: TellingReader, W: TellingWriter>(
     alloc: Global,
     engine: &mut Engine<T, R>,
-    lines: &mut Lines,
+    lines: &mut ScriptLines,
     bytes: &mut Gathered,
     room: &mut PrintRoom,
     reader: &mut I,
@@ -142,7 +144,7 @@ fn take_next<T: Timers, R: Rules, I: TellingReader, W: TellingWriter>(
 fn take_line<T: Timers, R: Rules, W: TellingWriter>(
     alloc: Global,
     engine: &mut Engine<T, R>,
-    line: &Line,
+    line: &EventLine,
     bytes: &Gathered,
     room: &mut PrintRoom,
     writer: &mut W,
@@ -160,12 +162,12 @@ fn take_line<T: Timers, R: Rules, W: TellingWriter>(
 }
 
 /// The moment of the event that a line begins.
-fn line_moment(line: &Line) -> u64
+fn line_moment(line: &EventLine) -> u64
     ensures { (bytes : List ℕ) → result ≡ event_moment (event_of line.now bytes) }
 {
     match line {
-        Line::Head(head) => head.at,
-        Line::Whole(event) => event_moment(event),
+        EventLine::Head(head) => head.at,
+        EventLine::Whole(event) => event_moment(event),
     }
 }
 
@@ -173,7 +175,7 @@ fn line_moment(line: &Line) -> u64
 #[inline(always)]
 fn own_step<T: Timers, R: Rules>(
     engine: &mut Engine<T, R>,
-    line: &Line,
+    line: &EventLine,
     bytes: &Gathered,
 ) -> Result<StepOut, StepError>
     requires { NothingDueBy (moment_of engine.old.state (event_moment (event_of line.now bytes.now))) engine.old.state }
@@ -183,9 +185,9 @@ fn own_step<T: Timers, R: Rules>(
     ensures refused { IfErr result (RefusesStep (refusal_of_event engine.old.state (event_of line.now bytes.now))) }
 {
     match line {
-        Line::Head(head) => {
+        EventLine::Head(head) => {
             take_datagram(engine, head.at, head.word, head.from, bytes.as_slice())
         }
-        Line::Whole(event) => take_event(engine, event),
+        EventLine::Whole(event) => take_event(engine, event),
     }
 }

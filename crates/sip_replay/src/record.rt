@@ -6,10 +6,10 @@ ghost use Rattle.sip_replay.specs.Records.{IsRecordReplay, IsRecordUnreplayed};
 
 use sip_config_types::Config;
 use sip_event::Boot;
+use sip_journal::NoJournal;
 use sip_policy::Rules;
-use sip_record::NoJournal;
 use sip_replay_print::Printer;
-use sip_replay_script::{Lines, TellingReader, TellingWriter};
+use sip_replay_script::{ScriptLines, TellingReader, TellingWriter};
 use sip_resume::engine::Engine;
 use sip_resume::laws::every_record_is_lawful;
 use sip_resume::{RecordError, resume_record};
@@ -27,7 +27,7 @@ pub fn replay_record<T: Timers, R: Rules, I: TellingReader, W: TellingWriter + D
     alloc: Global,
     config: Config,
     boot: Boot,
-    lines: &mut Lines,
+    lines: &mut ScriptLines,
     reader: &mut I,
     longest: usize,
     printer: &mut Printer<W>,

@@ -25,8 +25,8 @@ use Rattle.sip_digest.proofs.NonceTexts.{names_word}
 use Rattle.sip_event.specs.declared.packet.Ticket.{Ticket}
 use Rattle.sip_event.specs.declared.event.Event.TheVariants.{Datagram, Time, Fault}
 use Rattle.sip_replay_script.specs.declared.script.DatagramHead.{DatagramHead}
-use Rattle.sip_replay_script.specs.declared.script.Line.{Line}
-use Rattle.sip_replay_script.specs.declared.script.Line.TheVariants.{Head, Whole}
+use Rattle.sip_replay_script.specs.declared.script.EventLine.{EventLine}
+use Rattle.sip_replay_script.specs.declared.script.EventLine.TheVariants.{Head, Whole}
 use Rattle.sip_replay_script.specs.Escaped.{text_bytes_of}
 use Rattle.sip_replay_script.specs.Script.{line_of, line_of_kind, datagram_line, text_line, hex_line, head_parts, time_line, fault_line, head_of, at_of, ticket_of}
 use Rattle.sip_replay_script.specs.Script.{datagram_at, ◌>>=◌}
@@ -303,7 +303,7 @@ HexLine text = Parts (IsWhole (codes "hex")) (Parts Moment (Parts IsFrom (Parts 
 -- ---- such a line says something
 
 pub record Says (line : List ℕ) : Type 0 where
-  pub said : Line
+  pub said : EventLine
   pub says : line_of line ≡ Some said
 
 split_so : (mark : ℕ) (text first second : List ℕ) → (mark == mark) ≡ true → text ≡ first ++ mark ∷ second → list_all (is_not mark) first ≡ true
@@ -420,7 +420,7 @@ hex_says_some text p =
 
 -- ---- a line that says something is one
 
-kind_cases : (d x h t f : Bool) (one two three four five : Option Line) (said : Line)
+kind_cases : (d x h t f : Bool) (one two three four five : Option EventLine) (said : EventLine)
     → (if d then one else if x then two else if h then three else if t then four else if f then five else None) ≡ Some said
     → ((d ≡ true) × (one ≡ Some said)) ⊎ (((x ≡ true) × (two ≡ Some said)) ⊎ (((h ≡ true) × (three ≡ Some said)) ⊎ (((t ≡ true) × (four ≡ Some said))
     ⊎ ((f ≡ true) × (five ≡ Some said)))))
@@ -443,7 +443,7 @@ head_is moment source word head e =
     let w = bind_some (word_of word) (λ w. Some (record { at = m.0; word = w; from = a.0 })) head a.2 in
     record { is_moment = limited (2 ^ 62) moment m.0 m.1; is_from = read_from source a.0 a.1; is_word = record { word = w.0; says = w.1 } }
 
-time_parts : (text first second : List ℕ) (said : Line) → text ≡ first ++ 32 ∷ second → bytes_eq first (codes "time") ≡ true → time_line second ≡ Some said
+time_parts : (text first second : List ℕ) (said : EventLine) → text ≡ first ++ 32 ∷ second → bytes_eq first (codes "time") ≡ true → time_line second ≡ Some said
     → TimeLine text
 time_parts text first second said cut kind e =
     let m = bind_some (at_of second) (λ m. Some (Whole (Time m))) said e in
@@ -457,7 +457,7 @@ ticket_parts text t e =
     let k = bind_some (plain_decimal_below (2 ^ 32) p.0.1) (λ k. Some (record { «datagram» = n.0; branch = k })) t n.2 in
     record { first = p.0.0; second = p.0.1; cut = split_is 47 text p.0.0 p.0.1 p.1; is_first = plain_number p.0.0 n.0 n.1; is_second = limited (2 ^ 32) p.0.1 k.0 k.1 }
 
-fault_parts : (text first second : List ℕ) (said : Line) → text ≡ first ++ 32 ∷ second → bytes_eq first (codes "fault") ≡ true → fault_line second ≡ Some said
+fault_parts : (text first second : List ℕ) (said : EventLine) → text ≡ first ++ 32 ∷ second → bytes_eq first (codes "fault") ≡ true → fault_line second ≡ Some said
     → FaultLine text
 fault_parts text first second said cut kind e =
     let a = bind_some (split_at_byte 32 second) (λ a. at_of a.0 >>= λ m. ticket_of a.1 >>= λ t. Some (Whole (Fault m t))) said e in
@@ -477,7 +477,8 @@ fault_parts text first second said cut kind e =
       };
     }
 
-datagram_parts : (text first second : List ℕ) (said : Line) → text ≡ first ++ 32 ∷ second → bytes_eq first (codes "datagram") ≡ true → datagram_line second ≡ Some said
+datagram_parts : (text first second : List ℕ) (said : EventLine) → text ≡ first ++ 32 ∷ second → bytes_eq first (codes "datagram") ≡ true
+    → datagram_line second ≡ Some said
     → DatagramLine text
 datagram_parts text first second said cut kind e =
     let a = bind_some (split_at_byte 32 second) (λ a. split_at_byte 32 a.1 >>= λ b. head_of a.0 b.0 b.1 >>= λ head. Some (Head head)) said e in
@@ -532,7 +533,7 @@ head_parts_are B text head behind e field =
       };
     }
 
-text_line_parts : (text first second : List ℕ) (said : Line) → text ≡ first ++ 32 ∷ second → bytes_eq first (codes "text") ≡ true → text_line second ≡ Some said
+text_line_parts : (text first second : List ℕ) (said : EventLine) → text ≡ first ++ 32 ∷ second → bytes_eq first (codes "text") ≡ true → text_line second ≡ Some said
     → TextLine text
 text_line_parts text first second said cut kind e =
     let p = bind_some (head_parts second) (λ p. text_bytes_of p.1 >>= λ bytes. Some (Whole (datagram_at p.0 bytes))) said e in
@@ -545,7 +546,7 @@ text_line_parts text first second said cut kind e =
       is_second = head_parts_are IsText second p.0.0 p.0.1 p.1 (record { bytes = b.0; says = b.1 });
     }
 
-hex_line_parts : (text first second : List ℕ) (said : Line) → text ≡ first ++ 32 ∷ second → bytes_eq first (codes "hex") ≡ true → hex_line second ≡ Some said
+hex_line_parts : (text first second : List ℕ) (said : EventLine) → text ≡ first ++ 32 ∷ second → bytes_eq first (codes "hex") ≡ true → hex_line second ≡ Some said
     → HexLine text
 hex_line_parts text first second said cut kind e =
     let p = bind_some (head_parts second) (λ p. hex_bytes_of p.1 >>= λ bytes. Some (Whole (datagram_at p.0 bytes))) said e in
@@ -558,7 +559,7 @@ hex_line_parts text first second said cut kind e =
       is_second = head_parts_are IsPairs second p.0.0 p.0.1 p.1 (record { bytes = b.0; says = b.1 });
     }
 
-pub line_cases : (text : List ℕ) (said : Line) → line_of text ≡ Some said
+pub line_cases : (text : List ℕ) (said : EventLine) → line_of text ≡ Some said
     → DatagramLine text ⊎ (TextLine text ⊎ (HexLine text ⊎ (TimeLine text ⊎ FaultLine text)))
 line_cases text said e =
     let p = bind_some (split_at_byte 32 text) (λ p. line_of_kind p.0 p.1) said e in

@@ -7,8 +7,8 @@ use Rattle.std.proofs.lemmas.Bool.{cases_Bool}
 use Rattle.std.proofs.lemmas.List.{take-append-le, take_all}
 use Rattle.std.proofs.lemmas.Slice.Eq.{bytes_eq-Decides}
 use Rattle.sip_replay_script.specs.declared.script.DatagramHead.{DatagramHead}
-use Rattle.sip_replay_script.specs.declared.script.Line.{Line}
-use Rattle.sip_replay_script.specs.declared.script.Line.TheVariants.{Head, Whole}
+use Rattle.sip_replay_script.specs.declared.script.EventLine.{EventLine}
+use Rattle.sip_replay_script.specs.declared.script.EventLine.TheVariants.{Head, Whole}
 use Rattle.sip_replay_script.specs.declared.read_stop.ReadStop.{ReadStop}
 use Rattle.sip_replay_script.specs.declared.read_stop.ReadStop.TheVariants as stops
 use Rattle.sip_replay_script.specs.Script.{line_of, datagram_at}
@@ -43,7 +43,7 @@ EndsSo text =
 says_some : (line : List ℕ) → IsSome (line_of line) → Says line
 says_some line e = by_said (line_of line) refl e
   where
-    by_said : (o : Option Line) → line_of line ≡ o → IsSome o → Says line
+    by_said : (o : Option EventLine) → line_of line ≡ o → IsSome o → Says line
     by_said None is e = absurd cc
     by_said (Some said) is e = record { said = said; says = is }
 
@@ -116,7 +116,7 @@ front_of_line line tail text more none e =
           record { more = []; is = sym same ∙ sym (append-nil text) }
     ]
 
-begins_by : (line text : List ℕ) (said : Line) → IsLine line → line_of line ≡ Some said → Front line text → BeginsLine text
+begins_by : (line text : List ℕ) (said : EventLine) → IsLine line → line_of line ≡ Some said → Front line text → BeginsLine text
 begins_by line text said is_line says f = record {
   more = f.more;
   begins = record {
@@ -143,7 +143,7 @@ all_behind p (x ∷ xs) ys e = all_behind p xs ys (and_both (p x) (list_all p (x
 some_more : (xs : List ℕ) (b : ℕ) (ys : List ℕ) → xs ++ b ∷ ys ≢ []
 some_more xs b ys e = absurd (omega (arith, ap length e, length-append xs (b ∷ ys)))
 
-cut_with : (rest tail : List ℕ) (said : Line) → rest ≢ [] → IsLine (rest ++ tail) → line_of (rest ++ tail) ≡ Some said → IsCutRecord rest
+cut_with : (rest tail : List ℕ) (said : EventLine) → rest ≢ [] → IsLine (rest ++ tail) → line_of (rest ++ tail) ≡ Some said → IsCutRecord rest
 cut_with rest tail (Whole event) begun is_line says = record {
   more = tail ++ 10 ∷ [];
   event = event;

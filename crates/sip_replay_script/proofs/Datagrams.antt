@@ -12,8 +12,8 @@ use Rattle.std.proofs.lemmas.List.Elements.{All-push, All-append}
 use Rattle.std.proofs.lemmas.Slice.Eq.{bytes_eq-Decides}
 use Rattle.sip_event.specs.declared.event.Event.{Event}
 use Rattle.sip_replay_script.specs.declared.script.DatagramHead.{DatagramHead}
-use Rattle.sip_replay_script.specs.declared.script.Line.{Line}
-use Rattle.sip_replay_script.specs.declared.script.Line.TheVariants.{Head, Whole}
+use Rattle.sip_replay_script.specs.declared.script.EventLine.{EventLine}
+use Rattle.sip_replay_script.specs.declared.script.EventLine.TheVariants.{Head, Whole}
 use Rattle.sip_replay_script.specs.Script.{line_of, datagram_at, unstuffed, SaysAtOnce}
 use Rattle.sip_replay_script.specs.Lines.{Reading, BeginsWith, PassesLine, IsLine, IsLong, IsUnfinished, is_end, pending, left, GivesLine, IsOver, LineStops}
 use Rattle.sip_replay_script.specs.declared.read_stop.ReadStop.{ReadStop}
@@ -299,18 +299,18 @@ datagram_over old mid new before middle after bytes g over =
 
 -- ---- what the first line of an event says
 
-pub said_passed : (old new : Reading) (rest : Option (List ℕ)) (line : List ℕ) (said : Option Line) → PassesLine old new line → line_of line ≡ said
+pub said_passed : (old new : Reading) (rest : Option (List ℕ)) (line : List ℕ) (said : Option EventLine) → PassesLine old new line → line_of line ≡ said
     → GivesSaid old new rest rest said
 said_passed old new rest line said passes says = record { line = line; given = given_passed old new rest line passes; says = says }
 
 -- a line that is read at once
 
-pub at_once_fits : (unread seen : List ℕ) (said : Line) (count : ℕ) → SaysAtOnce seen said count → seen ≡ unread → count < length unread
+pub at_once_fits : (unread seen : List ℕ) (said : EventLine) (count : ℕ) → SaysAtOnce seen said count → seen ≡ unread → count < length unread
 at_once_fits unread seen said count found same =
     let size : length found.line ≡ count = found.size in
     omega (arith, ap length (sym same ∙ found.begins.cut), length-append found.line (10 ∷ found.begins.rest), size)
 
-pub at_once_passed : (old new : Reading) (rest : Option (List ℕ)) (seen : List ℕ) (said : Line) (count : ℕ) → SaysAtOnce seen said count → seen ≡ old.unread
+pub at_once_passed : (old new : Reading) (rest : Option (List ℕ)) (seen : List ℕ) (said : EventLine) (count : ℕ) → SaysAtOnce seen said count → seen ≡ old.unread
     → new.unread ≡ drop (count + 1) old.unread
     → new.number ≡ old.number + 1 → new.asks ≡ old.asks → GivesSaid old new rest rest (Some said)
 at_once_passed old new rest seen said count found same unread number asks =

@@ -20,7 +20,7 @@ use Rattle.sip_digest.proofs.NonceTexts.{names_word}
 use Rattle.sip_replay_script.specs.Script.{IsNumberAt, IsNumberBefore, IsSourceBefore, IsWordBefore, SaysAtOnce}
 use Rattle.sip_replay_script.specs.EventText.{head_before}
 use Rattle.sip_event.specs.declared.event.Event.TheVariants.{Time}
-use Rattle.sip_replay_script.specs.declared.script.Line.TheVariants.{Head, Whole}
+use Rattle.sip_replay_script.specs.declared.script.EventLine.TheVariants.{Head, Whole}
 use Rattle.sip_replay_script.proofs.WrittenEvents.{IsSource, head_says, head_single, head_short, head_more, no_end, number_short, time_says, word_long}
 use Rattle.sip_audit.proofs.Words.{number_others}
 

@@ -8,7 +8,7 @@ use Rattle.std.proofs.Math.Seq.{take-append-add}
 use Rattle.sip_event.specs.declared.event.Event.{Event}
 use Rattle.sip_text.specs.Splits.{in_front, split_at_byte}
 use Rattle.sip_replay_script.specs.declared.script.DatagramHead.{DatagramHead}
-use Rattle.sip_replay_script.specs.declared.script.Line.TheVariants.{Head, Whole}
+use Rattle.sip_replay_script.specs.declared.script.EventLine.TheVariants.{Head, Whole}
 use Rattle.sip_replay_script.specs.Lines.{IsLine, HasNoLine, is_end}
 use Rattle.sip_replay_script.specs.Script.{line_of, datagram_at}
 use Rattle.sip_replay_script.specs.Events.{ended, is_dot, said, SaysBytes, SaysDatagram, SaysEvent, IsNoDatagram, IsNoEvent}

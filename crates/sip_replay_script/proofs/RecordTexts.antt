@@ -4,7 +4,7 @@ use Rattle.std.proofs.Common.{append_assoc, append-nil, length-append}
 use Rattle.std.specs.Prelude.{count_by, IfSome, if◌then◌else◌}
 use Rattle.sip_event.specs.declared.event.Event.{Event}
 use Rattle.sip_replay_script.specs.declared.script.DatagramHead.{DatagramHead}
-use Rattle.sip_replay_script.specs.declared.script.Line.TheVariants.{Head, Whole}
+use Rattle.sip_replay_script.specs.declared.script.EventLine.TheVariants.{Head, Whole}
 use Rattle.sip_replay_script.specs.declared.read_stop.ReadStop.{ReadStop}
 use Rattle.sip_replay_script.specs.declared.read_stop.ReadStop.TheVariants as stops
 use Rattle.sip_replay_script.specs.Script.{line_of, datagram_at}

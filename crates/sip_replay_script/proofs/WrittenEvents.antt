@@ -20,7 +20,7 @@ use Rattle.sip_digest.proofs.NonceTexts.{names, names_word}
 use Rattle.sip_event.specs.declared.event.Event.{Event}
 use Rattle.sip_event.specs.declared.event.Event.TheVariants.{Datagram, Time, Fault}
 use Rattle.sip_event.specs.declared.packet.Ticket.{Ticket}
-use Rattle.sip_replay_script.specs.declared.script.Line.TheVariants.{Head, Whole}
+use Rattle.sip_replay_script.specs.declared.script.EventLine.TheVariants.{Head, Whole}
 use Rattle.sip_replay_script.specs.Escaped.{byte_text, escaped, is_plain}
 use Rattle.sip_replay_script.specs.Lines.{is_end}
 use Rattle.sip_replay_script.specs.Script.{line_of}

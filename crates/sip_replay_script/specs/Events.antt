@@ -5,12 +5,12 @@ use Rattle.std.specs.Str.{bytes_eq}
 use Rattle.std.specs.Io.KnownBytes.{Consumes}
 use Rattle.sip_event.specs.declared.event.Event.{Event}
 use Rattle.sip_replay_script.specs.declared.script.DatagramHead.{DatagramHead}
-use Rattle.sip_replay_script.specs.declared.script.Line.TheVariants.{Head, Whole}
-use Rattle.sip_replay_script.specs.declared.script.Line.{Line}
-use Rattle.sip_replay_script.specs.declared.event.First.{First}
-use Rattle.sip_replay_script.specs.declared.event.First.TheVariants.{Over, Says}
-use Rattle.sip_replay_script.specs.declared.event.Next.{Next}
-use Rattle.sip_replay_script.specs.declared.event.Next.TheVariants.{Kept, Dot, Unended}
+use Rattle.sip_replay_script.specs.declared.script.EventLine.TheVariants.{Head, Whole}
+use Rattle.sip_replay_script.specs.declared.script.EventLine.{EventLine}
+use Rattle.sip_replay_script.specs.declared.event.EventBeginning.{EventBeginning}
+use Rattle.sip_replay_script.specs.declared.event.EventBeginning.TheVariants.{Over, Says}
+use Rattle.sip_replay_script.specs.declared.event.NextDatagramLine.{NextDatagramLine}
+use Rattle.sip_replay_script.specs.declared.event.NextDatagramLine.TheVariants.{Kept, Dot, Unended}
 use Rattle.sip_replay_script.specs.declared.read_stop.ReadStop.{ReadStop}
 use Rattle.sip_replay_script.specs.declared.read_stop.ReadStop.TheVariants.{NoMemory, Damaged, Cut, Read}
 use Rattle.sip_replay_script.specs.Lines.{Reading, BeginsWith, IsLine, IsLong, IsUnended, HasNoLine, GivesLine, IsOver, PassesLine, is_end, pending, left}
@@ -184,7 +184,7 @@ abbrev pub BeginsOther : List ℕ → Type 0
 BeginsOther unread = (line : List ℕ) → BeginsWith unread line → is_dot line ≡ false
 
 -- what became of the next line of a datagram: it was passed, and is kept or is the dot, or it isn't whole
-abbrev pub GoesOnBy : Next → Reading → Reading → List ℕ → List ℕ → Type 0
+abbrev pub GoesOnBy : NextDatagramLine → Reading → Reading → List ℕ → List ℕ → Type 0
 GoesOnBy Kept old new before after = KeepsLine old new before after
 GoesOnBy Dot old new before after = PassesLine old new (46 ∷ []) × (after ≡ before)
 GoesOnBy Unended old new before after = (new ≡ old) × (after ≡ before)
@@ -197,13 +197,13 @@ pub record KeepsAll (old new : Reading) (before after : List ℕ) : Type 0 where
   pub dot : PassesLine mid new (46 ∷ [])
 
 -- a line was given, and that is what it says
-pub record GivesSaid (old new : Reading) (before after : Option (List ℕ)) (said : Option Line) : Type 0 where
+pub record GivesSaid (old new : Reading) (before after : Option (List ℕ)) (said : Option EventLine) : Type 0 where
   pub line : List ℕ
   pub given : GivesLine old new before after line
   pub says : line_of line ≡ said
 
 -- the next line says that, or there is none
-abbrev pub GivesFirst : First → Reading → Reading → Option (List ℕ) → Option (List ℕ) → Type 0
+abbrev pub GivesFirst : EventBeginning → Reading → Reading → Option (List ℕ) → Option (List ℕ) → Type 0
 GivesFirst Over old new before after = IsOver old new before after
 GivesFirst (Says said) old new before after = GivesSaid old new before after said
 

@@ -2,7 +2,7 @@
 use Rattle.std.specs.Prelude.{◌≡◌, ◌≢◌, ◌⊎◌, ⊤, ℕ, List, [], ◌∷◌, ◌++◌, Option, Some, IfSome, if◌then◌else◌}
 use Rattle.sip_event.specs.declared.event.Event.{Event}
 use Rattle.sip_replay_script.specs.declared.script.DatagramHead.{DatagramHead}
-use Rattle.sip_replay_script.specs.declared.script.Line.TheVariants.{Head}
+use Rattle.sip_replay_script.specs.declared.script.EventLine.TheVariants.{Head}
 use Rattle.sip_replay_script.specs.declared.read_stop.ReadStop.{ReadStop}
 use Rattle.sip_replay_script.specs.declared.read_stop.ReadStop.TheVariants.{NoMemory, Damaged, Cut, Read}
 use Rattle.sip_replay_script.specs.Lines.{Reading, IsLine}

@@ -7,8 +7,8 @@ use Rattle.sip_event.specs.declared.packet.Ticket.{Ticket}
 use Rattle.sip_event.specs.declared.event.Event.{Event}
 use Rattle.sip_event.specs.declared.event.Event.TheVariants.{Datagram, Time, Fault}
 use Rattle.sip_replay_script.specs.declared.script.DatagramHead.{DatagramHead}
-use Rattle.sip_replay_script.specs.declared.script.Line.{Line}
-use Rattle.sip_replay_script.specs.declared.script.Line.TheVariants.{Head, Whole}
+use Rattle.sip_replay_script.specs.declared.script.EventLine.{EventLine}
+use Rattle.sip_replay_script.specs.declared.script.EventLine.TheVariants.{Head, Whole}
 use Rattle.sip_uri.specs.declared.addr.Addr.{Addr}
 use Rattle.sip_uri.specs.Addresses.{addr_of, addr_text}
 use Rattle.sip_text.specs.Numbers.{plain_decimal_of, plain_decimal_below, hex_bytes_of}
@@ -48,12 +48,12 @@ abbrev pub datagram_at : DatagramHead → List ℕ → Event
 datagram_at head bytes = Datagram head.at head.word head.from bytes
 
 -- the event that a line begins: a datagram whose bytes are given, or what the line holds whole
-abbrev pub event_of : Line → List ℕ → Event
+abbrev pub event_of : EventLine → List ℕ → Event
 event_of (Head head) bytes = datagram_at head bytes
 event_of (Whole event) bytes = event
 
 -- what stands behind the word `datagram`, `text`, `hex`, `time` or `fault` and its space
-abbrev pub datagram_line : List ℕ → Option Line
+abbrev pub datagram_line : List ℕ → Option EventLine
 datagram_line text = do
   a ← split_at_byte 32 text
   b ← split_at_byte 32 a.1
@@ -69,31 +69,31 @@ head_parts text = do
   head ← head_of a.0 b.0 c.0
   Some (head, c.1)
 
-abbrev pub text_line : List ℕ → Option Line
+abbrev pub text_line : List ℕ → Option EventLine
 text_line text = do
   parts ← head_parts text
   bytes ← text_bytes_of parts.1
   Some (Whole (datagram_at parts.0 bytes))
 
-abbrev pub hex_line : List ℕ → Option Line
+abbrev pub hex_line : List ℕ → Option EventLine
 hex_line text = do
   parts ← head_parts text
   bytes ← hex_bytes_of parts.1
   Some (Whole (datagram_at parts.0 bytes))
 
-abbrev pub time_line : List ℕ → Option Line
+abbrev pub time_line : List ℕ → Option EventLine
 time_line text = do
   moment ← at_of text
   Some (Whole (Time moment))
 
-abbrev pub fault_line : List ℕ → Option Line
+abbrev pub fault_line : List ℕ → Option EventLine
 fault_line text = do
   a ← split_at_byte 32 text
   moment ← at_of a.0
   ticket ← ticket_of a.1
   Some (Whole (Fault moment ticket))
 
-abbrev pub line_of_kind : List ℕ → List ℕ → Option Line
+abbrev pub line_of_kind : List ℕ → List ℕ → Option EventLine
 line_of_kind kind rest =
     if bytes_eq kind (codes "datagram") then datagram_line rest
     else if bytes_eq kind (codes "text") then text_line rest
@@ -104,7 +104,7 @@ line_of_kind kind rest =
 
 -- an event's first line: `datagram AT IP:PORT WORD`, `text AT IP:PORT WORD TEXT`, `hex AT IP:PORT WORD DIGITS`, `time AT` or
 -- `fault AT D/K` (this project's profile)
-abbrev pub line_of : List ℕ → Option Line
+abbrev pub line_of : List ℕ → Option EventLine
 line_of text = do
   parts ← split_at_byte 32 text
   line_of_kind parts.0 parts.1
@@ -143,7 +143,7 @@ pub record IsWordBefore (text : List ℕ) (from word count : ℕ) : Type 0 where
   pub place : count ≡ from + 32
 
 -- a text begins with a line of so many bytes, and that is what it says
-pub record SaysAtOnce (text : List ℕ) (said : Line) (count : ℕ) : Type 0 where
+pub record SaysAtOnce (text : List ℕ) (said : EventLine) (count : ℕ) : Type 0 where
   pub line : List ℕ
   pub begins : BeginsWith text line
   pub says : line_of line ≡ Some said

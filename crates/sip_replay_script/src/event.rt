@@ -6,15 +6,15 @@ ghost use Rattle.sip_replay_script.specs.Events.{BeginsOther, GivesEvent, GivesD
 ghost use Rattle.sip_replay_script.specs.Events.{DatagramStops, FirstStops, ReadStops};
 ghost use Rattle.sip_replay_script.specs.Lines.{left, pending, IsOver, IsSpent, PassesLine};
 ghost use Rattle.sip_replay_script.specs.Script;
-ghost use Rattle.sip_replay_script.specs.declared.script.Line.TheVariants.{Head};
+ghost use Rattle.sip_replay_script.specs.declared.script.EventLine.TheVariants.{Head};
 ghost use Rattle.sip_replay_script.specs.declared.read_stop.ReadStop.TheVariants.{NoMemory};
 
 use crate::cut_line::stop_at;
 use crate::device::TellingReader;
 use crate::gathered::{Gathered, KEPT};
-use crate::lines::Lines;
+use crate::lines::ScriptLines;
 use crate::read_stop::ReadStop;
-use crate::script::{DatagramHead, Line, head_at_once, line_of, time_at_once, unstuffed};
+use crate::script::{DatagramHead, EventLine, head_at_once, line_of, time_at_once, unstuffed};
 use sip_event::Event;
 use sip_text::same_bytes;
 use std::alloc::Global;
@@ -26,10 +26,10 @@ use std::alloc::Global;
 #[tactic(auto, using(crate::proofs::Datagrams::at_once_fits))]
 pub fn next_line<R: TellingReader>(
     alloc: Global,
-    lines: &mut Lines,
+    lines: &mut ScriptLines,
     reader: &mut R,
     bytes: &mut Gathered,
-) -> Result<Option<Line>, ReadStop>
+) -> Result<Option<EventLine>, ReadStop>
     ensures given { IfOk result (λ found. IfSome found
         (λ line. GivesEvent lines.old lines.new (R.remaining reader.old) (R.remaining reader.new) (Script.event_of line bytes.new))) }
     ensures over { IfOk result (λ found. IfNone found (IsOver lines.old lines.new (R.remaining reader.old) (R.remaining reader.new))) }
@@ -39,12 +39,12 @@ pub fn next_line<R: TellingReader>(
 {
     if let Some((at, count)) = time_at_once(lines.unread()) {
         lines.pass(count);
-        return Ok(Some(Line::Whole(Event::Time { at })));
+        return Ok(Some(EventLine::Whole(Event::Time { at })));
     }
     if let Some(head) = front_head(lines) {
         bytes.clear();
         gather(alloc, lines, reader, bytes)?;
-        return Ok(Some(Line::Head(head)));
+        return Ok(Some(EventLine::Head(head)));
     }
     any_line(alloc, lines, reader, bytes)
 }
@@ -53,7 +53,7 @@ pub fn next_line<R: TellingReader>(
 /// read at once. None says nothing, and passes nothing.
 #[inline(always)]
 #[tactic(auto, using(crate::proofs::Datagrams::at_once_fits))]
-fn front_head(lines: &mut Lines) -> Option<DatagramHead>
+fn front_head(lines: &mut ScriptLines) -> Option<DatagramHead>
     ensures head { MatchOption result (lines.new ≡ lines.old)
         (λ head. (rest : Option (List ℕ)) → GivesSaid lines.old lines.new rest rest (Some (Head head))) }
     ensures asks { lines.new.asks ≡ lines.old.asks }
@@ -67,10 +67,10 @@ fn front_head(lines: &mut Lines) -> Option<DatagramHead>
 #[inline(never)]
 fn any_line<R: TellingReader>(
     alloc: Global,
-    lines: &mut Lines,
+    lines: &mut ScriptLines,
     reader: &mut R,
     bytes: &mut Gathered,
-) -> Result<Option<Line>, ReadStop>
+) -> Result<Option<EventLine>, ReadStop>
     ensures given { IfOk result (λ found. IfSome found
         (λ line. GivesEvent lines.old lines.new (R.remaining reader.old) (R.remaining reader.new) (Script.event_of line bytes.new))) }
     ensures over { IfOk result (λ found. IfNone found (IsOver lines.old lines.new (R.remaining reader.old) (R.remaining reader.new))) }
@@ -79,32 +79,32 @@ fn any_line<R: TellingReader>(
     ensures less { lines.new.asks ≤ lines.old.asks }
 {
     match first_line(alloc, lines, reader)? {
-        First::Over => Ok(None),
-        First::Says(None) => Err(ReadStop::Damaged),
-        First::Says(Some(Line::Whole(event))) => Ok(Some(Line::Whole(event))),
-        First::Says(Some(Line::Head(head))) => {
+        EventBeginning::Over => Ok(None),
+        EventBeginning::Says(None) => Err(ReadStop::Damaged),
+        EventBeginning::Says(Some(EventLine::Whole(event))) => Ok(Some(EventLine::Whole(event))),
+        EventBeginning::Says(Some(EventLine::Head(head))) => {
             bytes.clear();
             gather(alloc, lines, reader, bytes)?;
-            Ok(Some(Line::Head(head)))
+            Ok(Some(EventLine::Head(head)))
         }
     }
 }
 
 /// What the next line is to an event.
 #[derive(Drop)]
-pub(crate) enum First {
+pub(crate) enum EventBeginning {
     /// There is none.
     Over,
     /// What it says as the first of an event.
-    Says(Option<Line>),
+    Says(Option<EventLine>),
 }
 
 /// What the next line says as the first of an event.
 pub(crate) fn first_line<R: TellingReader>(
     alloc: Global,
-    lines: &mut Lines,
+    lines: &mut ScriptLines,
     reader: &mut R,
-) -> Result<First, ReadStop>
+) -> Result<EventBeginning, ReadStop>
     ensures given { IfOk result (λ first. GivesFirst first lines.old lines.new (R.remaining reader.old) (R.remaining reader.new)) }
     ensures stopped { IfErr result (FirstStops (IsSpent (R.has_failed reader.new) lines.new.asks) (pending lines.old (R.remaining reader.old))) }
     ensures asked { later lines.new.asks (R.asked reader.new) ≡ later lines.old.asks (R.asked reader.old) }
@@ -114,7 +114,7 @@ pub(crate) fn first_line<R: TellingReader>(
         let said = line_of(alloc, line)?;
         let count = line.len();
         lines.pass(count);
-        return Ok(First::Says(said));
+        return Ok(EventBeginning::Says(said));
     }
     parted_line(alloc, lines, reader)
 }
@@ -123,9 +123,9 @@ pub(crate) fn first_line<R: TellingReader>(
 #[inline(never)]
 fn parted_line<R: TellingReader>(
     alloc: Global,
-    lines: &mut Lines,
+    lines: &mut ScriptLines,
     reader: &mut R,
-) -> Result<First, ReadStop>
+) -> Result<EventBeginning, ReadStop>
     ensures given { IfOk result (λ first. GivesFirst first lines.old lines.new (R.remaining reader.old) (R.remaining reader.new)) }
     ensures stopped { IfErr result (FirstStops (IsSpent (R.has_failed reader.new) lines.new.asks) (pending lines.old (R.remaining reader.old))) }
     ensures asked { later lines.new.asks (R.asked reader.new) ≡ later lines.old.asks (R.asked reader.old) }
@@ -137,16 +137,16 @@ fn parted_line<R: TellingReader>(
         Err(stop) => return Err(stop_at(alloc, &line, stop)),
     };
     if !more {
-        return Ok(First::Over);
+        return Ok(EventBeginning::Over);
     }
-    Ok(First::Says(line_of(alloc, &line)?))
+    Ok(EventBeginning::Says(line_of(alloc, &line)?))
 }
 
 /// Gathers the bytes that the lines up to a line `.` say.
 #[inline(always)]
 fn gather<R: TellingReader>(
     alloc: Global,
-    lines: &mut Lines,
+    lines: &mut ScriptLines,
     reader: &mut R,
     bytes: &mut Gathered,
 ) -> Result<(), ReadStop>
@@ -173,7 +173,7 @@ fn gather<R: TellingReader>(
 }
 
 /// What became of the next line of a datagram.
-enum Next {
+enum NextDatagramLine {
     /// It was passed, and what it says is kept.
     Kept,
     /// It is the dot behind the others, and was passed.
@@ -186,7 +186,7 @@ enum Next {
 /// too; whether there was a dot. Most lines do: only one that reaches past those bytes is gathered first.
 #[inline(always)]
 #[tactic(auto, using(crate::proofs::Datagrams::keeps_less))]
-fn keep_lines(lines: &mut Lines, bytes: &mut Gathered) -> Result<bool, ReadStop>
+fn keep_lines(lines: &mut ScriptLines, bytes: &mut Gathered) -> Result<bool, ReadStop>
     requires { length bytes.old ≤ KEPT }
     ensures kept { IfOk result (λ ended. ended ≡ false → KeepsLines lines.old lines.new bytes.old bytes.new) }
     ensures all { IfOk result (λ ended. ended ≡ true → KeepsAll lines.old lines.new bytes.old bytes.new) }
@@ -198,9 +198,9 @@ fn keep_lines(lines: &mut Lines, bytes: &mut Gathered) -> Result<bool, ReadStop>
     keep_plain(lines, bytes);
     loop {
         match keep_any(lines, bytes)? {
-            Next::Kept => keep_plain(lines, bytes),
-            Next::Dot => return Ok(true),
-            Next::Unended => return Ok(false),
+            NextDatagramLine::Kept => keep_plain(lines, bytes),
+            NextDatagramLine::Dot => return Ok(true),
+            NextDatagramLine::Unended => return Ok(false),
         }
     }
 }
@@ -208,7 +208,7 @@ fn keep_lines(lines: &mut Lines, bytes: &mut Gathered) -> Result<bool, ReadStop>
 /// Passes lines that stand whole among the bytes that were read, and adds what they say, up to one that begins with a dot: most
 /// of a datagram at once, where there is room for them.
 #[inline(always)]
-fn keep_plain(lines: &mut Lines, bytes: &mut Gathered)
+fn keep_plain(lines: &mut ScriptLines, bytes: &mut Gathered)
     requires { length bytes.old ≤ KEPT }
     ensures kept { KeepsLines lines.old lines.new bytes.old bytes.new }
     ensures most { length bytes.new ≤ KEPT }
@@ -221,7 +221,7 @@ fn keep_plain(lines: &mut Lines, bytes: &mut Gathered)
 
 /// Passes the next line, if it stands whole among the bytes that were read, and adds what it says, unless it is the dot.
 #[inline(always)]
-fn keep_any(lines: &mut Lines, bytes: &mut Gathered) -> Result<Next, ReadStop>
+fn keep_any(lines: &mut ScriptLines, bytes: &mut Gathered) -> Result<NextDatagramLine, ReadStop>
     requires { length bytes.old ≤ KEPT }
     ensures next { IfOk result (λ next. GoesOnBy next lines.old lines.new bytes.old bytes.new) }
     ensures most { OnOk result (length bytes.new ≤ KEPT) }
@@ -229,7 +229,7 @@ fn keep_any(lines: &mut Lines, bytes: &mut Gathered) -> Result<Next, ReadStop>
     ensures stopped { IfErr result (λ stop. stop ≡ NoMemory) }
 {
     if pass_dot(lines) {
-        return Ok(Next::Dot);
+        return Ok(NextDatagramLine::Dot);
     }
     keep_other(lines, bytes)
 }
@@ -237,7 +237,7 @@ fn keep_any(lines: &mut Lines, bytes: &mut Gathered) -> Result<Next, ReadStop>
 /// Passes the dot, if it is the next line and stands whole among the bytes that were read; whether it was.
 #[inline(always)]
 #[tactic(auto, using(crate::proofs::Datagrams::passes_dot, crate::proofs::Datagrams::begins_other, crate::proofs::Datagrams::too_short))]
-fn pass_dot(lines: &mut Lines) -> bool
+fn pass_dot(lines: &mut ScriptLines) -> bool
     ensures passed { result ≡ true → PassesLine lines.old lines.new (46 ∷ []) }
     ensures same { result ≡ false → lines.new ≡ lines.old }
     ensures other { result ≡ false → BeginsOther lines.old.unread }
@@ -252,7 +252,7 @@ fn pass_dot(lines: &mut Lines) -> bool
 
 /// The same of a next line that isn't the dot.
 #[inline(never)]
-fn keep_other(lines: &mut Lines, bytes: &mut Gathered) -> Result<Next, ReadStop>
+fn keep_other(lines: &mut ScriptLines, bytes: &mut Gathered) -> Result<NextDatagramLine, ReadStop>
     requires most { length bytes.old ≤ KEPT }
     requires other { BeginsOther lines.old.unread }
     ensures next { IfOk result (λ next. GoesOnBy next lines.old lines.new bytes.old bytes.new) }
@@ -261,12 +261,12 @@ fn keep_other(lines: &mut Lines, bytes: &mut Gathered) -> Result<Next, ReadStop>
     ensures stopped { IfErr result (λ stop. stop ≡ NoMemory) }
 {
     let Some(line) = lines.front() else {
-        return Ok(Next::Unended);
+        return Ok(NextDatagramLine::Unended);
     };
     let count = line.len();
     keep_line(bytes, line)?;
     lines.pass(count);
-    Ok(Next::Kept)
+    Ok(NextDatagramLine::Kept)
 }
 
 /// Whether a line ends a datagram.

@@ -3,7 +3,7 @@ ghost use Rattle.sip_event.specs.declared.event.Event.TheVariants.{Datagram, Tim
 ghost use Rattle.sip_replay_script.specs.Escaped.{escaped, text_bytes_of, unescaped};
 ghost use Rattle.sip_replay_script.specs.EventText.{event_text};
 ghost use Rattle.sip_replay_script.specs.Script.{line_of};
-ghost use Rattle.sip_replay_script.specs.declared.script.Line.TheVariants.{Whole};
+ghost use Rattle.sip_replay_script.specs.declared.script.EventLine.TheVariants.{Whole};
 
 /// Lines that are events, and one that isn't: it has a leading zero.
 pub fn line_of_example()

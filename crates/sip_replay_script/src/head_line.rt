@@ -10,12 +10,12 @@ const ROOM: usize = 208;
 
 /// A head line, made from its last byte to its first in room of its own: so it takes no memory.
 #[derive(Drop)]
-pub struct HeadLine {
+pub struct DatagramHeadLine {
     room: [u8; 208],
     start: usize,
 }
 
-impl Model for HeadLine {
+impl Model for DatagramHeadLine {
     ghost use Rattle.std.specs.Prelude.{ℕ, List, ◌≤◌, drop};
 
     ghost Value = { List ℕ };
@@ -25,13 +25,13 @@ impl Model for HeadLine {
     ghost invariant = { λ h. h.start ≤ 208 };
 }
 
-impl HeadLine {
+impl DatagramHeadLine {
     /// Nothing yet.
     #[tactic(auto, using(std::proofs::lemmas::List::drop_all))]
     pub(crate) fn new() -> Self
         ensures { result ≡ [] }
     {
-        HeadLine {
+        DatagramHeadLine {
             room: [0; 208],
             start: ROOM,
         }

@@ -23,7 +23,7 @@ const BUFFER: usize = 8192;
 /// The lines of a script, each ended by LF, through a buffer. The reader is asked at most 4,294,967,295
 /// times.
 #[derive(Drop)]
-pub struct Lines {
+pub struct ScriptLines {
     buffer: Vec<u8>,
     start: usize,
     end: usize,
@@ -31,7 +31,7 @@ pub struct Lines {
     number: u64,
 }
 
-impl Model for Lines {
+impl Model for ScriptLines {
     ghost use Rattle.std.specs.Prelude.{◌≡◌, ◌≤◌, ◌+◌, ◌-◌, ◌*◌, vec_len};
     ghost use Rattle.std.specs.List.{slice_range};
     ghost use Rattle.sip_replay_script.specs.Lines.{Reading};
@@ -44,13 +44,13 @@ impl Model for Lines {
         × (l.number + (l.end - l.start) + 8192 * l.asks ≤ 8192 * 4294967295) };
 }
 
-impl Lines {
+impl ScriptLines {
     /// Nothing read yet.
-    pub fn new(alloc: Global) -> Result<Lines, AllocError>
+    pub fn new(alloc: Global) -> Result<ScriptLines, AllocError>
         ensures { IfOk result (λ lines. lines ≡ record { unread = []; asks = 4294967295; number = 0 }) }
     {
         let buffer = zeros(alloc, BUFFER)?;
-        Ok(Lines {
+        Ok(ScriptLines {
             buffer,
             start: 0,
             end: 0,

@@ -7,7 +7,7 @@ ghost use Rattle.sip_text.specs.Numbers;
 ghost use Rattle.sip_text.specs.Splits.{split_at_byte};
 ghost use Rattle.sip_replay_script.specs.Script;
 ghost use Rattle.sip_replay_script.specs.Script.{IsNumberBefore, IsSourceBefore, IsWordBefore, SaysAtOnce};
-ghost use Rattle.sip_replay_script.specs.declared.script.Line.TheVariants.{Head, Whole};
+ghost use Rattle.sip_replay_script.specs.declared.script.EventLine.TheVariants.{Head, Whole};
 ghost use Rattle.sip_event.specs.declared.event.Event.TheVariants.{Time};
 
 use crate::unescaped::text_bytes;
@@ -34,7 +34,7 @@ pub struct DatagramHead {
 
 /// What the first line of an event says.
 #[derive(Drop)]
-pub enum Line {
+pub enum EventLine {
     /// A datagram whose bytes stand in the lines that follow.
     Head(DatagramHead),
     /// An event that the line holds whole.
@@ -112,29 +112,29 @@ fn behind_datagram(text: &[u8]) -> Option<&[u8]>
     }
 }
 
-fn datagram_line(text: &[u8]) -> Option<Line>
+fn datagram_line(text: &[u8]) -> Option<EventLine>
     ensures { result ≡ Script.datagram_line text.now }
 {
     match datagram_head(text) {
-        Some(head) => Some(Line::Head(head)),
+        Some(head) => Some(EventLine::Head(head)),
         None => None,
     }
 }
 
-fn time_line(text: &[u8]) -> Option<Line>
+fn time_line(text: &[u8]) -> Option<EventLine>
     ensures { result ≡ Script.time_line text.now }
 {
     let at = at_of(text)?;
-    Some(Line::Whole(Event::Time { at }))
+    Some(EventLine::Whole(Event::Time { at }))
 }
 
-fn fault_line(text: &[u8]) -> Option<Line>
+fn fault_line(text: &[u8]) -> Option<EventLine>
     ensures { result ≡ Script.fault_line text.now }
 {
     let (at, ticket) = split_once(text, b' ')?;
     let at = at_of(at)?;
     let ticket = ticket_of(ticket)?;
-    Some(Line::Whole(Event::Fault { at, ticket }))
+    Some(EventLine::Whole(Event::Fault { at, ticket }))
 }
 
 /// The head behind the word `text` or `hex`, and what stands behind it.
@@ -148,14 +148,14 @@ fn head_parts(text: &[u8]) -> Option<(DatagramHead, &[u8])>
     Some((head, behind))
 }
 
-fn text_line(alloc: Global, text: &[u8]) -> Result<Option<Line>, AllocError>
+fn text_line(alloc: Global, text: &[u8]) -> Result<Option<EventLine>, AllocError>
     ensures { IfOk result (λ line. line ≡ Script.text_line text.now) }
 {
     let Some((head, escaped)) = head_parts(text) else {
         return Ok(None);
     };
     match text_bytes(alloc, escaped)? {
-        Some(bytes) => Ok(Some(Line::Whole(Event::Datagram {
+        Some(bytes) => Ok(Some(EventLine::Whole(Event::Datagram {
             at: head.at,
             word: head.word,
             from: head.from,
@@ -165,14 +165,14 @@ fn text_line(alloc: Global, text: &[u8]) -> Result<Option<Line>, AllocError>
     }
 }
 
-fn hex_line(alloc: Global, text: &[u8]) -> Result<Option<Line>, AllocError>
+fn hex_line(alloc: Global, text: &[u8]) -> Result<Option<EventLine>, AllocError>
     ensures { IfOk result (λ line. line ≡ Script.hex_line text.now) }
 {
     let Some((head, digits)) = head_parts(text) else {
         return Ok(None);
     };
     match hex_bytes(alloc, digits)? {
-        Some(bytes) => Ok(Some(Line::Whole(Event::Datagram {
+        Some(bytes) => Ok(Some(EventLine::Whole(Event::Datagram {
             at: head.at,
             word: head.word,
             from: head.from,
@@ -183,7 +183,7 @@ fn hex_line(alloc: Global, text: &[u8]) -> Result<Option<Line>, AllocError>
 }
 
 /// What a line says whose first word isn't `datagram`.
-fn line_of_kind(alloc: Global, kind: &[u8], rest: &[u8]) -> Result<Option<Line>, AllocError>
+fn line_of_kind(alloc: Global, kind: &[u8], rest: &[u8]) -> Result<Option<EventLine>, AllocError>
     requires { bytes_eq kind.now (codes "datagram") ≡ false }
     ensures { IfOk result (λ line. line ≡ Script.line_of_kind kind.now rest.now) }
 {
@@ -303,7 +303,7 @@ pub(crate) fn time_at_once(text: &[u8]) -> Option<(u64, usize)>
 
 /// What an event's first line says: `datagram AT IP:PORT WORD`, `text AT IP:PORT WORD TEXT`, `hex AT IP:PORT WORD DIGITS`,
 /// `time AT` or `fault AT D/K`; `None` where it is any other line. Moments are in milliseconds below 2^62.
-pub fn line_of(alloc: Global, text: &[u8]) -> Result<Option<Line>, AllocError>
+pub fn line_of(alloc: Global, text: &[u8]) -> Result<Option<EventLine>, AllocError>
     ensures { IfOk result (λ line. line ≡ Script.line_of text.now) }
 {
     if let Some(rest) = behind_datagram(text) {

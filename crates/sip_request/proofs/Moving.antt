@@ -4,7 +4,7 @@ use Rattle.sip_timers.specs.declared.letter.Letter.{Letter}
 use Rattle.sip_timers.specs.declared.timer.Timer.{Timer}
 use Rattle.sip_timers.specs.Moves.{IsHeld, Moves}
 use Rattle.model_transactions.specs.declared.timer_keys.TimerKeys.{TimerKeys}
-use Rattle.sip_request.specs.declared.part.Part.{Part}
+use Rattle.sip_request.specs.declared.part.RequestPart.{RequestPart}
 use Rattle.sip_request.specs.Slots.{part_standing, slot_timers}
 use Rattle.sip_timers.proofs.Moving.{count-append}
 
@@ -24,7 +24,7 @@ Moves-replaced ts us vs before after a b = record {
 held_last : (ts a b c : List Timer) → IsHeld ts (a ++ (b ++ c)) → IsHeld ts c
 held_last ts a b c h = record { stand = λ p. omega (arith, h.stand p, count-append p a (b ++ c), count-append p b c); keys_differ = h.keys_differ }
 
-pub held_call : (ts : List Timer) (keys : TimerKeys) (part : Part) → IsHeld ts (part_standing keys part)
+pub held_call : (ts : List Timer) (keys : TimerKeys) (part : RequestPart) → IsHeld ts (part_standing keys part)
     → IsHeld ts (slot_timers part.request part.owner keys.call part.timers.call)
 held_call ts keys part h =
     let of_slot : ℕ → Option (Letter × ℕ) → List Timer = slot_timers part.request part.owner in

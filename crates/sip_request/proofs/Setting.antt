@@ -12,7 +12,7 @@ use Rattle.sip_timers.specs.Setting.{IsNew, SetsInOrder}
 use Rattle.sip_timers.proofs.Setting.{SetsInOrder-none, SetsInOrder-beside, SetsInOrder-stopped, SetsInOrder-started, SetsInOrder-both, SetsInOrder-further, all-append}
 use Rattle.model_transactions.specs.declared.timer_keys.TimerKeys.{TimerKeys}
 use Rattle.model_transactions.specs.Ties.{part_timers}
-use Rattle.sip_request.specs.declared.part.Part.{Part}
+use Rattle.sip_request.specs.declared.part.RequestPart.{RequestPart}
 use Rattle.sip_request.specs.Order.{slot_of, IsInSlot, AreInSlots, part_in_order}
 use Rattle.sip_request.specs.Slots.{part_standing, slot_timers}
 
@@ -67,7 +67,7 @@ each_in_slot : (n : ℕ) (o : Owner) (key slot : ℕ) (next : Option (Letter × 
 each_in_slot n o key slot None before all is each = tt
 each_in_slot n o key slot (Some s) before all is each = (each (record { key = key; due = s.1; name = record { request = n; owner = o; letter = s.0 } }) is, tt)
 
-module _ (keys : TimerKeys) (part : Part) (slots : AreInSlots part.timers) where
+module _ (keys : TimerKeys) (part : RequestPart) (slots : AreInSlots part.timers) where
   abbrev again : List Timer
   again = slot_timers part.request part.owner keys.again part.timers.again
 
@@ -108,7 +108,7 @@ turned n o keys (Some a) (Some l) None = refl
 turned n o keys (Some a) (Some l) (Some c) = refl
 
 -- each slot is set anew, or stays
-pub part_synced : (ts us vs ws : List Timer) (stood keys : TimerKeys) (was next : Part) → AreInSlots was.timers → AreInSlots next.timers
+pub part_synced : (ts us vs ws : List Timer) (stood keys : TimerKeys) (was next : RequestPart) → AreInSlots was.timers → AreInSlots next.timers
     → SetsInOrder ts (slot_timers was.request was.owner stood.call was.timers.call) us (slot_timers next.request next.owner keys.call next.timers.call)
     → SetsInOrder us (slot_timers was.request was.owner stood.last was.timers.last) vs (slot_timers next.request next.owner keys.last next.timers.last)
     → SetsInOrder vs (slot_timers was.request was.owner stood.again was.timers.again) ws (slot_timers next.request next.owner keys.again next.timers.again)
@@ -131,7 +131,7 @@ part_synced ts us vs ws stood keys was next in_slots next_in_slots by_call by_la
     (SetsInOrder-both ts vs ws all (c ++ l) a (SetsInOrder-both ts us vs all c l first second) third)
 
 -- each slot is set
-pub part_set : (ts us vs ws : List Timer) (keys : TimerKeys) (part : Part)
+pub part_set : (ts us vs ws : List Timer) (keys : TimerKeys) (part : RequestPart)
     → SetsInOrder ts [] us (slot_timers part.request part.owner keys.call part.timers.call)
     → SetsInOrder us [] vs (slot_timers part.request part.owner keys.last part.timers.last)
     → SetsInOrder vs [] ws (slot_timers part.request part.owner keys.again part.timers.again)

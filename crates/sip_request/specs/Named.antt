@@ -4,7 +4,7 @@ use Rattle.sip_timers.specs.declared.timer.Timer.{Timer}
 use Rattle.model_transactions.specs.state.declared.open_request.OpenRequest.{OpenRequest}
 use Rattle.model_transactions.specs.Ties.{timers_of}
 use Rattle.model_transactions.specs.declared.timer_keys.TimerKeys.{TimerKeys}
-use Rattle.sip_request.specs.declared.request.Plan.{Plan}
+use Rattle.sip_request.specs.declared.request.RequestPlan.{RequestPlan}
 use Rattle.sip_request.specs.declared.request.Request.{Request}
 use Rattle.sip_request.specs.Near.{IsNear, most_timers}
 
@@ -18,7 +18,7 @@ HasKeys r keys = length keys ≡ length r.branches
 
 -- A plan can be kept where timers were asked for up to this moment and so many take no memory: no timer of the request
 -- after it is too far ahead, and there is room for all of them. Moments are numbers of 64 bits.
-pub record IsReady (reached free : ℕ) (plan : Plan) : Type 0 where
+pub record IsReady (reached free : ℕ) (plan : RequestPlan) : Type 0 where
   pub keys : HasKeys plan.request plan.keys
   pub near : IsNear (reached + 2 ^ 30) plan.request
   pub room : most_timers plan.request ≤ free

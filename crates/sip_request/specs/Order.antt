@@ -8,13 +8,13 @@ use Rattle.model_transactions.specs.state.declared.open_request.OpenRequest.{Ope
 use Rattle.model_transactions.specs.context_model.Branches.{is_same_branch}
 use Rattle.model_transactions.specs.Ties.{key_of, branch_timers, owner_of, part_timers, side_timers}
 use Rattle.model_transactions.specs.declared.timer_keys.TimerKeys.{TimerKeys}
-use Rattle.sip_request.specs.declared.part.Part.{Part}
+use Rattle.sip_request.specs.declared.part.RequestPart.{RequestPart}
 use Rattle.sip_request.specs.declared.part.PartTimers.{PartTimers}
 use Rattle.sip_request.specs.declared.request.Request.{Request}
 use Rattle.sip_request.specs.Slots.{part_standing}
 
 -- the timers of a part: what is due last comes first
-abbrev pub part_in_order : TimerKeys → Part → List Timer
+abbrev pub part_in_order : TimerKeys → RequestPart → List Timer
 part_in_order keys part = reverse (part_standing keys part)
 
 -- the timers of branches, one branch after the other

@@ -6,7 +6,7 @@ use Rattle.sip_timers.specs.declared.timer.Name.{Name}
 use Rattle.sip_timers.specs.declared.timer.Owner.{Owner}
 use Rattle.sip_timers.specs.declared.timer.Timer.{Timer}
 use Rattle.model_transactions.specs.declared.timer_keys.TimerKeys.{TimerKeys}
-use Rattle.sip_request.specs.declared.part.Part.{Part}
+use Rattle.sip_request.specs.declared.part.RequestPart.{RequestPart}
 use Rattle.sip_request.specs.declared.part.PartTimers.{PartTimers}
 
 -- the name of a timer of a part
@@ -38,7 +38,7 @@ slots_standing number owner keys p =
     slot_timers number owner keys.again p.again ++ (slot_timers number owner keys.last p.last ++ slot_timers number owner keys.call p.call)
 
 -- the timers of a part as they stand
-abbrev pub part_standing : TimerKeys → Part → List Timer
+abbrev pub part_standing : TimerKeys → RequestPart → List Timer
 part_standing keys part = slots_standing part.request part.owner keys part.timers
 
 -- the timers of the three slots are due before a moment

@@ -20,8 +20,8 @@ mod slots;
 
 pub use naming::{branch_part, side_part};
 pub use near::near_later;
-pub use part::{Part, PartTimers};
-pub use request::{Plan, Request, reserve};
+pub use part::{PartTimers, RequestPart};
+pub use request::{Request, RequestPlan, reserve};
 
 /// Of `model_transactions`.
 pub mod transactions_model {

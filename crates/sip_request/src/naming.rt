@@ -16,7 +16,7 @@ ghost use Rattle.sip_request.specs.Near.{AreBefore};
 ghost use Rattle.sip_request.specs.Order.{AreInSlots};
 ghost use Rattle.sip_request.specs.Slots.{listed, part_standing, slots_standing};
 
-use crate::part::{Part, PartTimers};
+use crate::part::{PartTimers, RequestPart};
 use model_transactions::state::{
     Branch, LastAnswer, OpenRequest, Phase, Resend, Side, is_invite, is_success,
 };
@@ -208,7 +208,7 @@ fn timers_of_side(call: &OpenRequest) -> PartTimers
 /// A branch of an open request, with the timers that it has by its phase and by whether the request is an INVITE, worked out
 /// where it is asked for.
 #[inline(always)]
-pub(crate) fn branch_part_here(call: &OpenRequest, invite: bool, branch: &Branch) -> Part
+pub(crate) fn branch_part_here(call: &OpenRequest, invite: bool, branch: &Branch) -> RequestPart
     requires invite { invite ≡ States.is_invite call.now }
     requires early { AreBefore (2 ^ 64) (branch_timers call.now branch.now) }
     ensures slots { AreInSlots result.timers }
@@ -216,7 +216,7 @@ pub(crate) fn branch_part_here(call: &OpenRequest, invite: bool, branch: &Branch
     ensures names { (keys : TimerKeys) → part_standing keys result
         ≡ part_timers call.now.number (owner_of branch.now) keys (branch_timers call.now branch.now) }
 {
-    Part {
+    RequestPart {
         request: call.number,
         owner: owner_of(branch),
         timers: timers_of_branch(call, invite, branch),
@@ -224,7 +224,7 @@ pub(crate) fn branch_part_here(call: &OpenRequest, invite: bool, branch: &Branch
 }
 
 /// A branch of an open request, with the timers that it has by its phase.
-pub fn branch_part(call: &OpenRequest, branch: &Branch) -> Part
+pub fn branch_part(call: &OpenRequest, branch: &Branch) -> RequestPart
     requires { AreBefore (2 ^ 64) (branch_timers call.now branch.now) }
     ensures slots { AreInSlots result.timers }
     ensures timers { listed result.timers ≡ branch_timers call.now branch.now }
@@ -235,12 +235,12 @@ pub fn branch_part(call: &OpenRequest, branch: &Branch) -> Part
 }
 
 /// The answering side of an open request, with the timers that it has by its phase.
-pub fn side_part(call: &OpenRequest) -> Part
+pub fn side_part(call: &OpenRequest) -> RequestPart
     ensures slots { AreInSlots result.timers }
     ensures timers { listed result.timers ≡ side_timers call.now }
     ensures names { (keys : TimerKeys) → part_standing keys result ≡ part_timers call.now.number Of.Server keys (side_timers call.now) }
 {
-    Part {
+    RequestPart {
         request: call.number,
         owner: Owner::Server,
         timers: timers_of_side(call),

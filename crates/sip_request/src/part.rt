@@ -25,7 +25,7 @@ pub struct PartTimers {
 
 /// A part of an open request, with its timers.
 #[derive(Clone, Copy)]
-pub struct Part {
+pub struct RequestPart {
     /// The number of the open request.
     pub request: u64,
     /// Which part of it.
@@ -41,7 +41,7 @@ pub(crate) const NO_KEYS: TimerKeys = TimerKeys {
 };
 
 /// What a timer of a part is for.
-fn name_of(part: &Part, letter: Letter) -> Name
+fn name_of(part: &RequestPart, letter: Letter) -> Name
     ensures { result ≡ name_of part.now.request part.now.owner letter }
 {
     Name {
@@ -57,10 +57,10 @@ fn name_of(part: &Part, letter: Letter) -> Name
 #[tactic(auto, using(crate::proofs::Setting::stays_in_order, crate::proofs::Setting::beside_in_order))]
 fn sync_slot<T: Timers>(
     timers: &mut T,
-    was: &Part,
+    was: &RequestPart,
     key: usize,
     stood: Option<(Letter, u64)>,
-    next: &Part,
+    next: &RequestPart,
     slot: Option<(Letter, u64)>,
 ) -> usize
     requires held { IsHeld (T.pending timers.old) (slot_timers was.now.request was.now.owner key stood) }
@@ -94,9 +94,9 @@ fn sync_slot<T: Timers>(
 #[inline(always)]
 pub(crate) fn sync_part<T: Timers>(
     timers: &mut T,
-    was: &Part,
+    was: &RequestPart,
     keys: TimerKeys,
-    next: &Part,
+    next: &RequestPart,
 ) -> TimerKeys
     requires held { IsHeld (T.pending timers.old) (part_standing keys was.now) }
     requires room { 3 ≤ T.room timers.old }
@@ -137,7 +137,7 @@ pub(crate) fn sync_part<T: Timers>(
 /// Sets the timer of a slot of a part, for which there is room. Gives the key.
 #[inline(always)]
 #[tactic(auto, using(crate::proofs::Setting::stays_in_order, crate::proofs::Setting::set_in_order))]
-fn set_slot<T: Timers>(timers: &mut T, part: &Part, slot: Option<(Letter, u64)>) -> usize
+fn set_slot<T: Timers>(timers: &mut T, part: &RequestPart, slot: Option<(Letter, u64)>) -> usize
     requires room { 1 ≤ T.room timers.old }
     requires near { IsBefore (T.reached timers.old + 2 ^ 30) slot }
     ensures moves { Moves (T.pending timers.old) [] (T.pending timers.new) (slot_timers part.now.request part.now.owner result slot) }
@@ -153,7 +153,7 @@ fn set_slot<T: Timers>(timers: &mut T, part: &Part, slot: Option<(Letter, u64)>)
 
 /// Sets the timers of a part, for which there is room, in the order in which `sync_part` does. Gives the keys.
 #[inline(always)]
-pub(crate) fn set_part<T: Timers>(timers: &mut T, part: &Part) -> TimerKeys
+pub(crate) fn set_part<T: Timers>(timers: &mut T, part: &RequestPart) -> TimerKeys
     requires room { 3 ≤ T.room timers.old }
     requires near { IsPartNear (T.reached timers.old + 2 ^ 30) part.now.timers }
     ensures moves { Moves (T.pending timers.old) [] (T.pending timers.new) (part_standing result part.now) }
@@ -169,7 +169,7 @@ pub(crate) fn set_part<T: Timers>(timers: &mut T, part: &Part) -> TimerKeys
 
 /// Stops the timer of a slot of a part.
 #[inline(always)]
-fn stop_slot<T: Timers>(timers: &mut T, was: &Part, key: usize, stood: Option<(Letter, u64)>)
+fn stop_slot<T: Timers>(timers: &mut T, was: &RequestPart, key: usize, stood: Option<(Letter, u64)>)
     requires { IsHeld (T.pending timers.old) (slot_timers was.now.request was.now.owner key stood) }
     ensures moves { Moves (T.pending timers.old) (slot_timers was.now.request was.now.owner key stood) (T.pending timers.new) [] }
     ensures sets { SetsInOrder (T.pending timers.old) [] (T.pending timers.new) [] }
@@ -182,7 +182,7 @@ fn stop_slot<T: Timers>(timers: &mut T, was: &Part, key: usize, stood: Option<(L
 
 /// Stops the timers of a part, what is due last first.
 #[inline(always)]
-pub(crate) fn stop_part<T: Timers>(timers: &mut T, was: &Part, keys: TimerKeys)
+pub(crate) fn stop_part<T: Timers>(timers: &mut T, was: &RequestPart, keys: TimerKeys)
     requires { IsHeld (T.pending timers.old) (part_standing keys was.now) }
     ensures moves { Moves (T.pending timers.old) (part_standing keys was.now) (T.pending timers.new) [] }
     ensures sets { SetsInOrder (T.pending timers.old) [] (T.pending timers.new) [] }

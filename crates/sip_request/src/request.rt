@@ -31,19 +31,19 @@ pub struct Request {
 
 /// What an event makes of an open request, and room for the keys of its branches.
 #[derive(Drop)]
-pub struct Plan {
+pub struct RequestPlan {
     pub request: OpenRequest,
     pub keys: Items<TimerKeys>,
 }
 
-impl Plan {
+impl RequestPlan {
     /// The plan that an open request becomes this one. `AllocError` is the only refusal.
     pub fn of(alloc: Global, request: OpenRequest) -> Result<Self, AllocError>
         ensures request { IfOk result (λ plan. plan.request ≡ request) }
         ensures keys { IfOk result (λ plan. HasKeys plan.request plan.keys) }
     {
-        let keys = Plan::room_for(alloc, &request)?;
-        Ok(Plan { request, keys })
+        let keys = RequestPlan::room_for(alloc, &request)?;
+        Ok(RequestPlan { request, keys })
     }
 
     /// Room for the keys of the branches of an open request. `AllocError` is the only refusal.
@@ -94,11 +94,11 @@ fn end_at(branches: &mut [Branch], place: usize)
 
 impl Request {
     /// The request as it was planned, none of whose timers is set.
-    pub fn planned(plan: Plan) -> Self
+    pub fn planned(plan: RequestPlan) -> Self
         ensures request { result.open_request ≡ plan.request }
         ensures keys { result.branches ≡ plan.keys }
     {
-        let Plan { request, keys } = plan;
+        let RequestPlan { request, keys } = plan;
         Request {
             open_request: request,
             side: NO_KEYS,

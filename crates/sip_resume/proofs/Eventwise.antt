@@ -15,8 +15,8 @@ use Rattle.sip_segment_text.specs.declared.upcoming.Upcoming.{Upcoming}
 use Rattle.sip_segment_text.specs.declared.upcoming.Upcoming.TheVariants as upcoming
 use Rattle.sip_replay_script.proofs.RecordTexts.{record_all, record_one}
 use Rattle.sip_replay_script.proofs.Written.{keeps_consumes}
-use Rattle.sip_record.specs.Record.{Notes}
-use Rattle.sip_record.proofs.Noting.{notes_nothing, notes_both}
+use Rattle.sip_journal.specs.Record.{Notes}
+use Rattle.sip_journal.proofs.Noting.{notes_nothing, notes_both}
 use Rattle.sip_resume.specs.Outputs.{Outputs}
 use Rattle.sip_resume.specs.Resumes.{EndsHere, IsNext, JournalAt, ResumeStops, RunsOut, StopsAmong, TakesNext}
 use Rattle.sip_resume.specs.Parts.{NextStops, SaysNoneAt, EndsAt, TakesEvents}

@@ -12,7 +12,7 @@ use Rattle.model_bounds.specs.model.Periods.{IsRunUnder, Period}
 use Rattle.sip_replay_script.specs.Lines.{is_end}
 use Rattle.sip_replay_script.specs.Recorded.{SaysRecord}
 use Rattle.sip_segment_text.specs.Segments.{Segment, SaysWhole}
-use Rattle.sip_record.specs.Record.{GrewKnown, Notes, NotesSegments}
+use Rattle.sip_journal.specs.Record.{GrewKnown, Notes, NotesSegments}
 use Rattle.sip_resume.specs.Outputs.{Outputs}
 use Rattle.sip_resume.specs.Resumes.{EndsHere, IsResumed, Runs, newest_step}
 use Rattle.sip_resume.specs.Whole.{AreStated, IsRecordResumed, NotesWhole, RunsUnder, TakesWhole, config_behind}

@@ -10,7 +10,7 @@ use Rattle.sip_replay_script.specs.Lines.{Reading, IsOver, pending}
 use Rattle.sip_replay_script.specs.declared.read_stop.ReadStop.{ReadStop}
 use Rattle.sip_replay_script.specs.declared.read_stop.ReadStop.TheVariants as stops
 use Rattle.sip_replay_script.specs.Recorded.{RecordStops, GivesRecorded, IsCutRecord}
-use Rattle.sip_record.specs.Record.{Notes}
+use Rattle.sip_journal.specs.Record.{Notes}
 use Rattle.sip_resume.specs.Errors.{end_at}
 use Rattle.sip_resume.specs.Outputs.{Outputs}
 use Rattle.sip_resume.specs.Resumes.{EndsHere, TakesNext, TakesOwn, UnreadStops}

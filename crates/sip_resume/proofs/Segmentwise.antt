@@ -15,8 +15,8 @@ use Rattle.sip_replay_script.specs.Recorded.{IsDamagedRecord}
 use Rattle.sip_segment_text.specs.Segments.{Segment, SaysSegments}
 use Rattle.sip_segment_text.specs.Configurations.{IsCutConfiguration, IsDamagedConfiguration, GivesConfiguration, IsLongConfiguration}
 use Rattle.sip_replay_script.proofs.Written.{keeps_consumes}
-use Rattle.sip_record.specs.Record.{Notes, NotesConfiguration, NotesSegments, GrewKnown}
-use Rattle.sip_record.proofs.Noting.{SegmentBegins as SegmentTextBegins}
+use Rattle.sip_journal.specs.Record.{Notes, NotesConfiguration, NotesSegments, GrewKnown}
+use Rattle.sip_journal.proofs.Noting.{SegmentBegins as SegmentTextBegins}
 use Rattle.sip_segment_config.specs.declared.stop.SegmentStop.{SegmentStop}
 use Rattle.sip_segment_config.specs.declared.stop.SegmentStop.TheVariants as stops
 use Rattle.sip_config.specs.Stated.{States, StatesNone}

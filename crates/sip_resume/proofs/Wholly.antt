@@ -19,7 +19,7 @@ use Rattle.sip_replay_script.specs.Lines.{Reading, is_end, pending}
 use Rattle.sip_replay_script.specs.Recorded.{IsDamagedRecord}
 use Rattle.sip_segment_config.specs.Last.{EndsCut}
 use Rattle.sip_segment_text.specs.Segments.{Segment, SaysSegments, SaysWhole}
-use Rattle.sip_record.specs.Record.{NotesSegments}
+use Rattle.sip_journal.specs.Record.{NotesSegments}
 use Rattle.sip_resume.specs.Outputs.{Outputs, Shows}
 use Rattle.sip_resume.specs.Resumes.{newest_step}
 use Rattle.sip_resume.specs.RecordErrors.{record_error_of}

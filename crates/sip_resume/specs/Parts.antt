@@ -12,7 +12,7 @@ use Rattle.sip_replay_script.specs.Lines.{Reading, is_end, left, pending}
 use Rattle.sip_replay_script.specs.Recorded.{SaysRecord, IsDamagedRecord}
 use Rattle.sip_segment_text.specs.Segments.{SaysSegments, Segment}
 use Rattle.sip_segment_text.specs.Configurations.{IsDamagedConfiguration, IsLongConfiguration}
-use Rattle.sip_record.specs.Record.{Notes, NotesSegments}
+use Rattle.sip_journal.specs.Record.{Notes, NotesSegments}
 use Rattle.sip_config.specs.Stated.{StatesNone}
 use Rattle.sip_segment_config.specs.Last.{EndsCut}
 use Rattle.sip_segment_config.specs.Stops.{NextIs}
@@ -24,8 +24,8 @@ use Rattle.sip_resume.specs.declared.error.ResumeError.{ResumeError}
 use Rattle.sip_resume.specs.declared.error.ResumeError.TheVariants as errors
 use Rattle.sip_resume.specs.declared.record_error.RecordError.{RecordError}
 use Rattle.sip_resume.specs.declared.record_error.RecordError.TheVariants.{NoMemory, Damaged, Read, Step, Journal, TooLong, NoConfiguration, OtherFrame, Write}
-use Rattle.sip_resume.specs.declared.parts.Next.{Next}
-use Rattle.sip_resume.specs.declared.parts.Next.TheVariants.{Taken, Configuration, End}
+use Rattle.sip_resume.specs.declared.parts.ResumedPart.{ResumedPart}
+use Rattle.sip_resume.specs.declared.parts.ResumedPart.TheVariants.{Taken, Configuration, End}
 
 -- the newer of two steps
 abbrev pub newest_of : Option StepOut → Option StepOut → Option StepOut
@@ -52,7 +52,7 @@ pub record EndsAt (old new : Standing) (part : Reading) (before : Option (List �
 
 -- what became of the next event
 abbrev pub GoesTo : Server → Standing → Standing → Reading → Reading → Option (List ℕ) → Option (List ℕ)
-    → Outputs → Outputs → Next → Type 0
+    → Outputs → Outputs → ResumedPart → Type 0
 GoesTo server old new part rest before after outs outs_then (Taken out) = TakesNext server old new part rest before after outs outs_then out
 GoesTo server old new part rest before after outs outs_then Configuration = StaysHere old new part rest before after outs outs_then
 GoesTo server old new part rest before after outs outs_then End = EndsAt old new part before outs outs_then

@@ -16,7 +16,7 @@ use Rattle.sip_run.specs.engine.StepError.{refusal_at}
 use Rattle.sip_run.specs.Refusals.{refusal_of_event}
 use Rattle.sip_replay_script.specs.Lines.{Reading, is_end}
 use Rattle.sip_replay_script.specs.Recorded.{SaysRecorded, SaysRecord, GivesRecorded, IsCutRecord, IsDamagedRecord}
-use Rattle.sip_record.specs.Record.{Notes}
+use Rattle.sip_journal.specs.Record.{Notes}
 use Rattle.sip_resume.specs.Outputs.{Outputs, Shows, ShowsFront}
 use Rattle.sip_resume.specs.declared.error.ResumeError.{ResumeError}
 use Rattle.sip_resume.specs.declared.error.ResumeError.TheVariants.{NoMemory, Damaged, Read, Step, Journal, Write}

@@ -16,7 +16,7 @@ use Rattle.model_ties.specs.Ties.{AreOrderly}
 use Rattle.sip_replay_script.specs.Lines.{is_end}
 use Rattle.sip_segment_text.specs.Segments.{SaysWhole, Segment}
 use Rattle.sip_segment_text.specs.Configurations.{IsLongConfiguration}
-use Rattle.sip_record.specs.Record.{Notes, NotesSegments}
+use Rattle.sip_journal.specs.Record.{Notes, NotesSegments}
 use Rattle.sip_config.specs.Stated.{States, StatesNone}
 use Rattle.sip_segment_config.specs.Last.{EndsCut, IsDamagedPart}
 use Rattle.sip_segment_config.specs.Stops.{NextIs}

@@ -2,7 +2,7 @@ ghost use Rattle.std.specs.Prelude.{◌≡◌};
 ghost use Rattle.sip_resume.specs.Errors.{error_of_print, error_of_step};
 ghost use Rattle.sip_resume.specs.declared.error.ResumeError.TheVariants.{NoMemory, Journal};
 
-use sip_record::JournalFault;
+use sip_journal::JournalFault;
 use sip_replay_script::PrintStop;
 use sip_run::engine::StepError;
 use std::alloc::{AllocError, AllocFailed};

@@ -8,13 +8,13 @@ ghost use Rattle.sip_resume.specs.Parts.{EventsStop, GoesTo, NextStops, ReachesE
 ghost use Rattle.sip_resume.specs.declared.error.ResumeError.TheVariants as Refusal;
 
 use crate::error::ResumeError;
-use crate::parts::{Next, Reached};
+use crate::parts::{Reached, ResumedPart};
 use crate::resuming::resume_next;
 use model_bounds::model::runs::runs_join;
+use sip_journal::Journal;
 use sip_policy::Rules;
-use sip_record::Journal;
 use sip_replay_print::StepSink;
-use sip_replay_script::{Lines, TellingReader};
+use sip_replay_script::{ScriptLines, TellingReader};
 use sip_run::engine::Engine;
 use sip_segment_text::{Upcoming, look_ahead};
 use sip_timers::Timers;
@@ -24,11 +24,11 @@ use std::alloc::Global;
 fn take_next<T: Timers, R: Rules, I: TellingReader, J: Journal, S: StepSink>(
     alloc: Global,
     engine: &mut Engine<T, R>,
-    lines: &mut Lines,
+    lines: &mut ScriptLines,
     reader: &mut I,
     journal: &mut J,
     sink: &mut S,
-) -> Result<Next, ResumeError>
+) -> Result<ResumedPart, ResumeError>
     ensures server { engine.new.server ≡ engine.old.server }
     ensures next { IfOk result (GoesTo engine.old.server (standing_of engine.old) (standing_of engine.new) lines.old lines.new (I.remaining reader.old)
         (I.remaining reader.new) (outputs_of (J.written journal.old) (S.shown sink.old)) (outputs_of (J.written journal.new) (S.shown sink.new))) }
@@ -43,11 +43,11 @@ fn take_next<T: Timers, R: Rules, I: TellingReader, J: Journal, S: StepSink>(
     ensures secrets { engine.new.secrets ≡ engine.old.secrets }
 {
     match look_ahead(lines, reader) {
-        Ok(Upcoming::Over) => Ok(Next::End),
-        Ok(Upcoming::Configuration) => Ok(Next::Configuration),
+        Ok(Upcoming::Over) => Ok(ResumedPart::End),
+        Ok(Upcoming::Configuration) => Ok(ResumedPart::Configuration),
         Ok(Upcoming::Event) => match resume_next(alloc, engine, lines, reader, journal, sink)? {
-            Some(out) => Ok(Next::Taken(out)),
-            None => Ok(Next::End),
+            Some(out) => Ok(ResumedPart::Taken(out)),
+            None => Ok(ResumedPart::End),
         },
         Err(_) => Err(ResumeError::Read),
     }
@@ -57,7 +57,7 @@ fn take_next<T: Timers, R: Rules, I: TellingReader, J: Journal, S: StepSink>(
 pub(crate) fn take_events<T: Timers, R: Rules, I: TellingReader, J: Journal, S: StepSink>(
     alloc: Global,
     engine: &mut Engine<T, R>,
-    lines: &mut Lines,
+    lines: &mut ScriptLines,
     reader: &mut I,
     journal: &mut J,
     sink: &mut S,
@@ -81,18 +81,18 @@ pub(crate) fn take_events<T: Timers, R: Rules, I: TellingReader, J: Journal, S: 
     let mut last = None;
     'events: loop {
         match take_next(alloc, engine, lines, reader, journal, sink)? {
-            Next::Taken(out) => {
+            ResumedPart::Taken(out) => {
                 taken = lines.number();
                 last = Some(out);
             }
-            Next::Configuration => {
+            ResumedPart::Configuration => {
                 return Ok(Reached {
                     lines: taken,
                     last,
                     is_over: false,
                 });
             }
-            Next::End => {
+            ResumedPart::End => {
                 return Ok(Reached {
                     lines: taken,
                     last,

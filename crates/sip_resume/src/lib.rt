@@ -3,7 +3,7 @@
 //!
 //! - Used: `sipd_start`, where `serve` is to go on from a record; `sip_replay`, where a record is replayed. `sip_recorded` says what a
 //!   resumed server has for its record.
-//! - Not here: what writes a record (`sip_record`), what the text of a configuration states
+//! - Not here: what writes a record (`sip_journal`), what the text of a configuration states
 //!   (`sip_segment_config`), how steps are printed (`sip_replay_print`).
 //! - Tried: `test_serve`, and over sockets `tests/serve.py`.
 //!
@@ -20,11 +20,11 @@ mod record_error;
 mod resuming;
 mod segments;
 mod taking;
-mod whole;
+mod whole_record;
 
 pub use record_error::RecordError;
 pub use taking::take_configuration;
-pub use whole::{Resumed, resume_record};
+pub use whole_record::{Resumed, resume_record};
 
 /// Of `sip_engine`.
 pub mod engine {

@@ -5,7 +5,7 @@ use sip_event::StepOut;
 
 /// What comes next in a record.
 #[derive(Drop)]
-pub(crate) enum Next {
+pub(crate) enum ResumedPart {
     /// An event, which was taken; its own step.
     Taken(StepOut),
     /// No event, but what may be a configuration.

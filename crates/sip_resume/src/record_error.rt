@@ -5,7 +5,7 @@ ghost use Rattle.sip_resume.specs.declared.record_error.RecordError.TheVariants.
 use crate::error::ResumeError;
 use sip_config::ConfigError;
 use sip_config_change::FrameKey;
-use sip_record::JournalFault;
+use sip_journal::JournalFault;
 use std::error::Error;
 use std::fmt;
 

@@ -6,7 +6,7 @@ ghost use Rattle.sip_run.specs.Due.{NothingDueBy, standing_of};
 ghost use Rattle.sip_replay_script.specs.Devices.{later};
 ghost use Rattle.sip_replay_script.specs.Lines.{pending, IsSpent};
 ghost use Rattle.sip_replay_script.specs.Recorded.{GivesRecorded};
-ghost use Rattle.sip_record.specs.Record.{Notes};
+ghost use Rattle.sip_journal.specs.Record.{Notes};
 ghost use Rattle.sip_resume.specs.Errors;
 ghost use Rattle.sip_resume.specs.Outputs.{outputs_of};
 ghost use Rattle.sip_resume.specs.Resumes.{EndsHere, FiringStops, JournalAt, ResumeStops, RunsShown, TakesNext, TakesOwn, TurnStops, UnreadStops};
@@ -14,10 +14,10 @@ ghost use Rattle.sip_resume.specs.declared.error.ResumeError.TheVariants as Refu
 
 use crate::error::ResumeError;
 use sip_event::{Event, StepOut};
+use sip_journal::Journal;
 use sip_policy::Rules;
-use sip_record::Journal;
 use sip_replay_print::StepSink;
-use sip_replay_script::{Lines, ReadStop, TellingReader, next_recorded};
+use sip_replay_script::{ReadStop, ScriptLines, TellingReader, next_recorded};
 use sip_run::engine::Engine;
 use sip_run::{event_moment, fire_next, take_event};
 use sip_timers::Timers;
@@ -27,7 +27,7 @@ use std::alloc::Global;
 pub(crate) fn resume_next<T: Timers, R: Rules, I: TellingReader, J: Journal, S: StepSink>(
     alloc: Global,
     engine: &mut Engine<T, R>,
-    lines: &mut Lines,
+    lines: &mut ScriptLines,
     reader: &mut I,
     journal: &mut J,
     sink: &mut S,
@@ -61,7 +61,7 @@ pub(crate) fn resume_next<T: Timers, R: Rules, I: TellingReader, J: Journal, S: 
 /// The next event of a record; none where it ends, or was cut in its last one. A fault of the reader is no end.
 fn read_next<I: TellingReader>(
     alloc: Global,
-    lines: &mut Lines,
+    lines: &mut ScriptLines,
     reader: &mut I,
 ) -> Result<Option<Event>, ResumeError>
     ensures given { IfOk result

@@ -17,11 +17,11 @@ use crate::events::take_events;
 use crate::parts::Reached;
 use crate::record_error::RecordError;
 use crate::taking::take_configuration;
+use sip_journal::Journal;
+use sip_journal::laws::noted_segments_join;
 use sip_policy::Rules;
-use sip_record::Journal;
-use sip_record::laws::noted_segments_join;
 use sip_replay_print::StepSink;
-use sip_replay_script::{Lines, TellingReader};
+use sip_replay_script::{ScriptLines, TellingReader};
 use sip_run::engine::Engine;
 use sip_segment_config::SegmentStop;
 use sip_segment_text::laws::segments_join;
@@ -48,7 +48,7 @@ fn end_of(stop: SegmentStop) -> Result<(), RecordError>
 fn begin_segment<T: Timers, R: Rules, I: TellingReader>(
     alloc: Global,
     engine: &mut Engine<T, R>,
-    lines: &mut Lines,
+    lines: &mut ScriptLines,
     reader: &mut I,
     longest: usize,
 ) -> Result<Option<Buffer>, RecordError>
@@ -76,7 +76,7 @@ fn begin_segment<T: Timers, R: Rules, I: TellingReader>(
 pub(crate) fn take_segment<T: Timers, R: Rules, I: TellingReader, J: Journal, S: StepSink>(
     alloc: Global,
     engine: &mut Engine<T, R>,
-    lines: &mut Lines,
+    lines: &mut ScriptLines,
     reader: &mut I,
     longest: usize,
     journal: &mut J,

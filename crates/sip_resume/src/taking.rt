@@ -6,9 +6,9 @@ ghost use Rattle.sip_resume.specs.Takes.{ChangesTo, TakesConfiguration};
 
 use sip_config_types::Config;
 use sip_policy::Rules;
-use sip_replay_script::{Lines, TellingReader};
+use sip_replay_script::{ScriptLines, TellingReader};
 use sip_run::engine::{ChangeError, Engine};
-use sip_segment_config::{Held, SegmentStop, read_configuration};
+use sip_segment_config::{RecordedConfig, SegmentStop, read_configuration};
 use sip_text::Buffer;
 use sip_timers::Timers;
 use std::alloc::Global;
@@ -21,7 +21,7 @@ use std::alloc::Global;
 pub fn take_configuration<T: Timers, R: Rules, I: TellingReader>(
     alloc: Global,
     engine: &mut Engine<T, R>,
-    lines: &mut Lines,
+    lines: &mut ScriptLines,
     reader: &mut I,
     longest: usize,
 ) -> Result<Option<Buffer>, SegmentStop>
@@ -41,7 +41,7 @@ pub fn take_configuration<T: Timers, R: Rules, I: TellingReader>(
     let Some(held) = read_configuration(alloc, lines, reader, longest)? else {
         return Ok(None);
     };
-    let Held { text, config } = held;
+    let RecordedConfig { text, config } = held;
     change_to(engine, config, first)?;
     Ok(Some(text))
 }

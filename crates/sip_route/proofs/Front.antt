@@ -13,7 +13,7 @@ use Rattle.sip_uri.specs.declared.error.UriError.{UriError}
 use Rattle.sip_uri.specs.declared.scheme.Scheme.{Scheme}
 use Rattle.sip_uri.specs.declared.scheme.Scheme.TheVariants.{Sip, Sips}
 use Rattle.sip_uri.specs.declared.user.UserInfo.{UserInfo}
-use Rattle.sip_uri.specs.declared.parameters.Parameter.{Parameter}
+use Rattle.sip_uri.specs.declared.parameters.UriParameter.{UriParameter}
 use Rattle.sip_uri.specs.declared.uri.Uri.{Uri}
 use Rattle.sip_uri.specs.Scheme.{scheme_text}
 use Rattle.sip_uri.specs.Uri.{userinfo_text, port_text, parameter_text, headers_text, rest_text, IsWritten}
@@ -174,7 +174,7 @@ behind p (b ∷ bs) rest e = behind p bs rest (and_both (p b) (list_all p (bs ++
 no_lr : (uri : List ℕ) (u : Uri) → list_all (is_not 59) uri ≡ true → IsWritten uri u → has_lr u ≡ false
 no_lr uri u none written = by_parameters u.parameters refl
   where
-    by_parameters : (parameters : List Parameter) → u.parameters ≡ parameters → has_lr u ≡ false
+    by_parameters : (parameters : List UriParameter) → u.parameters ≡ parameters → has_lr u ≡ false
     by_parameters [] e = ap (list_any (λ p. says_same_no_case p.name (codes "lr"))) e
     by_parameters (p ∷ ps) e =
         let rest = behind (is_not 59) (written.scheme ++ 58 ∷ []) (rest_text u) (ap (list_all (is_not 59))

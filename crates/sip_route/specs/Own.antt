@@ -19,8 +19,8 @@ is_own_host own host = is_same_text own.host host || list_any (λ domain. is_sam
 -- Whether a URI names this server (RFC 3261 16.4, 16.12): an own host, and its port by its number, 5060 where none is written. User
 -- part, parameters, and
 -- whether it is `sip` or `sips` don't matter (this project's profile).
-abbrev pub is_own_place : Own → Uri → Bool
-is_own_place own uri = is_own_host own uri.host && unwrap_or (port_number uri.port) 5060 == own.port
+abbrev pub is_own_host_port : Own → Uri → Bool
+is_own_host_port own uri = is_own_host own uri.host && unwrap_or (port_number uri.port) 5060 == own.port
 
 -- whether a Via is this server's: its sent-by is the host that it calls itself, in any case, and its port (RFC 3261 16.3 step 4, 18.1.2)
 abbrev pub is_own_via : Own → Via → Bool

@@ -17,7 +17,7 @@ use Rattle.sip_header.specs.declared.name_addr.NameAddr.{NameAddr}
 use Rattle.sip_route.specs.declared.own.Own.{Own}
 use Rattle.sip_route.specs.declared.way.Way.{Way}
 use Rattle.sip_header.specs.NameAddr.{sip_uri}
-use Rattle.sip_route.specs.Own.{is_own_place, record_route_uri}
+use Rattle.sip_route.specs.Own.{is_own_host_port, record_route_uri}
 use Rattle.sip_header.specs.Route.{route_of, uri_text}
 use Rattle.sip_message_fields.specs.Values.{values_of, without_first, without_last}
 
@@ -32,9 +32,9 @@ abbrev pub is_record_route : Own → Uri → Bool
 is_record_route own uri = has_lr uri && same uri (record_route_uri own)
 
 -- whether a URI of any scheme names this server
-abbrev pub names_own_place : Own → AnyUri → Bool
-names_own_place own (Sip uri) = is_own_place own uri
-names_own_place own (Other text) = false
+abbrev pub names_own_host_port : Own → AnyUri → Bool
+names_own_host_port own (Sip uri) = is_own_host_port own uri
+names_own_host_port own (Other text) = false
 
 -- ---- what is left of a Request-URI and fields
 
@@ -74,7 +74,7 @@ without_restored own uri fields = if is_some (restored_route own uri fields) the
 
 -- whether the first of some values of Route names this server
 abbrev pub begins_with_own : Own → List (List ℕ) → Bool
-begins_with_own own routes = option_map_or (λ route. names_own_place own route.uri) (first_route routes) false
+begins_with_own own routes = option_map_or (λ route. names_own_host_port own route.uri) (first_route routes) false
 
 -- a first Route that names this server is taken off (RFC 3261 16.4)
 abbrev pub without_own_route : Own → List Field → List Field

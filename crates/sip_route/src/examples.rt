@@ -1,18 +1,18 @@
 ghost use Rattle.std.specs.Prelude.{◌≡◌, [], ◌∷◌, codes, true, false, Some, None};
 ghost use Rattle.sip_uri.specs.Uri.{text_of};
 ghost use Rattle.sip_header.specs.FieldExamples.{uri_at};
-ghost use Rattle.sip_route.specs.Own.{is_own_place, record_route_uri};
+ghost use Rattle.sip_route.specs.Own.{is_own_host_port, record_route_uri};
 ghost use Rattle.sip_route.specs.Way.{is_record_route, way_of};
 ghost use Rattle.sip_route.specs.Examples.{own, invite_by};
 
 /// The host of this server and its domain in any case, and its address; a port by its number; `sips`. Another port
 /// or another host is none of its places.
-pub fn own_place_example()
-    ensures host { is_own_place own (uri_at (codes "SIP.Host.com") None) ≡ true }
-    ensures domain { is_own_place own (uri_at (codes "Host.com") (Some (codes "05060"))) ≡ true }
-    ensures address { is_own_place own (uri_at (codes "127.0.0.1") None) ≡ true }
-    ensures other_port { is_own_place own (uri_at (codes "host.com") (Some (codes "5070"))) ≡ false }
-    ensures other_host { is_own_place own (uri_at (codes "pc.host.com") None) ≡ false }
+pub fn own_host_port_example()
+    ensures host { is_own_host_port own (uri_at (codes "SIP.Host.com") None) ≡ true }
+    ensures domain { is_own_host_port own (uri_at (codes "Host.com") (Some (codes "05060"))) ≡ true }
+    ensures address { is_own_host_port own (uri_at (codes "127.0.0.1") None) ≡ true }
+    ensures other_port { is_own_host_port own (uri_at (codes "host.com") (Some (codes "5070"))) ≡ false }
+    ensures other_host { is_own_host_port own (uri_at (codes "pc.host.com") None) ≡ false }
 {}
 
 /// The URI that this server puts into Record-Route; without `lr`, and with `lr` and no port, it's another.

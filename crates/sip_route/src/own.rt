@@ -8,7 +8,7 @@ ghost use Rattle.sip_uri.specs.Addresses.{ip_text};
 
 use sip_header::Via;
 use sip_text::{Bytes, Items, same_no_case};
-use sip_uri::{Parameter, Scheme, Uri, ip_of};
+use sip_uri::{Scheme, Uri, UriParameter, ip_of};
 use std::alloc::{AllocError, Global};
 
 /// Where this server is: what it calls itself in Via and Record-Route, the domains that it serves, and the address
@@ -52,12 +52,12 @@ fn is_one_of(domains: &[Bytes], host: &[u8]) -> bool
 }
 
 /// The parameter `lr`, alone (RFC 3261 19.1.1). `AllocError` is the only refusal.
-pub fn loose_routing(alloc: Global) -> Result<Items<Parameter>, AllocError>
+pub fn loose_routing(alloc: Global) -> Result<Items<UriParameter>, AllocError>
     ensures { IfOk result (λ parameters. parameters ≡ record { name = codes "lr"; value = None } ∷ []) }
 {
     let mut parameters = Items::new(alloc);
     let name = Bytes::copy(alloc, b"lr")?;
-    parameters.push(Parameter { name, value: None })?;
+    parameters.push(UriParameter { name, value: None })?;
     Ok(parameters)
 }
 
@@ -71,7 +71,7 @@ fn digits(alloc: Global, number: u16) -> Result<Bytes, AllocError>
 }
 
 impl Own {
-    ghost use Rattle.sip_route.specs.Own.{is_own_host, is_own_place, is_own_via, record_route_uri};
+    ghost use Rattle.sip_route.specs.Own.{is_own_host, is_own_host_port, is_own_via, record_route_uri};
 
     /// Whether a host is the one that this server calls itself or a domain that it serves, in any case, or its
     /// address in dotted form. Takes no memory.
@@ -85,8 +85,8 @@ impl Own {
 
     /// Whether a URI names this server (RFC 3261 16.4, 16.12): its host is an own one, and its port, 5060 where none
     /// is written, is the port. Takes no memory.
-    pub fn is_own_place(&self, uri: &Uri) -> bool
-        ensures { result ≡ is_own_place self.now uri.now }
+    pub fn is_own_host_port(&self, uri: &Uri) -> bool
+        ensures { result ≡ is_own_host_port self.now uri.now }
     {
         self.is_own_at(uri.host.as_slice(), uri.port_number())
     }

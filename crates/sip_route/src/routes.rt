@@ -3,16 +3,16 @@ ghost use Rattle.sip_route.specs.Way as Ways;
 ghost use Rattle.sip_route.specs.Routes.{all_but_last, without_own};
 
 use crate::own::Own;
-use sip_header::{AnyUri, NameAddr, bracketed_place, route_of};
+use sip_header::{AnyUri, NameAddr, bracketed_host_port, route_of};
 use sip_text::{Items, Text};
 use std::alloc::{AllocError, Global};
 
 /// Whether a URI of any scheme names this server.
-fn names_own_place(own: &Own, uri: &AnyUri<'_>) -> bool
-    ensures { result ≡ Ways.names_own_place own.now uri.now }
+fn names_own_host_port(own: &Own, uri: &AnyUri<'_>) -> bool
+    ensures { result ≡ Ways.names_own_host_port own.now uri.now }
 {
     match uri {
-        AnyUri::Sip(uri) => own.is_own_place(uri),
+        AnyUri::Sip(uri) => own.is_own_host_port(uri),
         AnyUri::Other(_) => false,
     }
 }
@@ -24,7 +24,7 @@ fn is_own_parsed(alloc: Global, own: &Own, value: &[u8]) -> Result<bool, AllocEr
     ensures { IfOk result (λ is_own. is_own ≡ Ways.begins_with_own own.now (value.now ∷ [])) }
 {
     match route_of(alloc, value)? {
-        Some(route) => Ok(names_own_place(own, &route.uri)),
+        Some(route) => Ok(names_own_host_port(own, &route.uri)),
         None => Ok(false),
     }
 }
@@ -34,7 +34,7 @@ fn is_own_parsed(alloc: Global, own: &Own, value: &[u8]) -> Result<bool, AllocEr
 pub(crate) fn is_own_route(alloc: Global, own: &Own, value: &[u8]) -> Result<bool, AllocError>
     ensures { IfOk result (λ is_own. is_own ≡ Ways.begins_with_own own.now (value.now ∷ [])) }
 {
-    if let Some((host, port)) = bracketed_place(value) {
+    if let Some((host, port)) = bracketed_host_port(value) {
         return Ok(own.is_own_at(host, port));
     }
     is_own_parsed(alloc, own, value)

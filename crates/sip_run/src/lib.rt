@@ -9,12 +9,12 @@
 //! ```
 #![tactic(auto)]
 
-mod due;
+mod due_step;
 mod outcome;
 mod running;
 mod taking;
 
-pub use due::fire_next;
+pub use due_step::fire_next;
 pub use outcome::Run;
 pub use running::run;
 pub use taking::{event_moment, take_datagram, take_event};

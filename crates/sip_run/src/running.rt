@@ -4,7 +4,7 @@ ghost use Rattle.sip_engine.specs.steps_model.Step.{moment_of};
 ghost use Rattle.sip_run.specs.Due.{NothingDueBy, standing_of};
 ghost use Rattle.sip_run.specs.Runs.{FiringHalts, Goes, Halts, IsRunOver, Stops, server_of};
 
-use crate::due::fire_next;
+use crate::due_step::fire_next;
 use crate::outcome::Run;
 use crate::taking::{event_moment, take_event};
 use model_bounds::bounds::every_history_is_bounded;

@@ -17,9 +17,9 @@ use Rattle.sip_segment_text.specs.declared.upcoming.Upcoming.TheVariants as upco
 use Rattle.sip_segment_config.specs.Last.{last_behind, GivesPart, HasLast, IsDamagedPart, IsLastOf, IsLastText, IsSoBehind}
 use Rattle.sip_segment_config.specs.Last.{LastStops, PartStops, ReadsText, SaysToEnd}
 use Rattle.sip_segment_config.specs.Stops.{TextStops}
-use Rattle.sip_segment_config.specs.declared.last.LastText.{LastText}
-use Rattle.sip_segment_config.specs.declared.last.Part.{Part}
-use Rattle.sip_segment_config.specs.declared.last.Part.TheVariants as parts
+use Rattle.sip_segment_config.specs.declared.last_text.LastText.{LastText}
+use Rattle.sip_segment_config.specs.declared.last_text.RecordPart.{RecordPart}
+use Rattle.sip_segment_config.specs.declared.last_text.RecordPart.TheVariants as parts
 use Rattle.sip_segment_config.specs.declared.stop.SegmentStop.{SegmentStop}
 use Rattle.sip_segment_config.specs.declared.stop.SegmentStop.TheVariants as stops
 
@@ -58,7 +58,7 @@ comes_configuration next old new before after is h = subst (λ (n : Upcoming). C
 less_behind : (a b c : ℕ) → a < b → b ≤ c → a < c
 less_behind a b c h k = omega (arith, h, k)
 
-part_behind : (longest : ℕ) (found : Part) (part mid rest : Reading) (before middle after : Option (List ℕ)) → Keeps (pending part before) (pending mid middle)
+part_behind : (longest : ℕ) (found : RecordPart) (part mid rest : Reading) (before middle after : Option (List ℕ)) → Keeps (pending part before) (pending mid middle)
     → mid.number ≡ part.number → left mid ≤ left part
     → GivesPart longest mid rest middle after found → GivesPart longest part rest before after found
 part_behind longest parts.Event part mid rest before middle after kept number fewer h =
@@ -88,7 +88,7 @@ part_behind longest (parts.Configuration last) part mid rest before middle after
   begins = h.begins ∙ ap (λ n. n + 1) number;
 }
 
-pub given_behind : (longest : ℕ) (result : Result (Option Part) SegmentStop) (part mid rest : Reading) (before middle after : Option (List ℕ))
+pub given_behind : (longest : ℕ) (result : Result (Option RecordPart) SegmentStop) (part mid rest : Reading) (before middle after : Option (List ℕ))
     → Keeps (pending part before) (pending mid middle) → mid.number ≡ part.number → left mid ≤ left part
     → IfOk result (λ found. IfSome found (GivesPart longest mid rest middle after)) → IfOk result (λ found. IfSome found (GivesPart longest part rest before after))
 given_behind longest (Err stop) part mid rest before middle after kept number fewer h = tt
@@ -113,7 +113,8 @@ stops_behind X Y longest F a b lines lines_then (stops.NoConfiguration line e) k
 stops_behind X Y longest F a b lines lines_then (stops.OtherFrame line key) kept number f other h = absurd h
 
 -- where what comes next is no configuration, and is no event either
-pub event_refused : (longest : ℕ) (F : Type 0) (result : Result (Option Part) SegmentStop) (a b : Option (List ℕ)) (lines lines_then : ℕ) → Keeps a b → lines_then ≡ lines
+pub event_refused : (longest : ℕ) (F : Type 0) (result : Result (Option RecordPart) SegmentStop) (a b : Option (List ℕ)) (lines lines_then : ℕ) → Keeps a b
+    → lines_then ≡ lines
     → IfSome a IsDamagedConfiguration
     → IfErr result (PartStops IsDamagedRecord longest F b lines_then) → IfErr result (PartStops IsDamagedPart longest F a lines)
 event_refused longest F (Ok found) a b lines lines_then kept number other h = tt
@@ -211,7 +212,7 @@ numbers_add : (old mid new : ℕ) (text more : List ℕ) → mid ≡ old + count
 numbers_add old mid new text more h k = let sum : count_by is_end (text ++ more) ≡ count_by is_end text + count_by is_end more =
     sum_by-append (λ b. cond (is_end b) 1 0) text more in omega (arith, h, k, sum)
 
-part_more : SegmentTextsJoin → SegmentBegins → SegmentGrows → (longest lines : ℕ) (found : Part) (part rest : Reading) (before middle after : Option (List ℕ))
+part_more : SegmentTextsJoin → SegmentBegins → SegmentGrows → (longest lines : ℕ) (found : RecordPart) (part rest : Reading) (before middle after : Option (List ℕ))
     (last : Option LastText) → SoFar longest before (pending part middle) lines part.number last
     → GivesPart longest part rest middle after found → SoFar longest before (pending rest after) lines rest.number (last_behind found last)
 part_more join begins grows longest lines parts.Event part rest before middle after last s h =
@@ -230,7 +231,7 @@ part_more join begins grows longest lines (parts.Configuration newer) part rest 
 }
 
 -- in the loop
-pub so_far_more : SegmentTextsJoin → SegmentBegins → SegmentGrows → (longest lines : ℕ) (found : Part) (part rest : Reading) (before middle after : Option (List ℕ))
+pub so_far_more : SegmentTextsJoin → SegmentBegins → SegmentGrows → (longest lines : ℕ) (found : RecordPart) (part rest : Reading) (before middle after : Option (List ℕ))
     (last newest : Option LastText) → newest ≡ last_behind found last
     → SoFar longest before (pending part middle) lines part.number last → GivesPart longest part rest middle after found
     → SoFar longest before (pending rest after) lines rest.number newest

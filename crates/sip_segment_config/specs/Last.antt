@@ -8,9 +8,9 @@ use Rattle.sip_replay_script.specs.Recorded.{GivesRecorded, IsCutRecord, IsDamag
 use Rattle.sip_segment_text.specs.Configurations.{GivesConfiguration, IsCutConfiguration, IsDamagedConfiguration, IsLongConfiguration}
 use Rattle.sip_segment_text.specs.Segments.{SaysSegments, SaysWhole, Segment}
 use Rattle.sip_config.specs.Stated.{States, StatesNone}
-use Rattle.sip_segment_config.specs.declared.last.LastText.{LastText}
-use Rattle.sip_segment_config.specs.declared.last.Part.{Part}
-use Rattle.sip_segment_config.specs.declared.last.Part.TheVariants as parts
+use Rattle.sip_segment_config.specs.declared.last_text.LastText.{LastText}
+use Rattle.sip_segment_config.specs.declared.last_text.RecordPart.{RecordPart}
+use Rattle.sip_segment_config.specs.declared.last_text.RecordPart.TheVariants as parts
 use Rattle.sip_segment_config.specs.declared.stop.SegmentStop.{SegmentStop}
 use Rattle.sip_segment_config.specs.declared.stop.SegmentStop.TheVariants.{NoMemory, Damaged, Cut, Read, TooLong, NoConfiguration, OtherFrame}
 
@@ -101,7 +101,7 @@ pub record ReadsText (longest : ℕ) (old new : Reading) (before after : Option 
   pub begins : last.first ≡ old.number + 1
 
 -- what comes next was passed, or was read
-abbrev pub GivesPart : ℕ → Reading → Reading → Option (List ℕ) → Option (List ℕ) → Part → Type 0
+abbrev pub GivesPart : ℕ → Reading → Reading → Option (List ℕ) → Option (List ℕ) → RecordPart → Type 0
 GivesPart longest old new before after parts.Event = PassesEvent old new before after
 GivesPart longest old new before after (parts.Configuration last) = ReadsText longest old new before after last
 
@@ -116,7 +116,7 @@ PartStops IsDamaged longest spent rest lines (NoConfiguration line e) = ⊥
 PartStops IsDamaged longest spent rest lines (OtherFrame line key) = ⊥
 
 -- the last configuration behind one more part
-abbrev pub last_behind : Part → Option LastText → Option LastText
+abbrev pub last_behind : RecordPart → Option LastText → Option LastText
 last_behind parts.Event last = last
 last_behind (parts.Configuration newer) last = Some newer
 

@@ -10,10 +10,10 @@
 //! ```
 #![tactic(auto)]
 
-mod last;
+mod last_text;
 mod reading;
 mod stop;
 
-pub use last::last_configuration;
-pub use reading::{Held, read_configuration};
+pub use last_text::last_configuration;
+pub use reading::{RecordedConfig, read_configuration};
 pub use stop::SegmentStop;

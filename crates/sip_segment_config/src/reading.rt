@@ -8,14 +8,14 @@ ghost use Rattle.sip_segment_config.specs.Reads.{GivesStated};
 use crate::stop::SegmentStop;
 use sip_config::{ConfigError, read_config_bytes};
 use sip_config_types::Config;
-use sip_replay_script::{Lines, TellingReader};
+use sip_replay_script::{ScriptLines, TellingReader};
 use sip_segment_text::next_configuration;
 use sip_text::Buffer;
 use std::alloc::Global;
 
 /// A configuration that a record holds.
 #[derive(Drop)]
-pub struct Held {
+pub struct RecordedConfig {
     /// The bytes of its file.
     pub text: Buffer,
     /// What they state.
@@ -26,10 +26,10 @@ pub struct Held {
 /// `take_configuration` is, but for `OtherFrame`: with the first one a server may begin.
 pub fn read_configuration<I: TellingReader>(
     alloc: Global,
-    lines: &mut Lines,
+    lines: &mut ScriptLines,
     reader: &mut I,
     longest: usize,
-) -> Result<Option<Held>, SegmentStop>
+) -> Result<Option<RecordedConfig>, SegmentStop>
     ensures given { IfOk result (λ found. IfSome found (λ held. GivesStated lines.old lines.new (I.remaining reader.old)
         (I.remaining reader.new) held.text held.config)) }
     ensures next { IfOk result (λ found. IfSome found (λ held. IsNext (pending lines.old (I.remaining reader.old)) held.text)) }
@@ -47,7 +47,7 @@ pub fn read_configuration<I: TellingReader>(
         Err(stop) => return Err(SegmentStop::unread(stop, first)),
     };
     let config = config_in(alloc, text.as_slice(), first)?;
-    Ok(Some(Held { text, config }))
+    Ok(Some(RecordedConfig { text, config }))
 }
 
 /// The configuration that a text states, whose first line is this one.

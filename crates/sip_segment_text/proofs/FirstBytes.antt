@@ -6,8 +6,8 @@ use Rattle.std.specs.Io.KnownBytes.{Keeps}
 use Rattle.std.proofs.lemmas.Bool.{eqb-true}
 use Rattle.sip_event.specs.declared.event.Event.{Event}
 use Rattle.sip_text.specs.Splits.{in_front, split_at_byte}
-use Rattle.sip_replay_script.specs.declared.script.Line.{Line}
-use Rattle.sip_replay_script.specs.declared.script.Line.TheVariants.{Head, Whole}
+use Rattle.sip_replay_script.specs.declared.script.EventLine.{EventLine}
+use Rattle.sip_replay_script.specs.declared.script.EventLine.TheVariants.{Head, Whole}
 use Rattle.sip_replay_script.specs.Lines.{Reading, pending}
 use Rattle.sip_replay_script.specs.Script.{line_of, line_of_kind, ◌>>=◌}
 use Rattle.sip_replay_script.specs.Events.{ended}
@@ -49,14 +49,14 @@ no_line_so b line e = by_tests (b == 61) (b == 43) (b == 99) refl refl refl e
     by_tests false false true is_s is_t is_u h = ap (λ (n : ℕ). line_of (n ∷ line)) (eqb-true b 99 is_u) ∙ by_letter line
     by_tests false false false is_s is_t is_u h = absurd cc
 
-says_none : (line : List ℕ) (said : Line) → line_of line ≡ Some said → line_of line ≡ None → ⊥
+says_none : (line : List ℕ) (said : EventLine) → line_of line ≡ Some said → line_of line ≡ None → ⊥
 says_none line said says none = absurd cc
 
 -- no line of an event begins with a byte
 abbrev pub BeginsNone : ℕ → Type 0
 BeginsNone b = (line : List ℕ) → line_of (b ∷ line) ≡ None
 
-no_first_line : (b : ℕ) (text line more : List ℕ) (said : Line) → BeginsNone b → line_of line ≡ Some said → b ∷ text ≡ ended line ++ more → ⊥
+no_first_line : (b : ℕ) (text line more : List ℕ) (said : EventLine) → BeginsNone b → line_of line ≡ Some said → b ∷ text ≡ ended line ++ more → ⊥
 no_first_line b text [] more said begins says e = says_none [] said says refl
 no_first_line b text (c ∷ line) more said begins says e =
     says_none (c ∷ line) said says (ap (λ (n : ℕ). line_of (n ∷ line)) (sym (head_is b c text (ended line ++ more) e)) ∙ begins line)

@@ -16,8 +16,8 @@ use Rattle.hex.specs.Hex.{lower_digits}
 use Rattle.sha2.specs.Sha256.{sha256}
 use Rattle.sha2.proofs.Facts256.{length-sha256}
 use Rattle.sip_event.specs.declared.event.Event.{Event}
-use Rattle.sip_replay_script.specs.declared.script.Line.{Line}
-use Rattle.sip_replay_script.specs.declared.script.Line.TheVariants.{Head, Whole}
+use Rattle.sip_replay_script.specs.declared.script.EventLine.{EventLine}
+use Rattle.sip_replay_script.specs.declared.script.EventLine.TheVariants.{Head, Whole}
 use Rattle.sip_replay_script.specs.Lines.{IsLine, is_end}
 use Rattle.sip_replay_script.specs.Script.{line_of, ◌>>=◌}
 use Rattle.sip_replay_script.specs.Events.{ended, SaysEvent}
@@ -241,7 +241,7 @@ begins_otherwise text configuration says = by_lines says.gives.lines says.gives.
       none = let p = parted line lines configuration gives in piece_no_event line p.piece p.first;
     }
 
-says_line : (line : List ℕ) (said : Line) → line_of line ≡ Some said → line_of line ≡ None → ⊥
+says_line : (line : List ℕ) (said : EventLine) → line_of line ≡ Some said → line_of line ≡ None → ⊥
 says_line line said says none = absurd cc
 
 pub other_no_event : (text rest more : List ℕ) (event : Event) → BeginsOtherwise rest → SaysEvent text event → rest ≡ text ++ more → ⊥

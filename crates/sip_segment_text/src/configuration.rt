@@ -1,4 +1,4 @@
-//! The text of a configuration in a record, read piece by piece up to the line with its digest. `sip_record` writes it.
+//! The text of a configuration in a record, read piece by piece up to the line with its digest. `sip_journal` writes it.
 ghost use Rattle.std.specs.Prelude.{◌≡◌, ◌≢◌, ◌≤◌, ◌++◌, [], Some, None, true, false, length, option_map, OnOk, IfOk, IfErr, IfSome, IfNone};
 ghost use Rattle.std.specs.Str.{bytes_eq};
 ghost use Rattle.sip_segment_text.specs.Configurations.{begins_piece, begins_rest, rest_stop, AddsPiece, ConfigurationStops, GivesConfiguration};
@@ -10,7 +10,7 @@ ghost use Rattle.sip_segment_text.specs.Segments;
 use crate::configuration_stop::ConfigurationStop;
 use hex::encode_to_slice;
 use sha2::{Digest, Sha256};
-use sip_replay_script::{Lines, ReadStop, TellingReader};
+use sip_replay_script::{ReadStop, ScriptLines, TellingReader};
 use sip_text::Buffer;
 use std::alloc::Global;
 
@@ -114,7 +114,7 @@ fn rest_stop(text: &[u8], line: &[u8], stop: ReadStop) -> ConfigurationStop
 /// Takes the next line of a configuration, of which the text was given before; whether it gives more of it. Otherwise it is the line
 /// behind the whole.
 fn take_line<R: TellingReader>(
-    lines: &mut Lines,
+    lines: &mut ScriptLines,
     reader: &mut R,
     line: &mut Vec<u8>,
     text: &mut Buffer,
@@ -152,7 +152,7 @@ fn take_line<R: TellingReader>(
 #[tactic(auto, using(crate::proofs::Configurations::taken_none, crate::proofs::Configurations::taken_more, crate::proofs::Configurations::takes_less, crate::proofs::Configurations::taken_whole))]
 fn take_lines<R: TellingReader>(
     alloc: Global,
-    lines: &mut Lines,
+    lines: &mut ScriptLines,
     reader: &mut R,
     text: &mut Buffer,
     longest: usize,
@@ -177,7 +177,7 @@ fn take_lines<R: TellingReader>(
 /// `Read`, where the reader failed or was asked 4,294,967,295 times.
 pub fn next_configuration<R: TellingReader>(
     alloc: Global,
-    lines: &mut Lines,
+    lines: &mut ScriptLines,
     reader: &mut R,
     longest: usize,
 ) -> Result<Option<Buffer>, ConfigurationStop>

@@ -1,7 +1,7 @@
 //! What a record says of configurations: the whole text of each, in lines of its own in front of the events that were taken while it was
 //! in force. These are a segment together.
 //!
-//! - Used: `sip_record`, which writes them; `sip_segment_config`, which reads them; `sip_resume`, which takes them again;
+//! - Used: `sip_journal`, which writes them; `sip_segment_config`, which reads them; `sip_resume`, which takes them again;
 //!   `sipd_old_record`, for the first one; `sip_replay` and `sip_recorded` say what they come to.
 //! - Not here: the events of a record (`sip_replay_script`); what the text of a configuration states (`sip_segment_config`); the server.
 //! - Tried: worked examples in `src/examples.rt`, as contracts that compute; `test_engine`.

@@ -6,7 +6,7 @@ ghost use Rattle.sip_replay_script.specs.Lines.{left, pending, IsSpent};
 ghost use Rattle.sip_replay_script.specs.Recorded.{IsDamagedRecord};
 ghost use Rattle.sip_replay_script.specs.declared.read_stop.ReadStop.TheVariants.{Read};
 
-use sip_replay_script::{Lines, ReadStop, TellingReader};
+use sip_replay_script::{ReadStop, ScriptLines, TellingReader};
 
 /// What comes next in a record.
 #[derive(Clone, Copy)]
@@ -35,7 +35,10 @@ fn begins_event(byte: u8) -> bool
 
 /// What comes next in a record, of which nothing is passed: so `next_configuration` and `next_recorded` find it there. `Read` is the
 /// only refusal.
-pub fn look_ahead<R: TellingReader>(lines: &mut Lines, reader: &mut R) -> Result<Upcoming, ReadStop>
+pub fn look_ahead<R: TellingReader>(
+    lines: &mut ScriptLines,
+    reader: &mut R,
+) -> Result<Upcoming, ReadStop>
     ensures next { IfOk result (λ next. ComesNext next lines.old lines.new (R.remaining reader.old) (R.remaining reader.new)) }
     ensures first { IfOk result (λ next. HasFirst next (pending lines.old (R.remaining reader.old))) }
     ensures number { lines.new.number ≡ lines.old.number }
@@ -56,7 +59,10 @@ pub fn look_ahead<R: TellingReader>(lines: &mut Lines, reader: &mut R) -> Result
 
 /// Whether what comes next in a record, of which nothing is passed, begins as an event does; where it doesn't, nothing comes, or what is no event
 /// and no front of one's text. `Read` is the only refusal.
-pub fn look_for_event<R: TellingReader>(lines: &mut Lines, reader: &mut R) -> Result<bool, ReadStop>
+pub fn look_for_event<R: TellingReader>(
+    lines: &mut ScriptLines,
+    reader: &mut R,
+) -> Result<bool, ReadStop>
     ensures kept { OnOk result (Keeps (pending lines.old (R.remaining reader.old)) (pending lines.new (R.remaining reader.new))) }
     ensures event { IfOk result (λ is. is ≡ true → IfSome (pending lines.old (R.remaining reader.old)) (BeginsBy begins_event true)) }
     ensures none { IfOk result (λ is. is ≡ false → IfSome (pending lines.old (R.remaining reader.old)) (λ bytes. (bytes ≡ []) ⊎ IsDamagedRecord bytes)) }

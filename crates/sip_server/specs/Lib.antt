@@ -1,3 +1,3 @@
-pub mod Action
+pub mod ServerAction
 pub mod ServerInvite
 pub mod ServerOther

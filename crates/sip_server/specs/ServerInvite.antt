@@ -4,9 +4,9 @@ use Rattle.std.specs.Prelude.{ℕ, ◌*◌, min, Bool, true, false, ◌&&◌, na
 use Rattle.sip_timers.specs.Intervals.{T1, T2, T4}
 use Rattle.sip_timers.specs.Machine.{Machine}
 use Rattle.sip_timers.specs.declared.letter.Letter.{Letter}
-use Rattle.sip_server.specs.Action.{start_of, sends_answer}
-use Rattle.sip_server.specs.declared.actions.Action.{Action}
-use Rattle.sip_server.specs.declared.actions.Action.TheVariants.{Send, SendAgain, Up, Start}
+use Rattle.sip_server.specs.ServerAction.{start_of, sends_answer}
+use Rattle.sip_server.specs.declared.actions.ServerAction.{ServerAction}
+use Rattle.sip_server.specs.declared.actions.ServerAction.TheVariants.{Send, SendAgain, Up, Start}
 use Rattle.sip_timers.specs.declared.letter.Letter.TheVariants.{G, H, I, L}
 use Rattle.sip_server.specs.declared.server_invite.ServerInvite.{ServerInvite}
 use Rattle.sip_server.specs.declared.server_invite.ServerInvite.TheVariants.{Proceeding, Completed, Confirmed, Accepted, Terminated}
@@ -37,7 +37,7 @@ heard (Fired letter) = fired letter
 -- the rows of the figures; what has no row changes nothing
 -- `Proceeding true`: the core has answered 100 to 199; `Completed g`: G was last set to g. In this project's
 -- profile nobody is told when H fires, and a fault of a sending changes nothing.
-abbrev pub row : ServerInvite → Heard → ServerInvite × List Action
+abbrev pub row : ServerInvite → Heard → ServerInvite × List ServerAction
 row (Proceeding true) invite = (Proceeding true, SendAgain ∷ [])
 row (Proceeding answered) provisional = (Proceeding true, Send ∷ [])
 row (Proceeding answered) success = (Accepted, Send ∷ Start L (64 * T1) ∷ [])
@@ -53,7 +53,7 @@ row Accepted (fired L) = (Terminated, [])
 row state _ = (state, [])
 
 -- the next state, and what is to be done
-abbrev pub server_invite : ServerInvite → ServerInviteInput → ServerInvite × List Action
+abbrev pub server_invite : ServerInvite → ServerInviteInput → ServerInvite × List ServerAction
 server_invite state input = row state (heard input)
 
 -- the timers that run in a state; another is stopped when the state is entered
@@ -65,7 +65,7 @@ runs Accepted L = true
 runs _ _ = false
 
 -- the machine of these
-abbrev pub invite_machine : Machine ServerInvite ServerInviteInput Action
+abbrev pub invite_machine : Machine ServerInvite ServerInviteInput ServerAction
 invite_machine = record { on = server_invite; fired = Fired; runs = runs; start_of = start_of; sends = sends_answer }
 
 -- what Timer G was last set to, which the state holds in which it runs (RFC 3261 17.2.1)

@@ -4,9 +4,9 @@ use Rattle.std.specs.Prelude.{◌*◌, ℕ, ◌+◌, Bool, true, false, ◌&&◌
 use Rattle.sip_timers.specs.Intervals.{T1}
 use Rattle.sip_timers.specs.Machine.{Machine}
 use Rattle.sip_timers.specs.declared.letter.Letter.{Letter}
-use Rattle.sip_server.specs.Action.{start_of, sends_answer}
-use Rattle.sip_server.specs.declared.actions.Action.{Action}
-use Rattle.sip_server.specs.declared.actions.Action.TheVariants.{Send, SendAgain, Start}
+use Rattle.sip_server.specs.ServerAction.{start_of, sends_answer}
+use Rattle.sip_server.specs.declared.actions.ServerAction.{ServerAction}
+use Rattle.sip_server.specs.declared.actions.ServerAction.TheVariants.{Send, SendAgain, Start}
 use Rattle.sip_timers.specs.declared.letter.Letter.TheVariants.{J}
 use Rattle.sip_server.specs.declared.server_other.ServerOther.{ServerOther}
 use Rattle.sip_server.specs.declared.server_other.ServerOther.TheVariants.{Trying, Proceeding, Completed, Terminated}
@@ -32,7 +32,7 @@ heard (Fired letter) = fired letter
 
 -- the rows of the figure; what has no row changes nothing, nor does a fault of a sending (this project's
 -- profile)
-abbrev pub row : ServerOther → Heard → ServerOther × List Action
+abbrev pub row : ServerOther → Heard → ServerOther × List ServerAction
 row Trying provisional = (Proceeding, Send ∷ [])
 row Proceeding provisional = (Proceeding, Send ∷ [])
 row Proceeding request = (Proceeding, SendAgain ∷ [])
@@ -43,7 +43,7 @@ row Completed (fired J) = (Terminated, [])
 row state _ = (state, [])
 
 -- the next state, and what is to be done
-abbrev pub server_other : ServerOther → ServerOtherInput → ServerOther × List Action
+abbrev pub server_other : ServerOther → ServerOtherInput → ServerOther × List ServerAction
 server_other state input = row state (heard input)
 
 -- the timers that run in a state; another is stopped when the state is entered
@@ -52,11 +52,11 @@ runs Completed J = true
 runs _ _ = false
 
 -- the machine of these
-abbrev pub other_machine : Machine ServerOther ServerOtherInput Action
+abbrev pub other_machine : Machine ServerOther ServerOtherInput ServerAction
 other_machine = record { on = server_other; fired = Fired; runs = runs; start_of = start_of; sends = sends_answer }
 
 -- 1 where a final answer is sent for the first time
-abbrev pub final_sent : Heard → List Action → ℕ
+abbrev pub final_sent : Heard → List ServerAction → ℕ
 final_sent final (Send ∷ actions) = 1
 final_sent _ _ = 0
 

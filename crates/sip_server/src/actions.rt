@@ -2,7 +2,7 @@ use sip_timers::Letter;
 
 /// What is to be done for a server transaction.
 #[derive(Clone, Copy, Default)]
-pub enum Action {
+pub enum ServerAction {
     /// Send the answer that the core hands down.
     #[default]
     Send,

@@ -3,7 +3,7 @@ ghost use Rattle.sip_timers.specs.declared.letter.Letter.TheVariants.{J};
 ghost use Rattle.sip_timers.specs.Lives.{left_alone, life, sends};
 ghost use Rattle.sip_server.specs.ServerInvite.{server_invite, invite_machine};
 ghost use Rattle.sip_server.specs.ServerOther.{server_other, other_machine};
-ghost use Rattle.sip_server.specs.declared.actions.Action.TheVariants.{Send, SendAgain, Start};
+ghost use Rattle.sip_server.specs.declared.actions.ServerAction.TheVariants.{Send, SendAgain, Start};
 ghost use Rattle.sip_server.specs.declared.server_invite.ServerInvite.TheVariants.{Proceeding, Terminated};
 ghost use Rattle.sip_server.specs.declared.server_invite.ServerInviteInput.TheVariants.{Answer};
 ghost use Rattle.sip_server.specs.declared.server_other.ServerOther.TheVariants.{Trying, Completed, Terminated as Over};

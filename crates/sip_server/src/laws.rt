@@ -3,7 +3,7 @@ ghost use Rattle.std.specs.List.{list_any};
 ghost use Rattle.sip_timers.specs.declared.letter.Letter.TheVariants.{G, H, I, J, L};
 ghost use Rattle.sip_timers.specs.Machine.{IsOneOf, KeepsTimers};
 ghost use Rattle.sip_timers.specs.Resends.{SendsAgainBy, NoneSendsByTime};
-ghost use Rattle.sip_server.specs.Action.{sends_again, copy_actions};
+ghost use Rattle.sip_server.specs.ServerAction.{sends_again, copy_actions};
 ghost use Rattle.sip_server.specs.ServerInvite.{invite_machine, wait_g, answers_copy};
 ghost use Rattle.sip_server.specs.ServerOther.{server_other, other_machine, finals_sent, answers_copy as answers_other_copy};
 ghost use Rattle.sip_server.specs.declared.server_invite.ServerInviteInput.TheVariants.{Invite, Fired};

@@ -13,6 +13,6 @@ pub mod laws;
 mod server_invite;
 mod server_other;
 
-pub use actions::Action;
+pub use actions::ServerAction;
 pub use server_invite::{ServerInvite, ServerInviteInput};
 pub use server_other::{ServerOther, ServerOtherInput};

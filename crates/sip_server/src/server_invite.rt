@@ -3,7 +3,7 @@ ghost use Rattle.std.specs.Prelude.{◌≡◌, false};
 ghost use Rattle.sip_server.specs.ServerInvite.{server_invite, runs};
 ghost use Rattle.sip_server.specs.declared.server_invite.ServerInvite.TheVariants.{Proceeding};
 
-use crate::actions::Action;
+use crate::actions::ServerAction;
 use sip_timers::{Actions, Letter, T1, T2, T4, doubled};
 
 /// A server transaction of an INVITE (RFC 3261 17.2.1, with the Accepted state of RFC 6026 7.1).
@@ -78,10 +78,10 @@ impl ServerInvite {
     }
 
     /// The next state, and what is to be done. What the figures don't name changes nothing.
-    pub fn on(self, input: ServerInviteInput) -> (ServerInvite, Actions<Action>)
+    pub fn on(self, input: ServerInviteInput) -> (ServerInvite, Actions<ServerAction>)
         ensures { result ≡ server_invite self input }
     {
-        use Action::{Send, SendAgain, Start, Up};
+        use ServerAction::{Send, SendAgain, Start, Up};
         use ServerInvite::{Accepted, Completed, Confirmed, Proceeding, Terminated};
         use ServerInviteInput::{Ack, Answer, Fired, Invite};
         match (self, input) {

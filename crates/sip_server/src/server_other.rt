@@ -2,7 +2,7 @@ ghost use Rattle.std.specs.Prelude.{◌≡◌};
 ghost use Rattle.sip_server.specs.ServerOther.{server_other, runs};
 ghost use Rattle.sip_server.specs.declared.server_other.ServerOther.TheVariants.{Trying};
 
-use crate::actions::Action;
+use crate::actions::ServerAction;
 use sip_timers::{Actions, Letter, T1};
 
 /// A server transaction of a request that isn't an INVITE (RFC 3261 17.2.2).
@@ -65,21 +65,21 @@ impl ServerOther {
     }
 
     /// The next state, and what is to be done. What the figure doesn't name changes nothing.
-    pub fn on(self, input: ServerOtherInput) -> (ServerOther, Actions<Action>)
+    pub fn on(self, input: ServerOtherInput) -> (ServerOther, Actions<ServerAction>)
         ensures { result ≡ server_other self input }
     {
         use ServerOther::{Completed, Proceeding, Terminated, Trying};
         use ServerOtherInput::{Answer, Fired, Request};
         match (self, input) {
             (Trying | Proceeding, Answer(101..=199)) => {
-                (Proceeding, Actions::of(&[Action::Send]))
+                (Proceeding, Actions::of(&[ServerAction::Send]))
             }
-            (Proceeding, Request) => (Proceeding, Actions::of(&[Action::SendAgain])),
+            (Proceeding, Request) => (Proceeding, Actions::of(&[ServerAction::SendAgain])),
             (Trying | Proceeding, Answer(200..=699)) => (
                 Completed,
-                Actions::of(&[Action::Send, Action::Start(Letter::J, 64 * T1)]),
+                Actions::of(&[ServerAction::Send, ServerAction::Start(Letter::J, 64 * T1)]),
             ),
-            (Completed, Request) => (Completed, Actions::of(&[Action::SendAgain])),
+            (Completed, Request) => (Completed, Actions::of(&[ServerAction::SendAgain])),
             (Completed, Fired(Letter::J)) => (Terminated, Actions::of(&[])),
             (state, _) => (state, Actions::of(&[])),
         }

@@ -3,7 +3,7 @@ use Rattle.std.proofs.Common.{◌≡◌, ℕ, Bool, List, Option, ap, ◌∙◌}
 use Rattle.sip_uri.specs.declared.addr.Addr.{Addr}
 use Rattle.sip_message_form.specs.declared.message.Message.{Message}
 use Rattle.sip_best.specs.declared.final_answer.Final.{Final}
-use Rattle.sip_transaction_table.specs.declared.key.Key.{Key}
+use Rattle.sip_transaction_table.specs.declared.key.TransactionKey.{TransactionKey}
 use Rattle.sip_state.specs.KeptRequest.{KeptRequest}
 use Rattle.sip_state.specs.declared.resend.Resend.{Resend}
 use Rattle.sip_state.specs.declared.branch.Phase.{Phase}
@@ -45,7 +45,7 @@ branch_alike a b number is_cancel wants_cancel uri address phase final_to again 
     ∙ ap (λ (r : Resend). branch_of b.number b.is_cancel b.wants_cancel b.uri b.address b.phase b.final_to r) again
 
 -- an open request of these parts
-abbrev request_of : Key → KeptRequest → ℕ → ℕ → Option LastAnswer → Side → Resend → List Final → List Branch → OpenRequest
+abbrev request_of : TransactionKey → KeptRequest → ℕ → ℕ → Option LastAnswer → Side → Resend → List Final → List Branch → OpenRequest
 request_of key request number arrived_at answer side again finals branches = record {
   key = key;
   request = request;
@@ -61,7 +61,7 @@ request_of key request number arrived_at answer side again finals branches = rec
 pub request_alike : (a b : OpenRequest) → a.key ≡ b.key → a.request ≡ b.request → a.number ≡ b.number → a.arrived_at ≡ b.arrived_at → a.answer ≡ b.answer
     → a.side ≡ b.side → a.again ≡ b.again → a.finals ≡ b.finals → a.branches ≡ b.branches → a ≡ b
 request_alike a b key request number arrived_at answer side again finals branches =
-    ap (λ (k : Key). request_of k a.request a.number a.arrived_at a.answer a.side a.again a.finals a.branches) key
+    ap (λ (k : TransactionKey). request_of k a.request a.number a.arrived_at a.answer a.side a.again a.finals a.branches) key
     ∙ ap (λ (r : KeptRequest). request_of b.key r a.number a.arrived_at a.answer a.side a.again a.finals a.branches) request
     ∙ ap (λ (n : ℕ). request_of b.key b.request n a.arrived_at a.answer a.side a.again a.finals a.branches) number
     ∙ ap (λ (n : ℕ). request_of b.key b.request b.number n a.answer a.side a.again a.finals a.branches) arrived_at

@@ -6,7 +6,7 @@ use Rattle.std.specs.Str.{bytes_eq}
 use Rattle.sip_uri.specs.declared.aor.Aor.{Aor}
 use Rattle.sip_uri.specs.declared.addr.Addr.{Addr}
 use Rattle.sip_message_form.specs.declared.message.Message.{Message}
-use Rattle.sip_transaction_table.specs.declared.key.Key.{Key}
+use Rattle.sip_transaction_table.specs.declared.key.TransactionKey.{TransactionKey}
 use Rattle.sip_digest.specs.declared.nonces.Nonce.{Nonce}
 use Rattle.sip_digest.specs.Credential.{Credential}
 use Rattle.sip_digest.specs.Nonces.{worth_of}
@@ -74,7 +74,7 @@ pub credentials_alike : (left right : ProxyState) (a1 : List ℕ) (c : Credentia
     → worth_of left.nonces a1 c left.moment ≡ worth_of right.nonces a1 c right.moment
 credentials_alike left right a1 c h = ap₂ (λ (nonces : List Nonce) (moment : ℕ). worth_of nonces a1 c moment) h.nonces h.moment
 
-pub requests_alike : (left right : ProxyState) (key : Key) → SameState left right → find (has_key key) left.requests ≡ find (has_key key) right.requests
+pub requests_alike : (left right : ProxyState) (key : TransactionKey) → SameState left right → find (has_key key) left.requests ≡ find (has_key key) right.requests
 requests_alike left right key h = ap (find (has_key key)) h.requests
 
 pub in_dialog_alike : (left right : ProxyState) (id : DialogId) (address : Addr) → SameState left right

@@ -15,9 +15,9 @@ use Rattle.sip_hops.specs.declared.host_address.HostAddress.{HostAddress}
 use Rattle.sip_hops.specs.HostAddress.{is_by_udp, port_or_default, address_at, address_of}
 use Rattle.sip_dialog.specs.Addresses.{item_in, address_by, address_in, addresses_in}
 use Rattle.sip_dialog.specs.DialogId.{id_of}
-use Rattle.sip_context_places.specs.declared.route_facts.Place.{Place}
+use Rattle.sip_route_facts.specs.declared.route_facts.HostPort.{HostPort}
 use Rattle.sip_state.specs.Names.{names_of, names_in, dialog_by}
-use Rattle.sip_context_places.specs.Given.{place_by, place_in, places_in, address_there}
+use Rattle.sip_route_facts.specs.ContactHostPorts.{host_port_by, host_port_in, host_ports_in, address_there}
 
 -- ---- its dialog
 
@@ -37,26 +37,26 @@ there_by rows host true None = refl
 there_by rows host true (Some port) = refl
 there_by rows host false port = refl
 
-uri_there : (rows : List HostAddress) (uri : AnyUri) → option_and_then (address_there rows) (place_by uri) ≡ address_by (address_of rows) uri
+uri_there : (rows : List HostAddress) (uri : AnyUri) → option_and_then (address_there rows) (host_port_by uri) ≡ address_by (address_of rows) uri
 uri_there rows (Sip uri) = there_by rows uri.host (is_by_udp uri) (port_or_default uri.port)
 uri_there rows (Other text) = refl
 
-item_there : (rows : List HostAddress) (o : Option NameAddr) → option_and_then (address_there rows) (option_and_then (λ item. place_by item.uri) o)
+item_there : (rows : List HostAddress) (o : Option NameAddr) → option_and_then (address_there rows) (option_and_then (λ item. host_port_by item.uri) o)
     ≡ option_and_then (λ item. address_by (address_of rows) item.uri) o
 item_there rows None = refl
 item_there rows (Some item) = uri_there rows item.uri
 
-field_there : (rows : List HostAddress) (field : Field) → option_and_then (address_there rows) (place_in field) ≡ address_in (address_of rows) field
+field_there : (rows : List HostAddress) (field : Field) → option_and_then (address_there rows) (host_port_in field) ≡ address_in (address_of rows) field
 field_there rows field = item_there rows (item_in field)
 
-front : (rows : List HostAddress) (o : Option Place) (places : List Place) (a : Option Addr) (addresses : List Addr) → option_and_then (address_there rows) o ≡ a
+front : (rows : List HostAddress) (o : Option HostPort) (places : List HostPort) (a : Option Addr) (addresses : List Addr) → option_and_then (address_there rows) o ≡ a
     → filter_map (address_there rows) places ≡ addresses
     → filter_map (address_there rows) (cons_option o places) ≡ cons_option a addresses
 front rows None places a addresses is rest = rest ∙ ap (λ (o : Option Addr). cons_option o addresses) is
 front rows (Some place) places a addresses is rest = ap (λ (o : Option Addr). cons_option o (filter_map (address_there rows) places)) is
     ∙ ap (λ (w : List Addr). cons_option a w) rest
 
-pub addresses_are : (rows : List HostAddress) (fields : List Field) → filter_map (address_there rows) (places_in fields) ≡ addresses_in (address_of rows) fields
+pub addresses_are : (rows : List HostAddress) (fields : List Field) → filter_map (address_there rows) (host_ports_in fields) ≡ addresses_in (address_of rows) fields
 addresses_are rows [] = refl
-addresses_are rows (field ∷ fields) = front rows (place_in field) (places_in fields) (address_in (address_of rows) field) (addresses_in (address_of rows) fields)
+addresses_are rows (field ∷ fields) = front rows (host_port_in field) (host_ports_in fields) (address_in (address_of rows) field) (addresses_in (address_of rows) fields)
     (field_there rows field) (addresses_are rows fields)

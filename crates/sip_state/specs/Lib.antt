@@ -7,7 +7,7 @@ pub mod TopVia
 pub mod KeptRequest
 pub mod Names
 pub mod Tail
-pub mod Heard
+pub mod ReadOnce
 pub mod AnswerText
 pub use Rattle.sip_config_types.specs as config_types
 pub use Rattle.sip_transaction_table.specs as transaction_table

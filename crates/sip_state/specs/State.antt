@@ -4,7 +4,7 @@ use Rattle.std.specs.Option.{option_to_list}
 use Rattle.std.specs.List.{flat_map, filter_map, list_all}
 use Rattle.std.specs.Str.{bytes_eq}
 use Rattle.sip_timers.specs.Intervals.{T1}
-use Rattle.sip_transaction_table.specs.declared.key.Key.{Key}
+use Rattle.sip_transaction_table.specs.declared.key.TransactionKey.{TransactionKey}
 use Rattle.sip_transaction_table.specs.Key.{same_key}
 use Rattle.sip_state.specs.declared.branch.Phase.{Phase}
 use Rattle.sip_state.specs.declared.branch.Phase.TheVariants.{Unheard, Heard, Cancelled, Done, Ended}
@@ -97,7 +97,7 @@ abbrev pub with_one_more : OpenRequest → List OpenRequest → List OpenRequest
 with_one_more r requests = requests ++ r ∷ []
 
 -- whether a request has this key (RFC 3261 17.2.3)
-abbrev pub has_key : Key → OpenRequest → Bool
+abbrev pub has_key : TransactionKey → OpenRequest → Bool
 has_key key r = same_key r.key key
 
 -- ---- statuses (RFC 3261 7.2)

@@ -1,7 +1,7 @@
 ghost use Rattle.std.specs.Prelude.{◌≡◌, ℕ, Bool, true, List, find, Some, None};
 ghost use Rattle.sip_uri.specs.declared.aor.Aor.{Aor};
 ghost use Rattle.sip_uri.specs.declared.addr.Addr.{Addr};
-ghost use Rattle.sip_transaction_table.specs.declared.key.Key.{Key};
+ghost use Rattle.sip_transaction_table.specs.declared.key.TransactionKey.{TransactionKey};
 ghost use Rattle.sip_digest.specs.Credential.{Credential};
 ghost use Rattle.sip_digest.specs.Nonces.{worth_of};
 ghost use Rattle.sip_location.specs.Binding.{live};
@@ -33,7 +33,7 @@ pub fn same_states_answer_alike()
         ≡ live aor right.moment right.bindings }
     ensures credentials { (left right : ProxyState) (a1 : List ℕ) (c : Credential) → SameState left right
         → worth_of left.nonces a1 c left.moment ≡ worth_of right.nonces a1 c right.moment }
-    ensures requests { (left right : ProxyState) (key : Key) → SameState left right → find (has_key key) left.requests
+    ensures requests { (left right : ProxyState) (key : TransactionKey) → SameState left right → find (has_key key) left.requests
         ≡ find (has_key key) right.requests }
     ensures dialogs { (left right : ProxyState) (id : DialogId) (address : Addr) → SameState left right
         → is_in_dialog left.moment left.dialogs id address ≡ is_in_dialog right.moment right.dialogs id address }

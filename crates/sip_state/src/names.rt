@@ -12,7 +12,7 @@ use sip_text::Bytes;
 use std::alloc::{AllocError, Global};
 
 /// What names the dialogs of a request (RFC 3261 12). Each of them shares its Call-ID and its From tag.
-pub struct Names {
+pub struct DialogNames {
     pub call_id: Shared<Bytes>,
     /// Empty where From has no tag.
     pub from_tag: Shared<Bytes>,
@@ -20,9 +20,9 @@ pub struct Names {
 }
 
 /// Written out, so that it is proved once and not wherever names are dropped.
-impl Drop for Names {
+impl Drop for DialogNames {
     fn drop(self) {
-        let Names {
+        let DialogNames {
             call_id: _,
             from_tag: _,
             to_tag: _,
@@ -50,7 +50,7 @@ fn to_tag(alloc: Global, parameters: &Parameters<'_>) -> Result<Option<Bytes>, A
     }
 }
 
-impl Names {
+impl DialogNames {
     /// What the core fields of a request say of its dialogs. `AllocError` is the only refusal.
     pub fn of(alloc: Global, core: &CoreFields<'_>) -> Result<Self, AllocError>
         ensures { IfOk result (λ names. names ≡ Spec.names_of core.now) }
@@ -58,7 +58,7 @@ impl Names {
         let call_id = Shared::new(alloc, Bytes::copy(alloc, core.call_id.as_slice())?)?;
         let from_tag = Shared::new(alloc, from_tag(alloc, core.from.parameters())?)?;
         let to_tag = to_tag(alloc, core.to.parameters())?;
-        Ok(Names {
+        Ok(DialogNames {
             call_id,
             from_tag,
             to_tag,
@@ -73,7 +73,7 @@ impl Names {
         let call_id = id.call_id.clone()?;
         let from_tag = id.from_tag.clone()?;
         let to_tag = Bytes::copy(alloc, id.to_tag.as_slice())?;
-        Ok(Names {
+        Ok(DialogNames {
             call_id,
             from_tag,
             to_tag: Some(to_tag),
@@ -83,11 +83,11 @@ impl Names {
 
 /// What names the dialogs of a request, if its core fields are read.
 /// It is there for what is kept of a request that is answered here, of which no step asks it.
-pub(crate) fn names_in(alloc: Global, request: &View<'_>) -> Result<Option<Names>, AllocError>
+pub(crate) fn names_in(alloc: Global, request: &View<'_>) -> Result<Option<DialogNames>, AllocError>
     ensures { IfOk result (λ names. names ≡ Spec.names_in request.now) }
 {
     match core_of(alloc, request) {
-        Ok(core) => Ok(Some(Names::of(alloc, &core)?)),
+        Ok(core) => Ok(Some(DialogNames::of(alloc, &core)?)),
         Err(HeaderError::NoMemory) => Err(AllocError),
         Err(_) => Ok(None),
     }
@@ -97,8 +97,8 @@ pub(crate) fn names_in(alloc: Global, request: &View<'_>) -> Result<Option<Names
 pub(crate) fn names_by(
     alloc: Global,
     request: &View<'_>,
-    made: Option<Names>,
-) -> Result<Option<Names>, AllocError>
+    made: Option<DialogNames>,
+) -> Result<Option<DialogNames>, AllocError>
     requires { Spec.AreNames request.now made }
     ensures { IfOk result (λ names. names ≡ Spec.names_in request.now) }
 {
@@ -109,7 +109,7 @@ pub(crate) fn names_by(
 }
 
 /// The dialog with a tag of To.
-fn id_to(alloc: Global, names: &Names, to_tag: &[u8]) -> Result<DialogId, AllocError>
+fn id_to(alloc: Global, names: &DialogNames, to_tag: &[u8]) -> Result<DialogId, AllocError>
     ensures { IfOk result (λ id. id ≡ record { call_id = names.now.call_id; from_tag = names.now.from_tag; to_tag = to_tag.now }) }
 {
     let call_id = names.call_id.clone()?;
@@ -123,7 +123,7 @@ fn id_to(alloc: Global, names: &Names, to_tag: &[u8]) -> Result<DialogId, AllocE
 }
 
 /// Whether the request names a dialog.
-pub(crate) fn names_dialog(names: &Option<Names>) -> bool
+pub(crate) fn names_dialog(names: &Option<DialogNames>) -> bool
     ensures { result ≡ is_some (Spec.dialog_by names.now) }
 {
     match names {
@@ -135,7 +135,7 @@ pub(crate) fn names_dialog(names: &Option<Names>) -> bool
 /// The dialog that the request names, if its To has a tag.
 pub(crate) fn dialog_by(
     alloc: Global,
-    names: &Option<Names>,
+    names: &Option<DialogNames>,
 ) -> Result<Option<DialogId>, AllocError>
     ensures { IfOk result (λ id. id ≡ Spec.dialog_by names.now) }
 {
@@ -151,7 +151,7 @@ pub(crate) fn dialog_by(
 /// The dialog that an answer with a tag of To names.
 pub(crate) fn dialog_to(
     alloc: Global,
-    names: &Option<Names>,
+    names: &Option<DialogNames>,
     to_tag: &[u8],
 ) -> Result<Option<DialogId>, AllocError>
     ensures { IfOk result (λ id. id ≡ Spec.dialog_to to_tag.now names.now) }

@@ -1,16 +1,16 @@
 ghost use Rattle.std.specs.Prelude.{IfOk};
-ghost use Rattle.sip_state.specs.Heard.{AreGiven, IsOnward};
+ghost use Rattle.sip_state.specs.ReadOnce.{AreGiven, IsOnward};
 ghost use Rattle.sip_state.specs.Names.{AreNames};
 ghost use Rattle.sip_state.specs.Tail.{IsTail};
 ghost use Rattle.sip_state.specs.TopVia.{IsTopVia};
 
-use crate::names::{Names, names_by};
+use crate::names::{DialogNames, names_by};
 use crate::tail::Tail;
 use crate::top_via::TopVia;
 use sip_base::Shared;
-use sip_context_places::{Place, RouteFacts, places_in};
 use sip_message_form::{View, ViewStart};
 use sip_route::Own;
+use sip_route_facts::{HostPort, RouteFacts, host_ports_in};
 use sip_text::Items;
 use std::alloc::{AllocError, Global};
 
@@ -19,9 +19,9 @@ use std::alloc::{AllocError, Global};
 pub(crate) struct Onward {
     pub(crate) routes: RouteFacts,
     /// What names its dialogs, if its core fields are read.
-    pub(crate) names: Option<Names>,
+    pub(crate) names: Option<DialogNames>,
     /// Where its Contact and Record-Route lead, if it is an INVITE: its answers tell dialogs of them.
-    pub(crate) given: Option<Items<Place>>,
+    pub(crate) given: Option<Items<HostPort>>,
     /// What its packets have in common.
     pub(crate) tail: Tail,
 }
@@ -35,13 +35,13 @@ fn is_invite(request: &View<'_>) -> bool {
 }
 
 /// Where Contact and Record-Route of an INVITE lead.
-fn given_by(alloc: Global, request: &View<'_>) -> Result<Option<Items<Place>>, AllocError>
+fn given_by(alloc: Global, request: &View<'_>) -> Result<Option<Items<HostPort>>, AllocError>
     ensures { IfOk result (λ given. AreGiven request.now given) }
 {
     if !is_invite(request) {
         return Ok(None);
     }
-    Ok(Some(places_in(alloc, request.fields().as_slice())?))
+    Ok(Some(host_ports_in(alloc, request.fields().as_slice())?))
 }
 
 impl Onward {
@@ -54,7 +54,7 @@ impl Onward {
         realm: &[u8],
         request: &View<'_>,
         via: &TopVia,
-        names: Option<Names>,
+        names: Option<DialogNames>,
     ) -> Result<Shared<Self>, AllocError>
         requires names { AreNames request.now names }
         requires via { IsTopVia request.now via.now }

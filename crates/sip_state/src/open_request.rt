@@ -2,15 +2,15 @@
 //! What changes it is in `sip_context`, its timers are in `sip_request`.
 ghost use Rattle.std.specs.Prelude.{◌≡◌, true};
 
-use crate::Heard;
+use crate::KeptRequest;
 use crate::answer_text::AnswerText;
 use crate::branch::Branch;
+use crate::kept_answer::KeptAnswer;
 use crate::resend::Resend;
-use crate::written::Written;
 use sip_base::Shared;
 use sip_best::Final;
 use sip_text::{Items, same_bytes};
-use sip_transaction_table::{Key, same_key};
+use sip_transaction_table::{TransactionKey, same_key};
 use sip_uri::Addr;
 
 /// How far the answering side of a request is, with its deadline in milliseconds: its server transaction (RFC 3261 17.2;
@@ -66,9 +66,9 @@ pub struct LastAnswer {
 /// An open request. What many of its states have in common is shared: a clone copies its branches and its numbers, and no text.
 #[derive(Clone)]
 pub struct OpenRequest {
-    pub key: Shared<Key>,
+    pub key: Shared<TransactionKey>,
     /// The request as it came, and where it came from.
-    pub request: Shared<Heard>,
+    pub request: Shared<KeptRequest>,
     /// The number of the datagram that brought it.
     pub number: u64,
     /// When it came, in milliseconds.
@@ -221,6 +221,6 @@ impl Drop for OpenRequest {
 #[derive(Drop)]
 pub struct Upward {
     pub status: u16,
-    pub message: Written,
+    pub message: KeptAnswer,
     pub target: Option<Addr>,
 }

@@ -5,7 +5,7 @@ use Rattle.std.specs.Option.{option_and_then, unwrap_or}
 use Rattle.std.specs.List.{list_all, list_any}
 use Rattle.sip_text.specs.Words.{is_same_text}
 use Rattle.sip_uri.specs.declared.addr.Addr.{Addr}
-use Rattle.sip_uri.specs.declared.parameters.Parameter.{Parameter}
+use Rattle.sip_uri.specs.declared.parameters.UriParameter.{UriParameter}
 use Rattle.sip_uri.specs.declared.uri.Uri.{Uri}
 use Rattle.sip_uri.specs.Port.{port_value, port_number}
 use Rattle.sip_uri.specs.Reading.{reading_of}
@@ -41,10 +41,10 @@ none_kept test keep (x ∷ xs) e = by_test (keep x) (neither (test x) (list_any 
     by_test true fails others = rw (fails, others) refl
     by_test false fails others = others
 
-abbrev same_name : Parameter → Parameter → Bool
+abbrev same_name : UriParameter → UriParameter → Bool
 same_name p = λ q. is_same_text p.name q.name
 
-names_kept : (keep : Parameter → Bool) (ps : List Parameter) → names_differ ps ≡ true → names_differ (filter keep ps) ≡ true
+names_kept : (keep : UriParameter → Bool) (ps : List UriParameter) → names_differ ps ≡ true → names_differ (filter keep ps) ≡ true
 names_kept keep [] e = refl
 names_kept keep (p ∷ ps) e =
     let both : (not (list_any (same_name p) ps) ≡ true) × (names_differ ps ≡ true) = and_both (not (list_any (same_name p) ps)) (names_differ ps) e in

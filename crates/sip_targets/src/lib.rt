@@ -1,7 +1,7 @@
 //! The targets of a request that policy lets through: where it is sent on, by which hop, or why nowhere
 //! (RFC 3261 16.5); and what its Request-URI says for that: the host, the address and the address of record.
 //!
-//! - Used: `sip_core`, which reads the Request-URI before the checks, and makes targets once policy let a request through.
+//! - Used: `sip_verdict`, which reads the Request-URI before the checks, and makes targets once policy let a request through.
 //! - Not here: the branches to these targets (`sip_forwarding`).
 //! - Tried: worked examples in `src/examples.rt`, as contracts that compute.
 //!

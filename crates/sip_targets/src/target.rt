@@ -10,7 +10,7 @@ use crate::target_uri::TargetUri;
 use crate::uri_address::address_in;
 use sip_hops::Hops;
 use sip_text::{Bytes, Items};
-use sip_uri::{Addr, Parameter, Uri, UriError, parse_uri, write_uri};
+use sip_uri::{Addr, Uri, UriError, UriParameter, parse_uri, write_uri};
 use sip_uri_equality::says_same_no_case;
 use sip_uri_ref::UriRef;
 use std::alloc::{AllocError, Global};
@@ -25,20 +25,23 @@ pub struct Target {
 }
 
 /// Whether a parameter is the `method` parameter, escapes in its name resolved.
-fn is_method(parameter: &Parameter) -> bool
+fn is_method(parameter: &UriParameter) -> bool
     ensures { result ≡ Definitions.is_method parameter.now }
 {
     says_same_no_case(parameter.name.as_slice(), b"method")
 }
 
-fn copied_parameter(parameter: &Parameter) -> Result<Parameter, AllocError>
+fn copied_parameter(parameter: &UriParameter) -> Result<UriParameter, AllocError>
     ensures { IfOk result (λ copy. copy ≡ parameter.now) }
 {
     parameter.clone()
 }
 
 /// Copies of some parameters, without the `method` parameter.
-fn without_method(alloc: Global, parameters: &[Parameter]) -> Result<Items<Parameter>, AllocError>
+fn without_method(
+    alloc: Global,
+    parameters: &[UriParameter],
+) -> Result<Items<UriParameter>, AllocError>
     ensures { IfOk result (λ kept. kept ≡ filter (λ p. not (Definitions.is_method p)) parameters.now) }
 {
     let mut kept = Items::new(alloc);

@@ -4,27 +4,27 @@ use Rattle.std.specs.Prelude.{option_map, ◌&&◌}
 use Rattle.std.specs.Option.{option_and_then}
 use Rattle.std.specs.List.{AllByRecursion, list_all}
 use Rattle.std.proofs.lemmas.List.Folds.{list_all-append}
-use Rattle.sip_text.specs.declared.lists.Place.{Place}
-use Rattle.sip_text.specs.declared.lists.Place.TheVariants.{Outside, Quoted, Escaped, Bracketed}
+use Rattle.sip_text.specs.declared.lists.ListState.{ListState}
+use Rattle.sip_text.specs.declared.lists.ListState.TheVariants.{Outside, Quoted, Escaped, Bracketed}
 use Rattle.sip_text.specs.Lists.{is_blank, trimmed, place_after, is_cut, onto, between_cuts, is_nil, all_trimmed, cut}
 use Rattle.sip_text.proofs.Trims.{Blanks, IsTight, IsSplit, split_of, core_is, tight_of, tight_again}
 
 -- no cut in it from a place on, and it ends outside
-abbrev pub IsOne : Place → List ℕ → Type 0
+abbrev pub IsOne : ListState → List ℕ → Type 0
 IsOne place item = between_cuts place item ≡ Some (item ∷ [])
 
 -- the first from a place on, the others from outside
-abbrev pub AreOnes : Place → List (List ℕ) → Type 0
+abbrev pub AreOnes : ListState → List (List ℕ) → Type 0
 AreOnes place [] = ⊥
 AreOnes place (first ∷ others) = IsOne place first × AllByRecursion (IsOne Outside) others
 
-pub at_cut : (place : Place) (b : ℕ) → is_cut place b ≡ true → place ≡ Outside
+pub at_cut : (place : ListState) (b : ℕ) → is_cut place b ≡ true → place ≡ Outside
 at_cut Outside b is = refl
 at_cut Quoted b is = absurd cc
 at_cut Escaped b is = absurd cc
 at_cut Bracketed b is = absurd cc
 
-ones_cut : (place : Place) (o : Option (List (List ℕ))) (items : List (List ℕ)) → place ≡ Outside → option_map (λ items. [] ∷ items) o ≡ Some items
+ones_cut : (place : ListState) (o : Option (List (List ℕ))) (items : List (List ℕ)) → place ≡ Outside → option_map (λ items. [] ∷ items) o ≡ Some items
     → ((rest : List (List ℕ)) → o ≡ Some rest → AreOnes Outside rest) → AreOnes place items
 ones_cut place None items out e rest_are = absurd cc
 ones_cut place (Some []) items out e rest_are = absurd (rest_are [] refl)
@@ -33,7 +33,8 @@ ones_cut place (Some (first ∷ others)) items out e rest_are =
     let r = rest_are (first ∷ others) refl in
     subst (AreOnes place) is (rw out refl, r)
 
-ones_on : (place : Place) (b : ℕ) (o : Option (List (List ℕ))) (items : List (List ℕ)) → is_cut place b ≡ false → option_map (λ items. onto (b ∷ []) items) o ≡ Some items
+ones_on : (place : ListState) (b : ℕ) (o : Option (List (List ℕ))) (items : List (List ℕ)) → is_cut place b ≡ false
+    → option_map (λ items. onto (b ∷ []) items) o ≡ Some items
     → ((rest : List (List ℕ)) → o ≡ Some rest → AreOnes (place_after place b) rest) → AreOnes place items
 ones_on place b None items not_cut e rest_are = absurd cc
 ones_on place b (Some []) items not_cut e rest_are = absurd (rest_are [] refl)
@@ -43,7 +44,7 @@ ones_on place b (Some (first ∷ others)) items not_cut e rest_are =
     let one : between_cuts place (b ∷ first) ≡ Some ((b ∷ first) ∷ []) = rw (not_cut, r.0) refl in
     subst (AreOnes place) is (one, r.1)
 
-are_ones_nil : (place : Place) (items : List (List ℕ)) → between_cuts place [] ≡ Some items → AreOnes place items
+are_ones_nil : (place : ListState) (items : List (List ℕ)) → between_cuts place [] ≡ Some items → AreOnes place items
 are_ones_nil Outside items e =
     let is : [] ∷ [] ≡ items = cc in
     subst (AreOnes Outside) is (refl, tt)
@@ -51,7 +52,7 @@ are_ones_nil Quoted items e = absurd cc
 are_ones_nil Escaped items e = absurd cc
 are_ones_nil Bracketed items e = absurd cc
 
-either : (place : Place) (b : ℕ) (bs : List ℕ) (items : List (List ℕ)) (t : Bool) → is_cut place b ≡ t → between_cuts place (b ∷ bs) ≡ Some items
+either : (place : ListState) (b : ℕ) (bs : List ℕ) (items : List (List ℕ)) (t : Bool) → is_cut place b ≡ t → between_cuts place (b ∷ bs) ≡ Some items
     → ((rest : List (List ℕ)) → between_cuts Outside bs ≡ Some rest → AreOnes Outside rest)
     → ((rest : List (List ℕ)) → between_cuts (place_after place b) bs ≡ Some rest → AreOnes (place_after place b) rest) → AreOnes place items
 either place b bs items true is e out on =
@@ -61,7 +62,7 @@ either place b bs items false is e out on =
     let one : between_cuts place (b ∷ bs) ≡ option_map (λ items. onto (b ∷ []) items) (between_cuts (place_after place b) bs) = rw is refl in
     ones_on place b (between_cuts (place_after place b) bs) items is (sym one ∙ e) on
 
-pub are_ones : (place : Place) (text : List ℕ) (items : List (List ℕ)) → between_cuts place text ≡ Some items → AreOnes place items
+pub are_ones : (place : ListState) (text : List ℕ) (items : List (List ℕ)) → between_cuts place text ≡ Some items → AreOnes place items
 are_ones place [] items e = are_ones_nil place items e
 are_ones place (b ∷ bs) items e = either place b bs items (is_cut place b) refl e (λ rest h. are_ones Outside bs rest h)
     (λ rest h. are_ones (place_after place b) bs rest h)
@@ -71,16 +72,16 @@ are_ones place (b ∷ bs) items e = either place b bs items (is_cut place b) ref
 is_32_or_9 : (b : ℕ) → is_blank b ≡ true → (b ≡ 32) ⊎ (b ≡ 9)
 is_32_or_9 b e = grind arith
 
-blank_not_cut : (place : Place) (b : ℕ) → is_blank b ≡ true → is_cut place b ≡ false
+blank_not_cut : (place : ListState) (b : ℕ) → is_blank b ≡ true → is_cut place b ≡ false
 blank_not_cut place b e = elim (is_32_or_9 b e) [ inl s ↦ rw s (at_32 place) | inr t ↦ rw t (at_9 place) ]
   where
-    at_32 : (place : Place) → is_cut place 32 ≡ false
+    at_32 : (place : ListState) → is_cut place 32 ≡ false
     at_32 Outside = refl
     at_32 Quoted = refl
     at_32 Escaped = refl
     at_32 Bracketed = refl
 
-    at_9 : (place : Place) → is_cut place 9 ≡ false
+    at_9 : (place : ListState) → is_cut place 9 ≡ false
     at_9 Outside = refl
     at_9 Quoted = refl
     at_9 Escaped = refl
@@ -90,7 +91,7 @@ blank_not_cut place b e = elim (is_32_or_9 b e) [ inl s ↦ rw s (at_32 place) |
 blank_outside : (b : ℕ) → is_blank b ≡ true → place_after Outside b ≡ Outside
 blank_outside b e = elim (is_32_or_9 b e) [ inl s ↦ rw s refl | inr t ↦ rw t refl ]
 
-blank_inside : (place : Place) (b : ℕ) → is_blank b ≡ true → place_after place b ≡ Outside → place ≡ Outside
+blank_inside : (place : ListState) (b : ℕ) → is_blank b ≡ true → place_after place b ≡ Outside → place ≡ Outside
 blank_inside Outside b e h = refl
 blank_inside Quoted b e h = elim (is_32_or_9 b e) [
   | inl s ↦ absurd (quoted_32 (ap (place_after Quoted) (sym s) ∙ h))
@@ -125,25 +126,25 @@ one_tail b bs (Some (x ∷ xs)) e =
     rw (first, others) refl
 
 -- what is one item goes on as one item
-pub one_rest : (place : Place) (b : ℕ) (bs : List ℕ) → is_cut place b ≡ false → IsOne place (b ∷ bs) → IsOne (place_after place b) bs
+pub one_rest : (place : ListState) (b : ℕ) (bs : List ℕ) → is_cut place b ≡ false → IsOne place (b ∷ bs) → IsOne (place_after place b) bs
 one_rest place b bs not_cut e =
     let one : between_cuts place (b ∷ bs) ≡ option_map (λ items. onto (b ∷ []) items) (between_cuts (place_after place b) bs) = rw not_cut refl in
     one_tail b bs (between_cuts (place_after place b) bs) (sym one ∙ e)
 
-pub one_more : (place : Place) (b : ℕ) (bs : List ℕ) → is_cut place b ≡ false → IsOne (place_after place b) bs → IsOne place (b ∷ bs)
+pub one_more : (place : ListState) (b : ℕ) (bs : List ℕ) → is_cut place b ≡ false → IsOne (place_after place b) bs → IsOne place (b ∷ bs)
 one_more place b bs not_cut e = rw (not_cut, e) refl
 
-pub one_nil : (place : Place) → IsOne place [] → place ≡ Outside
+pub one_nil : (place : ListState) → IsOne place [] → place ≡ Outside
 one_nil Outside e = refl
 one_nil Quoted e = absurd cc
 one_nil Escaped e = absurd cc
 one_nil Bracketed e = absurd cc
 
-one_blanks : (place : Place) (bs : List ℕ) → Blanks bs → IsOne place bs → place ≡ Outside
+one_blanks : (place : ListState) (bs : List ℕ) → Blanks bs → IsOne place bs → place ≡ Outside
 one_blanks place [] h e = one_nil place e
 one_blanks place (b ∷ bs) h e = blank_inside place b h.0 (one_blanks (place_after place b) bs h.1 (one_rest place b bs (blank_not_cut place b h.0) e))
 
-pub not_cut_one : (place : Place) (b : ℕ) (bs : List ℕ) (t : Bool) → is_cut place b ≡ t → IsOne place (b ∷ bs) → is_cut place b ≡ false
+pub not_cut_one : (place : ListState) (b : ℕ) (bs : List ℕ) (t : Bool) → is_cut place b ≡ t → IsOne place (b ∷ bs) → is_cut place b ≡ false
 not_cut_one place b bs false is e = is
 not_cut_one place b bs true is e =
     let one : between_cuts place (b ∷ bs) ≡ option_map (λ items. [] ∷ items) (between_cuts Outside bs) = rw is refl in
@@ -153,7 +154,7 @@ not_cut_one place b bs true is e =
     never None e' = cc
     never (Some items) e' = cc
 
-one_front : (place : Place) (cs bs : List ℕ) → Blanks bs → IsOne place (cs ++ bs) → IsOne place cs
+one_front : (place : ListState) (cs bs : List ℕ) → Blanks bs → IsOne place (cs ++ bs) → IsOne place cs
 one_front place [] bs h e = rw (one_blanks place bs h e) refl
 one_front place (c ∷ cs) bs h e =
     let not_cut : is_cut place c ≡ false = not_cut_one place c (cs ++ bs) (is_cut place c) refl e in
@@ -161,7 +162,7 @@ one_front place (c ∷ cs) bs h e =
 
 one_behind : (us cs : List ℕ) → Blanks us → IsOne Outside (us ++ cs) → IsOne Outside cs
 one_behind [] cs h e = e
-one_behind (a ∷ us) cs h e = one_behind us cs h.1 (subst (λ (p : Place). IsOne p (us ++ cs)) (blank_outside a h.0)
+one_behind (a ∷ us) cs h e = one_behind us cs h.1 (subst (λ (p : ListState). IsOne p (us ++ cs)) (blank_outside a h.0)
     (one_rest Outside a (us ++ cs) (blank_not_cut Outside a h.0) e))
 
 pub one_trimmed : (item : List ℕ) → IsOne Outside item → IsOne Outside (trimmed item)
@@ -213,9 +214,9 @@ pass_on p b (Some rest) items h e are =
     let same : onto (b ∷ []) rest ≡ items = cc in
     subst (Pass p) same (pass_onto p b rest h (are rest refl))
 
-pass_either : (p : ℕ → Bool) (place : Place) (b : ℕ) (bs : List ℕ) (items : List (List ℕ)) (t : Bool) → is_cut place b ≡ t → p b ≡ true
+pass_either : (p : ℕ → Bool) (place : ListState) (b : ℕ) (bs : List ℕ) (items : List (List ℕ)) (t : Bool) → is_cut place b ≡ t → p b ≡ true
     → between_cuts place (b ∷ bs) ≡ Some items
-    → ((place : Place) (rest : List (List ℕ)) → between_cuts place bs ≡ Some rest → Pass p rest) → Pass p items
+    → ((place : ListState) (rest : List (List ℕ)) → between_cuts place bs ≡ Some rest → Pass p rest) → Pass p items
 pass_either p place b bs items true is h e are =
     let one : between_cuts place (b ∷ bs) ≡ option_map (λ items. [] ∷ items) (between_cuts Outside bs) = rw is refl in
     pass_cut p (between_cuts Outside bs) items (sym one ∙ e) (are Outside)
@@ -223,7 +224,7 @@ pass_either p place b bs items false is h e are =
     let one : between_cuts place (b ∷ bs) ≡ option_map (λ items. onto (b ∷ []) items) (between_cuts (place_after place b) bs) = rw is refl in
     pass_on p b (between_cuts (place_after place b) bs) items h (sym one ∙ e) (are (place_after place b))
 
-pass_nil : (p : ℕ → Bool) (place : Place) (items : List (List ℕ)) → between_cuts place [] ≡ Some items → Pass p items
+pass_nil : (p : ℕ → Bool) (place : ListState) (items : List (List ℕ)) → between_cuts place [] ≡ Some items → Pass p items
 pass_nil p Outside items e =
     let same : [] ∷ [] ≡ items = cc in
     subst (Pass p) same (refl, tt)
@@ -231,7 +232,7 @@ pass_nil p Quoted items e = absurd cc
 pass_nil p Escaped items e = absurd cc
 pass_nil p Bracketed items e = absurd cc
 
-pass_between : (p : ℕ → Bool) (place : Place) (text : List ℕ) (items : List (List ℕ)) → list_all p text ≡ true → between_cuts place text ≡ Some items → Pass p items
+pass_between : (p : ℕ → Bool) (place : ListState) (text : List ℕ) (items : List (List ℕ)) → list_all p text ≡ true → between_cuts place text ≡ Some items → Pass p items
 pass_between p place [] items h e = pass_nil p place items e
 pass_between p place (b ∷ bs) items h e =
     let both = and_both (p b) (list_all p bs) h in

@@ -3,8 +3,8 @@ use Rattle.std.proofs.Common.{◌≡◌, ◌≢◌, ◌↔◌, ℕ, Bool, true, 
 use Rattle.std.specs.Prelude.{◌==◌, option_map}
 use Rattle.std.specs.Option.{option_and_then}
 use Rattle.std.specs.List.{AllByRecursion, flat_map, join_with_byte}
-use Rattle.sip_text.specs.declared.lists.Place.{Place}
-use Rattle.sip_text.specs.declared.lists.Place.TheVariants.{Outside, Quoted, Escaped, Bracketed}
+use Rattle.sip_text.specs.declared.lists.ListState.{ListState}
+use Rattle.sip_text.specs.declared.lists.ListState.TheVariants.{Outside, Quoted, Escaped, Bracketed}
 use Rattle.sip_text.specs.Lists.{trimmed, place_after, is_cut, onto, between_cuts, is_nil, all_trimmed, cut}
 use Rattle.sip_text.specs.QuotedText.{QuotedPiece, QdText, QuotedPair, IsQuotedPiece, piece_text}
 use Rattle.sip_text.specs.ListText.{ItemPart, OneByte, Quotes, Brackets, IsItemPart, part_text, IsItemText, IsList}
@@ -36,7 +36,7 @@ record InBrackets (text : List ℕ) : Type 0 where
   written : text ≡ bytes ++ 62 ∷ rest
   after : IsItemText rest
 
-abbrev RestAt : Place → List ℕ → Type 0
+abbrev RestAt : ListState → List ℕ → Type 0
 RestAt Outside text = IsItemText text
 RestAt Quoted text = InQuotes text
 RestAt Escaped text = InPair text
@@ -93,19 +93,19 @@ step_bracketed b bs false k r = record {
   after = r.after;
 }
 
-step : (place : Place) (b : ℕ) (bs : List ℕ) → is_cut place b ≡ false → RestAt (place_after place b) bs → RestAt place (b ∷ bs)
+step : (place : ListState) (b : ℕ) (bs : List ℕ) → is_cut place b ≡ false → RestAt (place_after place b) bs → RestAt place (b ∷ bs)
 step Outside b bs not_cut r = step_outside b bs (b == 34) (b == 60) refl refl not_cut r
 step Quoted b bs not_cut r = step_quoted b bs (b == 34) (b == 92) refl refl r
 step Escaped b bs not_cut r = record { next = b; rest = bs; written = refl; after = r }
 step Bracketed b bs not_cut r = step_bracketed b bs (b == 62) refl r
 
-nothing_left : (place : Place) → place ≡ Outside → RestAt place []
+nothing_left : (place : ListState) → place ≡ Outside → RestAt place []
 nothing_left Outside is = record { parts = []; each = tt; written = refl }
 nothing_left Quoted is = absurd cc
 nothing_left Escaped is = absurd cc
 nothing_left Bracketed is = absurd cc
 
-rest_at : (place : Place) (text : List ℕ) → IsOne place text → RestAt place text
+rest_at : (place : ListState) (text : List ℕ) → IsOne place text → RestAt place text
 rest_at place [] e = nothing_left place (one_nil place e)
 rest_at place (b ∷ bs) e =
     let not_cut = not_cut_one place b bs (is_cut place b) refl e in
@@ -152,7 +152,7 @@ text_cut b bs items (Some (first ∷ others)) comma e rest_is =
     let is : [] ∷ first ∷ others ≡ items = cc in
     ap (λ (x : ℕ). x ∷ bs) comma ∙ ap (λ (x : List ℕ). 44 ∷ x) (rest_is (first ∷ others) refl).1 ∙ ap (join_with_byte 44) is
 
-text_on : (b : ℕ) (bs : List ℕ) (place : Place) (items : List (List ℕ)) (o : Option (List (List ℕ))) → option_map (λ items. onto (b ∷ []) items) o ≡ Some items
+text_on : (b : ℕ) (bs : List ℕ) (place : ListState) (items : List (List ℕ)) (o : Option (List (List ℕ))) → option_map (λ items. onto (b ∷ []) items) o ≡ Some items
     → ((rest : List (List ℕ)) → o ≡ Some rest → AreOnes place rest × (bs ≡ join_with_byte 44 rest)) → b ∷ bs ≡ join_with_byte 44 items
 text_on b bs place items None e rest_is = absurd cc
 text_on b bs place items (Some []) e rest_is = absurd (rest_is [] refl).0
@@ -160,8 +160,8 @@ text_on b bs place items (Some (first ∷ others)) e rest_is =
     let is : (b ∷ first) ∷ others ≡ items = cc in
     ap (λ (x : List ℕ). b ∷ x) (rest_is (first ∷ others) refl).1 ∙ sym (joined_first b first others) ∙ ap (join_with_byte 44) is
 
-text_step : (place : Place) (b : ℕ) (bs : List ℕ) (items : List (List ℕ)) (t : Bool) → is_cut place b ≡ t → between_cuts place (b ∷ bs) ≡ Some items
-    → ((p : Place) (rest : List (List ℕ)) → between_cuts p bs ≡ Some rest → bs ≡ join_with_byte 44 rest) → b ∷ bs ≡ join_with_byte 44 items
+text_step : (place : ListState) (b : ℕ) (bs : List ℕ) (items : List (List ℕ)) (t : Bool) → is_cut place b ≡ t → between_cuts place (b ∷ bs) ≡ Some items
+    → ((p : ListState) (rest : List (List ℕ)) → between_cuts p bs ≡ Some rest → bs ≡ join_with_byte 44 rest) → b ∷ bs ≡ join_with_byte 44 items
 text_step Outside b bs items true is e rest_is =
     let one : between_cuts Outside (b ∷ bs) ≡ option_map (λ items. [] ∷ items) (between_cuts Outside bs) = rw is refl in
     text_cut b bs items (between_cuts Outside bs) (eqb-true b 44 is) (sym one ∙ e) (λ rest h. (are_ones Outside bs rest h, rest_is Outside rest h))
@@ -173,13 +173,13 @@ text_step place b bs items false is e rest_is =
     text_on b bs (place_after place b) items (between_cuts (place_after place b) bs) (sym one ∙ e)
     (λ rest h. (are_ones (place_after place b) bs rest h, rest_is (place_after place b) rest h))
 
-text_nil : (place : Place) (items : List (List ℕ)) → between_cuts place [] ≡ Some items → [] ≡ join_with_byte 44 items
+text_nil : (place : ListState) (items : List (List ℕ)) → between_cuts place [] ≡ Some items → [] ≡ join_with_byte 44 items
 text_nil Outside items e = let is : [] ∷ [] ≡ items = cc in ap (join_with_byte 44) is
 text_nil Quoted items e = absurd cc
 text_nil Escaped items e = absurd cc
 text_nil Bracketed items e = absurd cc
 
-text_is : (text : List ℕ) (place : Place) (items : List (List ℕ)) → between_cuts place text ≡ Some items → text ≡ join_with_byte 44 items
+text_is : (text : List ℕ) (place : ListState) (items : List (List ℕ)) → between_cuts place text ≡ Some items → text ≡ join_with_byte 44 items
 text_is [] place items e = text_nil place items e
 text_is (b ∷ bs) place items e = text_step place b bs items (is_cut place b) refl e (λ p rest h. text_is bs p rest h)
 
@@ -188,7 +188,7 @@ put_on : (b : ℕ) (first : List ℕ) (o : Option (List (List ℕ))) → option_
 put_on b first None = refl
 put_on b first (Some items) = refl
 
-one_before : (place : Place) (first more : List ℕ) → IsOne place first → between_cuts place (first ++ 44 ∷ more)
+one_before : (place : ListState) (first more : List ℕ) → IsOne place first → between_cuts place (first ++ 44 ∷ more)
     ≡ option_map (λ items. first ∷ items) (between_cuts Outside more)
 one_before place [] more one = rw (one_nil place one) refl
 one_before place (b ∷ bs) more one =

@@ -3,7 +3,7 @@ use Rattle.std.proofs.Common.{◌≡◌, ℕ, zero, suc, ◌+◌, ◌-◌, ◌<�
 use Rattle.std.proofs.Common.{arith}
 use Rattle.std.specs.Prelude.{◌||◌, ◌==◌, option_map}
 use Rattle.memchr.specs.Find.{NoneBefore, Nowhere, Passes, is_byte, is_byte3}
-use Rattle.sip_text.specs.declared.lists.Place.TheVariants.{Outside, Quoted, Bracketed}
+use Rattle.sip_text.specs.declared.lists.ListState.TheVariants.{Outside, Quoted, Bracketed}
 use Rattle.sip_text.specs.declared.cuts.Quoting.TheVariants.{Inside}
 use Rattle.sip_text.specs.Cuts.{quote_end}
 use Rattle.sip_text.proofs.QuoteEnds.{where_ended}

@@ -4,8 +4,8 @@ use Rattle.std.specs.Prelude.{ℕ, ◌-◌, Bool, true, false, ◌||◌, ◌==�
 use Rattle.std.specs.Prelude.{take_while, Option, Some, None, option_map}
 use Rattle.std.specs.Option.{option_and_then}
 use Rattle.std.specs.Str.{byte}
-use Rattle.sip_text.specs.declared.lists.Place.{Place}
-use Rattle.sip_text.specs.declared.lists.Place.TheVariants.{Outside, Quoted, Escaped, Bracketed}
+use Rattle.sip_text.specs.declared.lists.ListState.{ListState}
+use Rattle.sip_text.specs.declared.lists.ListState.TheVariants.{Outside, Quoted, Escaped, Bracketed}
 
 -- a space or a tab (RFC 3261 25.1, WSP)
 abbrev pub is_blank : ℕ → Bool
@@ -28,14 +28,14 @@ end_trimmed bytes = take (length bytes - length (take_while is_blank (reverse by
 
 -- where the byte after this one stands: a `\` in quoted text takes the next byte along, and a bracket
 -- runs to the next `>` (RFC 3261 25.1)
-abbrev pub place_after : Place → ℕ → Place
+abbrev pub place_after : ListState → ℕ → ListState
 place_after Outside b = if b == byte "\"" then Quoted else if b == byte "<" then Bracketed else Outside
 place_after Quoted b = if b == byte "\"" then Outside else if b == byte "\\" then Escaped else Quoted
 place_after Escaped b = Quoted
 place_after Bracketed b = if b == byte ">" then Outside else Bracketed
 
 -- a comma outside quoted text and angle brackets
-abbrev pub is_cut : Place → ℕ → Bool
+abbrev pub is_cut : ListState → ℕ → Bool
 is_cut Outside b = b == byte ","
 is_cut place b = false
 
@@ -45,7 +45,7 @@ onto front [] = []
 onto front (item ∷ items) = (front ++ item) ∷ items
 
 -- what stands between the cuts, if each quote and each bracket is closed
-abbrev pub between_cuts : Place → List ℕ → Option (List (List ℕ))
+abbrev pub between_cuts : ListState → List ℕ → Option (List (List ℕ))
 between_cuts Outside [] = Some ([] ∷ [])
 between_cuts place [] = None
 between_cuts place (b ∷ bs) =

@@ -14,7 +14,7 @@
 mod buffer;
 mod bytes;
 mod cuts;
-mod distinct;
+mod distinct_texts;
 mod error;
 mod escapes;
 pub mod examples;
@@ -34,7 +34,7 @@ mod words;
 pub use buffer::Buffer;
 pub use bytes::Bytes;
 pub use cuts::{Quoting, first_part, split_outside, split_word};
-pub use distinct::{FEW_TEXTS, all_differ, compare_no_case};
+pub use distinct_texts::{FEW_TEXTS, all_differ, compare_no_case};
 pub use error::TextError;
 pub use escapes::{hex_value, unescape};
 pub use items::Items;

@@ -40,33 +40,33 @@ fn blanks_behind(bytes: &[u8]) -> usize
 /// Where a byte of a list stands: outside, in quoted text, behind a `\` in it, or between `<` and the
 /// next `>`.
 #[derive(Clone, Copy)]
-enum Place {
+enum ListState {
     Outside,
     Quoted,
     Escaped,
     Bracketed,
 }
 
-impl Place {
+impl ListState {
     fn is_cut(self, byte: u8) -> bool
         ensures { result ≡ is_cut self byte }
     {
-        matches!(self, Place::Outside) && byte == b','
+        matches!(self, ListState::Outside) && byte == b','
     }
 
-    fn after(self, byte: u8) -> Place
+    fn after(self, byte: u8) -> ListState
         ensures { result ≡ place_after self byte }
     {
         match (self, byte) {
-            (Place::Outside, b'"') => Place::Quoted,
-            (Place::Outside, b'<') => Place::Bracketed,
-            (Place::Outside, _) => Place::Outside,
-            (Place::Quoted, b'"') => Place::Outside,
-            (Place::Quoted, b'\\') => Place::Escaped,
-            (Place::Quoted, _) => Place::Quoted,
-            (Place::Escaped, _) => Place::Quoted,
-            (Place::Bracketed, b'>') => Place::Outside,
-            (Place::Bracketed, _) => Place::Bracketed,
+            (ListState::Outside, b'"') => ListState::Quoted,
+            (ListState::Outside, b'<') => ListState::Bracketed,
+            (ListState::Outside, _) => ListState::Outside,
+            (ListState::Quoted, b'"') => ListState::Outside,
+            (ListState::Quoted, b'\\') => ListState::Escaped,
+            (ListState::Quoted, _) => ListState::Quoted,
+            (ListState::Escaped, _) => ListState::Quoted,
+            (ListState::Bracketed, b'>') => ListState::Outside,
+            (ListState::Bracketed, _) => ListState::Bracketed,
         }
     }
 }
@@ -101,7 +101,7 @@ pub fn cut_list(alloc: Global, source: &[u8]) -> Result<Vec<Span>, TextError>
     ensures within { IfOk result (λ spans. All (λ span. IsWithin span source.now) spans.items) }
 {
     let mut spans = Vec::new(alloc);
-    let mut place = Place::Outside;
+    let mut place = ListState::Outside;
     let mut start = 0;
     for (at, byte) in source.iter().enumerate() {
         if place.is_cut(*byte) {
@@ -114,7 +114,7 @@ pub fn cut_list(alloc: Global, source: &[u8]) -> Result<Vec<Span>, TextError>
         }
         place = place.after(*byte);
     }
-    let Place::Outside = place else {
+    let ListState::Outside = place else {
         return Err(TextError::Unbalanced);
     };
     let item = trimmed_part(source, start, source.len());

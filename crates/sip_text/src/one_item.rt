@@ -1,6 +1,6 @@
 ghost use Rattle.std.specs.Prelude.{◌≡◌, ◌<◌, true, Some, [], ◌∷◌, length, IfSome};
 ghost use Rattle.sip_text.specs.Lists.{cut, between_cuts};
-ghost use Rattle.sip_text.specs.declared.lists.Place.TheVariants.{Outside};
+ghost use Rattle.sip_text.specs.declared.lists.ListState.TheVariants.{Outside};
 
 use crate::lists::is_space_or_tab;
 use crate::quotes::quote_end;

@@ -8,7 +8,7 @@ use Rattle.slab.specs.Slab.{Slab, get}
 use Rattle.sip_timers.specs.declared.timer.Timer.{Timer}
 use Rattle.sip_timers.specs.Timers.{keys_with, without, KeysDiffer, due_before, AreOrdered}
 use Rattle.sip_timers_wheel.specs.declared.row.RowNumber.{RowNumber}
-use Rattle.sip_timers_wheel.specs.declared.row.Row.{Row}
+use Rattle.sip_timers_wheel.specs.declared.row.TimerRow.{TimerRow}
 use Rattle.sip_timers_wheel.specs.Lists.{earlier, least}
 use Rattle.sip_timers_wheel.specs.Threads.{number_of, last_or, timer_of, IsThread, all_but, all_but_least, timer_at, sooner}
 use Rattle.sip_timers_wheel.proofs.Threads.{keys_with-here, keys_with-more, without_none, split_at}
@@ -148,11 +148,11 @@ least_rising t ts h = by_rest (least ts) (λ u e. least_bound t.due ts u h.0 e)
     by_rest None bound = refl
     by_rest (Some u) bound = rw (bound u refl) refl
 
-stands_of : (rows : Slab Row) (t u : Timer) → timer_at rows (number_of t) ≡ Some t → Some t ≡ Some u → timer_at rows (number_of u) ≡ Some u
+stands_of : (rows : Slab TimerRow) (t u : Timer) → timer_at rows (number_of t) ≡ Some t → Some t ≡ Some u → timer_at rows (number_of u) ≡ Some u
 stands_of rows t u here e =
     let P : Option Timer → Type 0 = λ o. IfSome o (λ v. timer_at rows (number_of v) ≡ Some v) in subst P e here
 
-stands_of_two : (rows : Slab Row) (t u v : Timer) → timer_at rows (number_of t) ≡ Some t → timer_at rows (number_of v) ≡ Some v
+stands_of_two : (rows : Slab TimerRow) (t u v : Timer) → timer_at rows (number_of t) ≡ Some t → timer_at rows (number_of v) ≡ Some v
     → Some (cond (ltb v.due t.due) v t) ≡ Some u → timer_at rows (number_of u) ≡ Some u
 stands_of_two rows t u v first second =
     elim (ltb v.due t.due) as (λ b. Some (cond b v t) ≡ Some u → timer_at rows (number_of u) ≡ Some u) [
@@ -160,20 +160,20 @@ stands_of_two rows t u v first second =
       | false ↦ (λ e. stands_of rows t u first e)
     ]
 
-stands_of_earlier : (rows : Slab Row) (t u : Timer) (o : Option Timer) → timer_at rows (number_of t) ≡ Some t
+stands_of_earlier : (rows : Slab TimerRow) (t u : Timer) (o : Option Timer) → timer_at rows (number_of t) ≡ Some t
     → ((v : Timer) → o ≡ Some v → timer_at rows (number_of v) ≡ Some v) → Some (earlier t o) ≡ Some u → timer_at rows (number_of u) ≡ Some u
 stands_of_earlier rows t u None here later e = stands_of rows t u here e
 stands_of_earlier rows t u (Some v) here later e = stands_of_two rows t u v here (later v refl) e
 
 -- the timer that is due first has its row
-pub least_stands : (rows : Slab Row) (before : Option RowNumber) (ts : List Timer) (after : Option RowNumber) (u : Timer) → IsThread rows before ts after
+pub least_stands : (rows : Slab TimerRow) (before : Option RowNumber) (ts : List Timer) (after : Option RowNumber) (u : Timer) → IsThread rows before ts after
     → least ts ≡ Some u → timer_at rows (number_of u) ≡ Some u
 least_stands rows before [] after u p e = absurd (cc)
 least_stands rows before (t ∷ ts) after u p e =
     stands_of_earlier rows t u (least ts) (ap (λ o. option_map (timer_of t.key) o) p.0) (λ v f. least_stands rows (Some (number_of t)) ts after v p.1 f) e
 
 -- so has the one that is due first when those of a key are taken out
-pub least_stands_without : (rows : Slab Row) (before : Option RowNumber) (ts : List Timer) (after : Option RowNumber) (key : ℕ) (u : Timer)
+pub least_stands_without : (rows : Slab TimerRow) (before : Option RowNumber) (ts : List Timer) (after : Option RowNumber) (key : ℕ) (u : Timer)
     → IsThread rows before ts after → least (without key ts) ≡ Some u → timer_at rows (number_of u) ≡ Some u
 least_stands_without rows before [] after key u p e = absurd (cc)
 least_stands_without rows before (t ∷ ts) after key u p e = by_key (eqb t.key key) (λ v f. least_stands_without rows (Some (number_of t)) ts after key v p.1 f) e
@@ -184,7 +184,7 @@ least_stands_without rows before (t ∷ ts) after key u p e = by_key (eqb t.key 
     by_key false later e = stands_of_earlier rows t u (least (without key ts)) (ap (λ o. option_map (timer_of t.key) o) p.0) later e
 
 -- so has the one that is due first but for one other
-pub second_stands : (rows : Slab Row) (ts : List Timer) (u : Timer) → IsThread rows None ts None → least (all_but_least ts) ≡ Some u
+pub second_stands : (rows : Slab TimerRow) (ts : List Timer) (u : Timer) → IsThread rows None ts None → least (all_but_least ts) ≡ Some u
     → timer_at rows (number_of u) ≡ Some u
 second_stands rows ts u p e = by_least (least ts) e
   where
@@ -195,8 +195,8 @@ second_stands rows ts u p e = by_least (least ts) e
 -- ---- lists in rising order
 
 -- a timer that is due no earlier than the last one goes behind it
-pub AreOrdered-put : (rows : Slab Row) (before : Option RowNumber) (ts : List Timer) (after : Option RowNumber) (t : Timer) → IsThread rows before ts after
-    → AreOrdered ts → ((key : ℕ) (row : Row) → 1 ≤ keys_with key ts → last_or ts before ≡ Some (record { 0 = key }) → get rows key ≡ Some row → row.due ≤ t.due)
+pub AreOrdered-put : (rows : Slab TimerRow) (before : Option RowNumber) (ts : List Timer) (after : Option RowNumber) (t : Timer) → IsThread rows before ts after
+    → AreOrdered ts → ((key : ℕ) (row : TimerRow) → 1 ≤ keys_with key ts → last_or ts before ≡ Some (record { 0 = key }) → get rows key ≡ Some row → row.due ≤ t.due)
     → AreOrdered (ts ++ t ∷ [])
 AreOrdered-put rows before [] after t p h late = (refl, tt)
 AreOrdered-put rows before (u ∷ []) after t p h late =

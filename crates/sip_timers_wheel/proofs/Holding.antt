@@ -9,8 +9,8 @@ use Rattle.sip_timers.specs.declared.timer.Timer.{Timer}
 use Rattle.sip_timers.specs.Timers.{keys_with, without, KeysDiffer, AreOrdered}
 use Rattle.sip_timers.proofs.Placing.{AreOrdered-without}
 use Rattle.sip_timers_wheel.specs.declared.row.RowNumber.{RowNumber}
-use Rattle.sip_timers_wheel.specs.declared.row.Row.{Row}
-use Rattle.sip_timers_wheel.specs.declared.head.Head.{Head}
+use Rattle.sip_timers_wheel.specs.declared.row.TimerRow.{TimerRow}
+use Rattle.sip_timers_wheel.specs.declared.head.ListHead.{ListHead}
 use Rattle.sip_timers_wheel.specs.Lists.{earlier, least}
 use Rattle.sip_timers_wheel.specs.Threads.{number_of, first_or, last_or, timer_of, IsThread, list_of, KnowsLeast, all_but, all_but_least, IsHeld, NextIs, PreviousIs}
 use Rattle.sip_timers_wheel.specs.Threads.{known_least, IsLeastWith, other_than, timer_at, sooner}
@@ -19,11 +19,11 @@ use Rattle.sip_timers_wheel.proofs.Threads.{IsThread-back, IsThread-frame, IsThr
 use Rattle.sip_timers_wheel.proofs.Threads.{KeysDiffer-without, Split, split_at}
 use Rattle.sip_timers_wheel.proofs.Dues.{least-put, least-without, least_is_one, least_rising, least_stands, least_stands_without, second_stands, AreOrdered-put}
 
-pub held_is : (rows : Slab Row) (head : Head) (ts : List Timer) → IsHeld rows head ts → list_of rows head ≡ ts
+pub held_is : (rows : Slab TimerRow) (head : ListHead) (ts : List Timer) → IsHeld rows head ts → list_of rows head ≡ ts
 held_is rows head ts held = rw held.first (walk_is rows (slab_len rows) None ts held.thread held.fits)
 
 -- each key of a list has a row
-pub row_stands : (rows : Slab Row) (before : Option RowNumber) (ts : List Timer) (after : Option RowNumber) (key : ℕ) → IsThread rows before ts after
+pub row_stands : (rows : Slab TimerRow) (before : Option RowNumber) (ts : List Timer) (after : Option RowNumber) (key : ℕ) → IsThread rows before ts after
     → 1 ≤ keys_with key ts → ContainsKey rows key
 row_stands rows before [] after key p stands = absurd (omega (arith, stands))
 row_stands rows before (t ∷ ts) after key p stands =
@@ -43,19 +43,19 @@ first_is_one (t ∷ ts) key e =
     grind (arith, nat_tests, keys_with-cons key t ts)
 
 -- a row that is named by a number exists if that is the number of a timer of a list
-pub named_stands : (rows : Slab Row) (ts : List Timer) (o : Option RowNumber) → IsThread rows None ts None
+pub named_stands : (rows : Slab TimerRow) (ts : List Timer) (o : Option RowNumber) → IsThread rows None ts None
     → ((key : ℕ) → o ≡ Some (record { 0 = key }) → 1 ≤ keys_with key ts) → IfSome o (λ n. ContainsKey rows n.0)
 named_stands rows ts None thread stands = tt
 named_stands rows ts (Some n) thread stands = row_stands rows None ts None n.0 thread (stands n.0 refl)
 
-pub last_stands : (rows : Slab Row) (head : Head) (ts : List Timer) → IsHeld rows head ts → IfSome head.last (λ n. ContainsKey rows n.0)
+pub last_stands : (rows : Slab TimerRow) (head : ListHead) (ts : List Timer) → IsHeld rows head ts → IfSome head.last (λ n. ContainsKey rows n.0)
 last_stands rows head ts held = named_stands rows ts head.last held.thread (λ key e. last_is_one ts key (sym held.last ∙ e))
 
 first_is_known : (ts : List Timer) → AreOrdered ts → KnowsLeast (first_or ts None) ts
 first_is_known [] h = tt
 first_is_known (t ∷ ts) h = ap (λ o. option_map number_of o) (least_rising t ts h)
 
-pub known_is : (rows : Slab Row) (head : Head) (ts : List Timer) → IsHeld rows head ts → KnowsLeast (known_least head) ts
+pub known_is : (rows : Slab TimerRow) (head : ListHead) (ts : List Timer) → IsHeld rows head ts → KnowsLeast (known_least head) ts
 known_is rows head ts held =
     elim (head.is_rising) as (λ b. (head.is_rising ≡ b) → KnowsLeast (cond b head.first head.least) ts) [
       | true ↦ (λ e. rw held.first (first_is_known ts (held.rising e)))
@@ -63,13 +63,13 @@ known_is rows head ts held =
     ] refl
 
 -- the timer of which the number is known
-pub record Known (rows : Slab Row) (ts : List Timer) (n : RowNumber) : Type 0 where
+pub record Known (rows : Slab TimerRow) (ts : List Timer) (n : RowNumber) : Type 0 where
   pub timer : Timer
   pub is_least : least ts ≡ Some timer
   pub numbered : number_of timer ≡ n
   pub stands : timer_at rows n ≡ Some timer
 
-known_of : (rows : Slab Row) (ts : List Timer) (n : RowNumber) → ((u : Timer) → least ts ≡ Some u → timer_at rows (number_of u) ≡ Some u) → KnowsLeast (Some n) ts
+known_of : (rows : Slab TimerRow) (ts : List Timer) (n : RowNumber) → ((u : Timer) → least ts ≡ Some u → timer_at rows (number_of u) ≡ Some u) → KnowsLeast (Some n) ts
     → Known rows ts n
 known_of rows ts n stands known = by_least (least ts) refl known
   where
@@ -79,17 +79,18 @@ known_of rows ts n stands known = by_least (least ts) refl known
         let same : number_of u ≡ n = cc in
         record { timer = u; is_least = e; numbered = same; stands = subst (λ m. timer_at rows m ≡ Some u) same (stands u e) }
 
-pub known_timer : (rows : Slab Row) (ts : List Timer) (n : RowNumber) → IsThread rows None ts None → KnowsLeast (Some n) ts → Known rows ts n
+pub known_timer : (rows : Slab TimerRow) (ts : List Timer) (n : RowNumber) → IsThread rows None ts None → KnowsLeast (Some n) ts → Known rows ts n
 known_timer rows ts n thread known = known_of rows ts n (λ u e. least_stands rows None ts None u thread e) known
 
-found_row : (rows : Slab Row) (n : RowNumber) (u : Timer) → timer_at rows n ≡ Some u → (row : Row) × (get rows n.0 ≡ Some row) × (timer_of n.0 row ≡ u)
+found_row : (rows : Slab TimerRow) (n : RowNumber) (u : Timer) → timer_at rows n ≡ Some u → (row : TimerRow) × (get rows n.0 ≡ Some row) × (timer_of n.0 row ≡ u)
 found_row rows n u e = by_row (get rows n.0) refl e
   where
-    by_row : (o : Option Row) → get rows n.0 ≡ o → option_map (timer_of n.0) o ≡ Some u → (row : Row) × (get rows n.0 ≡ Some row) × (timer_of n.0 row ≡ u)
+    by_row : (o : Option TimerRow) → get rows n.0 ≡ o → option_map (timer_of n.0) o ≡ Some u → (row : TimerRow) × (get rows n.0 ≡ Some row) × (timer_of n.0 row ≡ u)
     by_row None f g = absurd (cc)
     by_row (Some row) f g = let same : timer_of n.0 row ≡ u = cc in (row, f, same)
 
-row_of_known : (rows : Slab Row) (ts : List Timer) (o : Option RowNumber) → ((u : Timer) → least ts ≡ Some u → timer_at rows (number_of u) ≡ Some u) → KnowsLeast o ts
+row_of_known : (rows : Slab TimerRow) (ts : List Timer) (o : Option RowNumber) → ((u : Timer) → least ts ≡ Some u → timer_at rows (number_of u) ≡ Some u)
+    → KnowsLeast o ts
     → IfSome o (λ n. ContainsKey rows n.0)
 row_of_known rows ts None stands known = tt
 row_of_known rows ts (Some n) stands known =
@@ -97,16 +98,16 @@ row_of_known rows ts (Some n) stands known =
     let row = found_row rows n timer.timer timer.stands in
     ap is_some row.1
 
-pub known_stands : (rows : Slab Row) (head : Head) (ts : List Timer) → IsHeld rows head ts → IfSome (known_least head) (λ n. ContainsKey rows n.0)
+pub known_stands : (rows : Slab TimerRow) (head : ListHead) (ts : List Timer) → IsHeld rows head ts → IfSome (known_least head) (λ n. ContainsKey rows n.0)
 known_stands rows head ts held = row_of_known rows ts (known_least head) (λ u e. least_stands rows None ts None u held.thread e) (known_is rows head ts held)
 
-pub known_second_stands : (rows : Slab Row) (head : Head) (ts : List Timer) → IsHeld rows head ts → IfSome head.second (λ n. ContainsKey rows n.0)
+pub known_second_stands : (rows : Slab TimerRow) (head : ListHead) (ts : List Timer) → IsHeld rows head ts → IfSome head.second (λ n. ContainsKey rows n.0)
 known_second_stands rows head ts held = row_of_known rows (all_but_least ts) head.second (λ u e. second_stands rows ts u held.thread e) held.second
 
 -- ---- a row is put behind the others
 
 -- the timers keep their rows, and the last one names the new row
-thread_put : (old mid new : Slab Row) (ts : List Timer) (key : ℕ) (row : Row) → IsThread old None ts None → KeysDiffer ts → keys_with key ts ≡ 0
+thread_put : (old mid new : Slab TimerRow) (ts : List Timer) (key : ℕ) (row : TimerRow) → IsThread old None ts None → KeysDiffer ts → keys_with key ts ≡ 0
     → Updates old mid key (Some (record row { previous = last_or ts None; next = None })) → NextIs mid new (last_or ts None) (Some (record { 0 = key }))
     → IsThread new None (ts ++ timer_of key row ∷ []) None
 thread_put old mid new ts key row thread differ fresh put tied =
@@ -129,7 +130,7 @@ known_put_two u t = elim (ltb t.due u.due) as (λ b. option_map number_of (Some 
   | false ↦ refl
 ]
 
-known_put : (rows : Slab Row) (ts : List Timer) (key : ℕ) (row : Row) (known next : Option RowNumber)
+known_put : (rows : Slab TimerRow) (ts : List Timer) (key : ℕ) (row : TimerRow) (known next : Option RowNumber)
     → ((u : Timer) → least ts ≡ Some u → timer_at rows (number_of u) ≡ Some u) → KnowsLeast known ts → IsLeastWith rows known (record { 0 = key }) row.due next
     → KnowsLeast next (ts ++ timer_of key row ∷ [])
 known_put rows ts key row None next stands known chosen = rw chosen tt
@@ -155,17 +156,19 @@ second_put_sooner ts t n next fresh known chosen =
     subst Q (sym (without_put ts t fresh)) (subst P (sym chosen) known)
 
 -- a timer that is put behind and is due later may be the second
-second_put_later : (rows : Slab Row) (ts : List Timer) (u : Timer) (key : ℕ) (row : Row) (second next : Option RowNumber) → IsThread rows None ts None → key ≢ u.key
+second_put_later : (rows : Slab TimerRow) (ts : List Timer) (u : Timer) (key : ℕ) (row : TimerRow) (second next : Option RowNumber) → IsThread rows None ts None
+    → key ≢ u.key
     → KnowsLeast second (without u.key ts) → IsLeastWith rows second (record { 0 = key }) row.due next → KnowsLeast next (without u.key (ts ++ timer_of key row ∷ []))
 second_put_later rows ts u key row second next thread other known chosen =
     let Q : List Timer → Type 0 = λ us. KnowsLeast next us in
     subst Q (sym (without_put_other u.key ts (timer_of key row) other))
     (known_put rows (without u.key ts) key row second next (λ v e. least_stands_without rows None ts None u.key v thread e) known chosen)
 
-second_put : (rows : Slab Row) (ts : List Timer) (key : ℕ) (row : Row) (known second next : Option RowNumber) → IsThread rows None ts None → keys_with key ts ≡ 0
+second_put : (rows : Slab TimerRow) (ts : List Timer) (key : ℕ) (row : TimerRow) (known second next : Option RowNumber) → IsThread rows None ts None
+    → keys_with key ts ≡ 0
     → KnowsLeast known ts → KnowsLeast second (all_but_least ts) → (known ≡ None → next ≡ None)
-    → ((n : RowNumber) (r : Row) → known ≡ Some n → get rows n.0 ≡ Some r → row.due < r.due → next ≡ Some n)
-    → ((n : RowNumber) (r : Row) → known ≡ Some n → get rows n.0 ≡ Some r → r.due ≤ row.due → IsLeastWith rows second (record { 0 = key }) row.due next)
+    → ((n : RowNumber) (r : TimerRow) → known ≡ Some n → get rows n.0 ≡ Some r → row.due < r.due → next ≡ Some n)
+    → ((n : RowNumber) (r : TimerRow) → known ≡ Some n → get rows n.0 ≡ Some r → r.due ≤ row.due → IsLeastWith rows second (record { 0 = key }) row.due next)
     → KnowsLeast next (all_but_least (ts ++ timer_of key row ∷ []))
 second_put rows ts key row None second next thread fresh known after unknown sooner_is later_is = rw (unknown refl) tt
 second_put rows ts key row (Some n) second next thread fresh known after unknown sooner_is later_is =
@@ -189,18 +192,20 @@ last_is_some : (t : Timer) (ts : List Timer) (before : Option RowNumber) → (n 
 last_is_some t [] before = (number_of t, refl)
 last_is_some t (u ∷ us) before = last_is_some u us (Some (number_of t))
 
-ordered_before : (rows : Slab Row) (head : Head) (ts : List Timer) → IsHeld rows head ts → ((n : RowNumber) → head.last ≡ Some n → head.is_rising ≡ true) → AreOrdered ts
+ordered_before : (rows : Slab TimerRow) (head : ListHead) (ts : List Timer) → IsHeld rows head ts → ((n : RowNumber) → head.last ≡ Some n → head.is_rising ≡ true)
+    → AreOrdered ts
 ordered_before rows head [] held rising = tt
 ordered_before rows head (t ∷ ts) held rising = let last = last_is_some t ts None in held.rising (rising last.0 (held.last ∙ last.1))
 
-pub held_put : (old mid new : Slab Row) (head next : Head) (ts : List Timer) (key : ℕ) (row : Row) → IsHeld old head ts → KeysDiffer ts → keys_with key ts ≡ 0
+pub held_put : (old mid new : Slab TimerRow) (head next : ListHead) (ts : List Timer) (key : ℕ) (row : TimerRow) → IsHeld old head ts → KeysDiffer ts
+    → keys_with key ts ≡ 0
     → length ts + 1 ≤ slab_len new → Updates old mid key (Some (record row { previous = head.last; next = None })) → NextIs mid new head.last (Some (record { 0 = key }))
     → next.first ≡ option_or head.first (Some (record { 0 = key })) → next.last ≡ Some (record { 0 = key })
     → (next.is_rising ≡ true → (n : RowNumber) → head.last ≡ Some n → head.is_rising ≡ true)
-    → (next.is_rising ≡ true → (n : RowNumber) (r : Row) → head.last ≡ Some n → get old n.0 ≡ Some r → r.due ≤ row.due)
+    → (next.is_rising ≡ true → (n : RowNumber) (r : TimerRow) → head.last ≡ Some n → get old n.0 ≡ Some r → r.due ≤ row.due)
     → IsLeastWith old (known_least head) (record { 0 = key }) row.due next.least → (known_least head ≡ None → next.second ≡ None)
-    → ((n : RowNumber) (r : Row) → known_least head ≡ Some n → get old n.0 ≡ Some r → row.due < r.due → next.second ≡ Some n)
-    → ((n : RowNumber) (r : Row) → known_least head ≡ Some n → get old n.0 ≡ Some r → r.due ≤ row.due
+    → ((n : RowNumber) (r : TimerRow) → known_least head ≡ Some n → get old n.0 ≡ Some r → row.due < r.due → next.second ≡ Some n)
+    → ((n : RowNumber) (r : TimerRow) → known_least head ≡ Some n → get old n.0 ≡ Some r → r.due ≤ row.due
     → IsLeastWith old head.second (record { 0 = key }) row.due next.second) → IsHeld new next (ts ++ timer_of key row ∷ [])
 held_put old mid new head next ts key row held differ fresh fits put tied first last was_rising late chosen unknown sooner_is later_is =
     let updates : Updates old mid key (Some (record row { previous = last_or ts None; next = None })) = rw held.last at put in
@@ -222,7 +227,7 @@ held_put old mid new head next ts key row held differ fresh fits put tied first 
 pub keys_apart : (front back : List Timer) (t : Timer) (key : ℕ) → KeysDiffer (front ++ t ∷ back) → keys_with key front + keys_with key back ≤ 1
 keys_apart front back t key differ = omega (arith, differ key, keys_with-append key front (t ∷ back), keys_with-more key t back)
 
-thread_taken : (old mid new : Slab Row) (front back : List Timer) (t : Timer) → IsThread old None (front ++ t ∷ back) None → KeysDiffer (front ++ t ∷ back)
+thread_taken : (old mid new : Slab TimerRow) (front back : List Timer) (t : Timer) → IsThread old None (front ++ t ∷ back) None → KeysDiffer (front ++ t ∷ back)
     → NextIs old mid (last_or front None) (first_or back None) → PreviousIs mid new (first_or back None) (last_or front None) → IsThread new None (front ++ back) None
 thread_taken old mid new front back t thread differ forth back_tied =
     let before = IsThread-front old None front (t ∷ back) None thread in
@@ -334,15 +339,15 @@ second_taken ts key (Some n) second next differ known after chosen =
       | false ↦ (λ e. second_stays ts key n second differ e known after)
     ] refl)
 
-pub same_row : (r s : Row) → Some r ≡ Some s → r ≡ s
+pub same_row : (r s : TimerRow) → Some r ≡ Some s → r ≡ s
 same_row r s e = cc
 
 -- what the row of a timer says of those beside it
-pub record Beside (rows : Slab Row) (front back : List Timer) (row : Row) : Type 0 where
+pub record Beside (rows : Slab TimerRow) (front back : List Timer) (row : TimerRow) : Type 0 where
   pub previous : row.previous ≡ last_or front None
   pub next : row.next ≡ first_or back None
 
-pub beside_is : (rows : Slab Row) (ts : List Timer) (key : ℕ) (row : Row) (split : Split key ts) → IsThread rows None ts None → get rows key ≡ Some row
+pub beside_is : (rows : Slab TimerRow) (ts : List Timer) (key : ℕ) (row : TimerRow) (split : Split key ts) → IsThread rows None ts None → get rows key ≡ Some row
     → Beside rows split.front split.back row
 beside_is rows ts key row split thread found =
     let whole : IsThread rows None (split.front ++ split.timer ∷ split.back) None = let P : List Timer → Type 0 = λ us. IsThread rows None us None in
@@ -351,7 +356,7 @@ beside_is rows ts key row split thread found =
     let same = same_row row _ (sym found ∙ ap (get rows) (sym split.keyed) ∙ here) in
     record { previous = ap (λ r. r.previous) same; next = ap (λ r. r.next) same }
 
-held_without : (old mid new : Slab Row) (head next : Head) (front back : List Timer) (t : Timer) (row : Row) → IsHeld old head (front ++ t ∷ back)
+held_without : (old mid new : Slab TimerRow) (head next : ListHead) (front back : List Timer) (t : Timer) (row : TimerRow) → IsHeld old head (front ++ t ∷ back)
     → KeysDiffer (front ++ t ∷ back) → Beside old front back row → NextIs old mid row.previous row.next → PreviousIs mid new row.next row.previous
     → slab_len new ≡ slab_len old → next.first ≡ cond (is_some row.previous) head.first row.next → next.last ≡ cond (is_some row.next) head.last row.previous
     → (next.is_rising ≡ true → AreOrdered (front ++ back)) → KnowsLeast next.least (front ++ back) → KnowsLeast next.second (all_but_least (front ++ back))
@@ -369,7 +374,8 @@ held_without old mid new head next front back t row held differ beside forth bac
       fits = omega (arith, held.fits, length-append front (t ∷ back), length-append front back);
     }
 
-pub held_taken : (old mid new : Slab Row) (head next : Head) (ts : List Timer) (key : ℕ) (row : Row) → IsHeld old head ts → KeysDiffer ts → 1 ≤ keys_with key ts
+pub held_taken : (old mid new : Slab TimerRow) (head next : ListHead) (ts : List Timer) (key : ℕ) (row : TimerRow) → IsHeld old head ts → KeysDiffer ts
+    → 1 ≤ keys_with key ts
     → get old key ≡ Some row → NextIs old mid row.previous row.next → PreviousIs mid new row.next row.previous → slab_len new ≡ slab_len old
     → next.first ≡ cond (is_some row.previous) head.first row.next → next.last ≡ cond (is_some row.next) head.last row.previous → next.is_rising ≡ head.is_rising
     → MatchOption head.least (next.least ≡ None) (λ n. next.least ≡ cond (eqb n.0 key) head.second head.least)
@@ -391,7 +397,7 @@ held_taken old mid new head next ts key row held differ stands found forth back_
     (subst S split.rest (second_taken ts key head.least head.second next.second differ held.known held.second second_is)))
 
 -- the rows of other timers stay, and that of the one that is taken out
-pub others_taken : (old mid new : Slab Row) (ts : List Timer) (key : ℕ) (row : Row) → IsThread old None ts None → KeysDiffer ts → 1 ≤ keys_with key ts
+pub others_taken : (old mid new : Slab TimerRow) (ts : List Timer) (key : ℕ) (row : TimerRow) → IsThread old None ts None → KeysDiffer ts → 1 ≤ keys_with key ts
     → get old key ≡ Some row → NextIs old mid row.previous row.next → PreviousIs mid new row.next row.previous → (other : ℕ) → keys_with other (without key ts) ≡ 0
     → get new other ≡ get old other
 others_taken old mid new ts key row thread differ stands found forth back_tied other none =
@@ -403,7 +409,7 @@ others_taken old mid new ts key row thread differ stands found forth back_tied o
     ∙ forth.others other (λ e. omega (arith, apart, last_is_one split.front other (sym beside.previous ∙ e)))
 
 -- those that stand beside a timer have rows
-pub previous_stands : (rows : Slab Row) (ts : List Timer) (key : ℕ) (row : Row) → IsThread rows None ts None → KeysDiffer ts → 1 ≤ keys_with key ts
+pub previous_stands : (rows : Slab TimerRow) (ts : List Timer) (key : ℕ) (row : TimerRow) → IsThread rows None ts None → KeysDiffer ts → 1 ≤ keys_with key ts
     → get rows key ≡ Some row → IfSome row.previous (λ n. ContainsKey rows n.0)
 previous_stands rows ts key row thread differ stands found =
     let split = split_at key ts differ stands in
@@ -411,7 +417,8 @@ previous_stands rows ts key row thread differ stands found =
     named_stands rows ts row.previous thread
     (λ k e. omega (arith, last_is_one split.front k (sym beside.previous ∙ e), ap (keys_with k) split.whole, keys_with-append k split.front (split.timer ∷ split.back)))
 
-pub next_stands : (rows : Slab Row) (ts : List Timer) (key : ℕ) (row : Row) → IsThread rows None ts None → KeysDiffer ts → 1 ≤ keys_with key ts → get rows key ≡ Some row
+pub next_stands : (rows : Slab TimerRow) (ts : List Timer) (key : ℕ) (row : TimerRow) → IsThread rows None ts None → KeysDiffer ts → 1 ≤ keys_with key ts
+    → get rows key ≡ Some row
     → IfSome row.next (λ n. ContainsKey rows n.0)
 next_stands rows ts key row thread differ stands found =
     let split = split_at key ts differ stands in
@@ -425,15 +432,15 @@ next_stands rows ts key row thread differ stands found =
       keys_with-more k split.timer split.back,
     ))
 
-pub row_at : (rows : Slab Row) (key : ℕ) → ContainsKey rows key → (row : Row) × (get rows key ≡ Some row)
+pub row_at : (rows : Slab TimerRow) (key : ℕ) → ContainsKey rows key → (row : TimerRow) × (get rows key ≡ Some row)
 row_at rows key stands = by_row (get rows key) refl stands
   where
-    by_row : (o : Option Row) → get rows key ≡ o → is_some o ≡ true → (row : Row) × (get rows key ≡ Some row)
+    by_row : (o : Option TimerRow) → get rows key ≡ o → is_some o ≡ true → (row : TimerRow) × (get rows key ≡ Some row)
     by_row None e some = absurd (cc)
     by_row (Some row) e some = (row, e)
 
 -- a row that stands still stands when another one names another next row
-pub NextIs-stands : (old new : Slab Row) (at next : Option RowNumber) (key : ℕ) → NextIs old new at next → ContainsKey old key → ContainsKey new key
+pub NextIs-stands : (old new : Slab TimerRow) (at next : Option RowNumber) (key : ℕ) → NextIs old new at next → ContainsKey old key → ContainsKey new key
 NextIs-stands old new None next key forth stands = ap is_some (forth.others key (λ e. cc)) ∙ stands
 NextIs-stands old new (Some n) next key forth stands =
     elim (eqb n.0 key) as (λ b. (eqb n.0 key ≡ b) → ContainsKey new key) [
@@ -445,20 +452,20 @@ NextIs-stands old new (Some n) next key forth stands =
     ] refl
 
 -- the last row of a list still stands when one that isn't of the list is written
-pub last_stands_beside : (old mid : Slab Row) (head : Head) (ts : List Timer) (key : ℕ) (slot : Option Row) → IsHeld old head ts → keys_with key ts ≡ 0
+pub last_stands_beside : (old mid : Slab TimerRow) (head : ListHead) (ts : List Timer) (key : ℕ) (slot : Option TimerRow) → IsHeld old head ts → keys_with key ts ≡ 0
     → Updates old mid key slot → IfSome head.last (λ n. ContainsKey mid n.0)
 last_stands_beside old mid head ts key slot held fresh put =
     let kept : IsThread mid None ts None = IsThread-frame old mid None ts None (λ k stands. put.others k (λ e. omega (arith, stands, rw e at stands))) held.thread in
     named_stands mid ts head.last kept (λ k e. last_is_one ts k (sym held.last ∙ e))
 
 -- the rows of the other lists stay when a row is put behind the others of one
-pub others_put : (old mid new : Slab Row) (head : Head) (ts : List Timer) (key : ℕ) (slot : Option Row) (next : Option RowNumber) → IsHeld old head ts
+pub others_put : (old mid new : Slab TimerRow) (head : ListHead) (ts : List Timer) (key : ℕ) (slot : Option TimerRow) (next : Option RowNumber) → IsHeld old head ts
     → Updates old mid key slot → NextIs mid new head.last next → (other : ℕ) → keys_with other ts ≡ 0 → other ≢ key → get new other ≡ get old other
 others_put old mid new head ts key slot next held put tied other none differs =
     tied.others other (λ e. omega (arith, last_is_one ts other (sym held.last ∙ e))) ∙ put.others other differs
 
 -- the row behind one still stands when the one in front of it is tied to it
-pub next_still_stands : (old mid : Slab Row) (ts : List Timer) (key : ℕ) (row : Row) → IsThread old None ts None → KeysDiffer ts → 1 ≤ keys_with key ts
+pub next_still_stands : (old mid : Slab TimerRow) (ts : List Timer) (key : ℕ) (row : TimerRow) → IsThread old None ts None → KeysDiffer ts → 1 ≤ keys_with key ts
     → get old key ≡ Some row → NextIs old mid row.previous row.next → IfSome row.next (λ n. ContainsKey mid n.0)
 next_still_stands old mid ts key row thread differ stands found forth =
     by_next row.next (next_stands old ts key row thread differ stands found)
@@ -467,18 +474,18 @@ next_still_stands old mid ts key row thread differ stands found forth =
     by_next None stands = tt
     by_next (Some n) stands = NextIs-stands old mid row.previous row.next n.0 forth stands
 
-pub held_of_row : (rows : Slab Row) (head : Head) (ts : List Timer) (key : ℕ) (r s : Row) → r ≡ s → IsHeld rows head (ts ++ timer_of key r ∷ [])
+pub held_of_row : (rows : Slab TimerRow) (head : ListHead) (ts : List Timer) (key : ℕ) (r s : TimerRow) → r ≡ s → IsHeld rows head (ts ++ timer_of key r ∷ [])
     → IsHeld rows head (ts ++ timer_of key s ∷ [])
 held_of_row rows head ts key r s same held = rw same at held
 
 -- the timer whose number is known is the one that is due first
-pub known_answer : (rows : Slab Row) (head : Head) (ts : List Timer) (n : RowNumber) (t : Timer) → IsHeld rows head ts → known_least head ≡ Some n
+pub known_answer : (rows : Slab TimerRow) (head : ListHead) (ts : List Timer) (n : RowNumber) (t : Timer) → IsHeld rows head ts → known_least head ≡ Some n
     → timer_at rows n ≡ Some t → Some t ≡ least ts
 known_answer rows head ts n t held is found =
     let P : Option RowNumber → Type 0 = λ o. KnowsLeast o ts in
     let timer = known_timer rows ts n held.thread (subst P is (known_is rows head ts held)) in
     sym found ∙ timer.stands ∙ sym timer.is_least
 
-pub known_row : (rows : Slab Row) (head : Head) (ts : List Timer) (n : RowNumber) → IsHeld rows head ts → known_least head ≡ Some n → ContainsKey rows n.0
+pub known_row : (rows : Slab TimerRow) (head : ListHead) (ts : List Timer) (n : RowNumber) → IsHeld rows head ts → known_least head ≡ Some n → ContainsKey rows n.0
 known_row rows head ts n held is =
     let P : Option RowNumber → Type 0 = λ o. IfSome o (λ m. ContainsKey rows m.0) in subst P is (known_stands rows head ts held)

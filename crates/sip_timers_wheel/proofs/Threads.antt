@@ -11,7 +11,7 @@ use Rattle.sip_timers.specs.Timers.{keys_with, without, KeysDiffer}
 use Rattle.sip_timers.proofs.Counting.{count_le}
 use Rattle.sip_timers.proofs.Placing.{count-without}
 use Rattle.sip_timers_wheel.specs.declared.row.RowNumber.{RowNumber}
-use Rattle.sip_timers_wheel.specs.declared.row.Row.{Row}
+use Rattle.sip_timers_wheel.specs.declared.row.TimerRow.{TimerRow}
 use Rattle.sip_timers_wheel.specs.Threads.{number_of, first_or, last_or, row_of, IsThread, walk}
 
 pub keys_with-cons : (key : ℕ) (t : Timer) (ts : List Timer) → keys_with key (t ∷ ts) ≡ cond (eqb t.key key) 1 0 + keys_with key ts
@@ -57,7 +57,7 @@ last_or-stands t [] before key e =
     grind (arith, nat_tests, keys_with-cons key t [])
 last_or-stands t (u ∷ us) before key e = omega (arith, keys_with-more key t (u ∷ us), last_or-stands u us (Some (number_of t)) key e)
 
-pub IsThread-append : (rows : Slab Row) (before : Option RowNumber) (xs ys : List Timer) (after : Option RowNumber) → IsThread rows before xs (first_or ys after)
+pub IsThread-append : (rows : Slab TimerRow) (before : Option RowNumber) (xs ys : List Timer) (after : Option RowNumber) → IsThread rows before xs (first_or ys after)
     → IsThread rows (last_or xs before) ys after → IsThread rows before (xs ++ ys) after
 IsThread-append rows before [] ys after p q = q
 IsThread-append rows before (t ∷ xs) ys after p q = (
@@ -65,7 +65,7 @@ IsThread-append rows before (t ∷ xs) ys after p q = (
   IsThread-append rows (Some (number_of t)) xs ys after p.1 q,
 )
 
-pub IsThread-front : (rows : Slab Row) (before : Option RowNumber) (xs ys : List Timer) (after : Option RowNumber) → IsThread rows before (xs ++ ys) after
+pub IsThread-front : (rows : Slab TimerRow) (before : Option RowNumber) (xs ys : List Timer) (after : Option RowNumber) → IsThread rows before (xs ++ ys) after
     → IsThread rows before xs (first_or ys after)
 IsThread-front rows before [] ys after p = tt
 IsThread-front rows before (t ∷ xs) ys after p = (
@@ -73,13 +73,13 @@ IsThread-front rows before (t ∷ xs) ys after p = (
   IsThread-front rows (Some (number_of t)) xs ys after p.1,
 )
 
-pub IsThread-back : (rows : Slab Row) (before : Option RowNumber) (xs ys : List Timer) (after : Option RowNumber) → IsThread rows before (xs ++ ys) after
+pub IsThread-back : (rows : Slab TimerRow) (before : Option RowNumber) (xs ys : List Timer) (after : Option RowNumber) → IsThread rows before (xs ++ ys) after
     → IsThread rows (last_or xs before) ys after
 IsThread-back rows before [] ys after p = p
 IsThread-back rows before (t ∷ xs) ys after p = IsThread-back rows (Some (number_of t)) xs ys after p.1
 
 -- rows that belong to no timer of a list may change
-pub IsThread-frame : (old new : Slab Row) (before : Option RowNumber) (ts : List Timer) (after : Option RowNumber)
+pub IsThread-frame : (old new : Slab TimerRow) (before : Option RowNumber) (ts : List Timer) (after : Option RowNumber)
     → ((key : ℕ) → 1 ≤ keys_with key ts → get new key ≡ get old key) → IsThread old before ts after → IsThread new before ts after
 IsThread-frame old new before [] after keeps p = tt
 IsThread-frame old new before (t ∷ ts) after keeps p = (
@@ -88,8 +88,8 @@ IsThread-frame old new before (t ∷ ts) after keeps p = (
 )
 
 -- another row may stand behind the last one
-pub IsThread-next : (old new : Slab Row) (before : Option RowNumber) (ts : List Timer) (after next : Option RowNumber) → KeysDiffer ts
-    → ((key : ℕ) (row : Row) → 1 ≤ keys_with key ts → last_or ts before ≡ Some (record { 0 = key }) → get old key ≡ Some row
+pub IsThread-next : (old new : Slab TimerRow) (before : Option RowNumber) (ts : List Timer) (after next : Option RowNumber) → KeysDiffer ts
+    → ((key : ℕ) (row : TimerRow) → 1 ≤ keys_with key ts → last_or ts before ≡ Some (record { 0 = key }) → get old key ≡ Some row
     → get new key ≡ Some (record row { next = next })) → ((key : ℕ) → 1 ≤ keys_with key ts → last_or ts before ≢ Some (record { 0 = key }) → get new key ≡ get old key)
     → IsThread old before ts after → IsThread new before ts next
 IsThread-next old new before [] after next differ changed others p = tt
@@ -103,8 +103,8 @@ IsThread-next old new before (t ∷ u ∷ us) after next differ changed others p
     )
 
 -- another row may stand in front of the first one
-pub IsThread-previous : (old new : Slab Row) (before previous : Option RowNumber) (ts : List Timer) (after : Option RowNumber) → KeysDiffer ts
-    → ((key : ℕ) (row : Row) → first_or ts None ≡ Some (record { 0 = key }) → get old key ≡ Some row → get new key ≡ Some (record row { previous = previous }))
+pub IsThread-previous : (old new : Slab TimerRow) (before previous : Option RowNumber) (ts : List Timer) (after : Option RowNumber) → KeysDiffer ts
+    → ((key : ℕ) (row : TimerRow) → first_or ts None ≡ Some (record { 0 = key }) → get old key ≡ Some row → get new key ≡ Some (record row { previous = previous }))
     → ((key : ℕ) → 1 ≤ keys_with key ts → first_or ts None ≢ Some (record { 0 = key }) → get new key ≡ get old key) → IsThread old before ts after
     → IsThread new previous ts after
 IsThread-previous old new before previous [] after differ changed others p = tt
@@ -117,7 +117,7 @@ IsThread-previous old new before previous (t ∷ ts) after differ changed others
 )
 
 -- the timers that are met are those of the thread
-pub walk_is : (rows : Slab Row) (steps : ℕ) (before : Option RowNumber) (ts : List Timer) → IsThread rows before ts None → length ts ≤ steps
+pub walk_is : (rows : Slab TimerRow) (steps : ℕ) (before : Option RowNumber) (ts : List Timer) → IsThread rows before ts None → length ts ≤ steps
     → walk rows steps (first_or ts None) ≡ ts
 walk_is rows zero before [] p fits = refl
 walk_is rows zero before (t ∷ ts) p fits = absurd (omega arith)

@@ -11,8 +11,8 @@ use Rattle.slab.specs.Slab.{Slab, get, ContainsKey, Updates, slab_len}
 use Rattle.sip_timers.specs.declared.timer.Timer.{Timer}
 use Rattle.sip_timers.specs.Timers.{keys_with, without, KeysDiffer}
 use Rattle.sip_timers_wheel.specs.declared.row.RowNumber.{RowNumber}
-use Rattle.sip_timers_wheel.specs.declared.row.Row.{Row}
-use Rattle.sip_timers_wheel.specs.declared.head.Head.{Head}
+use Rattle.sip_timers_wheel.specs.declared.row.TimerRow.{TimerRow}
+use Rattle.sip_timers_wheel.specs.declared.head.ListHead.{ListHead}
 use Rattle.sip_timers_wheel.specs.Lists.{concat}
 use Rattle.sip_timers_wheel.specs.Threads.{number_of, first_or, row_of, IsThread, list_of, lists_of, no_head, KnowsLeast, IsHeld, AreHeld, SameSize}
 use Rattle.sip_timers_wheel.proofs.Threads.{keys_with-cons, keys_with-append, key_is_once, without_none, keys_without, IsThread-frame, split_at}
@@ -67,7 +67,7 @@ count_none p (ts ∷ lists) none = omega (arith, count-concat p ts lists, none 0
 -- ---- what the heads and rows say
 
 -- the lists that are met are those that are held
-met_lists : (rows : Slab Row) (heads : List Head) (lists : List (List Timer)) → length heads ≡ length lists
+met_lists : (rows : Slab TimerRow) (heads : List ListHead) (lists : List (List Timer)) → length heads ≡ length lists
     → ((slot : ℕ) → IsHeld rows (get_or heads slot no_head) (get_or lists slot [])) → map (list_of rows) heads ≡ lists
 met_lists rows [] [] slots held = refl
 met_lists rows [] (ts ∷ lists) slots held = absurd (omega arith)
@@ -77,23 +77,23 @@ met_lists rows (head ∷ heads) (ts ∷ lists) slots held =
     let rest : map (list_of rows) heads ≡ lists = met_lists rows heads lists (omega arith) (λ slot. held (suc slot)) in
     cc
 
-pub lists_are : (spare : ℕ) (rows : Slab Row) (heads : List Head) (lists : List (List Timer)) → AreHeld spare rows heads lists → lists_of rows heads ≡ lists
+pub lists_are : (spare : ℕ) (rows : Slab TimerRow) (heads : List ListHead) (lists : List (List Timer)) → AreHeld spare rows heads lists → lists_of rows heads ≡ lists
 lists_are spare rows heads lists held = met_lists rows heads lists held.slots held.held
 
-pub held_again : (spare : ℕ) (rows : Slab Row) (heads : List Head) (lists : List (List Timer)) → AreHeld spare rows heads lists
+pub held_again : (spare : ℕ) (rows : Slab TimerRow) (heads : List ListHead) (lists : List (List Timer)) → AreHeld spare rows heads lists
     → AreHeld spare rows heads (lists_of rows heads)
 held_again spare rows heads lists held = let P : List (List Timer) → Type 0 = λ ls. AreHeld spare rows heads ls in
     subst P (sym (lists_are spare rows heads lists held)) held
 
-pub list_is : (rows : Slab Row) (heads : List Head) (slot : ℕ) (d : Head) → slot < length heads
+pub list_is : (rows : Slab TimerRow) (heads : List ListHead) (slot : ℕ) (d : ListHead) → slot < length heads
     → get_or (lists_of rows heads) slot [] ≡ list_of rows (get_or heads slot d)
 list_is rows heads slot d within = get_or-map (list_of rows) heads slot d [] within
 
-pub keys_differ_in : (spare : ℕ) (rows : Slab Row) (heads : List Head) (lists : List (List Timer)) (slot : ℕ) → AreHeld spare rows heads lists
+pub keys_differ_in : (spare : ℕ) (rows : Slab TimerRow) (heads : List ListHead) (lists : List (List Timer)) (slot : ℕ) → AreHeld spare rows heads lists
     → KeysDiffer (get_or lists slot [])
 keys_differ_in spare rows heads lists slot held = λ key. omega (arith, held.once key, count_of_one (λ t. eqb t.key key) lists slot)
 
-held_frame : (old new : Slab Row) (head : Head) (ts : List Timer) → ((key : ℕ) → 1 ≤ keys_with key ts → get new key ≡ get old key) → length ts ≤ slab_len new
+held_frame : (old new : Slab TimerRow) (head : ListHead) (ts : List Timer) → ((key : ℕ) → 1 ≤ keys_with key ts → get new key ≡ get old key) → length ts ≤ slab_len new
     → IsHeld old head ts → IsHeld new head ts
 held_frame old new head ts keeps fits held =
     record {
@@ -107,7 +107,7 @@ held_frame old new head ts keeps fits held =
     }
 
 -- a key that no row has is that of no timer
-pub absent : (spare : ℕ) (rows : Slab Row) (heads : List Head) (lists : List (List Timer)) (key : ℕ) → AreHeld spare rows heads lists → get rows key ≡ None
+pub absent : (spare : ℕ) (rows : Slab TimerRow) (heads : List ListHead) (lists : List (List Timer)) (key : ℕ) → AreHeld spare rows heads lists → get rows key ≡ None
     → keys_with key (concat lists) ≡ 0
 absent spare rows heads lists key held none =
     count_none (λ t. eqb t.key key) lists (λ slot. elim (cases_zero (keys_with key (get_or lists slot []))) [
@@ -121,14 +121,14 @@ absent spare rows heads lists key held none =
     cases_zero (suc n) = inr (omega arith)
 
 -- a timer of a slot has a row
-pub row_in_slot : (spare : ℕ) (rows : Slab Row) (heads : List Head) (lists : List (List Timer)) (slot key : ℕ) → AreHeld spare rows heads lists
+pub row_in_slot : (spare : ℕ) (rows : Slab TimerRow) (heads : List ListHead) (lists : List (List Timer)) (slot key : ℕ) → AreHeld spare rows heads lists
     → 1 ≤ keys_with key (get_or lists slot []) → ContainsKey rows key
 row_in_slot spare rows heads lists slot key held stands = row_stands rows None (get_or lists slot []) None key ((held.held slot).thread) stands
 
 -- ---- steps
 
 -- a step at one slot, which changes rows of its old and new timers alone
-pub held_step : (spare spare_after : ℕ) (old new : Slab Row) (heads : List Head) (lists : List (List Timer)) (slot : ℕ) (head : Head) (ts : List Timer)
+pub held_step : (spare spare_after : ℕ) (old new : Slab TimerRow) (heads : List ListHead) (lists : List (List Timer)) (slot : ℕ) (head : ListHead) (ts : List Timer)
     → AreHeld spare old heads lists → slot < length heads → IsHeld new head ts → ((key : ℕ) → keys_with key (get_or lists slot []) ≡ 0 → keys_with key ts ≡ 0
     → get new key ≡ get old key) → ((key : ℕ) → keys_with key (concat (set lists slot ts)) ≤ 1) → slab_len new ≡ length (concat (set lists slot ts)) + spare_after
     → AreHeld spare_after new (set heads slot head) (set lists slot ts)
@@ -174,7 +174,7 @@ length_without key ts differ stands =
     omega (arith, ap length split.whole, ap length split.rest, length-append split.front (split.timer ∷ split.back), length-append split.front split.back)
 
 -- a timer is taken out of its slot; its row is spare
-pub held_taken_at : (old new : Slab Row) (heads : List Head) (lists : List (List Timer)) (slot : ℕ) (head : Head) (key : ℕ) → AreHeld 0 old heads lists
+pub held_taken_at : (old new : Slab TimerRow) (heads : List ListHead) (lists : List (List Timer)) (slot : ℕ) (head : ListHead) (key : ℕ) → AreHeld 0 old heads lists
     → slot < length heads → 1 ≤ keys_with key (get_or lists slot []) → IsHeld new head (without key (get_or lists slot []))
     → ((other : ℕ) → keys_with other (without key (get_or lists slot [])) ≡ 0 → get new other ≡ get old other) → SameSize old new
     → AreHeld 1 new (set heads slot head) (set lists slot (without key (get_or lists slot [])))
@@ -188,14 +188,15 @@ held_taken_at old new heads lists slot head key held within stands now keeps siz
     (omega (arith, size.len, held.counted, length-set_concat lists slot (without key ts) inside, length_without key ts differ stands))
 
 -- the timer that was taken out stands nowhere
-pub gone_everywhere : (spare : ℕ) (old : Slab Row) (heads : List Head) (lists : List (List Timer)) (slot key : ℕ) → AreHeld spare old heads lists → slot < length heads
+pub gone_everywhere : (spare : ℕ) (old : Slab TimerRow) (heads : List ListHead) (lists : List (List Timer)) (slot key : ℕ) → AreHeld spare old heads lists
+    → slot < length heads
     → 1 ≤ keys_with key (get_or lists slot []) → keys_with key (concat (set lists slot (without key (get_or lists slot [])))) ≡ 0
 gone_everywhere spare old heads lists slot key held within stands =
     let inside : slot < length lists = omega (arith, within, held.slots) in
     omega (arith, stands, held.once key, count-set (λ t. eqb t.key key) lists slot (without key (get_or lists slot [])) inside, key_is_gone key (get_or lists slot []))
 
 -- a spare row is put behind the others of a slot
-pub held_put_at : (old new : Slab Row) (heads : List Head) (lists : List (List Timer)) (slot : ℕ) (head : Head) (t : Timer) → AreHeld 1 old heads lists
+pub held_put_at : (old new : Slab TimerRow) (heads : List ListHead) (lists : List (List Timer)) (slot : ℕ) (head : ListHead) (t : Timer) → AreHeld 1 old heads lists
     → slot < length heads → keys_with t.key (concat lists) ≡ 0 → IsHeld new head (get_or lists slot [] ++ t ∷ [])
     → ((other : ℕ) → keys_with other (get_or lists slot []) ≡ 0 → other ≢ t.key → get new other ≡ get old other) → SameSize old new
     → AreHeld 0 new (set heads slot head) (set lists slot (get_or lists slot [] ++ t ∷ []))
@@ -228,7 +229,8 @@ held_put_at old new heads lists slot head t held within fresh now keeps size =
     )
 
 -- a row of a new key may be added, and a spare one may be dropped
-pub held_inserted : (spare : ℕ) (old new : Slab Row) (heads : List Head) (lists : List (List Timer)) (key : ℕ) (slot : Option Row) → AreHeld spare old heads lists
+pub held_inserted : (spare : ℕ) (old new : Slab TimerRow) (heads : List ListHead) (lists : List (List Timer)) (key : ℕ) (slot : Option TimerRow)
+    → AreHeld spare old heads lists
     → keys_with key (concat lists) ≡ 0 → Updates old new key slot → (spare_after : ℕ) → slab_len new ≡ length (concat lists) + spare_after
     → AreHeld spare_after new heads lists
 held_inserted spare old new heads lists key slot held fresh updates spare_after counted =
@@ -243,7 +245,7 @@ held_inserted spare old new heads lists key slot held fresh updates spare_after 
     }
 
 -- rows that are all as they were
-pub held_same : (spare : ℕ) (old new : Slab Row) (heads : List Head) (lists : List (List Timer)) → AreHeld spare old heads lists → new.slots ≡ old.slots
+pub held_same : (spare : ℕ) (old new : Slab TimerRow) (heads : List ListHead) (lists : List (List Timer)) → AreHeld spare old heads lists → new.slots ≡ old.slots
     → AreHeld spare new heads lists
 held_same spare old new heads lists held same =
     record {
@@ -256,16 +258,17 @@ held_same spare old new heads lists held same =
 
 -- ---- the same, where the list is that which is met from the head
 
-pub differ_at : (spare : ℕ) (rows : Slab Row) (heads : List Head) (slot : ℕ) (d : Head) → AreHeld spare rows heads (lists_of rows heads) → slot < length heads
+pub differ_at : (spare : ℕ) (rows : Slab TimerRow) (heads : List ListHead) (slot : ℕ) (d : ListHead) → AreHeld spare rows heads (lists_of rows heads)
+    → slot < length heads
     → KeysDiffer (list_of rows (get_or heads slot d))
 differ_at spare rows heads slot d held within = let P : List Timer → Type 0 = λ ts. KeysDiffer ts in
     subst P (list_is rows heads slot d within) (keys_differ_in spare rows heads (lists_of rows heads) slot held)
 
-pub fits_at : (rows : Slab Row) (heads : List Head) (slot : ℕ) (d : Head) → AreHeld 1 rows heads (lists_of rows heads) → slot < length heads
+pub fits_at : (rows : Slab TimerRow) (heads : List ListHead) (slot : ℕ) (d : ListHead) → AreHeld 1 rows heads (lists_of rows heads) → slot < length heads
     → length (list_of rows (get_or heads slot d)) + 1 ≤ slab_len rows
 fits_at rows heads slot d held within = omega (arith, held.counted, length_of_one (lists_of rows heads) slot, ap length (list_is rows heads slot d within))
 
-pub fresh_at : (rows : Slab Row) (heads : List Head) (slot : ℕ) (d : Head) (key : ℕ) → slot < length heads → keys_with key (concat (lists_of rows heads)) ≡ 0
+pub fresh_at : (rows : Slab TimerRow) (heads : List ListHead) (slot : ℕ) (d : ListHead) (key : ℕ) → slot < length heads → keys_with key (concat (lists_of rows heads)) ≡ 0
     → keys_with key (list_of rows (get_or heads slot d)) ≡ 0
 fresh_at rows heads slot d key within fresh = omega (
   arith,
@@ -274,7 +277,7 @@ fresh_at rows heads slot d key within fresh = omega (
   ap (keys_with key) (list_is rows heads slot d within),
 )
 
-pub taken_at : (old new : Slab Row) (heads : List Head) (slot : ℕ) (d head : Head) (key : ℕ) → AreHeld 0 old heads (lists_of old heads) → slot < length heads
+pub taken_at : (old new : Slab TimerRow) (heads : List ListHead) (slot : ℕ) (d head : ListHead) (key : ℕ) → AreHeld 0 old heads (lists_of old heads) → slot < length heads
     → 1 ≤ keys_with key (get_or (lists_of old heads) slot []) → IsHeld new head (without key (list_of old (get_or heads slot d)))
     → ((other : ℕ) → keys_with other (without key (list_of old (get_or heads slot d))) ≡ 0 → get new other ≡ get old other) → SameSize old new
     → AreHeld 1 new (set heads slot head) (set (lists_of old heads) slot (without key (get_or (lists_of old heads) slot [])))
@@ -284,7 +287,7 @@ taken_at old new heads slot d head key held within stands now keeps size =
     let Q : List Timer → Type 0 = λ ts. (other : ℕ) → keys_with other (without key ts) ≡ 0 → get new other ≡ get old other in
     held_taken_at old new heads (lists_of old heads) slot head key held within stands (subst P e now) (subst Q e keeps) size
 
-pub put_at : (old new : Slab Row) (heads : List Head) (slot : ℕ) (d head : Head) (t : Timer) → AreHeld 1 old heads (lists_of old heads) → slot < length heads
+pub put_at : (old new : Slab TimerRow) (heads : List ListHead) (slot : ℕ) (d head : ListHead) (t : Timer) → AreHeld 1 old heads (lists_of old heads) → slot < length heads
     → keys_with t.key (concat (lists_of old heads)) ≡ 0 → IsHeld new head (list_of old (get_or heads slot d) ++ t ∷ [])
     → ((other : ℕ) → keys_with other (list_of old (get_or heads slot d)) ≡ 0 → other ≢ t.key → get new other ≡ get old other) → SameSize old new
     → AreHeld 0 new (set heads slot head) (set (lists_of old heads) slot (get_or (lists_of old heads) slot [] ++ t ∷ []))
@@ -296,7 +299,7 @@ put_at old new heads slot d head t held within fresh now keeps size =
 
 -- ---- rows that are added, dropped, or only given more room
 
-module _ (old new : Slab Row) (heads : List Head) (key : ℕ) (row : Row) where
+module _ (old new : Slab TimerRow) (heads : List ListHead) (key : ℕ) (row : TimerRow) where
   -- a new row is spare
   pub inserted : AreHeld 0 old heads (lists_of old heads) → get old key ≡ None → Updates old new key (Some row) → slab_len new ≡ slab_len old + 1
       → AreHeld 1 new heads (lists_of old heads)
@@ -310,12 +313,12 @@ module _ (old new : Slab Row) (heads : List Head) (key : ℕ) (row : Row) where
       ∙ absent 0 old heads (lists_of old heads) key held vacant
 
 -- the spare row is dropped
-pub dropped : (old new : Slab Row) (heads : List Head) (key : ℕ) → AreHeld 1 old heads (lists_of old heads) → keys_with key (concat (lists_of old heads)) ≡ 0
+pub dropped : (old new : Slab TimerRow) (heads : List ListHead) (key : ℕ) → AreHeld 1 old heads (lists_of old heads) → keys_with key (concat (lists_of old heads)) ≡ 0
     → Updates old new key None → slab_len new + 1 ≡ slab_len old → AreHeld 0 new heads (lists_of old heads)
 dropped old new heads key held fresh updates len = held_inserted 1 old new heads (lists_of old heads) key None held fresh updates 0 (omega (arith, len, held.counted))
 
 -- the heads in a `Vec` after all of them were lent
-pub heads_are : (len : ℕ) (old now new : List Head) → now ≡ old → length now ≡ len → length new ≡ length now → take len (new ++ drop (length new) old) ≡ new
+pub heads_are : (len : ℕ) (old now new : List ListHead) → now ≡ old → length now ≡ len → length new ≡ length now → take len (new ++ drop (length new) old) ≡ new
 heads_are len old now new same lent kept =
     let none : drop (length new) old ≡ [] = drop_all (length new) old (omega (arith, kept, ap length same)) in
     rw none (rw (append-nil new) (take_all len new (omega (arith, lent, kept))))
@@ -331,7 +334,7 @@ concat_none : (count : ℕ) → concat (replicate count []) ≡ []
 concat_none zero = refl
 concat_none (suc count) = concat_none count
 
-pub none_held : (rows : Slab Row) (count : ℕ) → rows.slots ≡ [] → AreHeld 0 rows (replicate count no_head) (replicate count [])
+pub none_held : (rows : Slab TimerRow) (count : ℕ) → rows.slots ≡ [] → AreHeld 0 rows (replicate count no_head) (replicate count [])
 none_held rows count empty =
     let none = concat_none count in
     let len : slab_len rows ≡ 0 = ap (count_by is_some) empty in
@@ -343,7 +346,8 @@ none_held rows count empty =
       counted = omega (arith, len, ap length none);
     }
 
-pub none_held_by : (rows : Slab Row) (heads : List Head) (count : ℕ) → rows.slots ≡ [] → heads ≡ replicate count no_head → AreHeld 0 rows heads (replicate count [])
+pub none_held_by : (rows : Slab TimerRow) (heads : List ListHead) (count : ℕ) → rows.slots ≡ [] → heads ≡ replicate count no_head
+    → AreHeld 0 rows heads (replicate count [])
 none_held_by rows heads count empty same = rw same (none_held rows count empty)
 
 -- ---- the first timer of a slot
@@ -354,18 +358,18 @@ any_default (x ∷ xs) zero d e within = refl
 any_default (x ∷ xs) (suc i) d e within = any_default xs i d e (omega arith)
 
 -- a head that was read has the list of its slot
-pub head_is : (spare : ℕ) (rows : Slab Row) (heads : List Head) (lists : List (List Timer)) (slot : ℕ) (head : Head) → AreHeld spare rows heads lists
+pub head_is : (spare : ℕ) (rows : Slab TimerRow) (heads : List ListHead) (lists : List (List Timer)) (slot : ℕ) (head : ListHead) → AreHeld spare rows heads lists
     → slot < length heads → head ≡ get_or heads slot head → IsHeld rows head (get_or lists slot [])
 head_is spare rows heads lists slot head held within read =
-    let P : Head → Type 0 = λ h. IsHeld rows h (get_or lists slot []) in
+    let P : ListHead → Type 0 = λ h. IsHeld rows h (get_or lists slot []) in
     subst P (any_default heads slot no_head head within ∙ sym read) (held.held slot)
 
-pub record IsFirst (rows : Slab Row) (head : Head) (first : Timer) (rest : List Timer) : Type 0 where
+pub record IsFirst (rows : Slab TimerRow) (head : ListHead) (first : Timer) (rest : List Timer) : Type 0 where
   pub numbered : head.first ≡ Some (number_of first)
   pub found : get rows first.key ≡ Some (row_of None first (first_or rest None))
   pub left : without first.key (first ∷ rest) ≡ rest
 
-pub first_is : (rows : Slab Row) (head : Head) (ts : List Timer) (first : Timer) (rest : List Timer) → IsHeld rows head ts → KeysDiffer ts → ts ≡ first ∷ rest
+pub first_is : (rows : Slab TimerRow) (head : ListHead) (ts : List Timer) (first : Timer) (rest : List Timer) → IsHeld rows head ts → KeysDiffer ts → ts ≡ first ∷ rest
     → IsFirst rows head first rest
 first_is rows head ts first rest held differ e =
     let P : List Timer → Type 0 = λ us. IsHeld rows head us in
@@ -389,7 +393,7 @@ moved lists taken put from to key first rest differ begins left keyed taken_is p
 -- ---- when a timer is due
 
 -- no timer of the key of a row is due at another moment
-due_in_thread : (rows : Slab Row) (before : Option RowNumber) (ts : List Timer) (after : Option RowNumber) (key : ℕ) (row : Row) → IsThread rows before ts after
+due_in_thread : (rows : Slab TimerRow) (before : Option RowNumber) (ts : List Timer) (after : Option RowNumber) (key : ℕ) (row : TimerRow) → IsThread rows before ts after
     → get rows key ≡ Some row → count_by (λ t. eqb t.key key && not (eqb t.due row.due)) ts ≡ 0
 due_in_thread rows before [] after key row p found = refl
 due_in_thread rows before (t ∷ ts) after key row p found =
@@ -405,35 +409,36 @@ due_in_thread rows before (t ∷ ts) after key row p found =
       | false ↦ (λ e. refl)
     ] refl
 
-pub due_in_all : (spare : ℕ) (rows : Slab Row) (heads : List Head) (lists : List (List Timer)) (key : ℕ) (row : Row) → AreHeld spare rows heads lists
+pub due_in_all : (spare : ℕ) (rows : Slab TimerRow) (heads : List ListHead) (lists : List (List Timer)) (key : ℕ) (row : TimerRow) → AreHeld spare rows heads lists
     → get rows key ≡ Some row → count_by (λ t. eqb t.key key && not (eqb t.due row.due)) (concat lists) ≡ 0
 due_in_all spare rows heads lists key row held found = count_none (λ t. eqb t.key key && not (eqb t.due row.due)) lists
     (λ slot. due_in_thread rows None (get_or lists slot []) None key row ((held.held slot).thread) found)
 
 -- a key of a timer has a row
-pub row_of_key : (spare : ℕ) (rows : Slab Row) (heads : List Head) (lists : List (List Timer)) (key : ℕ) → AreHeld spare rows heads lists
+pub row_of_key : (spare : ℕ) (rows : Slab TimerRow) (heads : List ListHead) (lists : List (List Timer)) (key : ℕ) → AreHeld spare rows heads lists
     → 1 ≤ keys_with key (concat lists) → ContainsKey rows key
 row_of_key spare rows heads lists key held stands = by_row (get rows key) refl
   where
-    by_row : (o : Option Row) → get rows key ≡ o → is_some o ≡ true
+    by_row : (o : Option TimerRow) → get rows key ≡ o → is_some o ≡ true
     by_row None e = absurd (omega (arith, stands, absent spare rows heads lists key held e))
     by_row (Some row) e = refl
 
 -- ---- what is known of the list of a head
 
-pub held_at : (spare : ℕ) (rows : Slab Row) (heads : List Head) (slot : ℕ) (head : Head) → AreHeld spare rows heads (lists_of rows heads) → slot < length heads
+pub held_at : (spare : ℕ) (rows : Slab TimerRow) (heads : List ListHead) (slot : ℕ) (head : ListHead) → AreHeld spare rows heads (lists_of rows heads)
+    → slot < length heads
     → head ≡ get_or heads slot head → IsHeld rows head (list_of rows head)
 held_at spare rows heads slot head held within read =
     let own = head_is spare rows heads (lists_of rows heads) slot head held within read in
     let P : List Timer → Type 0 = λ ts. IsHeld rows head ts in
     subst P (sym (held_is rows head (get_or (lists_of rows heads) slot []) own)) own
 
-pub list_of_head : (rows : Slab Row) (heads : List Head) (slot : ℕ) (head : Head) → slot < length heads → head ≡ get_or heads slot head
+pub list_of_head : (rows : Slab TimerRow) (heads : List ListHead) (slot : ℕ) (head : ListHead) → slot < length heads → head ≡ get_or heads slot head
     → list_of rows head ≡ get_or (lists_of rows heads) slot []
 list_of_head rows heads slot head within read = ap (list_of rows) read ∙ sym (list_is rows heads slot head within)
 
 -- another timer may be remembered, if it is due first
-pub remembered : (rows : Slab Row) (heads : List Head) (slot : ℕ) (head : Head) (least : Option RowNumber) → AreHeld 0 rows heads (lists_of rows heads)
+pub remembered : (rows : Slab TimerRow) (heads : List ListHead) (slot : ℕ) (head : ListHead) (least : Option RowNumber) → AreHeld 0 rows heads (lists_of rows heads)
     → slot < length heads → head ≡ get_or heads slot head → KnowsLeast least (list_of rows head)
     → AreHeld 0 rows (set heads slot (record head { least = least })) (lists_of rows heads)
 remembered rows heads slot head least held within read knows =

@@ -5,16 +5,16 @@ ghost use Rattle.std.specs.Prelude.{if◌then◌else◌, is_some, true};
 ghost use Rattle.slab.specs.Slab.{get, ContainsKey, slab_len};
 ghost use Rattle.sip_timers.specs.Timers.{keys_with, without, KeysDiffer};
 ghost use Rattle.sip_timers_wheel.specs.declared.row.RowNumber.{RowNumber};
-ghost use Rattle.sip_timers_wheel.specs.declared.row.Row.{Row};
+ghost use Rattle.sip_timers_wheel.specs.declared.row.TimerRow.{TimerRow};
 ghost use Rattle.sip_timers_wheel.specs.Lists.{least};
 ghost use Rattle.sip_timers_wheel.specs.Threads.{list_of, timer_of, IsHeld, IsLeastWith, known_least, other_than, SameSize};
 
-use crate::row::{Row, RowNumber, set_beside, set_next, set_previous};
+use crate::row::{RowNumber, TimerRow, set_beside, set_next, set_previous};
 use slab::Slab;
 
 /// Where a list begins and ends, and what is known of it.
 #[derive(Clone, Copy)]
-pub(crate) struct Head {
+pub(crate) struct ListHead {
     pub first: Option<RowNumber>,
     pub last: Option<RowNumber>,
     /// None is due before one that stands in front of it. A list in this order may be without this mark.
@@ -25,9 +25,9 @@ pub(crate) struct Head {
     pub second: Option<RowNumber>,
 }
 
-impl Head {
+impl ListHead {
     /// The head of an empty list.
-    pub(crate) const EMPTY: Head = Head {
+    pub(crate) const EMPTY: ListHead = ListHead {
         first: None,
         last: None,
         is_rising: true,
@@ -47,15 +47,15 @@ impl Head {
     }
 
     /// Remembers a row that is put behind the others, where it is due before the least or the second least.
-    fn remember(&mut self, rows: &Slab<Row>, number: RowNumber, due: u64)
+    fn remember(&mut self, rows: &Slab<TimerRow>, number: RowNumber, due: u64)
         requires least { IfSome (known_least self.old) (λ n. ContainsKey rows.now n.0) }
         requires second { IfSome self.old.second (λ n. ContainsKey rows.now n.0) }
         ensures least { IsLeastWith rows.now (known_least self.old) number due self.new.least }
         ensures unknown { known_least self.old ≡ None → self.new.second ≡ None }
-        ensures sooner { (n : RowNumber) (row : Row) → known_least self.old ≡ Some n → get rows.now n.0 ≡ Some row → due < row.due
-            → self.new.second ≡ Some n }
-        ensures later { (n : RowNumber) (row : Row) → known_least self.old ≡ Some n → get rows.now n.0 ≡ Some row → row.due ≤ due
-            → IsLeastWith rows.now self.old.second number due self.new.second }
+        ensures sooner { (n : RowNumber) (row : TimerRow) → known_least self.old ≡ Some n → get rows.now n.0 ≡ Some row
+            → due < row.due → self.new.second ≡ Some n }
+        ensures later { (n : RowNumber) (row : TimerRow) → known_least self.old ≡ Some n → get rows.now n.0 ≡ Some row
+            → row.due ≤ due → IsLeastWith rows.now self.old.second number due self.new.second }
         ensures ends { (self.new.first ≡ self.old.first) × (self.new.last ≡ self.old.last) }
     {
         let known = self.known_least();
@@ -102,10 +102,11 @@ impl Head {
     }
 
     /// Whether the list is known to be in rising order with a timer of this moment behind the others.
-    fn stays_rising(&self, rows: &Slab<Row>, due: u64) -> bool
+    fn stays_rising(&self, rows: &Slab<TimerRow>, due: u64) -> bool
         requires { IfSome self.now.last (λ n. ContainsKey rows.now n.0) }
         ensures rising { result ≡ true → (n : RowNumber) → self.now.last ≡ Some n → self.now.is_rising ≡ true }
-        ensures late { result ≡ true → (n : RowNumber) (row : Row) → self.now.last ≡ Some n → get rows.now n.0 ≡ Some row → row.due ≤ due }
+        ensures late { result ≡ true → (n : RowNumber) (row : TimerRow) → self.now.last ≡ Some n → get rows.now n.0 ≡ Some row
+            → row.due ≤ due }
     {
         match self.last {
             Some(last) => self.is_rising && rows[last.0].due <= due,
@@ -114,13 +115,13 @@ impl Head {
     }
 
     /// Puts a row that stands in no list behind the others.
-    pub(crate) fn put_behind(&mut self, rows: &mut Slab<Row>, number: RowNumber)
+    pub(crate) fn put_behind(&mut self, rows: &mut Slab<TimerRow>, number: RowNumber)
         requires held { IsHeld rows.old self.old (list_of rows.old self.old) }
         requires differ { KeysDiffer (list_of rows.old self.old) }
         requires stands { ContainsKey rows.old number.0 }
         requires fresh { keys_with number.0 (list_of rows.old self.old) ≡ 0 }
         requires fits { length (list_of rows.old self.old) + 1 ≤ slab_len rows.old }
-        ensures put { (row : Row) → get rows.old number.0 ≡ Some row
+        ensures put { (row : TimerRow) → get rows.old number.0 ≡ Some row
             → IsHeld rows.new self.new (list_of rows.old self.old ++ timer_of number.0 row ∷ []) }
         ensures others { (other : ℕ) → keys_with other (list_of rows.old self.old) ≡ 0 → other ≢ number.0 → get rows.new other ≡ get rows.old other }
         ensures size { SameSize rows.old rows.new }
@@ -136,7 +137,7 @@ impl Head {
     }
 
     /// Takes a row out: those beside it are tied to each other, and itself stays as it is.
-    pub(crate) fn take_out(&mut self, rows: &mut Slab<Row>, number: RowNumber)
+    pub(crate) fn take_out(&mut self, rows: &mut Slab<TimerRow>, number: RowNumber)
         requires held { IsHeld rows.old self.old (list_of rows.old self.old) }
         requires differ { KeysDiffer (list_of rows.old self.old) }
         requires present { 1 ≤ keys_with number.0 (list_of rows.old self.old) }

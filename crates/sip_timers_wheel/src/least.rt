@@ -2,14 +2,14 @@ ghost use Rattle.std.specs.Prelude.{◌≡◌, Some};
 ghost use Rattle.sip_timers_wheel.specs.Lists.{least};
 ghost use Rattle.sip_timers_wheel.specs.Threads.{list_of, IsHeld, KnowsLeast, sooner};
 
-use crate::head::Head;
-use crate::row::{Row, RowNumber, timer_at};
+use crate::head::ListHead;
+use crate::row::{RowNumber, TimerRow, timer_at};
 use sip_timers::Timer;
 use slab::Slab;
 
 /// The timer of a list that is due first. It is looked for only where it isn't known.
 #[inline(always)]
-pub(crate) fn least_of(rows: &Slab<Row>, head: &Head) -> Option<Timer>
+pub(crate) fn least_of(rows: &Slab<TimerRow>, head: &ListHead) -> Option<Timer>
     requires { IsHeld rows.now head.now (list_of rows.now head.now) }
     ensures { result ≡ least (list_of rows.now head.now) }
 {
@@ -23,7 +23,7 @@ pub(crate) fn least_of(rows: &Slab<Row>, head: &Head) -> Option<Timer>
 }
 
 /// The number of the timer that is due first.
-pub(crate) fn least_number(rows: &Slab<Row>, head: &Head) -> Option<RowNumber>
+pub(crate) fn least_number(rows: &Slab<TimerRow>, head: &ListHead) -> Option<RowNumber>
     requires { IsHeld rows.now head.now (list_of rows.now head.now) }
     ensures { KnowsLeast result (list_of rows.now head.now) }
 {
@@ -32,7 +32,7 @@ pub(crate) fn least_number(rows: &Slab<Row>, head: &Head) -> Option<RowNumber>
 
 /// The timer of a list that is due first, after a look through all of them.
 #[inline(never)]
-fn find_least(rows: &Slab<Row>, head: &Head) -> Option<Timer>
+fn find_least(rows: &Slab<TimerRow>, head: &ListHead) -> Option<Timer>
     requires { IsHeld rows.now head.now (list_of rows.now head.now) }
     ensures { result ≡ least (list_of rows.now head.now) }
 {

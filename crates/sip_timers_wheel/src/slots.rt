@@ -6,11 +6,11 @@ ghost use Rattle.sip_timers.specs.declared.timer.Timer.{Timer};
 ghost use Rattle.sip_timers_wheel.specs.Lists.{list_at, concat, least};
 ghost use Rattle.sip_timers_wheel.specs.Threads.{lists_of, timer_of, AreHeld, SameSize};
 ghost use Rattle.slab.specs.Slab.{get, ContainsKey};
-ghost use Rattle.sip_timers_wheel.specs.declared.row.Row.{Row};
+ghost use Rattle.sip_timers_wheel.specs.declared.row.TimerRow.{TimerRow};
 
-use crate::head::Head;
+use crate::head::ListHead;
 use crate::least::{least_number, least_of};
-use crate::row::{Row, RowNumber};
+use crate::row::{RowNumber, TimerRow};
 use sip_timers::{Name, Timer};
 use slab::Slab;
 use std::alloc::{AllocError, Global};
@@ -24,8 +24,8 @@ const ROOM: usize = 1536;
 /// one that stands has, in whichever slot; a key may serve again once its timer doesn't stand any more.
 #[derive(Drop)]
 pub struct Slots {
-    rows: Slab<Row>,
-    heads: Vec<Head>,
+    rows: Slab<TimerRow>,
+    heads: Vec<ListHead>,
 }
 
 impl Model for Slots {
@@ -48,7 +48,7 @@ impl Slots {
     {
         Ok(Slots {
             rows: Slab::with_capacity(alloc, ROOM)?,
-            heads: vec![in alloc; Head::EMPTY; count]?,
+            heads: vec![in alloc; ListHead::EMPTY; count]?,
         })
     }
 
@@ -74,7 +74,7 @@ impl Slots {
         ensures left { self.old.room ≤ self.new.room + 1 }
         ensures spared { OnErr result (self.old.room ≤ self.new.room) }
     {
-        let key = self.rows.insert(Row {
+        let key = self.rows.insert(TimerRow {
             due,
             name,
             previous: None,
@@ -162,7 +162,7 @@ impl Slots {
 }
 
 /// Takes the row of a timer out of the list of a slot. It stays in the slab.
-fn take_from(rows: &mut Slab<Row>, heads: &mut [Head], slot: usize, number: RowNumber)
+fn take_from(rows: &mut Slab<TimerRow>, heads: &mut [ListHead], slot: usize, number: RowNumber)
     requires held { AreHeld 0 rows.old heads.old (lists_of rows.old heads.old) }
     requires within { slot < length heads.old }
     requires present { 1 ≤ keys_with number.0 (list_at (lists_of rows.old heads.old) slot) }
@@ -178,13 +178,13 @@ fn take_from(rows: &mut Slab<Row>, heads: &mut [Head], slot: usize, number: RowN
 }
 
 /// Puts a row that stands in no list behind the others of a slot.
-fn put_into(rows: &mut Slab<Row>, heads: &mut [Head], slot: usize, number: RowNumber)
+fn put_into(rows: &mut Slab<TimerRow>, heads: &mut [ListHead], slot: usize, number: RowNumber)
     requires held { AreHeld 1 rows.old heads.old (lists_of rows.old heads.old) }
     requires within { slot < length heads.old }
     requires stands { ContainsKey rows.old number.0 }
     requires fresh { keys_with number.0 (concat (lists_of rows.old heads.old)) ≡ 0 }
     ensures held { AreHeld 0 rows.new heads.new (lists_of rows.new heads.new) }
-    ensures put { (row : Row) → get rows.old number.0 ≡ Some row → lists_of rows.new heads.new
+    ensures put { (row : TimerRow) → get rows.old number.0 ≡ Some row → lists_of rows.new heads.new
         ≡ slice_set (lists_of rows.old heads.old) slot (list_at (lists_of rows.old heads.old) slot ++ timer_of number.0 row ∷ []) }
     ensures size { SameSize rows.old rows.new }
 {

@@ -10,7 +10,7 @@ use Rattle.std.proofs.lemmas.List.Edits.{get_or-remove_below, get_or-remove_abov
 use Rattle.std.proofs.lemmas.List.Sums.{sum_by_push, sum_by-set, sum_by-remove, get_or-le-sum_by, count_by-le-length}
 use Rattle.std.proofs.lemmas.List.{length-map, map-append, drop-map, take-map}
 use Rattle.std.proofs.lemmas.Option.{slice_get_within, slice_get-map, same_Some, get_or_from_slice_get}
-use Rattle.sip_transaction_table.specs.declared.key.Key.{Key}
+use Rattle.sip_transaction_table.specs.declared.key.TransactionKey.{TransactionKey}
 use Rattle.sip_transaction_table.specs.Key.{same_key, is_cancelled_by}
 use Rattle.sip_transaction_table.specs.Digest.{digest_of, named_digest}
 use Rattle.sip_transaction_table.specs.Keys.{Filed, count_in}
@@ -31,9 +31,9 @@ remove-map f xs i =
     map-append f (take i xs) (drop (suc i) xs) ∙ ap (λ ys. ys ++ map f (drop (suc i) xs)) (sym (take-map f i xs))
     ∙ ap (λ ys. take i (map f xs) ++ ys) (sym (drop-map f (suc i) xs))
 
-module _ {R : Type 0} (key : R → Key) where
+module _ {R : Type 0} (key : R → TransactionKey) where
   -- whether a row has a key
-  abbrev has : Key → R → Bool
+  abbrev has : TransactionKey → R → Bool
   has k r = same_key (key r) k
 
   -- whether a row's key has a digest
@@ -63,7 +63,7 @@ module _ {R : Type 0} (key : R → Key) where
   counts_few rows filed d h = omega (arith, h.counted d, count_by-le-length (files filed d) rows)
 
   -- where no key of its digest is filed, a key has no row
-  pub not_filed : (rows : List R) (filed : Filed) (k : Key) → AreFiled key rows filed → count_in (digest_of filed.secret k) filed.entries ≡ 0
+  pub not_filed : (rows : List R) (filed : Filed) (k : TransactionKey) → AreFiled key rows filed → count_in (digest_of filed.secret k) filed.entries ≡ 0
       → position (has k) rows ≡ None
   not_filed rows filed k h none = nowhere (has k) rows (λ i x lt. by_test i x lt (has k (get_or rows i x)) refl) where
     by_test : (i : ℕ) (x : R) → i < length rows → (t : Bool) → has k (get_or rows i x) ≡ t → t ≡ false
@@ -76,7 +76,7 @@ module _ {R : Type 0} (key : R → Key) where
         absurd (omega (arith, get_or-le-sum_by (λ y. cond (files filed d y) 1 0) rows i x lt, one, none, h.counted d))
 
   -- a row that has a key is the first one that has it
-  pub place_of : (rows : List R) (filed : Filed) (i : ℕ) (r : R) (k : Key) → AreFiled key rows filed → slice_get rows i ≡ Some r → same_key (key r) k ≡ true
+  pub place_of : (rows : List R) (filed : Filed) (i : ℕ) (r : R) (k : TransactionKey) → AreFiled key rows filed → slice_get rows i ≡ Some r → same_key (key r) k ≡ true
       → position (has k) rows ≡ Some i
   place_of rows filed i r k h at passes =
       let e : key r ≡ k = (decides (key r) k).0 passes in
@@ -84,12 +84,12 @@ module _ {R : Type 0} (key : R → Key) where
       first_at (has k) rows i r at passes (λ j lt. ap (same_key (key (get_or rows j r))) (sym (ap key is ∙ e)) ∙ h.apart j i r lt (slice_get_within rows i r at))
 
   -- a row that a CANCEL names counts under the digest that it knows
-  named_counts : (filed : Filed) (k : Key) (r : R) → is_cancelled_by k (key r) ≡ true → cond {A = ℕ} (files filed (named_digest filed.secret k) r) 1 0 ≡ 1
+  named_counts : (filed : Filed) (k : TransactionKey) (r : R) → is_cancelled_by k (key r) ≡ true → cond {A = ℕ} (files filed (named_digest filed.secret k) r) 1 0 ≡ 1
   named_counts filed k r is = let same : digest_of filed.secret (key r) ≡ named_digest filed.secret k = has_digest filed.secret k (key r) is in
       grind (arith, nat_tests, same)
 
   -- where no key of that digest is filed, no row is named
-  pub none_named : (rows : List R) (filed : Filed) (k : Key) → AreFiled key rows filed → count_in (named_digest filed.secret k) filed.entries ≡ 0
+  pub none_named : (rows : List R) (filed : Filed) (k : TransactionKey) → AreFiled key rows filed → count_in (named_digest filed.secret k) filed.entries ≡ 0
       → position (λ r. is_cancelled_by k (key r)) rows ≡ None
   none_named rows filed k h none = nowhere (λ r. is_cancelled_by k (key r)) rows (λ i x lt. by_test i x lt (is_cancelled_by k (key (get_or rows i x))) refl) where
     by_test : (i : ℕ) (x : R) → i < length rows → (t : Bool) → is_cancelled_by k (key (get_or rows i x)) ≡ t → t ≡ false
@@ -99,7 +99,8 @@ module _ {R : Type 0} (key : R → Key) where
         absurd (omega (arith, get_or-le-sum_by (λ y. cond (files filed d y) 1 0) rows i x lt, named_counts filed k (get_or rows i x) is, none, h.counted d))
 
   -- where one key of that digest is filed, a row that is named is the only one
-  pub named_alone : (rows : List R) (filed : Filed) (i : ℕ) (r : R) (k : Key) → AreFiled key rows filed → count_in (named_digest filed.secret k) filed.entries ≡ 1
+  pub named_alone : (rows : List R) (filed : Filed) (i : ℕ) (r : R) (k : TransactionKey) → AreFiled key rows filed
+      → count_in (named_digest filed.secret k) filed.entries ≡ 1
       → slice_get rows i ≡ Some r → is_cancelled_by k (key r) ≡ true → position (λ x. is_cancelled_by k (key x)) rows ≡ Some i
   named_alone rows filed i r k h one at passes =
       first_at (λ x. is_cancelled_by k (key x)) rows i r at passes (λ j lt. by_test j lt (is_cancelled_by k (key (get_or rows j r))) refl)
@@ -158,7 +159,8 @@ module _ {R : Type 0} (key : R → Key) where
         let within = slice_get_within rows i r at in
         let was : cond {A = ℕ} (files filed d (get_or rows i r)) 1 0 ≡ cond {A = ℕ} (files filed d r) 1 0 =
         ap (λ (x : R). cond {A = ℕ} (files filed d x) 1 0) (get_or_from_slice_get rows i r r at) in
-        let is : cond {A = ℕ} (files filed d row) 1 0 ≡ cond {A = ℕ} (files filed d r) 1 0 = ap (λ (k : Key). cond {A = ℕ} (digest_of filed.secret k == d) 1 0) same in
+        let is : cond {A = ℕ} (files filed d row) 1 0 ≡ cond {A = ℕ} (files filed d r) 1 0 =
+        ap (λ (k : TransactionKey). cond {A = ℕ} (digest_of filed.secret k == d) 1 0) same in
         omega (arith, sum_by-set (λ x. cond (files filed d x) 1 0) rows i row r within, was, is, h.counted d);
     digested = h.digested ∙ sym (map-set_same (λ x. digest_of filed.secret (key x)) rows i r row at (ap (digest_of filed.secret) same));
   }

@@ -6,7 +6,7 @@ use Rattle.std.specs.Cmp.Lexicographic.{bytes_decides}
 use Rattle.std.proofs.lemmas.Bool.Decides.{Decides-eqb}
 use Rattle.sip_base.specs.WordHasher as sip
 use Rattle.sip_base.specs.declared.word_hasher.WordHasher.{WordHasher}
-use Rattle.sip_transaction_table.specs.declared.key.Key.{Key}
+use Rattle.sip_transaction_table.specs.declared.key.TransactionKey.{TransactionKey}
 use Rattle.sip_transaction_table.specs.Key.{is_cancelled_by}
 use Rattle.sip_transaction_table.specs.Digest.{text_fed, sender_fed, sender_digest, named_digest, digest_of}
 
@@ -20,7 +20,7 @@ fails : (t : Bool) → not t ≡ true → t ≡ false
 fails false is = refl
 fails true is = absurd (cc)
 
-pub has_digest : (secret : WordHasher) (cancel key : Key) → is_cancelled_by cancel key ≡ true → digest_of secret key ≡ named_digest secret cancel
+pub has_digest : (secret : WordHasher) (cancel key : TransactionKey) → is_cancelled_by cancel key ≡ true → digest_of secret key ≡ named_digest secret cancel
 unfolding digest_of
 has_digest secret cancel key is =
     let branches : Bool = bytes_eq key.branch cancel.branch in

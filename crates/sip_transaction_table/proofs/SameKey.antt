@@ -4,11 +4,11 @@ use Rattle.std.specs.Bool.{Decides}
 use Rattle.std.specs.Str.{bytes_eq}
 use Rattle.std.specs.Cmp.Lexicographic.{bytes_decides}
 use Rattle.std.proofs.lemmas.Bool.Decides.{Decides-and, Decides-eqb, Decides-like}
-use Rattle.sip_transaction_table.specs.declared.key.Key.{Key}
+use Rattle.sip_transaction_table.specs.declared.key.TransactionKey.{TransactionKey}
 use Rattle.sip_transaction_table.specs.Key.{same_key}
 
 -- two keys are the same exactly where they are equal
-pub decides : (a b : Key) → Decides (same_key a b) (a ≡ b)
+pub decides : (a b : TransactionKey) → Decides (same_key a b) (a ≡ b)
 decides a b =
     Decides-like (same_key a b) same alike
     (Decides-and _ (bytes_eq a.method b.method)
@@ -24,10 +24,13 @@ decides a b =
         first ∙ second ∙ third ∙ ap (λ v. record b { method = v }) p.1
 
     alike : a ≡ b → ((a.branch ≡ b.branch × a.host ≡ b.host) × a.port ≡ b.port) × a.method ≡ b.method
-    alike e = (((ap (λ (k : Key). k.branch) e, ap (λ (k : Key). k.host) e), ap (λ (k : Key). k.port) e), ap (λ (k : Key). k.method) e)
+    alike e = (
+      ((ap (λ (k : TransactionKey). k.branch) e, ap (λ (k : TransactionKey). k.host) e), ap (λ (k : TransactionKey). k.port) e),
+      ap (λ (k : TransactionKey). k.method) e,
+    )
 
 -- in either order
-pub turned : (a b : Key) → same_key a b ≡ false → same_key b a ≡ false
+pub turned : (a b : TransactionKey) → same_key a b ≡ false → same_key b a ≡ false
 turned a b differ = by_test (same_key b a) refl where
   by_test : (t : Bool) → same_key b a ≡ t → t ≡ false
   by_test false is = refl

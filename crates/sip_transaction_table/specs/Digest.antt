@@ -5,7 +5,7 @@ use Rattle.std.specs.Hash as fed
 use Rattle.std.specs.Str.{bytes_eq}
 use Rattle.sip_base.specs.WordHasher as sip
 use Rattle.sip_base.specs.declared.word_hasher.WordHasher.{WordHasher}
-use Rattle.sip_transaction_table.specs.declared.key.Key.{Key}
+use Rattle.sip_transaction_table.specs.declared.key.TransactionKey.{TransactionKey}
 
 -- a text, after its length
 abbrev pub text_fed : List ℕ → List (List ℕ)
@@ -20,11 +20,11 @@ unfoldable pub sender_digest : WordHasher → List ℕ → List ℕ → ℕ → 
 sender_digest secret branch host port = sip.finish (fold sip.write secret (sender_fed branch host port))
 
 -- the hash of each key that a CANCEL with this key names
-abbrev pub named_digest : WordHasher → Key → ℕ
+abbrev pub named_digest : WordHasher → TransactionKey → ℕ
 named_digest secret cancel = sender_digest secret cancel.branch cancel.host cancel.port
 
 -- the hash of a key
-unfoldable pub digest_of : WordHasher → Key → ℕ
+unfoldable pub digest_of : WordHasher → TransactionKey → ℕ
 digest_of secret key =
     if bytes_eq key.method (codes "CANCEL") then sip.finish (fold sip.write secret (sender_fed key.branch key.host key.port ++ text_fed key.method))
     else sender_digest secret key.branch key.host key.port

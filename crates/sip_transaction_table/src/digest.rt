@@ -2,8 +2,8 @@ ghost use Rattle.std.specs.Prelude.{◌≡◌, fold};
 ghost use Rattle.sip_base.specs.WordHasher as sip;
 ghost use Rattle.sip_transaction_table.specs.Digest.{text_fed, sender_fed, named_digest, digest_of};
 
-use crate::Key;
-use sip_base::{Keyed, WordHasher};
+use crate::TransactionKey;
+use sip_base::{KeyedHasher, WordHasher};
 use std::hash::{BuildHasher, Hasher};
 
 /// Feeds a text after its length, so that no text runs into the next one.
@@ -15,7 +15,7 @@ fn feed(state: &mut WordHasher, text: &[u8])
 }
 
 /// A hasher that was fed the secret, and then the branch and the sent-by of a key.
-fn feed_sender(secret: &Keyed, key: &Key) -> WordHasher
+fn feed_sender(secret: &KeyedHasher, key: &TransactionKey) -> WordHasher
     ensures { result ≡ fold sip.write secret.now (sender_fed key.now.branch key.now.host key.now.port) }
 {
     let mut state = secret.build_hasher();
@@ -27,7 +27,7 @@ fn feed_sender(secret: &Keyed, key: &Key) -> WordHasher
 
 /// As which number each key is filed that a CANCEL with this key names.
 #[tactic(auto, unfolding(crate::specs::Digest::sender_digest))]
-pub(crate) fn named_digest(secret: &Keyed, cancel: &Key) -> u64
+pub(crate) fn named_digest(secret: &KeyedHasher, cancel: &TransactionKey) -> u64
     ensures { result ≡ named_digest secret.now cancel.now }
 {
     feed_sender(secret, cancel).finish()
@@ -35,7 +35,7 @@ pub(crate) fn named_digest(secret: &Keyed, cancel: &Key) -> u64
 
 /// A key as a number, under a secret. Its method counts only where it is CANCEL: so a CANCEL's own key is told from what it names.
 #[tactic(auto, unfolding(crate::specs::Digest::digest_of, crate::specs::Digest::sender_digest))]
-pub(crate) fn digest_of(secret: &Keyed, key: &Key) -> u64
+pub(crate) fn digest_of(secret: &KeyedHasher, key: &TransactionKey) -> u64
     ensures { result ≡ digest_of secret.now key.now }
 {
     let mut state = feed_sender(secret, key);

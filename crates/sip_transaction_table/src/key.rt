@@ -10,7 +10,7 @@ use sip_text::{Bytes, lower_case, same_bytes};
 use std::alloc::{AllocError, Global};
 
 /// What a request's server transaction is found by (RFC 3261 17.2.3).
-pub struct Key {
+pub struct TransactionKey {
     /// The branch of the top Via, with the magic cookie.
     pub branch: Bytes,
     /// The host of its sent-by, in lower case.
@@ -22,9 +22,9 @@ pub struct Key {
 }
 
 /// Written out, so that it is proved once and not wherever one is dropped.
-impl Drop for Key {
+impl Drop for TransactionKey {
     fn drop(self) {
-        let Key {
+        let TransactionKey {
             branch: _,
             host: _,
             port: _,
@@ -50,7 +50,7 @@ fn key_from(
     method: &[u8],
     via: &Via<'_>,
     branch: &[u8],
-) -> Result<Option<Key>, AllocError>
+) -> Result<Option<TransactionKey>, AllocError>
     ensures { IfOk result (λ key. key ≡ key_from method.now via.now branch.now) }
 {
     if !branch.starts_with(b"z9hG4bK") {
@@ -59,7 +59,7 @@ fn key_from(
     let branch = Bytes::copy(alloc, branch)?;
     let host = lower_case(alloc, via.host.as_slice())?;
     let method = KeyMethod::copy(alloc, method_in_key(method))?;
-    Ok(Some(Key {
+    Ok(Some(TransactionKey {
         branch,
         host,
         port: via.port.unwrap_or(5060),
@@ -67,7 +67,7 @@ fn key_from(
     }))
 }
 
-impl Key {
+impl TransactionKey {
     ghost use Rattle.sip_transaction_table.specs.Key.{via_key};
 
     /// The key of a request of this method with this Via on top (RFC 3261 17.2.3). None where the Via has no
@@ -76,7 +76,7 @@ impl Key {
         alloc: Global,
         method: &[u8],
         via: &Via<'_>,
-    ) -> Result<Option<Key>, AllocError>
+    ) -> Result<Option<TransactionKey>, AllocError>
         ensures { IfOk result (λ key. key ≡ via_key method.now via.now) }
     {
         match branch_of(&via.parameters) {
@@ -94,7 +94,7 @@ impl Key {
 
     /// Whether a CANCEL with the key `cancel` names a request with this one: of the same branch and sent-by, and neither ACK
     /// nor CANCEL (RFC 3261 9.2). Takes no memory.
-    pub(crate) fn is_cancelled_by(&self, cancel: &Key) -> bool
+    pub(crate) fn is_cancelled_by(&self, cancel: &TransactionKey) -> bool
         ensures { result ≡ is_cancelled_by cancel.now self.now }
     {
         if !same_bytes(self.branch.as_slice(), cancel.branch.as_slice()) {
@@ -117,7 +117,7 @@ impl Key {
 }
 
 /// Whether two keys are the same.
-pub fn same_key(left: &Key, right: &Key) -> bool
+pub fn same_key(left: &TransactionKey, right: &TransactionKey) -> bool
     ensures value { result ≡ same_key left.now right.now }
     ensures equal { IsTrue result ↔ (left.now ≡ right.now) }
 {

@@ -1,22 +1,22 @@
 //! The open keys by a hash under a secret, each with the number of its row: whichever keys peers choose, one is found in constant time.
-//! The rows themselves stand in `numbered`.
+//! The rows themselves stand in `numbered_rows`.
 ghost use Rattle.std.specs.Prelude.{◌≡◌, ◌≤◌, ◌<◌, ◌+◌, ◌==◌, ◌++◌, ◌∷◌, [], ℕ, Some, length, remove, slice_get, if◌then◌else◌};
 ghost use Rattle.std.specs.Prelude.{IfNone, IfSome, IfOk, OnOk};
-ghost use Rattle.sip_base.specs.Keyed.{fed_first};
+ghost use Rattle.sip_base.specs.KeyedHasher.{fed_first};
 ghost use Rattle.sip_transaction_table.specs.Digest.{digest_of, named_digest};
 ghost use Rattle.sip_transaction_table.specs.Keys.{count_in, counted};
 
-use crate::Key;
+use crate::TransactionKey;
 use crate::digest::{digest_of, named_digest};
 use crate::front::take_out;
-use sip_base::Keyed;
+use sip_base::KeyedHasher;
 use std::alloc::{AllocError, Global};
 use std::collections::{HashMap, VecDeque};
 use std::marker::Model;
 
 /// What is known of the keys of one digest.
 #[derive(Clone, Copy)]
-pub(crate) struct Hint {
+pub(crate) struct KeyHint {
     /// The number of the newest row with this digest.
     pub(crate) number: u64,
     /// How many others have it.
@@ -28,14 +28,14 @@ pub(crate) const ROOM: usize = 1024;
 
 /// How many keys are open by their digests under a secret, with the number of the newest one's row.
 #[derive(Drop)]
-pub(crate) struct Keys {
-    secret: Keyed,
-    hints: HashMap<u64, Hint>,
+pub(crate) struct KeyIndex {
+    secret: KeyedHasher,
+    hints: HashMap<u64, KeyHint>,
     /// The digests of the keys in the order of their rows, so that a key isn't hashed again when its row closes.
     digests: VecDeque<u64>,
 }
 
-impl Model for Keys {
+impl Model for KeyIndex {
     ghost use Rattle.std.specs.Prelude.{◌≤◌};
     ghost use Rattle.std.specs.HashMap.{spare};
     ghost use Rattle.std.specs.VecDeque.{deque_capacity};
@@ -48,7 +48,7 @@ impl Model for Keys {
     ghost invariant = { λ k. 1024 ≤ deque_capacity k.digests };
 }
 
-impl Keys {
+impl KeyIndex {
     /// No key, and room for the digests of all rows that may stand. Keys are hashed under the secret `keys`. `AllocError` is the only refusal.
     pub(crate) fn new(alloc: Global, keys: u128) -> Result<Self, AllocError>
         ensures entries { IfOk result (λ keys. keys.entries ≡ []) }
@@ -56,15 +56,15 @@ impl Keys {
         ensures secret { IfOk result (λ filed. filed.secret ≡ fed_first keys) }
     {
         let digests = VecDeque::with_capacity(alloc, ROOM)?;
-        Ok(Keys {
-            secret: Keyed::new(keys),
+        Ok(KeyIndex {
+            secret: KeyedHasher::new(keys),
             hints: HashMap::new(alloc),
             digests,
         })
     }
 
     /// The number of a row that may have this key. None says that no key of its digest is filed.
-    pub(crate) fn hint(&self, key: &Key) -> Option<u64>
+    pub(crate) fn hint(&self, key: &TransactionKey) -> Option<u64>
         ensures { IfNone result (count_in (digest_of self.now.secret key.now) self.now.entries ≡ 0) }
     {
         match self.hints.get(&digest_of(&self.secret, key)) {
@@ -74,7 +74,7 @@ impl Keys {
     }
 
     /// What is known of the keys that have the digest of those that a CANCEL with this key names. None says that none is filed.
-    pub(crate) fn named(&self, cancel: &Key) -> Option<Hint>
+    pub(crate) fn named(&self, cancel: &TransactionKey) -> Option<KeyHint>
         ensures none { IfNone result (count_in (named_digest self.now.secret cancel.now) self.now.entries ≡ 0) }
         ensures some { IfSome result (λ hint. count_in (named_digest self.now.secret cancel.now) self.now.entries ≡ counted hint) }
     {
@@ -96,7 +96,7 @@ impl Keys {
     }
 
     /// Files a key, whose row has this number and stands behind all others. Takes no memory.
-    pub(crate) fn add(&mut self, key: &Key, number: u64)
+    pub(crate) fn add(&mut self, key: &TransactionKey, number: u64)
         requires room { 1 ≤ self.old.room }
         requires rows { length self.old.digests < 1024 }
         requires few { count_in (digest_of self.old.secret key.now) self.old.entries < 1024 }
@@ -111,7 +111,7 @@ impl Keys {
             Some(hint) => hint.others + 1,
             None => 0,
         };
-        let inserted: Result<_, _> = self.hints.insert(digest, Hint { number, others });
+        let inserted: Result<_, _> = self.hints.insert(digest, KeyHint { number, others });
         let _before = inserted.unwrap();
         self.digests.push_back_reserved(digest);
     }

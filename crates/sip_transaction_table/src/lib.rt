@@ -3,7 +3,7 @@
 //! them, found by number by bisection, and by their key through a hash under a secret, whichever keys peers choose. A row
 //! that closes moves the addresses of the fewer of those before and behind it, and no row: the oldest one moves none.
 //!
-//! - Used: `sip_fork` keeps the open requests in it, `sip_core` reads the key.
+//! - Used: `sip_fork` keeps the open requests in it, `sip_verdict` reads the key.
 //! - Not here: what an open request is (`sip_state`).
 //! - Tried: `test_counts`.
 //!
@@ -12,23 +12,23 @@
 //! ```
 #![tactic(auto)]
 
+mod boxed;
 mod digest;
 pub mod examples;
 mod front;
-mod held;
 mod key;
 mod keys;
 mod known_method;
 mod method;
 mod method_text;
-mod numbered;
+mod numbered_rows;
 mod row;
 mod table;
 mod transaction;
 
-pub use held::Held;
-pub use key::{Key, same_key};
+pub use boxed::Boxed;
+pub use key::{TransactionKey, same_key};
 pub use method::KeyMethod;
-pub use row::Row;
-pub use table::Table;
+pub use row::TransactionRow;
+pub use table::TransactionTable;
 pub use transaction::Transaction;

@@ -1,16 +1,16 @@
 ghost use Rattle.std.specs.Prelude.{◌≡◌, ℕ};
-ghost use Rattle.sip_transaction_table.specs.declared.key.Key.{Key};
+ghost use Rattle.sip_transaction_table.specs.declared.key.TransactionKey.{TransactionKey};
 ghost use Rattle.sip_transaction_table.specs.declared.transaction.Transaction.{Transaction};
 
-use crate::{Key, Transaction};
+use crate::{Transaction, TransactionKey};
 
 /// What stands in a table: an open request, by its number and its key.
-pub trait Row: Drop {
+pub trait TransactionRow: Drop {
     // The number of the datagram that opened it.
     ghost number: { Self → ℕ };
 
     // What its server transaction is found by.
-    ghost key: { Self → Key };
+    ghost key: { Self → TransactionKey };
 
     // What it is once one of its transactions ended.
     ghost ended: { Transaction → Self → Self };
@@ -20,7 +20,7 @@ pub trait Row: Drop {
         ensures { result ≡ number self.now };
 
     /// What its server transaction is found by (RFC 3261 17.2.3).
-    fn key(&self) -> &Key
+    fn key(&self) -> &TransactionKey
         ensures { result.now ≡ key self.now };
 
     /// One of its transactions ends; its number and its key stay. Takes no memory.

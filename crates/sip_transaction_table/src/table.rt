@@ -1,17 +1,17 @@
-//! The table of open requests: its rows (`numbered`) and their keys (`keys`), which always agree (RFC 3261 17.2.3).
+//! The table of open requests: its rows (`numbered_rows`) and their keys (`keys`), which always agree (RFC 3261 17.2.3).
 //! What a row is and which timers it has is said in `sip_fork`.
 ghost use Rattle.std.specs.Prelude.{◌≡◌, ◌<◌, ◌≤◌, ◌++◌, ◌∷◌, ◌+◌, ◌==◌, [], false, length, position, find, remove, slice_get};
 ghost use Rattle.std.specs.Prelude.{slice_set, nat_le, Option, Some, None, IfOk, OnOk};
 ghost use Rattle.std.specs.List.{All, AllPairs};
 ghost use Rattle.std.specs.Option.{option_and_then};
-ghost use Rattle.sip_base.specs.Keyed.{fed_first};
+ghost use Rattle.sip_base.specs.KeyedHasher.{fed_first};
 ghost use Rattle.sip_transaction_table.specs.Key.{same_key, is_cancelled_by};
 
-use crate::held::Held;
-use crate::keys::Keys;
-use crate::numbered::Numbered;
-use crate::row::Row;
-use crate::{Key, Transaction, same_key};
+use crate::boxed::Boxed;
+use crate::keys::KeyIndex;
+use crate::numbered_rows::NumberedRows;
+use crate::row::TransactionRow;
+use crate::{Transaction, TransactionKey, same_key};
 use std::alloc::{AllocError, Global};
 use std::marker::Model;
 
@@ -20,19 +20,19 @@ const OPEN: usize = 1024;
 
 /// The open requests, in rising order of their numbers, each with a key of its own.
 /// Seen as the list of them, how many more can be added with no memory, and the secret under which keys are hashed.
-pub struct Table<R: Row> {
-    rows: Numbered<R>,
-    keys: Keys,
+pub struct TransactionTable<R: TransactionRow> {
+    rows: NumberedRows<R>,
+    keys: KeyIndex,
 }
 
 /// Written out, so that it is proved once and not wherever one is dropped.
-impl<R: Row> Drop for Table<R> {
+impl<R: TransactionRow> Drop for TransactionTable<R> {
     fn drop(self) {
-        let Table { rows: _, keys: _ } = self;
+        let TransactionTable { rows: _, keys: _ } = self;
     }
 }
 
-impl<R: Row> Model for Table<R> {
+impl<R: TransactionRow> Model for TransactionTable<R> {
     ghost use Rattle.sip_transaction_table.specs.Rows.{Rows, AreFiled};
 
     ghost Value = { Rows R };
@@ -42,15 +42,15 @@ impl<R: Row> Model for Table<R> {
     ghost invariant = { λ t. AreFiled R.key t.rows t.keys };
 }
 
-impl<R: Row> Table<R> {
+impl<R: TransactionRow> TransactionTable<R> {
     /// No open request. Keys are hashed under the secret `keys`. `AllocError` is the only refusal.
     pub fn new(alloc: Global, keys: u128) -> Result<Self, AllocError>
         ensures rows { IfOk result (λ table. table.rows ≡ []) }
         ensures secret { IfOk result (λ table. table.secret ≡ fed_first keys) }
     {
-        let rows = Numbered::new(alloc)?;
-        let keys = Keys::new(alloc, keys)?;
-        Ok(Table { rows, keys })
+        let rows = NumberedRows::new(alloc)?;
+        let keys = KeyIndex::new(alloc, keys)?;
+        Ok(TransactionTable { rows, keys })
     }
 
     /// How many requests are open: at most 1,024. Their numbers rise, and their keys differ. Takes no memory.
@@ -92,7 +92,7 @@ impl<R: Row> Table<R> {
 
     /// The place of the open request with a key (RFC 3261 17.2.3), which is the only one: by its hash under the secret,
     /// and the number known for it; row by row only where another open key has that hash. Takes no memory.
-    pub fn find(&self, key: &Key) -> Option<usize>
+    pub fn find(&self, key: &TransactionKey) -> Option<usize>
         ensures place { result ≡ position (λ r. same_key (R.key r) key.now) self.now.rows }
         ensures row { option_and_then (slice_get self.now.rows) result ≡ find (λ r. same_key (R.key r) key.now) self.now.rows }
     {
@@ -111,7 +111,7 @@ impl<R: Row> Table<R> {
     /// The place of the earliest open request that a CANCEL with this key names (RFC 3261 9.2): by the hash that its key has
     /// under the secret, and the number known for it; row by row only where several open keys have that hash, as those of one
     /// branch and sent-by with other methods do. Takes no memory.
-    pub fn find_cancelled(&self, key: &Key) -> Option<usize>
+    pub fn find_cancelled(&self, key: &TransactionKey) -> Option<usize>
         ensures place { result ≡ position (λ r. is_cancelled_by key.now (R.key r)) self.now.rows }
         ensures row { option_and_then (slice_get self.now.rows) result ≡ find (λ r. is_cancelled_by key.now (R.key r)) self.now.rows }
     {
@@ -140,7 +140,7 @@ impl<R: Row> Table<R> {
     }
 
     /// Opens a request whose number is above all others and whose key isn't open. Takes no memory.
-    pub fn push(&mut self, row: Held<R>)
+    pub fn push(&mut self, row: Boxed<R>)
         requires few { length self.old.rows < 1024 }
         requires room { 1 ≤ self.old.room }
         requires last { All (λ r. R.number r < R.number row) self.old.rows }
@@ -154,7 +154,7 @@ impl<R: Row> Table<R> {
     }
 
     /// Puts a row in the place of one with its number and its key. Takes no memory.
-    pub fn replace(&mut self, place: usize, row: Held<R>)
+    pub fn replace(&mut self, place: usize, row: Boxed<R>)
         requires place { place < length self.old.rows }
         requires number { (r : R) → slice_get self.old.rows place ≡ Some r → R.number row ≡ R.number r }
         requires key { (r : R) → slice_get self.old.rows place ≡ Some r → R.key row ≡ R.key r }
@@ -176,7 +176,7 @@ impl<R: Row> Table<R> {
     }
 
     /// Closes the request at a place: takes its row out, and its key isn't open any more. Takes no memory.
-    pub fn remove(&mut self, place: usize) -> Held<R>
+    pub fn remove(&mut self, place: usize) -> Boxed<R>
         requires { place < length self.old.rows }
         ensures rows { self.new.rows ≡ remove self.old.rows place }
         ensures old { slice_get self.old.rows place ≡ Some result }

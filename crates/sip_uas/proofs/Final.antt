@@ -9,20 +9,21 @@ use Rattle.sip_message_form.specs.declared.message.Message.{Message}
 use Rattle.sip_header.specs.CoreFields.{core_of}
 use Rattle.sip_header.specs.declared.core_fields.CoreFields.{CoreFields}
 use Rattle.sip_uri.specs.declared.addr.Addr.{Addr}
-use Rattle.sip_transaction_table.specs.declared.key.Key.{Key}
+use Rattle.sip_transaction_table.specs.declared.key.TransactionKey.{TransactionKey}
 use Rattle.sip_policy.specs.declared.decision.Decision.{Decision}
 use Rattle.sip_policy.specs.User.{is_users_address}
-use Rattle.sip_dialog_lessons.specs.state.Arrival.{Arrival}
-use Rattle.sip_dialog_lessons.specs.state.Dialogs.{dialog_of}
-use Rattle.sip_dialog_lessons.specs.state.declared.proxy_state.ProxyState.{ProxyState}
-use Rattle.sip_dialog_lessons.specs.state.declared.server.Server.{Server}
-use Rattle.sip_validate.specs.Candidate.{Candidate}
+use Rattle.sip_dialog_updates.specs.state.Arrival.{Arrival}
+use Rattle.sip_dialog_updates.specs.state.Dialogs.{dialog_of}
+use Rattle.sip_dialog_updates.specs.state.declared.proxy_state.ProxyState.{ProxyState}
+use Rattle.sip_dialog_updates.specs.state.declared.server.Server.{Server}
+use Rattle.sip_validate.specs.UncheckedRequest.{UncheckedRequest}
 use Rattle.sip_validate.specs.Refusal as Checks
-use Rattle.sip_core.specs.verdict_model.declared.question.Question.{Question}
-use Rattle.sip_core.specs.verdict_model.Verdict.{Refused, Verdict, Drop, AckOn, Cancel, Answer, InDialog, Send, Register, refused_by, registered_by, registration_by}
-use Rattle.sip_core.specs.verdict_model.Verdict.{is_own_uri, within_at, within, next_address, ack_verdict, cancel_verdict, decided, let_through, answer_of, question_of}
-use Rattle.sip_core.specs.verdict_model.Verdict.{policy_verdict, is_outside, is_register, core_verdict, checked_verdict, new_verdict, request_targets, is_full}
-use Rattle.sip_core.specs.verdict_model.Verdict.{found_for_cancel}
+use Rattle.sip_verdict.specs.verdict_model.declared.question.Question.{Question}
+use Rattle.sip_verdict.specs.verdict_model.Verdict.{Refused, Verdict, Drop, AckOn, Cancel, Answer, InDialog, Send, Register, refused_by, registered_by, registration_by}
+use Rattle.sip_verdict.specs.verdict_model.Verdict.{is_own_uri, within_at, within, next_address, ack_verdict, cancel_verdict, decided, let_through, answer_of}
+use Rattle.sip_verdict.specs.verdict_model.Verdict.{question_of}
+use Rattle.sip_verdict.specs.verdict_model.Verdict.{policy_verdict, is_outside, is_register, core_verdict, checked_verdict, new_verdict, request_targets, is_full}
+use Rattle.sip_verdict.specs.verdict_model.Verdict.{found_for_cancel}
 use Rattle.sip_route.specs.Way.{request_uri_of}
 use Rattle.sip_location.specs.declared.binding.Binding.{Binding}
 use Rattle.sip_location.specs.declared.error.LocationError.{LocationError}
@@ -46,23 +47,23 @@ IsFinalRefusal None = Unit {0}
 IsFinalRefusal (Some refusal) = IsFinalAnswer refusal.0
 
 -- that of a row, or of a later one
-abbrev said : Candidate → Option Checks.Row → Option (ℕ × List ℕ)
+abbrev said : UncheckedRequest → Option Checks.Row → Option (ℕ × List ℕ)
 said r row = option_map (λ (x : Checks.Row). (x.status, x.extra r)) row
 
-row_or_later : (r : Candidate) (row : Checks.Row) (later : Option Checks.Row) (b : Bool) → IsFinalAnswer row.status → IsFinalRefusal (said r later)
+row_or_later : (r : UncheckedRequest) (row : Checks.Row) (later : Option Checks.Row) (b : Bool) → IsFinalAnswer row.status → IsFinalRefusal (said r later)
     → IsFinalRefusal (said r (cond b (Some row) later))
 row_or_later r row later true p q = p
 row_or_later r row later false p q = q
 
-first_row : (r : Candidate) (rows : List Checks.Row) → AllByRecursion (λ (row : Checks.Row). IsFinalAnswer row.status) rows
+first_row : (r : UncheckedRequest) (rows : List Checks.Row) → AllByRecursion (λ (row : Checks.Row). IsFinalAnswer row.status) rows
     → IsFinalRefusal (said r (find (λ row. row.applies r) rows))
 first_row r [] all = tt
 first_row r (row ∷ rows) all = row_or_later r row (find (λ x. x.applies r) rows) (row.applies r) all.0 (first_row r rows all.1)
 
-refusal_final : (r : Candidate) → IsFinalRefusal (Checks.refusal r)
+refusal_final : (r : UncheckedRequest) → IsFinalRefusal (Checks.refusal r)
 refusal_final r = first_row r Checks.rows (refl, (refl, (refl, (refl, (refl, (refl, (refl, tt)))))))
 
-candidate_final : (candidate : Option Candidate) → IsFinalRefusal (option_map_or Checks.refusal candidate None)
+candidate_final : (candidate : Option UncheckedRequest) → IsFinalRefusal (option_map_or Checks.refusal candidate None)
 candidate_final None = tt
 candidate_final (Some r) = refusal_final r
 
@@ -131,13 +132,14 @@ ack_final server state now m short =
     either (is_some (Checks.refusal_of server.config.own m short)) Drop (within server state now m AckOn Drop) tt
     (within_final state now AckOn Drop (λ address id. tt) tt (dialog_of m) (next_address server m))
 
-cancel_final : (server : Server) (state : ProxyState) (a : Arrival) (m : Message) (short : Bool) (key : Key) → AnswersFinally (cancel_verdict server state a m short key)
+cancel_final : (server : Server) (state : ProxyState) (a : Arrival) (m : Message) (short : Bool) (key : TransactionKey)
+    → AnswersFinally (cancel_verdict server state a m short key)
 cancel_final server state a m short key =
     let found : Verdict = Cancel (found_for_cancel state key a.from) in
     either (Checks.is_bad_request server.config.own m short) (Answer 400 []) (cond (is_full state) (Answer 503 []) found) refl
     (either (is_full state) (Answer 503 []) found refl tt)
 
-pub new_final : (server : Server) (state : ProxyState) (a : Arrival) (m : Message) (short : Bool) (method : List ℕ) (key : Key)
+pub new_final : (server : Server) (state : ProxyState) (a : Arrival) (m : Message) (short : Bool) (method : List ℕ) (key : TransactionKey)
     → AnswersFinally (new_verdict server state a m short method key)
 new_final server state a m short method key =
     let refusal : Option (ℕ × List ℕ) = Checks.refusal_of server.config.own m short in
@@ -146,4 +148,4 @@ new_final server state a m short method key =
     let checked : Verdict = checked_verdict server state a.now m method refusal in
     either (bytes_eq method (codes "ACK")) ack (cond (bytes_eq method (codes "CANCEL")) cancel checked) (ack_final server state a.now m short)
     (either (bytes_eq method (codes "CANCEL")) cancel checked (cancel_final server state a m short key)
-    (checked_final server state a.now m method refusal (candidate_final (Checks.candidate_of server.config.own m short))))
+    (checked_final server state a.now m method refusal (candidate_final (Checks.unchecked_of server.config.own m short))))

@@ -1,15 +1,15 @@
 -- What becomes of what a proxy knows once policy was asked about a request.
 use Rattle.std.specs.Prelude.{ℕ, Bool, true, false, List, ⊤}
-use Rattle.sip_dialog_lessons.specs.state.Arrival.{Arrival}
+use Rattle.sip_dialog_updates.specs.state.Arrival.{Arrival}
 use Rattle.sip_auth.specs.Proof.{used}
 use Rattle.sip_digest.specs.declared.nonces.Nonce.{Nonce}
 use Rattle.sip_digest.specs.Nonces.{issued}
 use Rattle.sip_targets.specs.declared.targets.Targets.{Targets}
 use Rattle.sip_targets.specs.declared.targets.Targets.TheVariants.{Bindings, Hop, NotFound, Unavailable}
-use Rattle.sip_core.specs.verdict_model.Verdict as Definition
-use Rattle.sip_core.specs.declared.verdict.Judged.{Judged}
-use Rattle.sip_core.specs.declared.verdict.Outcome.{Outcome}
-use Rattle.sip_core.specs.declared.verdict.Outcome.TheVariants.{Challenge, Deny, Send, Register}
+use Rattle.sip_verdict.specs.verdict_model.Verdict as Definition
+use Rattle.sip_verdict.specs.declared.verdict.Judged.{Judged}
+use Rattle.sip_verdict.specs.declared.verdict.PolicyOutcome.{PolicyOutcome}
+use Rattle.sip_verdict.specs.declared.verdict.PolicyOutcome.TheVariants.{Challenge, Deny, Send, Register}
 use Rattle.model_transactions.specs.Fits.{IsFinalAnswer}
 
 -- ---- who answers
@@ -22,7 +22,7 @@ are_nobody NotFound = true
 are_nobody Unavailable = true
 
 -- whether a request is answered here, and isn't sent to targets
-abbrev pub is_answered_here : Outcome → Bool
+abbrev pub is_answered_here : PolicyOutcome → Bool
 is_answered_here Challenge = true
 is_answered_here (Deny id) = true
 is_answered_here (Send id targets) = are_nobody targets
@@ -38,7 +38,7 @@ nobody_status Unavailable = 480
 -- ---- nonces
 
 -- a challenge issues the nonce of its datagram's word (RFC 3261 22.1)
-abbrev pub after_outcome : Arrival → Outcome → List Nonce → List Nonce
+abbrev pub after_outcome : Arrival → PolicyOutcome → List Nonce → List Nonce
 after_outcome a Challenge nonces = issued nonces a.word a.now
 after_outcome a (Deny id) nonces = nonces
 after_outcome a (Send id targets) nonces = nonces

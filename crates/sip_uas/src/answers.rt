@@ -4,14 +4,14 @@ ghost use Rattle.sip_forwarding.specs.steps_model.Effect as Effects;
 ghost use Rattle.model_transactions.specs.Fits.{IsFinalAnswer};
 ghost use Rattle.sip_uas.specs.Drafts.{Drafts, IsOpenable};
 
-use crate::draft::Draft;
+use crate::answer_draft::AnswerDraft;
 use crate::keyed_request::KeyedRequest;
 use model_transactions::fitting_events::opens_fitting;
 use model_transactions::openings::answered_at_once;
 use sip_audit::Record;
-use sip_dialog_lessons::Lessons;
-use sip_dialog_lessons::state::{OpenRequest, Server};
-use sip_fork::Opening;
+use sip_dialog_updates::DialogUpdates;
+use sip_dialog_updates::state::{OpenRequest, Server};
+use sip_fork::NewRow;
 use sip_forwarding::{Replied, reply};
 use sip_message_fields::Fields;
 use sip_text::Items;
@@ -22,13 +22,13 @@ fn where_room(
     alloc: Global,
     request: OpenRequest,
     is_full: bool,
-) -> Result<Option<Opening>, AllocError>
+) -> Result<Option<NewRow>, AllocError>
     ensures { IfOk result (λ opened. opened ≡ (if is_full then None else Some request)) }
 {
     if is_full {
         return Ok(None);
     }
-    let opening = Opening::of(alloc, request)?;
+    let opening = NewRow::of(alloc, request)?;
     Ok(Some(opening))
 }
 
@@ -38,25 +38,25 @@ fn drafted(
     replied: Replied,
     records: Items<Record>,
     is_full: bool,
-) -> Result<Draft, AllocError>
+) -> Result<AnswerDraft, AllocError>
     ensures { IfOk result
         (λ draft. draft ≡ record {
           packets = replied.packet ∷ [];
           records = records;
           opened = if is_full then None
               else Some replied.request;
-          lessons = [];
+          updates = [];
         }) }
 {
     let Replied { packet, request } = replied;
     let mut packets = Items::with_room(alloc, 1)?;
     packets.push(packet)?;
     let opened = where_room(alloc, request, is_full)?;
-    Ok(Draft {
+    Ok(AnswerDraft {
         packets,
         records,
         opened,
-        lessons: Lessons::new(alloc),
+        updates: DialogUpdates::new(alloc),
     })
 }
 
@@ -77,7 +77,7 @@ pub fn answer(
     said: &FinalAnswer<'_>,
     records: Items<Record>,
     is_full: bool,
-) -> Result<Draft, AllocError>
+) -> Result<AnswerDraft, AllocError>
     requires { request.arrival.now + 32000 < 2 ^ 64 }
     ensures does { IfOk result (λ draft. Drafts is_full request.arrival.now draft (λ nonces. nonces) None
         (Effects.replied server.now (arrival_of request.arrival) request.request.message said.now.status said.now.extras.now records)) }

@@ -1,8 +1,8 @@
 ghost use Rattle.std.specs.Prelude.{◌≡◌};
 ghost use Rattle.sip_uas.specs.Asking as Asking;
 
-use sip_core::Outcome;
 use sip_targets::Targets;
+use sip_verdict::PolicyOutcome;
 
 /// Whether targets are nobody.
 fn are_nobody(targets: &Targets) -> bool
@@ -15,12 +15,12 @@ fn are_nobody(targets: &Targets) -> bool
 }
 
 /// Whether a request that policy decided so about is answered here, and isn't sent to targets. Takes no memory.
-pub fn is_answered_here(outcome: &Outcome) -> bool
+pub fn is_answered_here(outcome: &PolicyOutcome) -> bool
     ensures { result ≡ Asking.is_answered_here outcome.now }
 {
     match outcome {
-        Outcome::Challenge | Outcome::Deny(_) | Outcome::Register(_, _) => true,
-        Outcome::Send(_, targets) => are_nobody(targets),
+        PolicyOutcome::Challenge | PolicyOutcome::Deny(_) | PolicyOutcome::Register(_, _) => true,
+        PolicyOutcome::Send(_, targets) => are_nobody(targets),
     }
 }
 

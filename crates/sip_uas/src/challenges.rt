@@ -3,12 +3,12 @@ ghost use Rattle.sip_uri.specs.declared.addr.Addr.{Addr};
 ghost use Rattle.sip_forwarding.specs.steps_model.Effect as Effects;
 
 use sip_auth::offers_sha256;
-use sip_core::verdict_model::Question;
-use sip_dialog_lessons::state::Server;
+use sip_dialog_updates::state::Server;
 use sip_digest::nonce_text;
 use sip_edit_response::challenge_fields;
 use sip_message_fields::{FieldName, Fields};
 use sip_policy::Operation;
+use sip_verdict::verdict_model::Question;
 use std::alloc::{AllocError, Global};
 
 /// Whether a registrar is asked, which challenges as a user agent server (RFC 3261 22.2).

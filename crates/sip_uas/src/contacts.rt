@@ -7,7 +7,7 @@ ghost use Rattle.sip_location.specs.declared.registration.Registration.{Registra
 ghost use Rattle.sip_forwarding.specs.steps_model.Effect as Effects;
 
 use sip_edit_response::contact_value;
-use sip_location::{BindingRef, Bindings, Plan};
+use sip_location::{BindingRef, Bindings, RegisterPlan};
 use sip_message_fields::{Field, FieldName, Fields};
 use std::alloc::{AllocError, Global};
 
@@ -43,7 +43,7 @@ fn fields_of(alloc: Global, now: u64, bindings: Bindings<'_>) -> Result<Fields, 
 
 /// The Contact fields of the 200 to a REGISTER, told by its plan before that is applied: one for each binding that is live
 /// then, in their order, with the whole seconds that it has left (RFC 3261 10.3 step 8). `AllocError` is the only refusal.
-pub fn contact_fields(alloc: Global, now: u64, plan: &Plan) -> Result<Fields, AllocError>
+pub fn contact_fields(alloc: Global, now: u64, plan: &RegisterPlan) -> Result<Fields, AllocError>
     ensures planned { IfOk result (λ fields. fields ≡ map (Effects.contact_field now) plan.now.bindings) }
     ensures registered { IfOk result (λ fields. (rows after : List Binding) (r : Registration) → IsPlan rows r now plan.now
         → registered rows r now ≡ Ok after → fields ≡ Effects.contact_fields now plan.now.aor after) }

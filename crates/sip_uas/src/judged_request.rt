@@ -2,18 +2,18 @@
 //! All of it is drafted; nothing changes here.
 ghost use Rattle.std.specs.Prelude.{◌≡◌, ◌+◌, ◌<◌, ◌^◌, true, [], ◌∷◌, Ok, IfOk, IfSome, List};
 
+use crate::answer_draft::AnswerDraft;
 use crate::answers::{FinalAnswer, answer};
 use crate::asking::nobody_status;
-use crate::draft::Draft;
 use crate::keyed_request::KeyedRequest;
 use crate::policy_records::records_of;
 use crate::{challenge_status, challenges_to, contact_fields, denial_fields};
-use sip_audit::Outcome as Recorded;
-use sip_core::{Judged, Registering};
-use sip_dialog_lessons::state::Server;
-use sip_location::Plan;
+use sip_audit::AuditOutcome as Recorded;
+use sip_dialog_updates::state::Server;
+use sip_location::RegisterPlan;
 use sip_message_fields::Fields;
 use sip_targets::Targets;
+use sip_verdict::{Judged, Registering};
 use std::alloc::{AllocError, Global};
 
 /// A request outside a dialog that was received, with what policy decided about it: all that its answer is made of.
@@ -42,13 +42,13 @@ impl<'a, 'v> JudgedRequest<'a, 'v> {
     ghost use Rattle.sip_forwarding.specs.Arrivals.{arrival_of};
     ghost use Rattle.sip_forwarding.specs.steps_model.Effect as Effects;
     ghost use Rattle.sip_digest.specs.Nonces.{issued};
-    ghost use Rattle.sip_dialog_lessons.specs.state.declared.proxy_state.ProxyState.{ProxyState};
-    ghost use Rattle.sip_core.specs.verdict_model.Verdict as Definition;
+    ghost use Rattle.sip_dialog_updates.specs.state.declared.proxy_state.ProxyState.{ProxyState};
+    ghost use Rattle.sip_verdict.specs.verdict_model.Verdict as Definition;
     ghost use Rattle.sip_location.specs.declared.binding.Binding.{Binding};
     ghost use Rattle.sip_location.specs.declared.registration.Registration.{Registration};
     ghost use Rattle.sip_location.specs.Locations.{IsPlan};
     ghost use Rattle.sip_location.specs.Registration.{registered};
-    ghost use Rattle.sip_core.specs.Registering.{ComesTo, plan_in};
+    ghost use Rattle.sip_verdict.specs.Registering.{ComesTo, plan_in};
     ghost use Rattle.model_transactions.specs.Fits.{IsFinalAnswer};
     ghost use Rattle.sip_uas.specs.Asking as Asking;
     ghost use Rattle.sip_uas.specs.Drafts.{Does, IsOpenable};
@@ -61,7 +61,7 @@ impl<'a, 'v> JudgedRequest<'a, 'v> {
         outcome: Recorded,
         status: u16,
         extras: &Fields,
-    ) -> Result<Draft, AllocError>
+    ) -> Result<AnswerDraft, AllocError>
         ensures does { IfOk result (DraftsAnswer self.entry (λ nonces. nonces)
             (λ s a m q. Effects.replied s a m status extras.now (Effects.record_of s a m q outcome ∷ []))) }
         ensures opens { IfOk result (λ draft. IsFinalAnswer status → IfSome draft.opened (IsOpenable self.entry.request.arrival self.entry.request.key)) }
@@ -85,7 +85,7 @@ impl<'a, 'v> JudgedRequest<'a, 'v> {
     }
 
     /// It is challenged (RFC 3261 22.1).
-    pub(crate) fn challenged(self, alloc: Global) -> Result<Draft, AllocError>
+    pub(crate) fn challenged(self, alloc: Global) -> Result<AnswerDraft, AllocError>
         ensures does { IfOk result (DraftsAnswer self.entry
             (λ nonces. issued (after_use self.entry nonces) self.entry.request.arrival.word self.entry.request.arrival.now) Effects.challenged) }
         ensures opens { IfOk result (λ draft. IfSome draft.opened (IsOpenable self.entry.request.arrival self.entry.request.key)) }
@@ -98,7 +98,7 @@ impl<'a, 'v> JudgedRequest<'a, 'v> {
     }
 
     /// A rule denies it (RFC 3261 21.4.4).
-    pub(crate) fn denied(self, alloc: Global, rule: u32) -> Result<Draft, AllocError>
+    pub(crate) fn denied(self, alloc: Global, rule: u32) -> Result<AnswerDraft, AllocError>
         ensures does { IfOk result (DraftsAnswer self.entry (after_use self.entry) (λ s a m q. Effects.denied s a m q rule)) }
         ensures opens { IfOk result (λ draft. IfSome draft.opened (IsOpenable self.entry.request.arrival self.entry.request.key)) }
     {
@@ -114,7 +114,7 @@ impl<'a, 'v> JudgedRequest<'a, 'v> {
         rule: u32,
         status: u16,
         extras: &Fields,
-    ) -> Result<Draft, AllocError>
+    ) -> Result<AnswerDraft, AllocError>
         ensures does { IfOk result (DraftsAnswer self.entry (after_use self.entry)
             (λ s a m q. Effects.answered_by_rule s a m q rule status extras.now)) }
         ensures opens { IfOk result (λ draft. IsFinalAnswer status → IfSome draft.opened (IsOpenable self.entry.request.arrival self.entry.request.key)) }
@@ -129,7 +129,7 @@ impl<'a, 'v> JudgedRequest<'a, 'v> {
         alloc: Global,
         rule: u32,
         targets: &Targets,
-    ) -> Result<Draft, AllocError>
+    ) -> Result<AnswerDraft, AllocError>
         requires { Asking.are_nobody targets.now ≡ true }
         ensures does { IfOk result (DraftsAnswer self.entry (after_use self.entry)
             (λ s a m q. Effects.sending s a m q rule targets.now)) }
@@ -141,7 +141,7 @@ impl<'a, 'v> JudgedRequest<'a, 'v> {
     }
 
     /// It is a REGISTER that is taken, and the 200 lists what is bound after it (RFC 3261 10.3 step 8).
-    fn bound(self, alloc: Global, rule: u32, plan: &Plan) -> Result<Draft, AllocError>
+    fn bound(self, alloc: Global, rule: u32, plan: &RegisterPlan) -> Result<AnswerDraft, AllocError>
         ensures does { IfOk result (λ draft. (rows after : List Binding) (r : Registration)
             → IsPlan rows r self.entry.request.arrival.now plan.now → registered rows r self.entry.request.arrival.now ≡ Ok after
             → plan.now.aor ≡ self.entry.judged.now.question.target
@@ -159,7 +159,7 @@ impl<'a, 'v> JudgedRequest<'a, 'v> {
         alloc: Global,
         rule: u32,
         outcome: &Registering,
-    ) -> Result<Draft, AllocError>
+    ) -> Result<AnswerDraft, AllocError>
         ensures does { IfOk result (λ draft.
             self.entry.judged.now.minute ≡ Definition.minute_on self.entry.server.now self.entry.judged.now.question
             → (state : ProxyState) (registered : Definition.Registered) → Definition.is_full state ≡ self.entry.is_full

@@ -1,20 +1,20 @@
 ghost use Rattle.std.specs.Prelude.{◌≡◌, ◌+◌, ◌<◌, ◌^◌, true, IfOk, IfSome, List, Option};
 ghost use Rattle.sip_forwarding.specs.Arrivals.{arrival_of};
 ghost use Rattle.sip_forwarding.specs.steps_model.Effect as Effects;
-ghost use Rattle.sip_dialog_lessons.specs.state.declared.open_request.OpenRequest.{OpenRequest};
-ghost use Rattle.sip_dialog_lessons.specs.state.declared.proxy_state.ProxyState.{ProxyState};
-ghost use Rattle.sip_core.specs.verdict_model.Verdict as Definition;
+ghost use Rattle.sip_dialog_updates.specs.state.declared.open_request.OpenRequest.{OpenRequest};
+ghost use Rattle.sip_dialog_updates.specs.state.declared.proxy_state.ProxyState.{ProxyState};
+ghost use Rattle.sip_verdict.specs.verdict_model.Verdict as Definition;
 ghost use Rattle.sip_location.specs.declared.binding.Binding.{Binding};
-ghost use Rattle.sip_core.specs.declared.verdict.Verdict.TheVariants as Arrived;
-ghost use Rattle.sip_core.specs.Verdict.{Is, plan_of};
+ghost use Rattle.sip_verdict.specs.declared.verdict.Verdict.TheVariants as Arrived;
+ghost use Rattle.sip_verdict.specs.Verdict.{Is, plan_of};
 ghost use Rattle.sip_uas.specs.Asking as Asking;
 ghost use Rattle.sip_uas.specs.Drafts.{Does, IsOpenable};
 
-use crate::draft::Draft;
+use crate::answer_draft::AnswerDraft;
 use crate::judged_request::JudgedRequest;
 use crate::keyed_request::KeyedRequest;
-use sip_core::{Judged, Outcome};
-use sip_dialog_lessons::state::Server;
+use sip_dialog_updates::state::Server;
+use sip_verdict::{Judged, PolicyOutcome};
 use std::alloc::{AllocError, Global};
 
 /// What is done with a request outside a dialog that is answered here, of what policy decided about it: it is
@@ -27,7 +27,7 @@ pub fn judged(
     request: KeyedRequest,
     judged: &Judged<'_>,
     is_full: bool,
-) -> Result<Draft, AllocError>
+) -> Result<AnswerDraft, AllocError>
     requires now { request.arrival.now + 32000 < 2 ^ 64 }
     requires here { Asking.is_answered_here judged.now.outcome ≡ true }
     ensures does { IfOk result (λ draft. (state : ProxyState) (rows : List Binding) (named : Option OpenRequest)
@@ -46,9 +46,9 @@ pub fn judged(
         is_full,
     };
     match &judged.outcome {
-        Outcome::Challenge => received.challenged(alloc),
-        Outcome::Deny(rule) => received.denied(alloc, *rule),
-        Outcome::Send(rule, targets) => received.unsent(alloc, *rule, targets),
-        Outcome::Register(rule, outcome) => received.registering(alloc, *rule, outcome),
+        PolicyOutcome::Challenge => received.challenged(alloc),
+        PolicyOutcome::Deny(rule) => received.denied(alloc, *rule),
+        PolicyOutcome::Send(rule, targets) => received.unsent(alloc, *rule, targets),
+        PolicyOutcome::Register(rule, outcome) => received.registering(alloc, *rule, outcome),
     }
 }

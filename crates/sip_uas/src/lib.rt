@@ -4,15 +4,15 @@
 //! anything changes.
 //!
 //! - Used: `sip_engine_request`, and `sip_engine_request` for its records.
-//! - Not here: the decision (`sip_core`).
+//! - Not here: the decision (`sip_verdict`).
 //! - Tried: `test_server` by its stored runs.
 #![tactic(auto)]
 
+mod answer_draft;
 mod answers;
 mod asking;
 mod challenges;
 mod contacts;
-mod draft;
 mod judged_request;
 mod judging;
 mod keyed_request;
@@ -21,11 +21,11 @@ mod policy_records;
 mod records;
 mod refusals;
 
+pub use answer_draft::AnswerDraft;
 pub use answers::{FinalAnswer, answer};
 pub use asking::is_answered_here;
 pub use challenges::{challenge_name, challenge_status, challenges_to};
 pub use contacts::contact_fields;
-pub use draft::Draft;
 pub use judging::judged;
 pub use keyed_request::KeyedRequest;
 pub use policy_records::records_of;

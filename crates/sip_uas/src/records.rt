@@ -4,15 +4,15 @@ ghost use Rattle.sip_message_form.specs.declared.message.Message.{Message};
 ghost use Rattle.sip_message_form.specs.ViewStart.{start_seen};
 ghost use Rattle.sip_forwarding.specs.Arrivals.{arrival_of};
 ghost use Rattle.sip_forwarding.specs.steps_model.Effect as Effects;
-ghost use Rattle.sip_dialog_lessons.specs.state.declared.server.Server.{Server};
-ghost use Rattle.sip_core.specs.verdict_model.Verdict.{minute_on};
+ghost use Rattle.sip_dialog_updates.specs.state.declared.server.Server.{Server};
+ghost use Rattle.sip_verdict.specs.verdict_model.Verdict.{minute_on};
 
-use sip_audit::{Outcome, Record};
-use sip_core::Judged;
+use sip_audit::{AuditOutcome, Record};
 use sip_forwarding::Arrival;
 use sip_message_form::ViewStart;
 use sip_policy::Operation;
 use sip_text::{Bytes, Items};
+use sip_verdict::Judged;
 use std::alloc::{AllocError, Global};
 
 /// The method that the first line of a request says; a response has none. Takes no memory.
@@ -26,13 +26,13 @@ pub fn method_of<'v>(start: &ViewStart<'v>) -> &'v [u8]
 }
 
 /// An operation as it is recorded. Takes no memory.
-pub fn recorded(operation: &Operation) -> sip_audit::Operation
+pub fn recorded(operation: &Operation) -> sip_audit::AuditOperation
     ensures { result ≡ Effects.recorded operation.now }
 {
     match operation {
-        Operation::Register => sip_audit::Operation::Register,
-        Operation::List => sip_audit::Operation::List,
-        Operation::Send(_) => sip_audit::Operation::Send,
+        Operation::Register => sip_audit::AuditOperation::Register,
+        Operation::List => sip_audit::AuditOperation::List,
+        Operation::Send(_) => sip_audit::AuditOperation::Send,
     }
 }
 
@@ -54,7 +54,7 @@ pub(crate) fn record_of(
     arrival: Arrival,
     start: &ViewStart<'_>,
     judged: &Judged<'_>,
-    outcome: Outcome,
+    outcome: AuditOutcome,
 ) -> Result<Items<Record>, AllocError>
     ensures { IfOk result (λ made. (server : Server) (request : Message) → request.start ≡ start_seen start.now
         → judged.now.minute ≡ minute_on server judged.now.question

@@ -1,7 +1,7 @@
 ghost use Rattle.std.specs.Prelude.{◌≡◌, [], ◌∷◌, IfOk};
 ghost use Rattle.sip_edit_response.specs.Extras;
 
-use sip_dialog_lessons::state::Server;
+use sip_dialog_updates::state::Server;
 use sip_edit_response::denial_warning;
 use sip_message_fields::Fields;
 use std::alloc::{AllocError, Global};

@@ -7,7 +7,7 @@ use Rattle.std.specs.Char.{is_ascii_hexdigit}
 use Rattle.std.proofs.lemmas.Bool.{eqb-true}
 use Rattle.std.proofs.lemmas.List.{append-nil}
 use Rattle.sip_text.specs.Lists.{onto}
-use Rattle.sip_uri.specs.declared.parameters.Parameter.{Parameter}
+use Rattle.sip_uri.specs.declared.parameters.UriParameter.{UriParameter}
 use Rattle.sip_uri.specs.declared.headers.UriHeader.{UriHeader}
 use Rattle.sip_uri.specs.Parts.{is_parameter_byte, is_parameter_part, is_header_byte, is_header_name, is_header_value}
 use Rattle.sip_uri.specs.Uri.{behind_mark, parameter_text, header_text, headers_text, is_value_or_none, is_parameter, names_differ, is_header}
@@ -21,16 +21,16 @@ use Rattle.sip_uri.proofs.PartLaws.{escape_others, full_others}
 -- ---- one of them
 
 -- a parameter without its `;`
-abbrev bare_text : Parameter → List ℕ
+abbrev bare_text : UriParameter → List ℕ
 bare_text p = p.name ++ behind_mark 61 p.value
 
-parameter_is : (text : List ℕ) (p : Parameter) → parameter_of text ≡ Some p → (text ≡ bare_text p) × (is_parameter p ≡ true)
+parameter_is : (text : List ℕ) (p : UriParameter) → parameter_of text ≡ Some p → (text ≡ bare_text p) × (is_parameter p ≡ true)
 parameter_is text p e =
     let x = part_before 61 text in
     let v = valid_is is_parameter (parameter_from x) p (is_parameter (parameter_from x)) refl e in
     (part_whole 61 text ∙ ap bare_text v.0, v.1)
 
-parameter_again : (p : Parameter) → is_parameter p ≡ true → parameter_of (bare_text p) ≡ Some p
+parameter_again : (p : UriParameter) → is_parameter p ≡ true → parameter_of (bare_text p) ≡ Some p
 parameter_again p valid =
     let both = and_both (is_parameter_part p.name) (is_value_or_none p.value) valid in
     ap (λ x. valid_parameter (parameter_from x)) (part_again 61 p.name p.value (full_others is_parameter_byte 61 refl refl refl p.name both.0) refl) ∙ rw valid refl
@@ -174,31 +174,31 @@ list_again says written valid mark same one none x xs e =
 -- ---- the parameters
 
 -- the parameters behind a first `;`
-pub record AreParameters (after : Option (List ℕ)) (ps : List Parameter) : Type 0 where
+pub record AreParameters (after : Option (List ℕ)) (ps : List UriParameter) : Type 0 where
   pub whole : behind_mark 59 after ≡ flat_map parameter_text ps
   pub valid : list_all is_parameter ps ≡ true
   pub differ : names_differ ps ≡ true
 
-parameters_by : (text : List ℕ) (ps : List Parameter) (o : Option (List Parameter)) → each_of parameter_of (parts_between 59 text) ≡ o
+parameters_by : (text : List ℕ) (ps : List UriParameter) (o : Option (List UriParameter)) → each_of parameter_of (parts_between 59 text) ≡ o
     → option_and_then if_different o ≡ Some ps → AreParameters (Some text) ps
 parameters_by text ps None is e = absurd cc
 parameters_by text ps (Some qs) is e =
     let v = valid_is names_differ qs ps (names_differ qs) refl e in
-    let l = list_is parameter_of bare_text is_parameter 59 parameter_is text ps (is ∙ ap (λ (w : List Parameter). Some w) v.0) in
+    let l = list_is parameter_of bare_text is_parameter 59 parameter_is text ps (is ∙ ap (λ (w : List UriParameter). Some w) v.0) in
     record { whole = l.0; valid = l.1; differ = v.1 }
 
-pub parameters_are : (after : Option (List ℕ)) (ps : List Parameter) → parameters_behind after ≡ Some ps → AreParameters after ps
+pub parameters_are : (after : Option (List ℕ)) (ps : List UriParameter) → parameters_behind after ≡ Some ps → AreParameters after ps
 parameters_are None ps e =
     let same : [] ≡ ps = some_is [] ps e in
     rw (← same) (record { whole = refl; valid = refl; differ = refl })
 parameters_are (Some text) ps e = parameters_by text ps (each_of parameter_of (parts_between 59 text)) refl e
 
 -- what stands behind a first `;`, if parameters are written
-abbrev pub parameter_texts : List Parameter → Option (List ℕ)
+abbrev pub parameter_texts : List UriParameter → Option (List ℕ)
 parameter_texts [] = None
 parameter_texts (p ∷ ps) = Some (bare_text p ++ flat_map parameter_text ps)
 
-pub parameters_whole : (ps : List Parameter) → flat_map parameter_text ps ≡ behind_mark 59 (parameter_texts ps)
+pub parameters_whole : (ps : List UriParameter) → flat_map parameter_text ps ≡ behind_mark 59 (parameter_texts ps)
 parameters_whole [] = refl
 parameters_whole (p ∷ ps) = refl
 
@@ -208,21 +208,21 @@ value_others mark none percent hex equals None e = refl
 value_others mark none percent hex equals (Some text) e = and_is (is_not mark 61) (list_all (is_not mark) text) equals
     (full_others is_parameter_byte mark none percent hex text e)
 
-bare_others : (mark : ℕ) → is_parameter_byte mark ≡ false → (37 == mark) ≡ false → is_ascii_hexdigit mark ≡ false → is_not mark 61 ≡ true → (p : Parameter)
+bare_others : (mark : ℕ) → is_parameter_byte mark ≡ false → (37 == mark) ≡ false → is_ascii_hexdigit mark ≡ false → is_not mark 61 ≡ true → (p : UriParameter)
     → is_parameter p ≡ true → list_all (is_not mark) (bare_text p) ≡ true
 bare_others mark none percent hex equals p e =
     let both = and_both (is_parameter_part p.name) (is_value_or_none p.value) e in
     all_join (is_not mark) p.name (behind_mark 61 p.value) (full_others is_parameter_byte mark none percent hex p.name both.0)
     (value_others mark none percent hex equals p.value both.1)
 
-pub parameters_again : (ps : List Parameter) → list_all is_parameter ps ≡ true → names_differ ps ≡ true → parameters_behind (parameter_texts ps) ≡ Some ps
+pub parameters_again : (ps : List UriParameter) → list_all is_parameter ps ≡ true → names_differ ps ≡ true → parameters_behind (parameter_texts ps) ≡ Some ps
 parameters_again [] valid differ = refl
 parameters_again (p ∷ ps) valid differ =
     ap (option_and_then if_different) (list_again parameter_of bare_text is_parameter 59 refl parameter_again (bare_others 59 refl refl refl refl) p ps valid)
     ∙ rw differ refl
 
 pub parameters_others : (mark : ℕ) → is_parameter_byte mark ≡ false → (37 == mark) ≡ false → is_ascii_hexdigit mark ≡ false → is_not mark 61 ≡ true
-    → is_not mark 59 ≡ true → (ps : List Parameter) → list_all is_parameter ps ≡ true
+    → is_not mark 59 ≡ true → (ps : List UriParameter) → list_all is_parameter ps ≡ true
     → list_all (is_not mark) (flat_map parameter_text ps) ≡ true
 parameters_others mark none percent hex equals semicolon ps e =
     flat_others parameter_text is_parameter mark (λ p valid. and_is (is_not mark 59) (list_all (is_not mark) (bare_text p)) semicolon

@@ -9,7 +9,7 @@ use Rattle.sip_uri.specs.declared.error.UriError.TheVariants.{Syntax}
 use Rattle.sip_uri.specs.declared.scheme.Scheme.{Scheme}
 use Rattle.sip_uri.specs.declared.scheme.Scheme.TheVariants.{Sip}
 use Rattle.sip_uri.specs.declared.user.UserInfo.{UserInfo}
-use Rattle.sip_uri.specs.declared.parameters.Parameter.{Parameter}
+use Rattle.sip_uri.specs.declared.parameters.UriParameter.{UriParameter}
 use Rattle.sip_uri.specs.declared.headers.UriHeader.{UriHeader}
 use Rattle.sip_uri.specs.declared.uri.Uri.{Uri}
 use Rattle.sip_uri.specs.Scheme.{scheme_text, scheme_of}
@@ -45,7 +45,7 @@ behind_user text =
 regrouped : (host port parameters headers : List ℕ) → (host ++ port) ++ (parameters ++ headers) ≡ host ++ (port ++ (parameters ++ headers))
 regrouped host port parameters headers = append_assoc host port (parameters ++ headers)
 
-with_parts : (scheme : Scheme) (text rest host : List ℕ) (userinfo : Option UserInfo) (port : Option (List ℕ)) (parameters : List Parameter) (headers : List UriHeader)
+with_parts : (scheme : Scheme) (text rest host : List ℕ) (userinfo : Option UserInfo) (port : Option (List ℕ)) (parameters : List UriParameter) (headers : List UriHeader)
     (u : Uri)
     → IsUserCut text userinfo rest → IsPlace (before_parameters rest) host port → AreParameters (parameter_text_of rest) parameters
     → AreHeaders (header_text_of rest) headers
@@ -70,7 +70,7 @@ with_parts scheme text rest host userinfo port parameters headers u is_user is_p
     })
 
 -- the URI of its parts
-abbrev uri_of : Scheme → Option UserInfo → List ℕ × Option (List ℕ) → List Parameter → List UriHeader → Uri
+abbrev uri_of : Scheme → Option UserInfo → List ℕ × Option (List ℕ) → List UriParameter → List UriHeader → Uri
 uri_of scheme userinfo place parameters headers = record {
   scheme = scheme;
   userinfo = userinfo;
@@ -80,7 +80,7 @@ uri_of scheme userinfo place parameters headers = record {
   headers = headers;
 }
 
-abbrev from_parameters : Scheme → Option UserInfo × List ℕ → List ℕ × Option (List ℕ) → List Parameter → Result Uri UriError
+abbrev from_parameters : Scheme → Option UserInfo × List ℕ → List ℕ × Option (List ℕ) → List UriParameter → Result Uri UriError
 from_parameters scheme user place parameters = ok_or (headers_behind (header_text_of user.1)) Syntax >>= λ headers. Ok (uri_of scheme user.0 place parameters headers)
 
 abbrev from_place : Scheme → Option UserInfo × List ℕ → List ℕ × Option (List ℕ) → Result Uri UriError
@@ -89,7 +89,7 @@ from_place scheme user place = ok_or (parameters_behind (parameter_text_of user.
 abbrev from_user : Scheme → Option UserInfo × List ℕ → Result Uri UriError
 from_user scheme user = ok_or (place_of (before_parameters user.1)) Syntax >>= from_place scheme user
 
-headers_by : (scheme : Scheme) (text : List ℕ) (user : Option UserInfo × List ℕ) (place : List ℕ × Option (List ℕ)) (parameters : List Parameter) (u : Uri)
+headers_by : (scheme : Scheme) (text : List ℕ) (user : Option UserInfo × List ℕ) (place : List ℕ × Option (List ℕ)) (parameters : List UriParameter) (u : Uri)
     (o : Option (List UriHeader))
     → IsUserCut text user.0 user.1 → IsPlace (before_parameters user.1) place.0 place.1 → AreParameters (parameter_text_of user.1) parameters
     → headers_behind (header_text_of user.1) ≡ o
@@ -99,7 +99,7 @@ headers_by scheme text user place parameters u (Some headers) is_user is_place a
     with_parts scheme text user.1 place.0 user.0 place.1 parameters headers u is_user is_place are_parameters (headers_are (header_text_of user.1) headers is)
     (ok_is (uri_of scheme user.0 place parameters headers) u e)
 
-parameters_by : (scheme : Scheme) (text : List ℕ) (user : Option UserInfo × List ℕ) (place : List ℕ × Option (List ℕ)) (u : Uri) (o : Option (List Parameter))
+parameters_by : (scheme : Scheme) (text : List ℕ) (user : Option UserInfo × List ℕ) (place : List ℕ × Option (List ℕ)) (u : Uri) (o : Option (List UriParameter))
     → IsUserCut text user.0 user.1 → IsPlace (before_parameters user.1) place.0 place.1 → parameters_behind (parameter_text_of user.1) ≡ o
     → (ok_or o Syntax >>= from_parameters scheme user place) ≡ Ok u → IsRest scheme text u
 parameters_by scheme text user place u None is_user is_place is e = absurd cc

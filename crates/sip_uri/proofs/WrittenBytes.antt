@@ -10,7 +10,7 @@ use Rattle.sip_uri.specs.Host.{is_not, is_host_byte, is_address_byte, is_address
 use Rattle.sip_uri.specs.Parts.{are_escaped, is_escaped, is_user_byte, is_password_byte, is_parameter_byte, is_header_byte, is_unmarked}
 use Rattle.sip_uri.specs.Port.{port_value}
 use Rattle.sip_uri.specs.declared.headers.UriHeader.{UriHeader}
-use Rattle.sip_uri.specs.declared.parameters.Parameter.{Parameter}
+use Rattle.sip_uri.specs.declared.parameters.UriParameter.{UriParameter}
 use Rattle.sip_uri.specs.declared.scheme.Scheme.{Scheme}
 use Rattle.sip_uri.specs.declared.scheme.Scheme.TheVariants.{Sip, Sips}
 use Rattle.sip_uri.specs.declared.user.UserInfo.{UserInfo}
@@ -153,7 +153,7 @@ value_all : (value : Option (List ℕ)) → is_value_or_none value ≡ true → 
 value_all None e = refl
 value_all (Some text) e = more 61 text refl (some_all is_parameter_byte parameter_class text e)
 
-parameters_all : (ps : List Parameter) → list_all is_parameter ps ≡ true → AreUnmarked (flat_map parameter_text ps)
+parameters_all : (ps : List UriParameter) → list_all is_parameter ps ≡ true → AreUnmarked (flat_map parameter_text ps)
 parameters_all [] e = refl
 parameters_all (p ∷ ps) e =
     let both = and_both (is_parameter p) (list_all is_parameter ps) e in
@@ -216,7 +216,7 @@ behind : (p : ℕ → Bool) (xs ys : List ℕ) → list_all p (xs ++ ys) ≡ tru
 behind p [] ys e = e
 behind p (x ∷ xs) ys e = behind p xs ys (and_both (p x) (list_all p (xs ++ ys)) e).1
 
-no_parameters : (ps : List Parameter) (headers : List ℕ) → list_all (is_not 59) (flat_map parameter_text ps ++ headers) ≡ true → ps ≡ []
+no_parameters : (ps : List UriParameter) (headers : List ℕ) → list_all (is_not 59) (flat_map parameter_text ps ++ headers) ≡ true → ps ≡ []
 no_parameters [] headers e = refl
 no_parameters (p ∷ ps) headers e = absurd cc
 

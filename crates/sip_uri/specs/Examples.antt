@@ -1,7 +1,7 @@
 -- URIs of the worked examples.
 use Rattle.std.specs.Prelude.{ℕ, List, [], ◌∷◌, codes, Some, None}
 use Rattle.sip_uri.specs.declared.scheme.Scheme.TheVariants.{Sip, Sips}
-use Rattle.sip_uri.specs.declared.parameters.Parameter.{Parameter}
+use Rattle.sip_uri.specs.declared.parameters.UriParameter.{UriParameter}
 use Rattle.sip_uri.specs.declared.headers.UriHeader.{UriHeader}
 use Rattle.sip_uri.specs.declared.uri.Uri.{Uri}
 
@@ -17,10 +17,10 @@ user_at user host = record {
 }
 
 -- the same with one parameter
-abbrev pub with_parameter : Uri → Parameter → Uri
+abbrev pub with_parameter : Uri → UriParameter → Uri
 with_parameter u p = record u { parameters = p ∷ [] }
 
-abbrev pub valued : List ℕ → List ℕ → Parameter
+abbrev pub valued : List ℕ → List ℕ → UriParameter
 valued name value = record { name = name; value = Some value }
 
 -- `sip:Bob%20X@Host.com`

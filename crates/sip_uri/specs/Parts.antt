@@ -4,8 +4,8 @@ use Rattle.std.specs.List.{list_any}
 use Rattle.std.specs.Str.{byte}
 use Rattle.std.specs.Char.{is_ascii_alphanumeric, is_ascii_hexdigit}
 use Rattle.sip_text.specs.Lists.{is_nil}
-use Rattle.sip_uri.specs.declared.escaped.Class.{Class}
-use Rattle.sip_uri.specs.declared.escaped.Class.TheVariants.{User, Password, Parameter, Header}
+use Rattle.sip_uri.specs.declared.escape_classes.Class.{Class}
+use Rattle.sip_uri.specs.declared.escape_classes.Class.TheVariants.{User, Password, Parameter, Header}
 
 -- whether each byte of a text is of a class or begins an escape `%HH` (RFC 3261 25.1: escaped)
 abbrev pub are_escaped : (ℕ → Bool) → List ℕ → Bool

@@ -5,7 +5,7 @@ use Rattle.std.specs.List.{list_all}
 use Rattle.sip_uri.specs.Host.{is_host_byte, is_place_byte}
 use Rattle.sip_uri.specs.Port.{port_value}
 use Rattle.sip_uri.specs.declared.user.UserInfo.{UserInfo}
-use Rattle.sip_uri.specs.declared.parameters.Parameter.{Parameter}
+use Rattle.sip_uri.specs.declared.parameters.UriParameter.{UriParameter}
 use Rattle.sip_uri.specs.declared.scheme.Scheme.TheVariants as Scheme
 use Rattle.sip_uri.specs.declared.uri.Uri.{Uri}
 use Rattle.sip_uri.specs.Reading.{user_of, reading_of}
@@ -16,7 +16,7 @@ pub record HasUser (text rest : List ℕ) : Type 0 where
   pub is_user : user_of text ≡ Ok (info, rest)
 
 -- the parameter `lr`, alone (RFC 3261 19.1.1)
-abbrev pub loose_routing : List Parameter
+abbrev pub loose_routing : List UriParameter
 loose_routing = record { name = codes "lr"; value = None } ∷ []
 
 -- A text is a `sip` URI with this host and this number of a port, if it has one, whose parameters are none, or `lr` alone (RFC 3261 19.1.1).

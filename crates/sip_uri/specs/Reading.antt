@@ -8,7 +8,7 @@ use Rattle.sip_uri.specs.declared.error.UriError.{UriError}
 use Rattle.sip_uri.specs.declared.error.UriError.TheVariants.{NoMemory, Syntax}
 use Rattle.sip_uri.specs.declared.scheme.Scheme.{Scheme}
 use Rattle.sip_uri.specs.declared.user.UserInfo.{UserInfo}
-use Rattle.sip_uri.specs.declared.parameters.Parameter.{Parameter}
+use Rattle.sip_uri.specs.declared.parameters.UriParameter.{UriParameter}
 use Rattle.sip_uri.specs.declared.headers.UriHeader.{UriHeader}
 use Rattle.sip_uri.specs.declared.uri.Uri.{Uri}
 use Rattle.sip_uri.specs.Scheme.{scheme_of}
@@ -77,31 +77,31 @@ user_of text = user_from text (split_at_byte (byte "@") text)
 -- ---- the parameters
 
 -- the parameter that two texts are
-abbrev pub parameter_from : List ℕ × Option (List ℕ) → Parameter
+abbrev pub parameter_from : List ℕ × Option (List ℕ) → UriParameter
 parameter_from x = record { name = x.0; value = x.1 }
 
 -- it, if it is of the grammar (RFC 3261 25.1: other-param, as which each parameter is read)
-abbrev pub valid_parameter : Parameter → Option Parameter
+abbrev pub valid_parameter : UriParameter → Option UriParameter
 valid_parameter p = if is_parameter p then Some p else None
 
 -- a name, and behind a first `=` a value (RFC 3261 25.1: uri-parameter)
-abbrev pub parameter_of : List ℕ → Option Parameter
+abbrev pub parameter_of : List ℕ → Option UriParameter
 parameter_of text = valid_parameter (parameter_from (part_before (byte "=") text))
 
 -- no name may stand twice (RFC 3261 19.1.1)
-abbrev pub if_different : List Parameter → Option (List Parameter)
+abbrev pub if_different : List UriParameter → Option (List UriParameter)
 if_different ps = if names_differ ps then Some ps else None
 
 -- the parameters between the `;` of a text (RFC 3261 25.1: uri-parameters)
-abbrev pub listed_parameters : List ℕ → Option (List Parameter)
+abbrev pub listed_parameters : List ℕ → Option (List UriParameter)
 listed_parameters text = each_of parameter_of (parts_between (byte ";") text)
 
 -- the same where no name stands twice
-abbrev pub parameters_of : List ℕ → Option (List Parameter)
+abbrev pub parameters_of : List ℕ → Option (List UriParameter)
 parameters_of text = option_and_then if_different (listed_parameters text)
 
 -- the parameters behind a first `;`, if one stands there
-abbrev pub parameters_behind : Option (List ℕ) → Option (List Parameter)
+abbrev pub parameters_behind : Option (List ℕ) → Option (List UriParameter)
 parameters_behind None = Some []
 parameters_behind (Some text) = parameters_of text
 

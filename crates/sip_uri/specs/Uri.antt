@@ -4,7 +4,7 @@ use Rattle.std.specs.List.{flat_map, list_all, list_any}
 use Rattle.std.specs.Str.{byte}
 use Rattle.sip_text.specs.Words.{is_same_text}
 use Rattle.sip_uri.specs.declared.user.UserInfo.{UserInfo}
-use Rattle.sip_uri.specs.declared.parameters.Parameter.{Parameter}
+use Rattle.sip_uri.specs.declared.parameters.UriParameter.{UriParameter}
 use Rattle.sip_uri.specs.declared.headers.UriHeader.{UriHeader}
 use Rattle.sip_uri.specs.declared.uri.Uri.{Uri}
 use Rattle.sip_uri.specs.Scheme.{scheme_text}
@@ -29,7 +29,7 @@ abbrev pub port_text : Option (List ℕ) → List ℕ
 port_text port = behind_mark (byte ":") port
 
 -- a parameter behind its `;`
-abbrev pub parameter_text : Parameter → List ℕ
+abbrev pub parameter_text : UriParameter → List ℕ
 parameter_text p = byte ";" ∷ (p.name ++ behind_mark (byte "=") p.value)
 
 -- a header's name, `=` and its value
@@ -72,11 +72,11 @@ is_value_or_none None = true
 is_value_or_none (Some value) = is_parameter_part value
 
 -- a parameter of the grammar
-abbrev pub is_parameter : Parameter → Bool
+abbrev pub is_parameter : UriParameter → Bool
 is_parameter p = is_parameter_part p.name && is_value_or_none p.value
 
 -- no name stands twice, judged on the text without case
-abbrev pub names_differ : List Parameter → Bool
+abbrev pub names_differ : List UriParameter → Bool
 names_differ [] = true
 names_differ (p ∷ ps) = not (list_any (λ q. is_same_text p.name q.name) ps) && names_differ ps
 

@@ -4,7 +4,7 @@ ghost use Rattle.sip_uri.specs.Reading.{Gives, header_of, headers_of, headers_be
 ghost use Rattle.sip_uri.specs.declared.error.UriError.TheVariants.{Syntax};
 
 use crate::error::UriError;
-use crate::escaped::{Class, are_escaped, is_escaped};
+use crate::escape_classes::{Class, are_escaped, is_escaped};
 use sip_text::{Bytes, Items, split_once};
 use std::alloc::Global;
 

@@ -188,7 +188,7 @@ fn cut_place(text: &[u8]) -> Option<(&[u8], &[u8])>
 
 /// The host that a text writes, and the digits of the port behind it, if one is written there (RFC 3261 25.1,
 /// `hostport`). None of any other text. Takes no memory.
-pub fn place_in(text: &[u8]) -> Option<(&[u8], Option<&[u8]>)>
+pub fn host_port_in(text: &[u8]) -> Option<(&[u8], Option<&[u8]>)>
     ensures { option_map (λ x. (x.0.now, option_map (λ digits. digits.now) x.1)) result ≡ place_of text.now }
 {
     let (host, rest) = cut_place(text)?;
@@ -245,7 +245,7 @@ pub(crate) fn place_by<'v>(
 
 /// The host name at the front of a text, a port behind its `:`, by its digits and its number, and what follows both: so
 /// each byte is read once. None where neither stands there so, as of an address in brackets. Takes no memory.
-pub fn place_at(text: &[u8]) -> Option<(&[u8], Option<(&[u8], u16)>, &[u8])>
+pub fn host_port_at(text: &[u8]) -> Option<(&[u8], Option<(&[u8], u16)>, &[u8])>
     ensures place { IfSome result (λ x. IsPlaceAt text.now x.0.now (option_map (λ port. port.0.now) x.1) x.2.now) }
     ensures number { IfSome result (λ x. IfSome x.1 (λ port. port_value port.0.now ≡ Some port.1)) }
     ensures name { IfSome result (λ x. is_some x.1 ≡ false → IsNameAt text.now x.0.now x.2.now) }

@@ -9,14 +9,14 @@ ghost use Rattle.sip_uri.specs.Reading.{Gives, parameter_of, listed_parameters, 
 ghost use Rattle.sip_uri.specs.declared.error.UriError.TheVariants.{Syntax};
 
 use crate::error::UriError;
-use crate::escaped::{Class, is_escaped};
+use crate::escape_classes::{Class, is_escaped};
 use crate::parts::{copy_part, part_before};
 use sip_text::{Bytes, FEW_TEXTS, Items, all_differ, same_no_case, split_once};
 use std::alloc::{AllocError, Global};
 
 /// A URI parameter, as written (RFC 3261 19.1.1).
 #[derive(Clone, Drop)]
-pub struct Parameter {
+pub struct UriParameter {
     /// The name, with its escapes.
     pub name: Bytes,
     /// The value, with its escapes, where a `=` stands.
@@ -34,7 +34,7 @@ fn is_value_or_none(value: Option<&[u8]>) -> bool
 }
 
 /// The parameter that a text writes: a name, and behind a `=` its value.
-fn read_parameter(alloc: Global, text: &[u8]) -> Result<Parameter, UriError>
+fn read_parameter(alloc: Global, text: &[u8]) -> Result<UriParameter, UriError>
     ensures { Gives (λ parameter. parameter) result (ok_or (parameter_of text.now) Syntax) }
 {
     let (name, value) = part_before(text, b'=');
@@ -46,11 +46,11 @@ fn read_parameter(alloc: Global, text: &[u8]) -> Result<Parameter, UriError>
     }
     let name = Bytes::copy(alloc, name)?;
     let value = copy_part(alloc, value)?;
-    Ok(Parameter { name, value })
+    Ok(UriParameter { name, value })
 }
 
 /// The parameters between the `;` of a text.
-fn list_parameters(alloc: Global, text: &[u8]) -> Result<Items<Parameter>, UriError>
+fn list_parameters(alloc: Global, text: &[u8]) -> Result<Items<UriParameter>, UriError>
     ensures { Gives (λ parameters. parameters) result (ok_or (listed_parameters text.now) Syntax) }
 {
     let mut parameters = Items::new(alloc);
@@ -64,7 +64,7 @@ fn list_parameters(alloc: Global, text: &[u8]) -> Result<Items<Parameter>, UriEr
 }
 
 /// Whether a parameter has this name, compared as written but for case.
-fn has_name(parameters: &[Parameter], name: &[u8]) -> bool
+fn has_name(parameters: &[UriParameter], name: &[u8]) -> bool
     ensures { result ≡ list_any (λ p. is_same_text name.now p.name) parameters.now }
 {
     parameters
@@ -73,7 +73,7 @@ fn has_name(parameters: &[Parameter], name: &[u8]) -> bool
 }
 
 /// Whether no name of a few parameters stands twice, each compared with each. Takes no memory.
-fn few_names_differ(parameters: &[Parameter]) -> bool
+fn few_names_differ(parameters: &[UriParameter]) -> bool
     ensures { result ≡ Definitions.names_differ parameters.now }
 {
     let mut rest = parameters;
@@ -86,7 +86,7 @@ fn few_names_differ(parameters: &[Parameter]) -> bool
     true
 }
 
-fn names_of(alloc: Global, parameters: &[Parameter]) -> Result<Vec<&[u8]>, AllocError>
+fn names_of(alloc: Global, parameters: &[UriParameter]) -> Result<Vec<&[u8]>, AllocError>
     ensures { IfOk result (λ names. map (λ x. x.now) names.items ≡ map (λ p. p.name) parameters.now) }
 {
     let mut names = Vec::new(alloc);
@@ -98,7 +98,7 @@ fn names_of(alloc: Global, parameters: &[Parameter]) -> Result<Vec<&[u8]>, Alloc
 
 /// Whether no name stands twice. Of many parameters the names are put in order, since comparing each with
 /// each would cost the square of the text.
-fn names_differ(alloc: Global, parameters: &[Parameter]) -> Result<bool, AllocError>
+fn names_differ(alloc: Global, parameters: &[UriParameter]) -> Result<bool, AllocError>
     ensures { IfOk result (λ differ. differ ≡ Definitions.names_differ parameters.now) }
 {
     if parameters.len() <= FEW_TEXTS {
@@ -112,7 +112,7 @@ fn names_differ(alloc: Global, parameters: &[Parameter]) -> Result<bool, AllocEr
 pub(crate) fn read_parameters(
     alloc: Global,
     text: Option<&[u8]>,
-) -> Result<Items<Parameter>, UriError>
+) -> Result<Items<UriParameter>, UriError>
     ensures { Gives (λ parameters. parameters) result (ok_or (parameters_behind (option_map (λ x. x.now) text.entry)) Syntax) }
 {
     let Some(text) = text else {

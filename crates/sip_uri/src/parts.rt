@@ -5,7 +5,7 @@ ghost use Rattle.sip_uri.specs.Host.{place_of};
 ghost use Rattle.sip_uri.specs.Reading;
 ghost use Rattle.sip_uri.specs.Reading.{is_of_place, before_parameters, parameter_text_of, header_text_of, AreTexts, HasPlace};
 
-use crate::{place_at, place_in};
+use crate::{host_port_at, host_port_in};
 use sip_text::{Bytes, split_once};
 use std::alloc::{AllocError, Global};
 
@@ -67,7 +67,7 @@ fn any_rest(text: &[u8]) -> (Option<(&[u8], Option<&[u8]>)>, Option<&[u8]>, Opti
     ensures headers { option_map (λ x. x.now) result.2 ≡ header_text_of text.now }
 {
     let (place, parameters, headers) = cut_texts(text);
-    (place_in(place), parameters, headers)
+    (host_port_in(place), parameters, headers)
 }
 
 /// The parameters and the headers that a text writes which follows host and port. None where something else follows.
@@ -103,7 +103,7 @@ fn plain_rest(text: &[u8]) -> Option<((&[u8], Option<&[u8]>), Option<&[u8]>, Opt
     ensures { IfSome result (λ x. HasPlace text.now x.0.0.now (option_map (λ y. y.now) x.0.1) (option_map (λ y. y.now) x.1)
         (option_map (λ y. y.now) x.2)) }
 {
-    let (host, port, rest) = place_at(text)?;
+    let (host, port, rest) = host_port_at(text)?;
     let (parameters, headers) = behind_place(rest)?;
     Some(((host, digits_of(port)), parameters, headers))
 }

@@ -1,7 +1,7 @@
 ghost use Rattle.std.specs.Prelude.{◌≡◌, IfOk};
 
 use crate::headers::UriHeader;
-use crate::parameters::Parameter;
+use crate::parameters::UriParameter;
 use crate::port_value;
 use crate::scheme::Scheme;
 use crate::user::UserInfo;
@@ -17,7 +17,7 @@ pub struct Uri {
     pub host: Bytes,
     /// The digits of the port, where a `:` stands.
     pub port: Option<Bytes>,
-    pub parameters: Items<Parameter>,
+    pub parameters: Items<UriParameter>,
     pub headers: Items<UriHeader>,
 }
 
@@ -53,7 +53,7 @@ fn copied_port(port: &Option<Bytes>) -> Result<Option<Bytes>, AllocError>
     port.clone()
 }
 
-fn copied_parameters(parameters: &Items<Parameter>) -> Result<Items<Parameter>, AllocError>
+fn copied_parameters(parameters: &Items<UriParameter>) -> Result<Items<UriParameter>, AllocError>
     ensures { IfOk result (λ copy. copy ≡ parameters.now) }
 {
     parameters.clone()

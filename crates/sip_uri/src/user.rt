@@ -8,7 +8,7 @@ ghost use Rattle.sip_uri.specs.Reading.{Gives, userinfo_of, user_of};
 ghost use Rattle.sip_uri.specs.declared.error.UriError.TheVariants.{Syntax};
 
 use crate::error::UriError;
-use crate::escaped::{Class, are_escaped, is_escaped, is_user_byte};
+use crate::escape_classes::{Class, are_escaped, is_escaped, is_user_byte};
 use crate::parts::{copy_part, part_before};
 use sip_text::{Bytes, split_once};
 use std::alloc::Global;

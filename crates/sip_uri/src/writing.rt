@@ -4,7 +4,7 @@ ghost use Rattle.std.specs.List.{flat_map};
 ghost use Rattle.sip_uri.specs.Uri.{behind_mark, userinfo_text, parameter_text, header_text, headers_text, rest_text, text_of};
 
 use crate::headers::UriHeader;
-use crate::parameters::Parameter;
+use crate::parameters::UriParameter;
 use crate::uri::Uri;
 use crate::user::UserInfo;
 use sip_text::Bytes;
@@ -32,7 +32,7 @@ fn write_userinfo(out: &mut Bytes, userinfo: &Option<UserInfo>) -> Result<(), Al
     Ok(())
 }
 
-fn write_parameter(out: &mut Bytes, parameter: &Parameter) -> Result<(), AllocError>
+fn write_parameter(out: &mut Bytes, parameter: &UriParameter) -> Result<(), AllocError>
     ensures { OnOk result (out.new ≡ out.old ++ parameter_text parameter.now) }
 {
     out.push(b';')?;
@@ -40,7 +40,7 @@ fn write_parameter(out: &mut Bytes, parameter: &Parameter) -> Result<(), AllocEr
     write_behind(out, b'=', &parameter.value)
 }
 
-fn write_parameters(out: &mut Bytes, parameters: &[Parameter]) -> Result<(), AllocError>
+fn write_parameters(out: &mut Bytes, parameters: &[UriParameter]) -> Result<(), AllocError>
     ensures { OnOk result (out.new ≡ out.old ++ flat_map parameter_text parameters.now) }
 {
     for parameter in parameters {
@@ -109,7 +109,7 @@ fn userinfo_room(userinfo: &Option<UserInfo>) -> usize {
     }
 }
 
-fn parameters_room(parameters: &[Parameter]) -> usize {
+fn parameters_room(parameters: &[UriParameter]) -> usize {
     let mut room = 0usize;
     for parameter in parameters {
         room = room

@@ -8,7 +8,7 @@ use Rattle.std.proofs.lemmas.List.Folds.{list_any-append}
 use Rattle.sip_uri.specs.declared.scheme.Scheme.{Scheme}
 use Rattle.sip_uri.specs.declared.scheme.Scheme.TheVariants.{Sip, Sips}
 use Rattle.sip_uri.specs.declared.user.UserInfo.{UserInfo}
-use Rattle.sip_uri.specs.declared.parameters.Parameter.{Parameter}
+use Rattle.sip_uri.specs.declared.parameters.UriParameter.{UriParameter}
 use Rattle.sip_uri.specs.declared.headers.UriHeader.{UriHeader}
 use Rattle.sip_uri.specs.declared.uri.Uri.{Uri}
 use Rattle.sip_uri_equality.specs.declared.symbols.Symbol.{Symbol}
@@ -133,26 +133,26 @@ pairs_swap f (x ∷ xs) ys = ap (λ t. list_all (λ y. f x y) ys && t) (pairs_sw
 
 -- ---- parameters
 
-pub agrees_sym : (p q : Parameter) → agrees p q ≡ agrees q p
+pub agrees_sym : (p q : UriParameter) → agrees p q ≡ agrees q p
 agrees_sym p q = rw (part_sym p.name q.name, optional_sym says_same_no_case part_sym p.value q.value) refl
 
-pub agrees_own : (p : Parameter) → agrees p p ≡ true
+pub agrees_own : (p : UriParameter) → agrees p p ≡ true
 agrees_own p = rw (part_own p.name, optional_own says_same_no_case part_own p.value) refl
 
-pub parameters_sym : (ps qs : List Parameter) → are_same_parameters ps qs ≡ are_same_parameters qs ps
+pub parameters_sym : (ps qs : List UriParameter) → are_same_parameters ps qs ≡ are_same_parameters qs ps
 parameters_sym ps qs =
     let pairs : list_all (λ p. list_all (λ q. agrees p q) qs) ps ≡ list_all (λ q. list_all (λ p. agrees q p) ps) qs = pairs_swap agrees ps qs
     ∙ all_same _ _ (λ q. all_same _ _ (λ p. agrees_sym p q) ps) qs in
     rw (pairs, and_sym (list_all (is_answered qs) ps) (list_all (is_answered ps) qs)) refl
 
 -- one whose name stands nowhere in others agrees with them
-pub apart : (p : Parameter) (qs : List Parameter) → list_any (λ q. says_same_no_case p.name q.name) qs ≡ false → list_all (λ q. agrees p q) qs ≡ true
+pub apart : (p : UriParameter) (qs : List UriParameter) → list_any (λ q. says_same_no_case p.name q.name) qs ≡ false → list_all (λ q. agrees p q) qs ≡ true
 apart p [] none = refl
 apart p (q ∷ qs) none =
     let parts = or_parts (says_same_no_case p.name q.name) (list_any (λ q. says_same_no_case p.name q.name) qs) none in
     rw (parts.0, apart p qs parts.1) refl
 
-pairs_own : (ps : List Parameter) → names_say_different ps ≡ true → list_all (λ p. list_all (λ q. agrees p q) ps) ps ≡ true
+pairs_own : (ps : List UriParameter) → names_say_different ps ≡ true → list_all (λ p. list_all (λ q. agrees p q) ps) ps ≡ true
 pairs_own [] differ = refl
 pairs_own (p ∷ ps) differ =
     let both = and_both (not (list_any (λ q. says_same_no_case p.name q.name) ps)) (names_say_different ps) differ in
@@ -162,17 +162,18 @@ pairs_own (p ∷ ps) differ =
     ∙ and_is _ _ back (pairs_own ps both.1) in
     rw (agrees_own p, front, others) refl
 
-answered_own : (before ps : List Parameter) → list_all (is_answered (before ++ ps)) ps ≡ true
+answered_own : (before ps : List UriParameter) → list_all (is_answered (before ++ ps)) ps ≡ true
 answered_own before [] = refl
 answered_own before (p ∷ ps) =
     let here : list_any (λ q. says_same_no_case p.name q.name) (before ++ p ∷ ps) ≡ true =
     list_any-append (λ q. says_same_no_case p.name q.name) before (p ∷ ps) ∙ or_right (list_any (λ q. says_same_no_case p.name q.name) before) _
     (or_left (says_same_no_case p.name p.name) _ (part_own p.name)) in
-    let later : list_all (is_answered (before ++ p ∷ ps)) ps ≡ true = subst (λ (w : List Parameter). list_all (is_answered w) ps ≡ true) (append_assoc before (p ∷ []) ps)
+    let later : list_all (is_answered (before ++ p ∷ ps)) ps ≡ true = subst (λ (w : List UriParameter). list_all (is_answered w) ps ≡ true)
+    (append_assoc before (p ∷ []) ps)
     (answered_own (before ++ p ∷ []) ps) in
     and_is _ _ (or_right (not (is_never_ignored p.name)) _ here) later
 
-parameters_own : (ps : List Parameter) → names_say_different ps ≡ true → are_same_parameters ps ps ≡ true
+parameters_own : (ps : List UriParameter) → names_say_different ps ≡ true → are_same_parameters ps ps ≡ true
 parameters_own ps differ = and_is _ _ (pairs_own ps differ) (and_is _ _ (answered_own [] ps) (answered_own [] ps))
 
 -- ---- headers

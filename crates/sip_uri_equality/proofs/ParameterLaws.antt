@@ -7,7 +7,7 @@ use Rattle.std.specs.List.{AllByRecursion, list_all, list_any}
 use Rattle.std.proofs.lemmas.Bool.{or_right}
 use Rattle.std.proofs.lemmas.Cmp.{on_total, eq_by_cmp_equiv}
 use Rattle.std.proofs.lemmas.List.Sorted.{list_any-IsPermutation, ranks_by}
-use Rattle.sip_uri.specs.declared.parameters.Parameter.{Parameter}
+use Rattle.sip_uri.specs.declared.parameters.UriParameter.{UriParameter}
 use Rattle.sip_uri_equality.specs.Equality.{says_same_no_case, both_or_none, agrees, is_never_ignored, is_answered, are_same_parameters}
 use Rattle.sip_uri_equality.specs.Order.{order_of_texts, order_of_names, AreInOrder, begins_with}
 use Rattle.sip_uri_equality.proofs.Equal.{part_sym, optional_sym, agrees_sym, parameters_sym, all_same, all_both, apart}
@@ -18,11 +18,11 @@ or_behind : (a b : Bool) → a ≡ true → b ≡ (not a || b)
 or_behind a b e = rw e refl
 
 -- a parameter that counts is answered where its name stands
-pub counts : (others : List Parameter) (p : Parameter) (name : List ℕ) (r : Bool) → name ≡ p.name → is_never_ignored name ≡ true
-    → r ≡ list_any (λ (q : Parameter). says_same_no_case name q.name) others → r ≡ is_answered others p
+pub counts : (others : List UriParameter) (p : UriParameter) (name : List ℕ) (r : Bool) → name ≡ p.name → is_never_ignored name ≡ true
+    → r ≡ list_any (λ (q : UriParameter). says_same_no_case name q.name) others → r ≡ is_answered others p
 counts others p name r e never is =
-    is ∙ or_behind (is_never_ignored name) (list_any (λ (q : Parameter). says_same_no_case name q.name) others) never
-    ∙ ap (λ (n : List ℕ). not (is_never_ignored n) || list_any (λ (q : Parameter). says_same_no_case n q.name) others) e
+    is ∙ or_behind (is_never_ignored name) (list_any (λ (q : UriParameter). says_same_no_case name q.name) others) never
+    ∙ ap (λ (n : List ℕ). not (is_never_ignored n) || list_any (λ (q : UriParameter). says_same_no_case n q.name) others) e
 
 -- ---- texts that say the same
 
@@ -45,25 +45,26 @@ any_same p q same (x ∷ xs) = rw (same x, any_same p q same xs) refl
 
 -- ---- in any order
 
-right_in_any_order : (ps qs rs : List Parameter) → IsPermutation qs rs → are_same_parameters ps qs ≡ are_same_parameters ps rs
+right_in_any_order : (ps qs rs : List UriParameter) → IsPermutation qs rs → are_same_parameters ps qs ≡ are_same_parameters ps rs
 right_in_any_order ps qs rs moved =
     let pairs : list_all (λ p. list_all (λ q. agrees p q) qs) ps ≡ list_all (λ p. list_all (λ q. agrees p q) rs) ps =
     all_same _ _ (λ p. all_in_any_order (λ q. agrees p q) qs rs moved) ps in
     let forth : list_all (is_answered qs) ps ≡ list_all (is_answered rs) ps =
-    all_same _ _ (λ p. ap (λ (t : Bool). not (is_never_ignored p.name) || t) (list_any-IsPermutation (λ (q : Parameter). says_same_no_case p.name q.name) qs rs moved)) ps
+    all_same _ _ (λ p. ap (λ (t : Bool). not (is_never_ignored p.name) || t) (list_any-IsPermutation (λ (q : UriParameter). says_same_no_case p.name q.name) qs rs moved))
+    ps
     in
     let back : list_all (is_answered ps) qs ≡ list_all (is_answered ps) rs = all_in_any_order (is_answered ps) qs rs moved in
     rw (pairs, forth, back) refl
 
-pub in_any_order : (ps qs rs ss : List Parameter) → IsPermutation ps rs → IsPermutation qs ss → are_same_parameters rs ss ≡ are_same_parameters ps qs
+pub in_any_order : (ps qs rs ss : List UriParameter) → IsPermutation ps rs → IsPermutation qs ss → are_same_parameters rs ss ≡ are_same_parameters ps qs
 in_any_order ps qs rs ss left right =
     sym (right_in_any_order rs qs ss right) ∙ parameters_sym rs qs ∙ sym (right_in_any_order qs ps rs left) ∙ parameters_sym qs ps
 
 -- ---- a parameter whose name stands nowhere else
 
 -- its name stands nowhere among others
-abbrev pub IsApart : Parameter → List Parameter → Type 0
-IsApart p qs = list_any (λ (q : Parameter). says_same_no_case p.name q.name) qs ≡ false
+abbrev pub IsApart : UriParameter → List UriParameter → Type 0
+IsApart p qs = list_any (λ (q : UriParameter). says_same_no_case p.name q.name) qs ≡ false
 
 or_left_false : (a b : Bool) → (a || b) ≡ false → (a ≡ false) × (b ≡ false)
 or_left_false true b e = absurd cc
@@ -73,10 +74,10 @@ or_none : (a b : Bool) → b ≡ false → (a || b) ≡ a
 or_none true b e = refl
 or_none false b e = e
 
-answered_past : (p : Parameter) (ps qs : List Parameter) → IsApart p qs → list_all (is_answered (p ∷ ps)) qs ≡ list_all (is_answered ps) qs
+answered_past : (p : UriParameter) (ps qs : List UriParameter) → IsApart p qs → list_all (is_answered (p ∷ ps)) qs ≡ list_all (is_answered ps) qs
 answered_past p ps [] none = refl
 answered_past p ps (q ∷ qs) none =
-    let parts = or_left_false (says_same_no_case p.name q.name) (list_any (λ (q : Parameter). says_same_no_case p.name q.name) qs) none in
+    let parts = or_left_false (says_same_no_case p.name q.name) (list_any (λ (q : UriParameter). says_same_no_case p.name q.name) qs) none in
     rw (part_sym q.name p.name, parts.0, answered_past p ps qs parts.1) refl
 
 shuffle : (x n y z : Bool) → (x && ((n && y) && z)) ≡ (n && (x && (y && z)))
@@ -96,20 +97,21 @@ shuffle false n y z = by_first n
     by_first true = refl
     by_first false = refl
 
-pub skips : (p : Parameter) (ps qs : List Parameter) → IsApart p qs → are_same_parameters (p ∷ ps) qs ≡ (not (is_never_ignored p.name) && are_same_parameters ps qs)
+pub skips : (p : UriParameter) (ps qs : List UriParameter) → IsApart p qs → are_same_parameters (p ∷ ps) qs ≡ (not (is_never_ignored p.name) && are_same_parameters ps qs)
 skips p ps qs none =
     let row : list_all (λ q. agrees p q) qs ≡ true = apart p qs none in
     let here : is_answered qs p ≡ not (is_never_ignored p.name) = or_none (not (is_never_ignored p.name))
-    (list_any (λ (q : Parameter). says_same_no_case p.name q.name) qs) none in
+    (list_any (λ (q : UriParameter). says_same_no_case p.name q.name) qs) none in
     rw (row, here, answered_past p ps qs none) (shuffle (list_all (λ p. list_all (λ q. agrees p q) qs) ps) (not (is_never_ignored p.name)) (list_all (is_answered qs) ps)
     (list_all (is_answered ps) qs))
 
 -- ---- two of one name and value, and no other of that name
 
-column : (q : Parameter) (ps : List Parameter) → IsApart q ps → list_all (λ p. agrees p q) ps ≡ true
+column : (q : UriParameter) (ps : List UriParameter) → IsApart q ps → list_all (λ p. agrees p q) ps ≡ true
 column q ps none = all_same _ _ (λ p. agrees_sym p q) ps ∙ apart q ps none
 
-pub both_go : (p q : Parameter) (ps qs : List Parameter) → says_same_no_case p.name q.name ≡ true → both_or_none says_same_no_case p.value q.value ≡ true → IsApart p qs
+pub both_go : (p q : UriParameter) (ps qs : List UriParameter) → says_same_no_case p.name q.name ≡ true → both_or_none says_same_no_case p.value q.value ≡ true
+    → IsApart p qs
     → IsApart q ps → are_same_parameters (p ∷ ps) (q ∷ qs) ≡ are_same_parameters ps qs
 both_go p q ps qs name value none_right none_left =
     let agree : agrees p q ≡ true = rw (name, value) refl in
@@ -125,7 +127,7 @@ both_go p q ps qs name value none_right none_left =
 never_congr : (a b : List ℕ) → says_same_no_case a b ≡ true → is_never_ignored a ≡ is_never_ignored b
 never_congr a b e = any_same _ _ (λ known. text_congr a b known e) (codes "user" ∷ codes "ttl" ∷ codes "method" ∷ codes "maddr" ∷ codes "transport" ∷ [])
 
-agrees_congr : (p o x : Parameter) → says_same_no_case p.name o.name ≡ true → both_or_none says_same_no_case p.value o.value ≡ true → agrees p x ≡ agrees o x
+agrees_congr : (p o x : UriParameter) → says_same_no_case p.name o.name ≡ true → both_or_none says_same_no_case p.value o.value ≡ true → agrees p x ≡ agrees o x
 agrees_congr p o x name value = rw (text_congr p.name o.name x.name name, value_congr p.value o.value x.value value) refl
 
 twice : (r t a b c d : Bool) → c ≡ d → ((r && (r && t)) && ((a && (a && b)) && c)) ≡ ((r && t) && ((a && b) && d))
@@ -138,16 +140,16 @@ or_again true r n = refl
 or_again false r n = refl
 
 -- one like the next says nothing more
-doubled : (p o : Parameter) (ps qs : List Parameter) → says_same_no_case p.name o.name ≡ true → both_or_none says_same_no_case p.value o.value ≡ true
+doubled : (p o : UriParameter) (ps qs : List UriParameter) → says_same_no_case p.name o.name ≡ true → both_or_none says_same_no_case p.value o.value ≡ true
     → are_same_parameters (p ∷ o ∷ ps) qs ≡ are_same_parameters (o ∷ ps) qs
 doubled p o ps qs name value =
     let row : list_all (λ q. agrees p q) qs ≡ list_all (λ q. agrees o q) qs = all_same _ _ (λ q. agrees_congr p o q name value) qs in
-    let names : list_any (λ (q : Parameter). says_same_no_case p.name q.name) qs ≡ list_any (λ (q : Parameter). says_same_no_case o.name q.name) qs =
-    any_same _ _ (λ (q : Parameter). text_congr p.name o.name q.name name) qs in
+    let names : list_any (λ (q : UriParameter). says_same_no_case p.name q.name) qs ≡ list_any (λ (q : UriParameter). says_same_no_case o.name q.name) qs =
+    any_same _ _ (λ (q : UriParameter). text_congr p.name o.name q.name name) qs in
     let here : is_answered qs p ≡ is_answered qs o = rw (never_congr p.name o.name name, names) refl in
     let back : list_all (is_answered (p ∷ o ∷ ps)) qs ≡ list_all (is_answered (o ∷ ps)) qs =
-    all_same _ _ (λ (q : Parameter). rw (text_congr_right p.name o.name q.name name) (or_again (says_same_no_case q.name o.name)
-    (list_any (λ (r : Parameter). says_same_no_case q.name r.name) ps) (not (is_never_ignored q.name)))) qs in
+    all_same _ _ (λ (q : UriParameter). rw (text_congr_right p.name o.name q.name name) (or_again (says_same_no_case q.name o.name)
+    (list_any (λ (r : UriParameter). says_same_no_case q.name r.name) ps) (not (is_never_ignored q.name)))) qs in
     rw (row, here) (twice (list_all (λ q. agrees o q) qs) (list_all (λ p. list_all (λ q. agrees p q) qs) ps) (is_answered qs o) (list_all (is_answered qs) ps)
     (list_all (is_answered (p ∷ o ∷ ps)) qs) (list_all (is_answered (o ∷ ps)) qs) back)
 
@@ -156,15 +158,15 @@ and_false true = refl
 and_false false = refl
 
 -- one that differs from its like refuses the whole
-refused : (p q : Parameter) (ps qs : List Parameter) → says_same_no_case p.name q.name ≡ true → both_or_none says_same_no_case p.value q.value ≡ false
+refused : (p q : UriParameter) (ps qs : List UriParameter) → says_same_no_case p.name q.name ≡ true → both_or_none says_same_no_case p.value q.value ≡ false
     → are_same_parameters (p ∷ ps) (q ∷ qs) ≡ false
 refused p q ps qs name value = rw (name, value) refl
 
-refused_later : (p o q : Parameter) (ps qs : List Parameter) → says_same_no_case o.name q.name ≡ true → both_or_none says_same_no_case o.value q.value ≡ false
+refused_later : (p o q : UriParameter) (ps qs : List UriParameter) → says_same_no_case o.name q.name ≡ true → both_or_none says_same_no_case o.value q.value ≡ false
     → are_same_parameters (p ∷ o ∷ ps) (q ∷ qs) ≡ false
 refused_later p o q ps qs name value = rw (name, value, and_false (agrees p q && list_all (λ x. agrees p x) qs)) refl
 
-left_goes : (p o q : Parameter) (ps qs : List Parameter) → says_same_no_case p.name q.name ≡ true → both_or_none says_same_no_case p.value q.value ≡ true
+left_goes : (p o q : UriParameter) (ps qs : List UriParameter) → says_same_no_case p.name q.name ≡ true → both_or_none says_same_no_case p.value q.value ≡ true
     → says_same_no_case p.name o.name ≡ true → are_same_parameters (p ∷ o ∷ ps) (q ∷ qs) ≡ are_same_parameters (o ∷ ps) (q ∷ qs)
 left_goes p o q ps qs name value next = by_value (both_or_none says_same_no_case o.value q.value) refl
   where
@@ -181,14 +183,14 @@ left_goes p o q ps qs name value next = by_value (both_or_none says_same_no_case
 -- ---- in order
 
 pub names_total : IsTotalOrder order_of_names
-names_total = on_total (λ (p : Parameter). p.name) order_is_total
+names_total = on_total (λ (p : UriParameter). p.name) order_is_total
 
-none_named : (p : Parameter) (qs : List Parameter) → AllByRecursion (λ q. order_of_names p q ≡ Less) qs → IsApart p qs
+none_named : (p : UriParameter) (qs : List UriParameter) → AllByRecursion (λ q. order_of_names p q ≡ Less) qs → IsApart p qs
 none_named p [] all = refl
 none_named p (q ∷ qs) all = rw (sym (tie_is_same p.name q.name) ∙ ap is_eq all.0) (none_named p qs all.1)
 
 -- a name in front of the first stands nowhere
-in_front : (p q : Parameter) (qs : List Parameter) → order_of_names p q ≡ Less → AreInOrder order_of_names (q ∷ qs) → IsApart p (q ∷ qs)
+in_front : (p q : UriParameter) (qs : List UriParameter) → order_of_names p q ≡ Less → AreInOrder order_of_names (q ∷ qs) → IsApart p (q ∷ qs)
 in_front p q qs e up = none_named p (q ∷ qs) (all_behind names_total p q qs e up)
 
 only_less : (o : Ordering) → is_gt o ≡ false → is_eq o ≡ false → o ≡ Less
@@ -197,17 +199,17 @@ only_less Equal e f = absurd cc
 only_less Greater e f = absurd cc
 
 -- where the next has another name, no other has it
-none_more : (p : Parameter) (ps : List Parameter) → AreInOrder order_of_names (p ∷ ps) → begins_with p.name ps ≡ false → IsApart p ps
+none_more : (p : UriParameter) (ps : List UriParameter) → AreInOrder order_of_names (p ∷ ps) → begins_with p.name ps ≡ false → IsApart p ps
 none_more p [] up other = refl
 none_more p (o ∷ ps) up other = in_front p o ps (only_less (order_of_names p o) up.0.0 (tie_is_same p.name o.name ∙ other)) up.1
 
-apart_from_like : (p q : Parameter) (rs : List Parameter) → says_same_no_case p.name q.name ≡ true → IsApart p rs → IsApart q rs
-apart_from_like p q rs name none = sym (any_same _ _ (λ (r : Parameter). text_congr p.name q.name r.name name) rs) ∙ none
+apart_from_like : (p q : UriParameter) (rs : List UriParameter) → says_same_no_case p.name q.name ≡ true → IsApart p rs → IsApart q rs
+apart_from_like p q rs name none = sym (any_same _ _ (λ (r : UriParameter). text_congr p.name q.name r.name name) rs) ∙ none
 
 -- ---- the walk's steps
 
-module _ (p q : Parameter) (ps qs : List Parameter) where
-  abbrev Same : List Parameter → List Parameter → Type 0
+module _ (p q : UriParameter) (ps qs : List UriParameter) where
+  abbrev Same : List UriParameter → List UriParameter → Type 0
   Same rs ss = are_same_parameters (p ∷ ps) (q ∷ qs) ≡ are_same_parameters rs ss
 
   pub less_counts : (n m : List ℕ) → n ≡ p.name → m ≡ q.name → Less ≡ order_of_texts n m → is_never_ignored n ≡ true → AreInOrder order_of_names (q ∷ qs)
@@ -246,14 +248,14 @@ module _ (p q : Parameter) (ps qs : List Parameter) where
     pub goes_left : begins_with p.name ps ≡ true → Same ps (q ∷ qs)
     goes_left more = by_next ps more
       where
-        by_next : (os : List Parameter) → begins_with p.name os ≡ true → are_same_parameters (p ∷ os) (q ∷ qs) ≡ are_same_parameters os (q ∷ qs)
+        by_next : (os : List UriParameter) → begins_with p.name os ≡ true → are_same_parameters (p ∷ os) (q ∷ qs) ≡ are_same_parameters os (q ∷ qs)
         by_next [] more = absurd cc
         by_next (o ∷ os) more = left_goes p o q os qs name value more
 
     pub goes_right : begins_with q.name qs ≡ true → Same (p ∷ ps) qs
     goes_right more = parameters_sym (p ∷ ps) (q ∷ qs) ∙ by_next qs more ∙ parameters_sym qs (p ∷ ps)
       where
-        by_next : (os : List Parameter) → begins_with q.name os ≡ true → are_same_parameters (q ∷ os) (p ∷ ps) ≡ are_same_parameters os (p ∷ ps)
+        by_next : (os : List UriParameter) → begins_with q.name os ≡ true → are_same_parameters (q ∷ os) (p ∷ ps) ≡ are_same_parameters os (p ∷ ps)
         by_next [] more = absurd cc
         by_next (o ∷ os) more = left_goes q o p os ps (part_sym q.name p.name ∙ name) (optional_sym says_same_no_case part_sym q.value p.value ∙ value) more
 
@@ -264,19 +266,19 @@ module _ (p q : Parameter) (ps qs : List Parameter) where
 
 -- ---- where one list ends
 
-none_answer : (qs : List Parameter) → list_all (is_answered []) qs ≡ list_all (λ q. not (is_never_ignored q.name)) qs
-none_answer qs = all_same _ _ (λ (q : Parameter). or_none (not (is_never_ignored q.name)) false refl) qs
+none_answer : (qs : List UriParameter) → list_all (is_answered []) qs ≡ list_all (λ q. not (is_never_ignored q.name)) qs
+none_answer qs = all_same _ _ (λ (q : UriParameter). or_none (not (is_never_ignored q.name)) false refl) qs
 
-pub left_ends : (qs : List Parameter) → are_same_parameters [] qs ≡ list_all (λ q. not (is_never_ignored q.name)) qs
+pub left_ends : (qs : List UriParameter) → are_same_parameters [] qs ≡ list_all (λ q. not (is_never_ignored q.name)) qs
 left_ends qs = none_answer qs
 
-pub right_ends : (ps : List Parameter) → are_same_parameters ps [] ≡ list_all (λ p. not (is_never_ignored p.name)) ps
+pub right_ends : (ps : List UriParameter) → are_same_parameters ps [] ≡ list_all (λ p. not (is_never_ignored p.name)) ps
 right_ends ps = parameters_sym ps [] ∙ left_ends ps
 
 -- ---- behind references
 
-pub references_total : IsTotalOrder (λ (a : Bor Parameter) (b : Bor Parameter). order_of_names a.now b.now)
-references_total = on_total (λ (a : Bor Parameter). a.now) names_total
+pub references_total : IsTotalOrder (λ (a : Bor UriParameter) (b : Bor UriParameter). order_of_names a.now b.now)
+references_total = on_total (λ (a : Bor UriParameter). a.now) names_total
 
-pub names_rank : IsStrictWeakOrder (λ (a : Bor Parameter) (b : Bor Parameter). is_lt (order_of_names a.now b.now))
-names_rank = ranks_by names_total (λ (a : Bor Parameter). a.now)
+pub names_rank : IsStrictWeakOrder (λ (a : Bor UriParameter) (b : Bor UriParameter). is_lt (order_of_names a.now b.now))
+names_rank = ranks_by names_total (λ (a : Bor UriParameter). a.now)

@@ -7,7 +7,7 @@ use Rattle.std.specs.Cmp.Lexicographic.{pointwise}
 use Rattle.sip_uri.specs.declared.scheme.Scheme.{Scheme}
 use Rattle.sip_uri.specs.declared.scheme.Scheme.TheVariants.{Sip, Sips}
 use Rattle.sip_uri.specs.declared.user.UserInfo.{UserInfo}
-use Rattle.sip_uri.specs.declared.parameters.Parameter.{Parameter}
+use Rattle.sip_uri.specs.declared.parameters.UriParameter.{UriParameter}
 use Rattle.sip_uri.specs.declared.headers.UriHeader.{UriHeader}
 use Rattle.sip_uri.specs.declared.uri.Uri.{Uri}
 use Rattle.sip_uri_equality.specs.declared.symbols.Symbol.{Symbol}
@@ -75,7 +75,7 @@ is_same_userinfo None (Some right) = false
 is_same_userinfo (Some left) None = false
 
 -- parameters of one name have one value, or none
-abbrev pub agrees : Parameter → Parameter → Bool
+abbrev pub agrees : UriParameter → UriParameter → Bool
 agrees p q = if says_same_no_case p.name q.name then both_or_none says_same_no_case p.value q.value else true
 
 -- parameters that aren't ignored where only one URI has them (RFC 3261 19.1.4; `transport` is this project's)
@@ -84,11 +84,11 @@ is_never_ignored name = list_any (λ known. says_same_no_case name known)
     (codes "user" ∷ codes "ttl" ∷ codes "method" ∷ codes "maddr" ∷ codes "transport" ∷ [])
 
 -- a parameter may be ignored, or its name stands among others
-abbrev pub is_answered : List Parameter → Parameter → Bool
+abbrev pub is_answered : List UriParameter → UriParameter → Bool
 is_answered others p = not (is_never_ignored p.name) || list_any (λ q. says_same_no_case p.name q.name) others
 
 -- each pair of one name agrees, and none that counts stands in only one
-abbrev pub are_same_parameters : List Parameter → List Parameter → Bool
+abbrev pub are_same_parameters : List UriParameter → List UriParameter → Bool
 are_same_parameters ps qs = list_all (λ p. list_all (λ q. agrees p q) qs) ps && (list_all (is_answered qs) ps && list_all (is_answered ps) qs)
 
 -- whether two headers are the same without case
@@ -116,6 +116,6 @@ same u v =
     && are_same_headers u.headers v.headers
 
 -- no two parameters have one name once escapes are resolved
-abbrev pub names_say_different : List Parameter → Bool
+abbrev pub names_say_different : List UriParameter → Bool
 names_say_different [] = true
 names_say_different (p ∷ ps) = not (list_any (λ q. says_same_no_case p.name q.name) ps) && names_say_different ps

@@ -7,7 +7,7 @@ use Rattle.std.specs.Borrow.{Bor}
 use Rattle.std.specs.List.{AllByRecursion}
 use Rattle.std.specs.List.Sorted.{IsPermutation}
 use Rattle.std.specs.Cmp.Lexicographic.{slice_cmp}
-use Rattle.sip_uri.specs.declared.parameters.Parameter.{Parameter}
+use Rattle.sip_uri.specs.declared.parameters.UriParameter.{UriParameter}
 use Rattle.sip_uri.specs.declared.headers.UriHeader.{UriHeader}
 use Rattle.sip_uri_equality.specs.declared.symbols.Symbol.{Symbol}
 use Rattle.sip_uri_equality.specs.declared.symbols.Symbol.TheVariants.{Plain, EscapedReserved}
@@ -27,7 +27,7 @@ abbrev pub order_of_texts : List ℕ → List ℕ → Ordering
 order_of_texts left right = slice_cmp order_of_symbols (map small (symbols left)) (map small (symbols right))
 
 -- two parameters by their names
-abbrev pub order_of_names : Parameter → Parameter → Ordering
+abbrev pub order_of_names : UriParameter → UriParameter → Ordering
 order_of_names p q = order_of_texts p.name q.name
 
 -- two headers by their names, then by their values
@@ -40,7 +40,7 @@ AreInOrder order [] = Unit {0}
 AreInOrder order (x ∷ xs) = AllByRecursion (λ y. is_gt (order x y) ≡ false) xs × AreInOrder order xs
 
 -- whether a list begins with a parameter of a name
-abbrev pub begins_with : List ℕ → List Parameter → Bool
+abbrev pub begins_with : List ℕ → List UriParameter → Bool
 begins_with name [] = false
 begins_with name (p ∷ ps) = says_same_no_case name p.name
 

@@ -3,7 +3,7 @@ ghost use Rattle.sip_uri_equality.specs.Equality as Definitions;
 
 use crate::equality::is_same_place;
 use crate::{header_order, parameter_order};
-use sip_uri::{Parameter, Uri, UriHeader};
+use sip_uri::{Uri, UriHeader, UriParameter};
 use std::alloc::{AllocError, Global};
 use std::marker::Model;
 
@@ -11,7 +11,7 @@ use std::marker::Model;
 #[derive(Drop)]
 pub struct Ordered<'a> {
     uri: &'a Uri,
-    parameters: Vec<&'a Parameter>,
+    parameters: Vec<&'a UriParameter>,
     headers: Vec<&'a UriHeader>,
 }
 

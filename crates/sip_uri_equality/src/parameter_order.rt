@@ -11,12 +11,12 @@ use crate::parameters::{are_same_values, is_never_ignored};
 use crate::places::{SOME, refer_to};
 use crate::texts::{compare_texts, says_same_no_case};
 use sip_text::same_bytes;
-use sip_uri::Parameter;
+use sip_uri::UriParameter;
 use std::alloc::{AllocError, Global};
 use std::cmp::Ordering;
 
 /// Puts parameters into places, in order of their names.
-pub(crate) fn put_in_order<'a>(places: &mut [&'a Parameter], parameters: &'a [Parameter])
+pub(crate) fn put_in_order<'a>(places: &mut [&'a UriParameter], parameters: &'a [UriParameter])
     requires { length places.old ≡ length parameters.now }
     ensures moved { IsPermutation parameters.now (those_of places.new) }
     ensures in_order { AreInOrder order_of_names (those_of places.new) }
@@ -27,7 +27,7 @@ pub(crate) fn put_in_order<'a>(places: &mut [&'a Parameter], parameters: &'a [Pa
     });
 }
 
-fn begins_with_name(parameters: &[&Parameter], name: &[u8]) -> bool
+fn begins_with_name(parameters: &[&UriParameter], name: &[u8]) -> bool
     ensures { result ≡ begins_with name.now (those_of parameters.now) }
 {
     match parameters.first() {
@@ -36,7 +36,7 @@ fn begins_with_name(parameters: &[&Parameter], name: &[u8]) -> bool
     }
 }
 
-fn may_all_be_ignored(parameters: &[&Parameter]) -> bool
+fn may_all_be_ignored(parameters: &[&UriParameter]) -> bool
     ensures { result ≡ list_all (λ p. not (Definitions.is_never_ignored p.name)) (those_of parameters.now) }
 {
     for parameter in parameters {
@@ -59,10 +59,10 @@ enum Advance {
 
 /// Where to go on from two parameters of one name and value: past all of that name but the last of each list.
 fn past_pair(
-    first: &Parameter,
-    left: &[&Parameter],
-    second: &Parameter,
-    right: &[&Parameter],
+    first: &UriParameter,
+    left: &[&UriParameter],
+    second: &UriParameter,
+    right: &[&UriParameter],
 ) -> Advance
     requires name { Definitions.says_same_no_case first.now.name second.now.name ≡ true }
     requires value { Definitions.both_or_none Definitions.says_same_no_case first.now.value second.now.value ≡ true }
@@ -81,10 +81,10 @@ fn past_pair(
 
 /// Where to go on from the first parameters of two lists in order.
 fn past_first(
-    first: &Parameter,
-    left: &[&Parameter],
-    second: &Parameter,
-    right: &[&Parameter],
+    first: &UriParameter,
+    left: &[&UriParameter],
+    second: &UriParameter,
+    right: &[&UriParameter],
 ) -> Advance
     requires left { AreInOrder order_of_names (first.now ∷ those_of left.now) }
     requires right { AreInOrder order_of_names (second.now ∷ those_of right.now) }
@@ -115,7 +115,7 @@ fn past_first(
 }
 
 /// Where to go on in two lists in order, neither of them empty.
-fn advance_in(left: &[&Parameter], right: &[&Parameter]) -> Advance
+fn advance_in(left: &[&UriParameter], right: &[&UriParameter]) -> Advance
     requires left { (0 < length left.now) × AreInOrder order_of_names (those_of left.now) }
     requires right { (0 < length right.now) × AreInOrder order_of_names (those_of right.now) }
     ensures { IsAdvance result (those_of left.now) (those_of right.now) }
@@ -124,7 +124,7 @@ fn advance_in(left: &[&Parameter], right: &[&Parameter]) -> Advance
 }
 
 /// Whether the parameters of two lists in order are the same: both lists are walked side by side.
-pub(crate) fn ordered_are_same(left: &[&Parameter], right: &[&Parameter]) -> bool
+pub(crate) fn ordered_are_same(left: &[&UriParameter], right: &[&UriParameter]) -> bool
     requires left { AreInOrder order_of_names (those_of left.now) }
     requires right { AreInOrder order_of_names (those_of right.now) }
     ensures { result ≡ Definitions.are_same_parameters (those_of left.now) (those_of right.now) }
@@ -150,7 +150,7 @@ pub(crate) fn ordered_are_same(left: &[&Parameter], right: &[&Parameter]) -> boo
 
 /// Whether two parameters have one name, byte by byte, and different values.
 #[tactic(auto, using(crate::proofs::PlaceLaws::values_differ_alone))]
-fn differ(left: &Parameter, right: &Parameter) -> bool
+fn differ(left: &UriParameter, right: &UriParameter) -> bool
     ensures { result ≡ true → Definitions.agrees left.now right.now ≡ false }
 {
     same_bytes(left.name.as_slice(), right.name.as_slice())
@@ -159,7 +159,7 @@ fn differ(left: &Parameter, right: &Parameter) -> bool
 
 /// Whether two lists differ where they have such parameters at the same place, as those do that differ in a value alone:
 /// then nothing else has to be looked at.
-pub(crate) fn differ_at_a_place(left: &[&Parameter], right: &[&Parameter]) -> bool
+pub(crate) fn differ_at_a_place(left: &[&UriParameter], right: &[&UriParameter]) -> bool
     ensures { result ≡ true → Definitions.are_same_parameters (those_of left.now) (those_of right.now) ≡ false }
 {
     for (index, parameter) in left.iter().enumerate() {
@@ -176,10 +176,10 @@ pub(crate) fn differ_at_a_place(left: &[&Parameter], right: &[&Parameter]) -> bo
 /// Whether the parameters of two lists are the same, compared in order of their names in places that have room
 /// for them.
 fn are_same_in_places<'a>(
-    left: &'a [Parameter],
-    right: &'a [Parameter],
-    left_places: &mut [&'a Parameter],
-    right_places: &mut [&'a Parameter],
+    left: &'a [UriParameter],
+    right: &'a [UriParameter],
+    left_places: &mut [&'a UriParameter],
+    right_places: &mut [&'a UriParameter],
 ) -> bool
     requires left { length left.now ≤ length left_places.old }
     requires right { length right.now ≤ length right_places.old }
@@ -193,7 +193,7 @@ fn are_same_in_places<'a>(
 }
 
 /// Whether the parameters of two lists are the same, where there are few enough for places on the stack.
-pub(crate) fn some_are_same<'a>(left: &'a [Parameter], right: &'a [Parameter]) -> bool
+pub(crate) fn some_are_same<'a>(left: &'a [UriParameter], right: &'a [UriParameter]) -> bool
     requires left { (0 < length left.now) × (length left.now ≤ 256) }
     requires right { (0 < length right.now) × (length right.now ≤ 256) }
     ensures { result ≡ Definitions.are_same_parameters left.now right.now }
@@ -206,8 +206,8 @@ pub(crate) fn some_are_same<'a>(left: &'a [Parameter], right: &'a [Parameter]) -
 /// Parameters in order of their names, in places of their own. `AllocError` is the only refusal.
 pub(crate) fn in_order<'a>(
     alloc: Global,
-    parameters: &'a [Parameter],
-) -> Result<Vec<&'a Parameter>, AllocError>
+    parameters: &'a [UriParameter],
+) -> Result<Vec<&'a UriParameter>, AllocError>
     ensures { IfOk result (λ places. ArePutInOrder order_of_names parameters.now places.items) }
 {
     let Some(first) = parameters.first() else {
@@ -221,8 +221,8 @@ pub(crate) fn in_order<'a>(
 /// Whether the parameters of two lists are the same, however many there are. `AllocError` is the only refusal.
 pub(crate) fn many_are_same(
     alloc: Global,
-    left: &[Parameter],
-    right: &[Parameter],
+    left: &[UriParameter],
+    right: &[UriParameter],
 ) -> Result<bool, AllocError>
     ensures { IfOk result (λ is_same. is_same ≡ Definitions.are_same_parameters left.now right.now) }
 {

@@ -8,7 +8,7 @@ use crate::parameter_order::{many_are_same, some_are_same};
 use crate::places::{FEW, SOME};
 use crate::texts::says_same_no_case;
 use sip_text::Bytes;
-use sip_uri::Parameter;
+use sip_uri::UriParameter;
 
 /// Whether two values say the same without case, or neither parameter has one.
 pub(crate) fn are_same_values(left: &Option<Bytes>, right: &Option<Bytes>) -> bool
@@ -22,7 +22,7 @@ pub(crate) fn are_same_values(left: &Option<Bytes>, right: &Option<Bytes>) -> bo
 }
 
 /// Whether two parameters have different names, or one value.
-fn agrees(left: &Parameter, right: &Parameter) -> bool
+fn agrees(left: &UriParameter, right: &UriParameter) -> bool
     ensures { result ≡ Definitions.agrees left.now right.now }
 {
     if says_same_no_case(left.name.as_slice(), right.name.as_slice()) {
@@ -43,34 +43,34 @@ pub(crate) fn is_never_ignored(name: &[u8]) -> bool
         || says_same_no_case(name, b"transport")
 }
 
-fn has_name(parameters: &[Parameter], name: &[u8]) -> bool
+fn has_name(parameters: &[UriParameter], name: &[u8]) -> bool
     ensures { result ≡ list_any (λ q. Definitions.says_same_no_case name.now q.name) parameters.now }
 {
     parameters.iter().any(|parameter| says_same_no_case(name, parameter.name.as_slice()))
 }
 
 /// Whether a parameter may be ignored, or its name stands among others.
-fn is_answered(others: &[Parameter], parameter: &Parameter) -> bool
+fn is_answered(others: &[UriParameter], parameter: &UriParameter) -> bool
     ensures { result ≡ Definitions.is_answered others.now parameter.now }
 {
     let name = parameter.name.as_slice();
     !is_never_ignored(name) || has_name(others, name)
 }
 
-fn agrees_with_all(parameter: &Parameter, others: &[Parameter]) -> bool
+fn agrees_with_all(parameter: &UriParameter, others: &[UriParameter]) -> bool
     ensures { result ≡ list_all (λ q. Definitions.agrees parameter.now q) others.now }
 {
     others.iter().all(|other| agrees(parameter, other))
 }
 
-fn all_agree(left: &[Parameter], right: &[Parameter]) -> bool
+fn all_agree(left: &[UriParameter], right: &[UriParameter]) -> bool
     ensures { result ≡ list_all (λ p. list_all (λ q. Definitions.agrees p q) right.now) left.now }
 {
     left.iter()
         .all(|parameter| agrees_with_all(parameter, right))
 }
 
-fn all_answered(others: &[Parameter], parameters: &[Parameter]) -> bool
+fn all_answered(others: &[UriParameter], parameters: &[UriParameter]) -> bool
     ensures { result ≡ list_all (Definitions.is_answered others.now) parameters.now }
 {
     parameters
@@ -79,7 +79,7 @@ fn all_answered(others: &[Parameter], parameters: &[Parameter]) -> bool
 }
 
 /// The same as [`are_same_parameters`], each compared with each.
-fn few_are_same(left: &[Parameter], right: &[Parameter]) -> bool
+fn few_are_same(left: &[UriParameter], right: &[UriParameter]) -> bool
     ensures { result ≡ Definitions.are_same_parameters left.now right.now }
 {
     all_agree(left, right) && all_answered(right, left) && all_answered(left, right)
@@ -87,7 +87,7 @@ fn few_are_same(left: &[Parameter], right: &[Parameter]) -> bool
 
 /// Whether each parameter that both URIs have agrees, and none that counts stands in only one (RFC 3261
 /// 19.1.4).
-pub(crate) fn are_same_parameters(left: &[Parameter], right: &[Parameter]) -> bool
+pub(crate) fn are_same_parameters(left: &[UriParameter], right: &[UriParameter]) -> bool
     ensures { result ≡ Definitions.are_same_parameters left.now right.now }
 {
     if left.len() <= FEW || right.len() <= FEW {

@@ -7,25 +7,25 @@ use Rattle.sip_message_fields.specs.Values.{values_of}
 use Rattle.sip_header.specs.Via.{via_of}
 use Rattle.sip_header.specs.Route.{route_of}
 use Rattle.sip_header.specs.ContactItem.{contact_of}
-use Rattle.sip_validate.specs.Candidate.{Candidate}
+use Rattle.sip_validate.specs.UncheckedRequest.{UncheckedRequest}
 use Rattle.sip_validate.specs.Faults.{has_short_body, lacks_core_field, has_other_cseq_method, has_bad_max_forwards, has_bad_uri, has_bad_item, registers_other_scheme}
 use Rattle.sip_validate.specs.Faults.{binds_other_contact, is_bad}
 
-pub by_short : (r : Candidate) → has_short_body r ≡ true → is_bad r ≡ true
+pub by_short : (r : UncheckedRequest) → has_short_body r ≡ true → is_bad r ≡ true
 by_short r h = or_left (has_short_body r) _ h
 
-pub by_method : (r : Candidate) → has_other_cseq_method r ≡ true → is_bad r ≡ true
+pub by_method : (r : UncheckedRequest) → has_other_cseq_method r ≡ true → is_bad r ≡ true
 by_method r h = or_right (has_short_body r) _ (or_right (lacks_core_field r) _ (or_left (has_other_cseq_method r) _ h))
 
-pub by_hops : (r : Candidate) → has_bad_max_forwards r ≡ true → is_bad r ≡ true
+pub by_hops : (r : UncheckedRequest) → has_bad_max_forwards r ≡ true → is_bad r ≡ true
 by_hops r h = or_right (has_short_body r) _ (or_right (lacks_core_field r) _ (or_right (has_other_cseq_method r) _ (or_left (has_bad_max_forwards r) _ h)))
 
-pub by_uri : (r : Candidate) → has_bad_uri r ≡ true → is_bad r ≡ true
+pub by_uri : (r : UncheckedRequest) → has_bad_uri r ≡ true → is_bad r ≡ true
 by_uri r h =
     or_right (has_short_body r) _ (or_right (lacks_core_field r) _ (or_right (has_other_cseq_method r) _
     (or_right (has_bad_max_forwards r) _ (or_left (has_bad_uri r) _ h))))
 
-pub by_scheme : (r : Candidate) → registers_other_scheme r ≡ true → is_bad r ≡ true
+pub by_scheme : (r : UncheckedRequest) → registers_other_scheme r ≡ true → is_bad r ≡ true
 by_scheme r h =
     or_right (has_short_body r) _ (or_right (lacks_core_field r) _ (or_right (has_other_cseq_method r) _
     (or_right (has_bad_max_forwards r) _ (or_right (has_bad_uri r) _ (or_right (has_bad_item r) _ (or_left (registers_other_scheme r) _ h))))))
@@ -43,7 +43,7 @@ around false false false h = refl
 around false true contact h = absurd cc
 
 -- where the others fail, the items decide
-pub by_items : (r : Candidate) → has_short_body r ≡ false → lacks_core_field r ≡ false → has_other_cseq_method r ≡ false → has_bad_max_forwards r ≡ false
+pub by_items : (r : UncheckedRequest) → has_short_body r ≡ false → lacks_core_field r ≡ false → has_other_cseq_method r ≡ false → has_bad_max_forwards r ≡ false
     → has_bad_uri r ≡ false → registers_other_scheme r ≡ false → is_bad r ≡ (has_bad_item r || binds_other_contact r)
 by_items r short core method hops uri scheme =
     passed (has_short_body r) _ short
@@ -63,7 +63,7 @@ no_item true false record_routes contacts binds v r rr c = absurd cc
 no_item false routes record_routes contacts binds v r rr c = absurd cc
 
 -- no item is bad
-pub no_bad_item : (r : Candidate) → list_all (λ value. is_some (via_of value)) (values_of Name.Via r.fields) ≡ true
+pub no_bad_item : (r : UncheckedRequest) → list_all (λ value. is_some (via_of value)) (values_of Name.Via r.fields) ≡ true
     → list_all (λ value. is_some (route_of value)) (values_of Name.Route r.fields) ≡ true
     → list_all (λ value. is_some (route_of value)) (values_of Name.RecordRoute r.fields) ≡ true
     → (list_all (λ value. is_some (contact_of value)) (values_of Name.Contact r.fields) && not (binds_other_contact r)) ≡ true

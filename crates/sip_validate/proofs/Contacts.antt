@@ -4,7 +4,7 @@ use Rattle.std.specs.List.{list_all}
 use Rattle.sip_message_fields.specs.declared.field_name.FieldName.TheVariants as Name
 use Rattle.sip_message_fields.specs.Values.{values_of}
 use Rattle.sip_header.specs.ContactItem.{contact_of}
-use Rattle.sip_validate.specs.Candidate.{Candidate, is_register}
+use Rattle.sip_validate.specs.UncheckedRequest.{UncheckedRequest, is_register}
 use Rattle.sip_validate.specs.Faults.{is_bindable, binds_other_contact}
 
 -- two tests of one value, and both of all
@@ -34,7 +34,7 @@ by_other false bindable false h = refl
 by_other true bindable readable h = absurd cc
 
 -- those of a REGISTER
-pub of_register : (r : Candidate) → is_register r ≡ true
+pub of_register : (r : UncheckedRequest) → is_register r ≡ true
     → list_all (λ value. is_some (contact_of value) && is_bindable (contact_of value)) (values_of Name.Contact r.fields)
     ≡ (list_all (λ value. is_some (contact_of value)) (values_of Name.Contact r.fields) && not (binds_other_contact r))
 of_register r h =
@@ -43,7 +43,7 @@ of_register r h =
     (list_all (λ value. is_some (contact_of value)) (values_of Name.Contact r.fields)) h
 
 -- those of another request
-pub of_other : (r : Candidate) → is_register r ≡ false
+pub of_other : (r : UncheckedRequest) → is_register r ≡ false
     → list_all (λ value. is_some (contact_of value)) (values_of Name.Contact r.fields)
     ≡ (list_all (λ value. is_some (contact_of value)) (values_of Name.Contact r.fields) && not (binds_other_contact r))
 of_other r h =

@@ -18,7 +18,7 @@ use Rattle.sip_header.specs.NameAddr.{IsAnyUri, IsNameAddr, name_addr_of}
 use Rattle.sip_header.specs.ContactItem.{contact_of}
 use Rattle.sip_header.specs.Route.{route_of}
 use Rattle.sip_header.proofs.NameAddrLaws.{written_contact}
-use Rattle.sip_header.specs.PlainAddress.{IsBracketedPlace}
+use Rattle.sip_header.specs.PlainAddress.{IsBracketedHostPort}
 use Rattle.sip_validate.specs.Faults.{is_sip, may_be_bound, is_bindable}
 use Rattle.sip_route.proofs.Front.{same_length}
 
@@ -106,5 +106,5 @@ none_binds value star named = sym (ap (λ item. is_some item && is_bindable item
 
 -- ---- a value that is an address in brackets
 
-pub plain_route : (value host : List ℕ) (port : Option ℕ) → IsBracketedPlace value host port → true ≡ is_some (route_of value)
+pub plain_route : (value host : List ℕ) (port : Option ℕ) → IsBracketedHostPort value host port → true ≡ is_some (route_of value)
 plain_route value host port place = sym (ap is_some place.is_route)

@@ -15,10 +15,10 @@ use Rattle.sip_header.specs.Route.{route_of}
 use Rattle.sip_uri.proofs.Tests.{and_both, and_is}
 use Rattle.sip_route.specs.declared.own.Own.{Own}
 use Rattle.sip_route.specs.declared.way.Way.{Way}
-use Rattle.sip_route.specs.Way.{names_own_place, first_route, last_route, came_strictly, begins_with_own, way_from, request_uri}
+use Rattle.sip_route.specs.Way.{names_own_host_port, first_route, last_route, came_strictly, begins_with_own, way_from, request_uri}
 use Rattle.sip_route.specs.Routes.{others_than, without_own}
 use Rattle.sip_route.proofs.Left.{way_is}
-use Rattle.sip_validate.specs.Candidate.{Candidate, candidate_with}
+use Rattle.sip_validate.specs.UncheckedRequest.{UncheckedRequest, unchecked_with}
 
 abbrev is_route : List ℕ → Bool
 is_route value = is_some (route_of value)
@@ -30,7 +30,7 @@ all_join p (x ∷ xs) ys e f =
     and_is (p x) (list_all p (xs ++ ys)) both.0 (all_join p xs ys both.1 f)
 
 -- one that names this server was read
-own_read : (own : Own) (value : List ℕ) (o : Option NameAddr) → route_of value ≡ o → option_map_or (λ route. names_own_place own route.uri) o false ≡ true
+own_read : (own : Own) (value : List ℕ) (o : Option NameAddr) → route_of value ≡ o → option_map_or (λ route. names_own_host_port own route.uri) o false ≡ true
     → is_route value ≡ true
 own_read own value None is e = absurd cc
 own_read own value (Some route) is e = ap is_some is
@@ -69,10 +69,10 @@ all_read own uri fields way is none =
     by_came own (values_of Name.Route fields) (came_strictly own uri) (sym (ap (λ (w : Way). length w.routes) (is ∙ way_is own uri fields)) ∙ none)
 
 -- the way of a message is that of the request that it is
-pub of_candidate : (start : Start) (own : Own) (fields : List Field) (short : Bool) (core : Option CoreFields) (r : Candidate)
-    → Some r ≡ candidate_with core own fields short start
+pub of_candidate : (start : Start) (own : Own) (fields : List Field) (short : Bool) (core : Option CoreFields) (r : UncheckedRequest)
+    → Some r ≡ unchecked_with core own fields short start
     → way_from own (request_uri start) fields ≡ way_from r.own r.uri r.fields
 of_candidate (Request method uri version) own fields short core r is =
     let same : record { own = own; method = method; uri = uri; version = version; fields = fields; short = short; core = core; way = way_from own uri fields } ≡ r = cc in
-    ap (λ (c : Candidate). way_from c.own c.uri c.fields) same
+    ap (λ (c : UncheckedRequest). way_from c.own c.uri c.fields) same
 of_candidate (Status code reason) own fields short core r is = absurd cc

@@ -14,10 +14,10 @@ use Rattle.sip_route.specs.declared.way.Way.{Way}
 use Rattle.sip_route.specs.Way.{way_from, way_of, request_uri, request_uri_in}
 use Rattle.sip_validate.specs.declared.checked.Checked.{Checked}
 use Rattle.sip_validate.specs.declared.refused.Refused.{Refused}
-use Rattle.sip_validate.specs.Candidate.{Candidate, on_way, candidate_with, is_request}
+use Rattle.sip_validate.specs.UncheckedRequest.{UncheckedRequest, on_way, unchecked_with, is_request}
 use Rattle.sip_validate.specs.Refused.{refused_with}
 use Rattle.sip_validate.specs.Faults.{lacks_core_field, is_bad}
-use Rattle.sip_validate.specs.Refusal.{Row, refused, refusal, refusal_of, candidate_by, is_bad_request}
+use Rattle.sip_validate.specs.Refusal.{Row, refused, refusal, refusal_of, unchecked_by, is_bad_request}
 use Rattle.sip_validate.specs.Checked.{checked_with, checked_of, validation_by, validation_of}
 
 -- ---- what is served
@@ -41,7 +41,7 @@ served_is own m short checked =
 -- ---- what is refused
 
 -- a row that applies is the first that does
-first_row : (applies : Bool) (row : Row) (others : Option Row) (r : Candidate) → applies ≡ true
+first_row : (applies : Bool) (row : Row) (others : Option Row) (r : UncheckedRequest) → applies ≡ true
     → option_map {U = ℕ × List ℕ} (λ (x : Row). (x.status, x.extra r)) (cond applies (Some row) others) ≡ Some (row.status, row.extra r)
 first_row true row others r h = refl
 first_row false row others r h = absurd (cc)
@@ -54,9 +54,9 @@ first_test false b h = absurd (cc)
 -- a request whose core fields can't be read is a bad one
 pub lacking_refused : (own : Own) (m : Message) (short : Bool) (method uri version : List ℕ) → m.start ≡ Request method uri version → result_ok (core_of m) ≡ None
     → refusal_of own m short ≡ Some (400, [])
-lacking_refused own m true method uri version is_request none = ap (λ start. option_map_or refusal (candidate_by own m.fields true start) None) is_request
+lacking_refused own m true method uri version is_request none = ap (λ start. option_map_or refusal (unchecked_by own m.fields true start) None) is_request
 lacking_refused own m false method uri version is_request none =
-    let r : Candidate = record {
+    let r : UncheckedRequest = record {
       own = own;
       method = method;
       uri = uri;
@@ -68,7 +68,7 @@ lacking_refused own m false method uri version is_request none =
     } in
     let lacks : lacks_core_field r ≡ true = ap (λ (core : Option CoreFields). not (is_some core)) none in
     let bad : is_bad r ≡ true = first_test (lacks_core_field r) _ lacks in
-    ap (λ start. option_map_or refusal (candidate_by own m.fields false start) None) is_request ∙ first_row (is_bad r) (refused 400 is_bad) _ r bad
+    ap (λ start. option_map_or refusal (unchecked_by own m.fields false start) None) is_request ∙ first_row (is_bad r) (refused 400 is_bad) _ r bad
 
 -- what is made of something there is something to be made of
 none_made : {X Y : Type 0} (f : X → Y) (o : Option X) → option_map f o ≡ None → o ≡ None
@@ -103,8 +103,8 @@ refused_is own m short method uri version status extra is_request = (
 -- what the table says of a request with the core fields and on the way that were read, is what it says of it
 tabled_by : (start : Start) (own : Own) (fields : List Field) (short : Bool) (core : CoreFields) (way : Way) → Some core ≡ result_ok (core_in fields)
     → way ≡ way_from own (request_uri start) fields
-    → option_map_or (λ r. refusal (on_way way r)) (candidate_with (Some core) own fields short start) None
-    ≡ option_map_or refusal (candidate_by own fields short start) None
+    → option_map_or (λ r. refusal (on_way way r)) (unchecked_with (Some core) own fields short start) None
+    ≡ option_map_or refusal (unchecked_by own fields short start) None
 tabled_by (Request method uri version) own fields short core way is_core is_way =
     let by_core : Option CoreFields → Option (ℕ × List ℕ) = λ (c : Option CoreFields).
     refusal (record { own = own; method = method; uri = uri; version = version; fields = fields; short = short; core = c; way = way })
@@ -122,7 +122,7 @@ lacking_by (Request method uri version) own m short is none =
     ap (validation_by (checked_of own m)) (lacking_refused own m short method uri version is (sym none))
 lacking_by (Status code reason) own m short is none =
     let by_start : Start → Result Checked Refused = λ (start : Start). validation_by (checked_of own m)
-    (option_map_or refusal (candidate_by own m.fields short start) None) in
+    (option_map_or refusal (unchecked_by own m.fields short start) None) in
     let by_core : Option CoreFields → Result Checked Refused = λ (c : Option CoreFields). ok_or (option_map (checked_with own m) c) (Refused.Status 400 []) in
     ap by_start is ∙ ap by_core (sym none)
 
@@ -132,7 +132,7 @@ lacking own m short none = lacking_by m.start own m short refl none
 -- a message that the table lets pass is served
 pub validated : (own : Own) (m : Message) (short : Bool) (core : CoreFields) (way : Way) (uri : Option Uri) → Some core ≡ result_ok (core_of m) → way ≡ way_of own m
     → uri ≡ request_uri_in way
-    → None ≡ option_map refused_with (option_map_or (λ r. refusal (on_way way r)) (candidate_with (Some core) own m.fields short m.start) None)
+    → None ≡ option_map refused_with (option_map_or (λ r. refusal (on_way way r)) (unchecked_with (Some core) own m.fields short m.start) None)
     → validation_of own m short ≡ Ok (record { core = core; way = way; uri = uri })
 validated own m short core way uri is_core is_way is_uri none =
     let passes : refusal_of own m short ≡ None =
@@ -152,7 +152,7 @@ refused_by_row read (Some x) e h =
     ap as_error same
 
 pub not_validated : (own : Own) (m : Message) (short : Bool) (core : CoreFields) (way : Way) (e : Refused) → Some core ≡ result_ok (core_of m) → way ≡ way_of own m
-    → Some e ≡ option_map refused_with (option_map_or (λ r. refusal (on_way way r)) (candidate_with (Some core) own m.fields short m.start) None)
+    → Some e ≡ option_map refused_with (option_map_or (λ r. refusal (on_way way r)) (unchecked_with (Some core) own m.fields short m.start) None)
     → validation_of own m short ≡ Err e
 not_validated own m short core way e is_core is_way refused =
     let table : option_map refused_with (refusal_of own m short) ≡ Some e =
@@ -161,7 +161,7 @@ not_validated own m short core way e is_core is_way refused =
 
 -- what the table says of what was read is what it says of the message
 pub by_table : (own : Own) (m : Message) (short : Bool) (core : CoreFields) (way : Way) → result_ok (core_of m) ≡ Some core → way ≡ way_of own m
-    → option_map refused_with (option_map_or (λ r. refusal (on_way way r)) (candidate_with (Some core) own m.fields short m.start) None)
+    → option_map refused_with (option_map_or (λ r. refusal (on_way way r)) (unchecked_with (Some core) own m.fields short m.start) None)
     ≡ option_map refused_with (refusal_of own m short)
 by_table own m short core way is_core is_way =
     ap (option_map refused_with) (tabled_by m.start own m.fields short core way (sym is_core) is_way)
@@ -169,7 +169,7 @@ by_table own m short core way is_core is_way =
 -- ---- bad requests
 
 lacking_bad_by : (start : Start) (own : Own) (fields : List Field) (short : Bool) → None ≡ result_ok (core_in fields)
-    → option_map_or is_bad (candidate_by own fields short start) false ≡ is_request start
+    → option_map_or is_bad (unchecked_by own fields short start) false ≡ is_request start
 lacking_bad_by (Request method uri version) own fields true none = refl
 lacking_bad_by (Request method uri version) own fields false none =
     first_test (not (is_some (result_ok (core_in fields)))) _ (ap (λ (core : Option CoreFields). not (is_some core)) (sym none))
@@ -181,5 +181,5 @@ lacking_is_bad own m short none = lacking_bad_by m.start own m.fields short none
 
 -- it is one with the core fields that were read
 pub is_bad_with : (own : Own) (m : Message) (short : Bool) (core : CoreFields) → Some core ≡ result_ok (core_of m)
-    → option_map_or is_bad (candidate_with (Some core) own m.fields short m.start) false ≡ is_bad_request own m short
-is_bad_with own m short core is_core = ap (λ (c : Option CoreFields). option_map_or is_bad (candidate_with c own m.fields short m.start) false) is_core
+    → option_map_or is_bad (unchecked_with (Some core) own m.fields short m.start) false ≡ is_bad_request own m short
+is_bad_with own m short core is_core = ap (λ (c : Option CoreFields). option_map_or is_bad (unchecked_with c own m.fields short m.start) false) is_core

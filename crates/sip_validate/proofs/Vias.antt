@@ -14,7 +14,7 @@ use Rattle.sip_header.specs.declared.via.Via.{Via}
 use Rattle.sip_header.specs.Via.{via_of}
 use Rattle.sip_route.specs.declared.own.Own.{Own}
 use Rattle.sip_route.specs.Own.{is_own_via}
-use Rattle.sip_validate.specs.Candidate.{Candidate}
+use Rattle.sip_validate.specs.UncheckedRequest.{UncheckedRequest}
 use Rattle.sip_validate.specs.Refusal.{has_own_via}
 
 abbrev first : List (List ℕ) → Option (List ℕ)
@@ -74,7 +74,7 @@ pub own_behind : (own : Own) (fields behind : List Field) (via : Via) → option
 own_behind own fields behind via is test left = ap (list_any (is_own own)) left ∙ some_own own fields via false is test
 
 -- what is found of the parts of a request is found of it
-pub own_seen : (result : Result (Option Bool) AllocError) (r : Candidate) (own : Own) (fields : List Field) → own ≡ r.own → fields ≡ r.fields
+pub own_seen : (result : Result (Option Bool) AllocError) (r : UncheckedRequest) (own : Own) (fields : List Field) → own ≡ r.own → fields ≡ r.fields
     → IfOk result (λ (some : Option Bool). IfSome some (λ (t : Bool). t ≡ list_any (λ value. option_map_or (is_own_via own) (via_of value) false)
     (values_of Name.Via fields)))
     → IfOk result (λ (some : Option Bool). IfSome some (λ (t : Bool). t ≡ has_own_via r))

@@ -1,4 +1,4 @@
-pub mod Candidate
+pub mod UncheckedRequest
 pub mod Faults
 pub mod Refusal
 pub mod Checked

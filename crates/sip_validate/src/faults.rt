@@ -13,10 +13,10 @@ ghost use Rattle.sip_route.specs.Own as Owns;
 ghost use Rattle.sip_validate.specs.Faults as Definition;
 ghost use Rattle.sip_validate.specs.Refusal.{has_own_via};
 
-use crate::candidate::Candidate;
+use crate::unchecked_request::UncheckedRequest;
 use sip_header::{
-    AnyUri, ContactItem, MaxForwards, Via, WrittenAddress, bracketed_place, contact_of, route_of,
-    via_of, written_address_of,
+    AnyUri, ContactItem, MaxForwards, Via, WrittenAddress, bracketed_host_port, contact_of,
+    route_of, via_of, written_address_of,
 };
 use sip_message_fields::{FieldName, ViewField};
 use sip_route::Own;
@@ -64,7 +64,7 @@ fn is_own_via(alloc: Global, own: &Own, value: &[u8]) -> Result<Option<bool>, Al
 fn is_route(alloc: Global, value: &[u8]) -> Result<bool, AllocError>
     ensures { IfOk result (λ is_route. is_route ≡ is_some (Routes.route_of value.now)) }
 {
-    if bracketed_place(value).is_some() {
+    if bracketed_host_port(value).is_some() {
         return Ok(true);
     }
     Ok(route_of(alloc, value)?.is_some())
@@ -247,7 +247,7 @@ fn are_bindable(
     Ok(true)
 }
 
-impl<'a, 'v> Candidate<'a, 'v> {
+impl<'a, 'v> UncheckedRequest<'a, 'v> {
     /// Whether fewer bytes of the body came than Content-Length says (RFC 3261 18.3).
     fn has_short_body(&self) -> bool
         ensures { result ≡ Definition.has_short_body self.now }

@@ -1,7 +1,7 @@
 //! Whether a request may be served at all (RFC 3261 16.3, 8.1.1, 8.2.2 and 10.3): the first check that it
 //! doesn't pass names the status that refuses it.
 //!
-//! - Used: `sip_core`, before anything else of a request is asked.
+//! - Used: `sip_verdict`, before anything else of a request is asked.
 //! - Not here: whether bytes are a message (`sip_message`).
 //! - Tried: worked examples in `src/examples.rt`, as contracts that compute; `test_counts`.
 //!
@@ -10,13 +10,13 @@
 //! ```
 #![tactic(auto)]
 
-mod candidate;
 mod checked;
 pub mod examples;
 mod faults;
 pub mod laws;
 mod refusal;
 mod refused;
+mod unchecked_request;
 mod validation;
 
 pub use checked::Checked;

@@ -6,13 +6,13 @@ ghost use Rattle.sip_message_fields.specs.declared.field_name.FieldName.TheVaria
 ghost use Rattle.sip_message_fields.specs.Values.{values_of};
 ghost use Rattle.sip_header.specs.Route.{route_of};
 ghost use Rattle.sip_route.specs.Way.{way_from};
-ghost use Rattle.sip_validate.specs.Candidate.{on_way};
+ghost use Rattle.sip_validate.specs.UncheckedRequest.{on_way};
 ghost use Rattle.sip_validate.specs.Refusal as Definition;
 ghost use Rattle.sip_validate.specs.Refused.{refused_with};
 
-use crate::candidate::Candidate;
 use crate::faults::has_sip_scheme;
 use crate::refused::Refused;
+use crate::unchecked_request::UncheckedRequest;
 use sip_header::{MaxForwards, tag_of};
 use sip_message_fields::FieldName;
 use sip_route::Way;
@@ -52,7 +52,7 @@ fn joined(alloc: Global, items: &[&[u8]]) -> Result<Bytes, AllocError>
     Ok(text)
 }
 
-impl<'a, 'v> Candidate<'a, 'v> {
+impl<'a, 'v> UncheckedRequest<'a, 'v> {
     /// Whether it is of another version than SIP/2.0 (RFC 3261 7.1, 21.5.6).
     fn has_other_version(&self) -> bool
         ensures { result ≡ Definition.has_other_version self.now }

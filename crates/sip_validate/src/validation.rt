@@ -1,4 +1,5 @@
-//! The checks of a request, as they are asked for: `sip_core` asks `refusal_of` of a new one, and `is_bad_request` of a CANCEL.
+//! The checks of a request, as they are asked for: `sip_verdict` asks `refusal_of` of a new one, and `is_bad_request` of a
+//! CANCEL.
 ghost use Rattle.std.specs.Prelude.{◌≡◌, IfOk, Some, None, false, is_ok, is_some, option_map};
 ghost use Rattle.std.specs.Result.{result_ok};
 ghost use Rattle.std.specs.Option.{option_and_then, option_map_or};
@@ -8,15 +9,15 @@ ghost use Rattle.sip_uri.specs.Reading.{reading_of};
 ghost use Rattle.sip_header.specs.CoreFields as Cores;
 ghost use Rattle.sip_header.specs.Via.{via_of};
 ghost use Rattle.sip_route.specs.Way as Ways;
-ghost use Rattle.sip_validate.specs.Candidate.{on_way, candidate_with, is_request};
+ghost use Rattle.sip_validate.specs.UncheckedRequest.{on_way, unchecked_with, is_request};
 ghost use Rattle.sip_validate.specs.Faults;
 ghost use Rattle.sip_validate.specs.Refusal as Definition;
 ghost use Rattle.sip_validate.specs.Refused.{refused_with};
 ghost use Rattle.sip_validate.specs.Checked.{Validates, validation_of};
 
-use crate::candidate::Candidate;
 use crate::checked::Checked;
 use crate::refused::Refused;
+use crate::unchecked_request::UncheckedRequest;
 use sip_header::{CoreFields, HeaderError, Via, core_of};
 use sip_message_form::{View, ViewStart};
 use sip_route::{Own, Way, way_of};
@@ -51,9 +52,9 @@ fn refusal(
     requires uri { is_uri ≡ is_ok (reading_of way.now.uri) }
     ensures { IfOk result (λ refused. refused ≡ option_map refused_with
         (option_map_or (λ r. Definition.refusal (on_way way.now r))
-        (candidate_with (Some core.now) own.now message.now.fields short message.now.start) None)) }
+        (unchecked_with (Some core.now) own.now message.now.fields short message.now.start) None)) }
 {
-    match Candidate::of(own, message, via, short, core) {
+    match UncheckedRequest::of(own, message, via, short, core) {
         Some(candidate) => candidate.with_uri_left(way, is_uri).refusal(alloc, way),
         None => Ok(None),
     }
@@ -94,9 +95,9 @@ fn is_bad(
 ) -> Result<bool, AllocError>
     requires { option_and_then via_of (first_value Name.Via message.now.fields) ≡ Some via.now }
     ensures { IfOk result (λ bad. bad ≡ option_map_or Faults.is_bad
-        (candidate_with (Some core.now) own.now message.now.fields short message.now.start) false) }
+        (unchecked_with (Some core.now) own.now message.now.fields short message.now.start) false) }
 {
-    match Candidate::of(own, message, via, short, core) {
+    match UncheckedRequest::of(own, message, via, short, core) {
         Some(candidate) => candidate.is_bad(alloc),
         None => Ok(false),
     }

@@ -7,7 +7,7 @@ use Rattle.clap.specs.declared.parser.matches.ArgMatches.{ArgMatches}
 use Rattle.sipd_arguments.proofs.Building.{is_simple_and_free_program, is_simple_program}
 use Rattle.sipd_arguments.specs.CommandLine.{EndsBy, EndsExactly, IsCallOf, asks_text, complaint_of, misuse_of, program}
 use Rattle.sipd_arguments.specs.Commands.{Answers}
-use Rattle.sipd_arguments.specs.declared.call.Call.{Call}
+use Rattle.sipd_arguments.specs.declared.call.ProgramCall.{ProgramCall}
 use Rattle.sipd_arguments.specs.declared.commands.Parsed.{Parsed}
 use Rattle.sipd_arguments.specs.declared.commands.Parsed.TheVariants as parsed
 use Rattle.sipd_exit.specs.declared.exit.Exit.{Exit}
@@ -41,7 +41,7 @@ module _ (app : App) (words : List Text) (is : app ≡ program) where
   found m matches = (matches (ap is_simple is ∙ is_simple_program)).1 ∙ ap (λ (a : App). subcommand_of a words) is
 
   -- what was matched is a call
-  pub ends_call : (m : ArgMatches) (call : Call) → (is_simple_and_free app ≡ true → fault_of app words ≡ []) → HasMatchesOf app words m
+  pub ends_call : (m : ArgMatches) (call : ProgramCall) → (is_simple_and_free app ≡ true → fault_of app words ≡ []) → HasMatchesOf app words m
       → IsCallOf (subcommand_rows_of m) call × (misuse_of (subcommand_rows_of m) ≡ None) → EndsExactly words (Ok (parsed.Call call))
   ends_call m call kinds matches asked =
       let here = subst (λ (named : Option (Text × List Row)). IsCallOf named call × (misuse_of named ≡ None)) (found m matches) asked in

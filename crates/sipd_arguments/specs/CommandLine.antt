@@ -13,8 +13,8 @@ use Rattle.clap.specs.declared.builder.action.ArgAction.TheVariants.{Set, SetTru
 use Rattle.clap.specs.declared.builder.value_parser.ValueParser.TheVariants as parsers
 use Rattle.clap.specs.declared.error.kind.ErrorKind.{ErrorKind}
 use Rattle.clap.specs.declared.error.kind.ErrorKind.TheVariants.{DisplayHelp, DisplayVersion}
-use Rattle.sipd_arguments.specs.declared.call.Call.{Call}
-use Rattle.sipd_arguments.specs.declared.call.Call.TheVariants as calls
+use Rattle.sipd_arguments.specs.declared.call.ProgramCall.{ProgramCall}
+use Rattle.sipd_arguments.specs.declared.call.ProgramCall.TheVariants as calls
 use Rattle.sipd_arguments.specs.declared.call.CheckCall.{CheckCall}
 use Rattle.sipd_arguments.specs.declared.call.ReplayCall.{ReplayCall}
 use Rattle.sipd_arguments.specs.declared.call.ReplayCall.TheVariants.{Script, Record}
@@ -25,8 +25,8 @@ use Rattle.sipd_arguments.specs.declared.call.QuestionCall.{QuestionCall}
 use Rattle.sipd_arguments.specs.declared.call.MatrixCall.{MatrixCall}
 use Rattle.sipd_arguments.specs.declared.call.ReportCall.{ReportCall}
 use Rattle.sipd_arguments.specs.declared.call.UserCall.{UserCall}
-use Rattle.sipd_arguments.specs.declared.call.Verdict.{Verdict}
-use Rattle.sipd_arguments.specs.declared.call.Verdict.TheVariants.{Allow, Deny, Challenge}
+use Rattle.sipd_arguments.specs.declared.call.ExpectedDecision.{ExpectedDecision}
+use Rattle.sipd_arguments.specs.declared.call.ExpectedDecision.TheVariants.{Allow, Deny, Challenge}
 use Rattle.sipd_exit.specs.declared.record_place.RecordFault.{RecordFault}
 use Rattle.sipd_exit.specs.declared.record_place.RecordFault.TheVariants.{GoOn, End}
 use Rattle.sipd_exit.specs.declared.record_place.RecordPlace.{RecordPlace}
@@ -201,13 +201,13 @@ pub record IsServe (rows : List Row) (call : ServeCall) : Type 0 where
   pub reload : call.reload ≡ is_on (codes "reload") rows
 
 -- what a word expects to be decided
-abbrev pub verdict_named : Text → Option Verdict
+abbrev pub verdict_named : Text → Option ExpectedDecision
 verdict_named word =
     if bytes_eq word (codes "allow") then Some Allow else (if bytes_eq word (codes "deny") then Some Deny
     else (if bytes_eq word (codes "challenge") then Some Challenge else None))
 
 -- what is expected: anything, if nothing is said
-abbrev pub expected_said : List Row → Option (Option Verdict)
+abbrev pub expected_said : List Row → Option (Option ExpectedDecision)
 expected_said rows = option_map_or (λ word. option_map (λ verdict. Some verdict) (verdict_named word)) (text_at (codes "expect") rows) (Some None)
 
 -- a question of `decide`
@@ -248,7 +248,7 @@ pub record IsUser (rows : List Row) (call : UserCall) : Type 0 where
   pub sha256 : call.sha256 ≡ is_on (codes "sha256") rows
 
 -- what a command with its options asks for
-abbrev pub IsCall : Text → List Row → Call → Type 0
+abbrev pub IsCall : Text → List Row → ProgramCall → Type 0
 IsCall name rows (calls.Check call) = (name ≡ codes "check") × IsCheck rows call
 IsCall name rows (calls.Replay call) = (name ≡ codes "replay") × IsReplay rows call
 IsCall name rows (calls.Serve call) = (name ≡ codes "serve") × IsServe rows call
@@ -258,7 +258,7 @@ IsCall name rows (calls.Report call) = (name ≡ codes "report") × IsReport row
 IsCall name rows (calls.User call) = (name ≡ codes "user") × IsUser rows call
 
 -- the same of the command that a command line names, if it names one
-abbrev pub IsCallOf : Option (Text × List Row) → Call → Type 0
+abbrev pub IsCallOf : Option (Text × List Row) → ProgramCall → Type 0
 IsCallOf None call = ⊥
 IsCallOf (Some named) call = IsCall named.0 named.1 call
 

@@ -6,7 +6,7 @@ use Rattle.clap.specs.Words.{Row, Text, subcommand_of}
 use Rattle.clap.specs.declared.error.kind.ErrorKind.TheVariants as kinds
 use Rattle.sipd_arguments.specs.CommandLine.{expected_said, fault_said, is_on, misuse_of, number_at, program, text_at}
 use Rattle.sipd_exit.specs.declared.record_place.RecordFault.TheVariants.{GoOn, End}
-use Rattle.sipd_arguments.specs.declared.call.Verdict.TheVariants.{Deny}
+use Rattle.sipd_arguments.specs.declared.call.ExpectedDecision.TheVariants.{Deny}
 use Rattle.sipd_arguments.specs.declared.misuse.Misuse.{Misuse}
 use Rattle.sipd_arguments.specs.declared.misuse.Misuse.TheVariants.{TwoRecords, NoNewRecord, NoRecord, NoSuchWord, NoRealm, Sha256Said, NoSuchVerdict, NoQuestion}
 use Rattle.sipd_arguments.specs.declared.misuse.Misuse.TheVariants.{LogAlone, TwoForms}

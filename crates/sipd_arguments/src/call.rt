@@ -4,7 +4,7 @@ use sipd_exit::{RecordFault, RecordPlace};
 
 /// What is to be done.
 #[derive(Drop)]
-pub enum Call {
+pub enum ProgramCall {
     Check(CheckCall),
     Replay(ReplayCall),
     Serve(ServeCall),
@@ -59,7 +59,7 @@ pub struct ServeCall {
 
 /// What a decision may be expected to be.
 #[derive(Clone, Copy, PartialEq, Eq)]
-pub enum Verdict {
+pub enum ExpectedDecision {
     /// A rule lets it through, wherever it goes then.
     Allow,
     /// It is denied, by a rule or since none matches.
@@ -86,7 +86,7 @@ pub struct QuestionCall {
     /// The minute of the office's day, from 0; the present one where none is named.
     pub minute: Option<u16>,
     /// What is expected to be decided; anything, where nothing is said.
-    pub expect: Option<Verdict>,
+    pub expect: Option<ExpectedDecision>,
     /// A method, or `register` or `list`.
     pub method: String,
     /// `USER@HOST`, or a SIP URI.

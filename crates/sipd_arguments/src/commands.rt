@@ -6,7 +6,7 @@ ghost use Rattle.sipd_arguments.specs.CommandLine as Definitions;
 ghost use Rattle.sipd_arguments.specs.CommandLine.{EndsExactly, no_commands};
 ghost use Rattle.sipd_arguments.specs.Commands.{Answers, IsCommand};
 
-use crate::call::Call;
+use crate::call::ProgramCall;
 use crate::endings;
 use crate::matches::{Uncalled, call_of};
 use crate::misuse::Misuse;
@@ -26,7 +26,7 @@ const MORE: &str = "\n\nFor more information, try '--help'.\n";
 pub enum Parsed {
     /// It asks for this text.
     Text(String),
-    Call(Call),
+    Call(ProgramCall),
 }
 
 /// `--NAME VALUE`.

@@ -6,8 +6,8 @@ ghost use Rattle.sipd_arguments.specs.CommandLine.{IsCall, IsCallOf, IsPlace};
 ghost use Rattle.sipd_arguments.specs.Commands.{IsWhy};
 
 use crate::call::{
-    Call, CheckCall, DecideCall, MatrixCall, QuestionCall, ReplayCall, ReportCall, ServeCall,
-    UserCall, Verdict,
+    CheckCall, DecideCall, ExpectedDecision, MatrixCall, ProgramCall, QuestionCall, ReplayCall,
+    ReportCall, ServeCall, UserCall,
 };
 use crate::misuse::Misuse;
 use clap::ArgMatches;
@@ -185,24 +185,24 @@ fn serve_call(alloc: Global, matches: &ArgMatches<'_>) -> Result<ServeCall, Unca
 }
 
 /// The decision that a word means, if it is one that is known.
-fn verdict_named(word: &str) -> Option<Verdict>
+fn verdict_named(word: &str) -> Option<ExpectedDecision>
     ensures { result ≡ Definitions.verdict_named word.now }
 {
     if word == "allow" {
-        return Some(Verdict::Allow);
+        return Some(ExpectedDecision::Allow);
     }
     if word == "deny" {
-        return Some(Verdict::Deny);
+        return Some(ExpectedDecision::Deny);
     }
     if word == "challenge" {
-        return Some(Verdict::Challenge);
+        return Some(ExpectedDecision::Challenge);
     }
     None
 }
 
 /// What is expected to be decided, if that is a word that is known; anything, where nothing is said.
 #[tactic(auto, using(crate::proofs::Found::text_found))]
-fn expected_said(matches: &ArgMatches<'_>) -> Option<Option<Verdict>>
+fn expected_said(matches: &ArgMatches<'_>) -> Option<Option<ExpectedDecision>>
     ensures { result ≡ Definitions.expected_said (rows_of (found_of matches.now)) }
 {
     match matches.get_str("expect") {
@@ -229,7 +229,7 @@ fn is_question(matches: &ArgMatches<'_>) -> bool
 }
 
 /// What is expected to be decided, where what is said to `decide` stands together.
-fn expected(matches: &ArgMatches<'_>) -> Result<Option<Verdict>, Misuse>
+fn expected(matches: &ArgMatches<'_>) -> Result<Option<ExpectedDecision>, Misuse>
     ensures expected { IfOk result (λ expect. (Definitions.expected_said (rows_of (found_of matches.now)) ≡ Some expect) × (Definitions.decide_misuse (rows_of (found_of matches.now)) ≡ None)) }
     ensures misuse { IfErr result (λ why. Definitions.decide_misuse (rows_of (found_of matches.now)) ≡ Some why) }
 {
@@ -246,7 +246,7 @@ fn expected(matches: &ArgMatches<'_>) -> Result<Option<Verdict>, Misuse>
 fn question_call(
     alloc: Global,
     matches: &ArgMatches<'_>,
-    expect: Option<Verdict>,
+    expect: Option<ExpectedDecision>,
 ) -> Result<QuestionCall, AllocError>
     requires { Definitions.expected_said (rows_of (found_of matches.now)) ≡ Some expect }
     ensures { IfOk result (Definitions.IsQuestion (rows_of (found_of matches.now))) }
@@ -352,24 +352,24 @@ fn user_call(alloc: Global, matches: &ArgMatches<'_>) -> Result<UserCall, Uncall
 }
 
 /// What a command with its options asks for.
-fn call_named(alloc: Global, name: &str, matches: &ArgMatches<'_>) -> Result<Call, Uncalled>
+fn call_named(alloc: Global, name: &str, matches: &ArgMatches<'_>) -> Result<ProgramCall, Uncalled>
     ensures call { IfOk result (λ call. IsCall name.now (rows_of (found_of matches.now)) call × (Definitions.misuse_in name.now (rows_of (found_of matches.now)) ≡ None)) }
     ensures refused { IfErr result (IsWhy (Definitions.misuse_in name.now (rows_of (found_of matches.now)))) }
 {
     match name {
-        "check" => Ok(Call::Check(check_call(alloc, matches)?)),
-        "replay" => Ok(Call::Replay(replay_call(alloc, matches)?)),
-        "serve" => Ok(Call::Serve(serve_call(alloc, matches)?)),
-        "decide" => Ok(Call::Decide(decide_call(alloc, matches)?)),
-        "matrix" => Ok(Call::Matrix(matrix_call(alloc, matches)?)),
-        "report" => Ok(Call::Report(report_call(alloc, matches)?)),
-        "user" => Ok(Call::User(user_call(alloc, matches)?)),
+        "check" => Ok(ProgramCall::Check(check_call(alloc, matches)?)),
+        "replay" => Ok(ProgramCall::Replay(replay_call(alloc, matches)?)),
+        "serve" => Ok(ProgramCall::Serve(serve_call(alloc, matches)?)),
+        "decide" => Ok(ProgramCall::Decide(decide_call(alloc, matches)?)),
+        "matrix" => Ok(ProgramCall::Matrix(matrix_call(alloc, matches)?)),
+        "report" => Ok(ProgramCall::Report(report_call(alloc, matches)?)),
+        "user" => Ok(ProgramCall::User(user_call(alloc, matches)?)),
         _ => Err(Uncalled::Misused(Misuse::NoCommand)),
     }
 }
 
 /// What the command asks for that the words name.
-pub(crate) fn call_of(alloc: Global, matches: &ArgMatches<'_>) -> Result<Call, Uncalled>
+pub(crate) fn call_of(alloc: Global, matches: &ArgMatches<'_>) -> Result<ProgramCall, Uncalled>
     ensures call { IfOk result (λ call. IsCallOf (subcommand_rows_of matches.now) call × (Definitions.misuse_of (subcommand_rows_of matches.now) ≡ None)) }
     ensures refused { IfErr result (IsWhy (Definitions.misuse_of (subcommand_rows_of matches.now))) }
 {

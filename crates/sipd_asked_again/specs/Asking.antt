@@ -1,10 +1,10 @@
 -- What a line of the log asked, and whether a configuration would decide otherwise about it.
 use Rattle.std.specs.Prelude.{ℕ, Bool, true, false, ◌==◌, if◌then◌else◌, List, Option, Some, None}
 use Rattle.std.specs.Prelude.{not, ◌&&◌}
-use Rattle.sip_audit.specs.declared.record.Operation.{Operation as LoggedOperation}
-use Rattle.sip_audit.specs.declared.record.Operation.TheVariants as Logged
-use Rattle.sip_audit.specs.declared.record.Outcome.{Outcome}
-use Rattle.sip_audit.specs.declared.record.Outcome.TheVariants.{Challenge, Deny, Sent, Answer}
+use Rattle.sip_audit.specs.declared.record.AuditOperation.{AuditOperation}
+use Rattle.sip_audit.specs.declared.record.AuditOperation.TheVariants as Logged
+use Rattle.sip_audit.specs.declared.record.AuditOutcome.{AuditOutcome}
+use Rattle.sip_audit.specs.declared.record.AuditOutcome.TheVariants.{Challenge, Deny, Sent, Answer}
 use Rattle.sip_audit.specs.declared.record.Record.{Record}
 use Rattle.sip_policy.specs.declared.decision.Decision.{Decision}
 use Rattle.sip_policy.specs.declared.operation.Operation.{Operation}
@@ -13,15 +13,15 @@ use Rattle.sip_policy.specs.User.{is_users_name}
 use Rattle.sip_policy.specs.Window.{minute_of}
 use Rattle.sip_config_types.specs.declared.config.Config.{Config}
 use Rattle.sip_policy.specs.declared.rule.Rule.{Rule}
-use Rattle.sipd_questions.specs.declared.destination.Destination.{Destination}
-use Rattle.sipd_questions.specs.declared.destination.Destination.TheVariants.{Nowhere, Registrar, Bindings, Hop, NotFound}
-use Rattle.sipd_questions.specs.Decide.{decision_for, rule_for}
-use Rattle.sipd_questions.specs.Destination.{destination_of}
+use Rattle.sipd_ask.specs.declared.destination.Destination.{Destination}
+use Rattle.sipd_ask.specs.declared.destination.Destination.TheVariants.{Nowhere, Registrar, Bindings, Hop, NotFound}
+use Rattle.sipd_ask.specs.Decide.{decision_for, rule_for}
+use Rattle.sipd_ask.specs.Destination.{destination_of}
 
 -- ---- the question
 
 -- what a line asked for: a REGISTER with a Contact, one without, or a request of its method that is sent on
-abbrev pub operation_by : LoggedOperation → List ℕ → Operation
+abbrev pub operation_by : AuditOperation → List ℕ → Operation
 operation_by Logged.Register method = Operation.Register
 operation_by Logged.List method = Operation.List
 operation_by Logged.Send method = Operation.Send method
@@ -94,7 +94,7 @@ is_answered status (Hop place) = false
 
 -- Whether what became of a request is what is decided about it, and may come of it where that leads: challenged, denied, sent on or answered
 -- here, all but the first by a rule of the same number. Where a rule let it through, a line doesn't say by which hop.
-abbrev pub is_same : Outcome → Decision → Destination → Bool
+abbrev pub is_same : AuditOutcome → Decision → Destination → Bool
 is_same (Challenge status) decision destination = is_challenge decision
 is_same (Deny rule) decision destination = is_denied rule decision
 is_same (Sent rule targets) decision destination = is_let_through rule decision && is_sent destination

@@ -1,7 +1,7 @@
 -- Lines of a log that are asked again.
 use Rattle.std.specs.Prelude.{ℕ, List, codes, Option, None, pos}
-use Rattle.sip_audit.specs.declared.record.Operation.TheVariants as Logged
-use Rattle.sip_audit.specs.declared.record.Outcome.{Outcome}
+use Rattle.sip_audit.specs.declared.record.AuditOperation.TheVariants as Logged
+use Rattle.sip_audit.specs.declared.record.AuditOutcome.{AuditOutcome}
 use Rattle.sip_audit.specs.declared.record.Record.{Record}
 use Rattle.sip_policy.specs.Examples.{by_day, rules_with, user_at}
 use Rattle.sip_config_types.specs.declared.config.Config.{Config}
@@ -9,7 +9,7 @@ use Rattle.sip_config_types.specs.Sample.{sample}
 use Rattle.sipd_asked_again.specs.Telling.{told_for}
 
 -- an INVITE to a user of host.com, a minute and two seconds behind 1970
-abbrev pub call : Option (List ℕ) → List ℕ → Outcome → Record
+abbrev pub call : Option (List ℕ) → List ℕ → AuditOutcome → Record
 call who user outcome = record {
   at = 62000;
   number = 4;
@@ -22,7 +22,7 @@ call who user outcome = record {
 }
 
 -- a REGISTER for a user of host.com
-abbrev pub registration : Option (List ℕ) → List ℕ → Outcome → Record
+abbrev pub registration : Option (List ℕ) → List ℕ → AuditOutcome → Record
 registration who user outcome = record (call who user outcome) { method = codes "REGISTER"; operation = Logged.Register }
 
 -- what is told of a line that is said to be `line`, under the sample
@@ -34,5 +34,5 @@ abbrev pub by_hours : Config
 by_hours = record sample { offset = pos 60; rules = rules_with by_day }
 
 -- what is told of a call to help at a moment, under that
-abbrev pub told_at : ℕ → Outcome → Option (List ℕ)
+abbrev pub told_at : ℕ → AuditOutcome → Option (List ℕ)
 told_at moment outcome = told_for by_hours (codes "line") (record (call None (codes "help") outcome) { at = moment })

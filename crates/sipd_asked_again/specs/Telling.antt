@@ -8,11 +8,11 @@ use Rattle.sip_policy.specs.declared.operation.Operation.{Operation}
 use Rattle.sip_policy.specs.declared.rule.Rule.{Rule}
 use Rattle.sip_uri.specs.declared.aor.Aor.{Aor}
 use Rattle.sip_config_types.specs.declared.config.Config.{Config}
-use Rattle.sipd_questions.specs.declared.destination.Destination.{Destination}
-use Rattle.sipd_questions.specs.declared.destination.Destination.TheVariants.{Nowhere, Registrar, Bindings, Hop, NotFound}
-use Rattle.sipd_questions.specs.Decide.{hop_text, verdict_text}
-use Rattle.sipd_questions.specs.Destination.{destination_of}
-use Rattle.sipd_questions.specs.Show.{clock_text}
+use Rattle.sipd_ask.specs.declared.destination.Destination.{Destination}
+use Rattle.sipd_ask.specs.declared.destination.Destination.TheVariants.{Nowhere, Registrar, Bindings, Hop, NotFound}
+use Rattle.sipd_ask.specs.Decide.{hop_text, verdict_text}
+use Rattle.sipd_ask.specs.Destination.{destination_of}
+use Rattle.sipd_ask.specs.Show.{clock_text}
 use Rattle.sipd_report.specs.Entries.{entry_of, fronts_of}
 use Rattle.sipd_asked_again.specs.Asking.{decision_about, destination_about, is_same, minute_at, operation_by, rule_about}
 

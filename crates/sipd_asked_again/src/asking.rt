@@ -3,10 +3,10 @@ ghost use Rattle.std.specs.Prelude.{◌≡◌, IfOk};
 ghost use Rattle.std.specs.Option.{option_copied};
 ghost use Rattle.sipd_asked_again.specs.Asking as Definitions;
 
-use sip_audit::{Operation as LoggedOperation, Outcome, Record};
+use sip_audit::{AuditOperation, AuditOutcome, Record};
 use sip_policy::{Decision, Operation, Users};
 use sip_text::Bytes;
-use sipd_questions::Destination;
+use sipd_ask::Destination;
 use std::alloc::{AllocError, Global};
 
 /// The status of an answer to a request for an address that is no user's (RFC 3261 21.4.5).
@@ -17,9 +17,9 @@ pub(crate) fn operation_of(alloc: Global, logged: &Record) -> Result<Operation, 
     ensures { IfOk result (λ operation. operation ≡ Definitions.operation_by logged.now.operation logged.now.method) }
 {
     match logged.operation {
-        LoggedOperation::Register => Ok(Operation::Register),
-        LoggedOperation::List => Ok(Operation::List),
-        LoggedOperation::Send => Ok(Operation::Send(Bytes::copy(alloc, logged.method.as_slice())?)),
+        AuditOperation::Register => Ok(Operation::Register),
+        AuditOperation::List => Ok(Operation::List),
+        AuditOperation::Send => Ok(Operation::Send(Bytes::copy(alloc, logged.method.as_slice())?)),
     }
 }
 
@@ -96,16 +96,16 @@ fn is_answered(status: u16, destination: Destination) -> bool
 }
 
 /// Whether what became of a request is what is decided about it, by a rule of the same number, and may come of it where that leads.
-pub(crate) fn is_same(outcome: Outcome, decision: Decision, destination: Destination) -> bool
+pub(crate) fn is_same(outcome: AuditOutcome, decision: Decision, destination: Destination) -> bool
     ensures { result ≡ Definitions.is_same outcome decision destination }
 {
     match outcome {
-        Outcome::Challenge { status: _ } => is_challenge(decision),
-        Outcome::Deny { rule } => is_denied(rule, decision),
-        Outcome::Sent { rule, targets: _ } => {
+        AuditOutcome::Challenge { status: _ } => is_challenge(decision),
+        AuditOutcome::Deny { rule } => is_denied(rule, decision),
+        AuditOutcome::Sent { rule, targets: _ } => {
             is_let_through(rule, decision) && is_sent(destination)
         }
-        Outcome::Answer { rule, status } => {
+        AuditOutcome::Answer { rule, status } => {
             is_let_through(rule, decision) && is_answered(status, destination)
         }
     }

@@ -1,6 +1,6 @@
 //! Worked examples, as contracts that compute.
 ghost use Rattle.std.specs.Prelude.{◌≡◌, codes, Some, None};
-ghost use Rattle.sip_audit.specs.declared.record.Outcome.TheVariants.{Challenge, Deny, Sent, Answer};
+ghost use Rattle.sip_audit.specs.declared.record.AuditOutcome.TheVariants.{Challenge, Deny, Sent, Answer};
 ghost use Rattle.sipd_asked_again.specs.Examples.{call, registration, told, told_at};
 
 /// What is decided alike isn't told: nobody's call and a user's, one that goes by a hop, one that reaches nobody, a denial, a challenge, and

@@ -2,7 +2,8 @@
 //! decided.
 //!
 //! - Used: `sipd_tools`, for `decide --log`.
-//! - Not here: which lines are audit lines (`sipd_report`, `sip_audit`); what is decided about a request, and its words (`sipd_questions`).
+//! - Not here: which lines are audit lines (`sipd_report`, `sip_audit`); what is decided about a request, and its words
+//!   (`sipd_ask`).
 //! - Tried: worked examples in `src/examples.rt`, as contracts that compute; `test_server`.
 //!
 //! ```text

@@ -14,7 +14,7 @@ use crate::counts::Counts;
 use crate::telling::told_by;
 use sip_audit::Record;
 use sip_config_types::Config;
-use sip_replay_script::{Lines, TellingReader, TellingWriter, hand_on, put};
+use sip_replay_script::{ScriptLines, TellingReader, TellingWriter, hand_on, put};
 use sip_text::Bytes;
 use sipd_report::{ReportError, entry_of, next_front};
 use std::alloc::Global;
@@ -40,7 +40,7 @@ pub fn ask_again<I: TellingReader, W: TellingWriter>(
         (I.has_failed input.new ⊎ (I.asked input.new ≡ later 4294967295 (I.asked input.old))) (GaveUp (W.has_failed output.new) (W.called output.new))) }
     ensures asked { IsAsked 4294967295 (I.asked input.old) (I.asked input.new) }
 {
-    let mut lines = Lines::new(alloc)?;
+    let mut lines = ScriptLines::new(alloc)?;
     let mut line = Vec::new(alloc);
     let mut counts = Counts::new();
     while take_next(
@@ -60,7 +60,7 @@ pub fn ask_again<I: TellingReader, W: TellingWriter>(
 fn take_next<I: TellingReader, W: TellingWriter>(
     alloc: Global,
     config: &Config,
-    lines: &mut Lines,
+    lines: &mut ScriptLines,
     line: &mut Vec<u8>,
     counts: &mut Counts,
     input: &mut I,

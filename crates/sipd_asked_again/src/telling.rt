@@ -1,7 +1,7 @@
 //! A line of the log that would be decided otherwise, with what would be decided.
 ghost use Rattle.std.specs.Prelude.{◌≡◌, ◌++◌, codes, IfOk, OnOk, option_and_then};
 ghost use Rattle.std.specs.Option.{option_copied};
-ghost use Rattle.sipd_questions.specs.Show.{clock_text};
+ghost use Rattle.sipd_ask.specs.Show.{clock_text};
 ghost use Rattle.sipd_asked_again.specs.Telling as Definitions;
 
 use crate::asking::{asker_of, is_same, operation_of};
@@ -10,9 +10,7 @@ use sip_config_types::Config;
 use sip_policy::{Decision, Operation, Rule, minute_of, ruling_by};
 use sip_text::Bytes;
 use sip_uri::Aor;
-use sipd_questions::{
-    Destination, destination_of, hop_at, put_clock, put_hop, put_verdict, rule_for,
-};
+use sipd_ask::{Destination, destination_of, hop_at, put_clock, put_hop, put_verdict, rule_for};
 use std::alloc::{AllocError, Global};
 
 /// Adds where a request goes.

@@ -13,7 +13,7 @@ use Rattle.sip_hops.specs.declared.hop.Hop.{Hop}
 use Rattle.sip_hops.specs.declared.host_address.HostAddress.{HostAddress}
 use Rattle.sip_config_types.specs.declared.config.Config.{Config}
 use Rattle.sip_config_change.specs.Frame.{is_kept, frame_keys}
-use Rattle.sipd_questions.specs.Show.{patterns_text, rule_text}
+use Rattle.sipd_ask.specs.Show.{patterns_text, rule_text}
 use Rattle.sipd_changes.specs.declared.difference.Move.TheVariants as Moving
 use Rattle.sipd_changes.specs.declared.difference.Revision.TheVariants as Revised
 use Rattle.sipd_changes.specs.declared.difference.DigestKey.TheVariants.{A1, A1Sha256}

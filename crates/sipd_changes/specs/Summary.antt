@@ -3,7 +3,7 @@ use Rattle.std.specs.Prelude.{ℕ, ◌+◌, ◌==◌, nat_le, if◌then◌else�
 use Rattle.std.specs.List.{flat_map, list_any}
 use Rattle.std.specs.Str.{bytes_eq}
 use Rattle.sip_config_change.specs.FrameKey.{name_of}
-use Rattle.sipd_questions.specs.Decide.{numbered}
+use Rattle.sipd_ask.specs.Decide.{numbered}
 use Rattle.sipd_changes.specs.declared.difference.Revision.TheVariants.{Comes, Goes, Says}
 use Rattle.sipd_changes.specs.declared.difference.Difference.{Difference}
 use Rattle.sipd_changes.specs.declared.difference.Difference.TheVariants.{Frame, BoundPort, Offset, UserComes, UserGoes, Digest, Joins, Leaves, Hop, Host, Rule}

@@ -3,8 +3,8 @@ use Rattle.std.specs.Prelude.{ℕ, List, [], ◌∷◌, ◌++◌, codes, decimal
 use Rattle.std.specs.List.{flat_map}
 use Rattle.sip_uri.specs.Addresses.{addr_text}
 use Rattle.sip_config_change.specs.FrameKey.{name_of}
-use Rattle.sipd_questions.specs.Decide.{numbered}
-use Rattle.sipd_questions.specs.Show.{signed}
+use Rattle.sipd_ask.specs.Decide.{numbered}
+use Rattle.sipd_ask.specs.Show.{signed}
 use Rattle.sipd_changes.specs.declared.difference.Move.{Move}
 use Rattle.sipd_changes.specs.declared.difference.Move.TheVariants as Moving
 use Rattle.sipd_changes.specs.declared.difference.Revision.{Revision}

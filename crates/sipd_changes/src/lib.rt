@@ -1,7 +1,7 @@
 //! What a change from one configuration to another would do: the list of what differs, its text, and a few words on it.
 //!
 //! - Used: `sipd_tools`, for `check --against`; `sipd_command`, where a change comes into force.
-//! - Not here: what may change while a server runs (`sip_config_change`), the texts of rules (`sipd_questions`), the change itself.
+//! - Not here: what may change while a server runs (`sip_config_change`), the texts of rules (`sipd_ask`), the change itself.
 //! - Tried: worked examples in `src/examples.rt`, as contracts that compute; `tests/changes.py`.
 //!
 //! ```text

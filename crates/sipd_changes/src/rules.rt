@@ -4,7 +4,7 @@ ghost use Rattle.std.specs.List.{list_any};
 ghost use Rattle.std.specs.Option.{option_copied};
 ghost use Rattle.std.specs.Cmp.Lexicographic.{pointwise};
 ghost use Rattle.std.specs.Str.{bytes_eq};
-ghost use Rattle.sipd_questions.specs.Show.{patterns_text, rule_text};
+ghost use Rattle.sipd_ask.specs.Show.{patterns_text, rule_text};
 ghost use Rattle.sipd_changes.specs.declared.difference.Revision.TheVariants as Revised;
 ghost use Rattle.sipd_changes.specs.declared.difference.Difference.TheVariants as Changed;
 ghost use Rattle.sipd_changes.specs.Changes as Definitions;
@@ -14,7 +14,7 @@ use sip_config_types::Config;
 use sip_hops::Hop;
 use sip_policy::Rule;
 use sip_text::{Bytes, Items, same_bytes};
-use sipd_questions::{patterns_text, rule_text};
+use sipd_ask::{patterns_text, rule_text};
 use std::alloc::{AllocError, Global};
 
 fn is_number(id: u32, rule: &Rule) -> bool

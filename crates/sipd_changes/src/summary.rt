@@ -8,7 +8,7 @@ ghost use Rattle.sipd_changes.specs.Summary as Definitions;
 use crate::difference::{Difference, Revision};
 use crate::fate::Fate;
 use sip_text::{Bytes, Items, same_bytes};
-use sipd_questions::put_number;
+use sipd_ask::put_number;
 use std::alloc::{AllocError, Global};
 
 /// How many numbers are named at most.

@@ -3,7 +3,7 @@ ghost use Rattle.std.specs.Prelude.{◌≡◌, ◌++◌, codes, decimal, IfOk, O
 ghost use Rattle.std.specs.List.{flat_map};
 ghost use Rattle.sip_uri.specs.Addresses;
 ghost use Rattle.sipd_changes.specs.declared.difference.Difference.TheVariants as Changed;
-ghost use Rattle.sipd_questions.specs.Decide.{numbered};
+ghost use Rattle.sipd_ask.specs.Decide.{numbered};
 ghost use Rattle.sipd_changes.specs.Telling as Definitions;
 
 use crate::difference::{Difference, DigestKey, Move, Revision};
@@ -11,7 +11,7 @@ use crate::differing::can_be_taken;
 use sip_config_change::FrameKey;
 use sip_text::{Bytes, Items};
 use sip_uri::Addr;
-use sipd_questions::{put_address, put_number, put_signed};
+use sipd_ask::{put_address, put_number, put_signed};
 use std::alloc::{AllocError, Global};
 
 /// Adds three texts.

@@ -10,6 +10,6 @@ mod program;
 mod serving;
 
 pub use program::command;
-pub use sipd_arguments::{Call, Parsed, parse, summary_of};
+pub use sipd_arguments::{Parsed, ProgramCall, parse, summary_of};
 pub use sipd_exit::Exit;
 pub use sipd_replay::replay_script;

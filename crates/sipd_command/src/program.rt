@@ -3,7 +3,7 @@ ghost use Rattle.std.specs.Prelude.{◌≤◌};
 use crate::serving::serve_file;
 use sip_policy::Rules;
 use sip_timers::Timers;
-use sipd_arguments::{Call, Parsed, ReplayCall, parse};
+use sipd_arguments::{Parsed, ProgramCall, ReplayCall, parse};
 use sipd_exit::{Exit, print};
 use sipd_progress::Watched;
 use sipd_replay::{replay_record, replay_script};
@@ -52,25 +52,25 @@ fn carry_out<
     C: Write,
 >(
     rt: &R,
-    call: &Call,
+    call: &ProgramCall,
     seen: bool,
     input: &mut I,
     output: &mut W,
     complaints: &mut C,
 ) -> Result<(), Exit> {
     match call {
-        Call::Check(call) => check(rt, call, output, complaints),
-        Call::Replay(call) => replay_call::<T, P, R, I, W, C>(
+        ProgramCall::Check(call) => check(rt, call, output, complaints),
+        ProgramCall::Replay(call) => replay_call::<T, P, R, I, W, C>(
             rt, call, seen, input, output, complaints,
         ),
-        Call::Serve(call) => {
+        ProgramCall::Serve(call) => {
             let mut printer = LinePrinter::new(rt.alloc(), output);
             serve_file::<T, P, R, I, _, C>(rt, call, seen, input, &mut printer, complaints)
         }
-        Call::Decide(call) => decide(rt, call, input, output, complaints),
-        Call::Matrix(call) => matrix(rt, call, output, complaints),
-        Call::Report(call) => make_report(rt, call, input, output, complaints),
-        Call::User(call) => make_user(rt, call, input, output, complaints),
+        ProgramCall::Decide(call) => decide(rt, call, input, output, complaints),
+        ProgramCall::Matrix(call) => matrix(rt, call, output, complaints),
+        ProgramCall::Report(call) => make_report(rt, call, input, output, complaints),
+        ProgramCall::User(call) => make_user(rt, call, input, output, complaints),
     }
 }
 

@@ -7,7 +7,7 @@ use Rattle.sip_policy.specs.declared.who.Who.{Who}
 use Rattle.sip_config_types.specs.Sample.{sample}
 use Rattle.sip_matrix.specs.declared.expectation.Askers.{Askers}
 use Rattle.sip_matrix.specs.declared.expectation.Times.{Times}
-use Rattle.sip_matrix.specs.declared.expectation.Place.{Place}
+use Rattle.sip_matrix.specs.declared.expectation.ExpectedDestination.{ExpectedDestination}
 use Rattle.sip_matrix.specs.declared.expectation.Expectation.{Expectation}
 use Rattle.sipd_expect.specs.declared.error.LineError.{LineError}
 use Rattle.sipd_expect.specs.declared.error.LineError.TheVariants.{BadWho, UnknownGroup, SmallLetter, BadTarget, BadTimes, BadPlace, UnknownHop}
@@ -21,10 +21,11 @@ outside = Target.Prefix (codes "9") (codes "host.com")
 
 pub record AreLines : Type 0 where
   pub anyone : read (codes "anyone INVITE 9*@host.com always via gw") ≡ Ok (expected (asked Askers.Everybody Who.Anyone) (Pattern.Send (codes "INVITE")) outside
-      Times.Always (Place.Hop 0))
+      Times.Always (ExpectedDestination.Hop 0))
   pub group : read (codes "group staff  any 9*@host.com 8:00-18:30") ≡ Ok (expected (asked Askers.Users (Who.Group (codes "staff"))) Pattern.SendAny outside
-      (Times.Within (record { from = 480; until = 1110 })) Place.Anywhere)
-  pub nobody : read (codes "nobody register 9*@host.com never") ≡ Ok (expected (asked Askers.Nobody Who.Anyone) Pattern.Register outside Times.Never Place.Anywhere)
+      (Times.Within (record { from = 480; until = 1110 })) ExpectedDestination.Anywhere)
+  pub nobody : read (codes "nobody register 9*@host.com never") ≡ Ok (expected (asked Askers.Nobody Who.Anyone) Pattern.Register outside Times.Never
+      ExpectedDestination.Anywhere)
   pub no_who : read (codes "interns INVITE 9*@host.com never") ≡ Err BadWho
   pub no_group : read (codes "group interns INVITE 9*@host.com never") ≡ Err UnknownGroup
   pub small : read (codes "anyone invite 9*@host.com never") ≡ Err SmallLetter

@@ -3,7 +3,7 @@ use Rattle.std.specs.Prelude.{ℕ, ◌⊎◌, Bool, true, false, List, [], ◌�
 use Rattle.std.specs.List.{AllByRecursion}
 use Rattle.sip_text.specs.Lists.{trimmed}
 use Rattle.sip_config_types.specs.declared.config.Config.{Config}
-use Rattle.sipd_questions.specs.Fronts.{front_before}
+use Rattle.sipd_ask.specs.Fronts.{front_before}
 use Rattle.sipd_expect.specs.declared.error.LineError.{LineError}
 use Rattle.sipd_expect.specs.Line.{Answers, IsRefused}
 

@@ -17,17 +17,17 @@ use Rattle.sip_config_values.specs.declared.error.ConfigError.TheVariants as val
 use Rattle.sip_config_values.specs.Words.{target_of, verdict_of, who_of}
 use Rattle.sip_matrix.specs.declared.expectation.Askers.{Askers}
 use Rattle.sip_matrix.specs.declared.expectation.Times.{Times}
-use Rattle.sip_matrix.specs.declared.expectation.Place.{Place}
+use Rattle.sip_matrix.specs.declared.expectation.ExpectedDestination.{ExpectedDestination}
 use Rattle.sip_matrix.specs.declared.expectation.Expectation.{Expectation}
 use Rattle.sip_matrix.specs.declared.expectation.Fault.{Fault}
-use Rattle.sip_matrix.specs.declared.standing.Standing.{Standing}
+use Rattle.sip_matrix.specs.declared.expectation_outcome.ExpectationOutcome.{ExpectationOutcome}
 use Rattle.sip_matrix.specs.Expected.{StandsSo}
-use Rattle.sipd_questions.specs.declared.error.QuestionError.{QuestionError}
-use Rattle.sipd_questions.specs.declared.error.QuestionError.TheVariants as questions
-use Rattle.sipd_questions.specs.Question.{operation_asked}
+use Rattle.sipd_ask.specs.declared.error.QuestionError.{QuestionError}
+use Rattle.sipd_ask.specs.declared.error.QuestionError.TheVariants as questions
+use Rattle.sipd_ask.specs.Question.{operation_asked}
 use Rattle.sipd_expect.specs.declared.error.LineError.{LineError}
 use Rattle.sipd_expect.specs.declared.error.LineError.TheVariants.{NoMemory, BadWho, UnknownGroup, BadOperation, SmallLetter, BadTarget, BadPlace, UnknownHop, Unsaid}
-use Rattle.sipd_expect.specs.declared.line.Asked.{Asked}
+use Rattle.sipd_expect.specs.declared.line.ExpectedAskers.{ExpectedAskers}
 use Rattle.sipd_expect.specs.Reads.{◌>>=◌}
 use Rattle.sipd_expect.specs.Telling.{fault_text}
 use Rattle.sipd_expect.specs.Times.{times_of}
@@ -52,7 +52,7 @@ behind_who line = if is_named (word_at line) then behind_word (behind_word line)
 abbrev pub has_member : List User → List ℕ → Bool
 has_member users group = list_any (λ user. list_any (bytes_eq group) user.groups) users
 
-abbrev pub asked : Askers → Who → Asked
+abbrev pub asked : Askers → Who → ExpectedAskers
 asked askers who = record { askers = askers; who = who }
 
 -- who asks where a rule is for these: `anyone` is also one who proved nothing, and a group has to have a user
@@ -62,17 +62,17 @@ askers_for users Who.Proven = Some Askers.Users
 askers_for users (Who.User name) = Some Askers.Users
 askers_for users (Who.Group group) = if has_member users group then Some Askers.Users else None
 
-abbrev pub asked_with : Who → Option Askers → Result Asked LineError
+abbrev pub asked_with : Who → Option Askers → Result ExpectedAskers LineError
 asked_with who None = Err UnknownGroup
 asked_with who (Some askers) = Ok (asked askers who)
 
 -- those whom a rule of these words is for
-abbrev pub asked_as : List User → Result Who ConfigError → Result Asked LineError
+abbrev pub asked_as : List User → Result Who ConfigError → Result ExpectedAskers LineError
 asked_as users (Ok who) = asked_with who (askers_for users who)
 asked_as users (Err e) = Err BadWho
 
 -- `nobody`, or as in a rule
-abbrev pub asked_by : List User → List ℕ → Result Asked LineError
+abbrev pub asked_by : List User → List ℕ → Result ExpectedAskers LineError
 asked_by users text =
     if bytes_eq text (codes "nobody") then Ok (asked Askers.Nobody Who.Anyone) else asked_as users (who_of users text)
 
@@ -100,31 +100,31 @@ target_by text = target_as (target_of text)
 
 -- ---- where it goes
 
-abbrev pub place_as : Result RuleVerdict ConfigError → Result Place LineError
+abbrev pub place_as : Result RuleVerdict ConfigError → Result ExpectedDestination LineError
 place_as (Ok RuleVerdict.Allow) = Err BadPlace
 place_as (Ok RuleVerdict.Deny) = Err BadPlace
-place_as (Ok (RuleVerdict.Via hop)) = Ok (Place.Hop hop)
+place_as (Ok (RuleVerdict.Via hop)) = Ok (ExpectedDestination.Hop hop)
 place_as (Err values.UnknownHop) = Err UnknownHop
 place_as (Err e) = Err BadPlace
 
 -- nothing, `bindings`, or `via HOP` as in a rule
-abbrev pub place_by : List ConfiguredHop → List ℕ → Result Place LineError
-place_by hops [] = Ok Place.Anywhere
-place_by hops (b ∷ bs) = if bytes_eq (b ∷ bs) (codes "bindings") then Ok Place.Bindings else place_as (verdict_of hops (b ∷ bs))
+abbrev pub place_by : List ConfiguredHop → List ℕ → Result ExpectedDestination LineError
+place_by hops [] = Ok ExpectedDestination.Anywhere
+place_by hops (b ∷ bs) = if bytes_eq (b ∷ bs) (codes "bindings") then Ok ExpectedDestination.Bindings else place_as (verdict_of hops (b ∷ bs))
 
-abbrev pub nothing_behind : List ℕ → Result Place LineError
-nothing_behind [] = Ok Place.Anywhere
+abbrev pub nothing_behind : List ℕ → Result ExpectedDestination LineError
+nothing_behind [] = Ok ExpectedDestination.Anywhere
 nothing_behind (b ∷ bs) = Err BadPlace
 
 -- what is never let through goes nowhere
-abbrev pub place_for : List ConfiguredHop → Times → List ℕ → Result Place LineError
+abbrev pub place_for : List ConfiguredHop → Times → List ℕ → Result ExpectedDestination LineError
 place_for hops Times.Never text = nothing_behind text
 place_for hops Times.Always text = place_by hops text
 place_for hops (Times.Within window) text = place_by hops text
 
 -- ---- the line
 
-abbrev pub expected : Asked → OperationPattern → TargetPattern → Times → Place → Expectation
+abbrev pub expected : ExpectedAskers → OperationPattern → TargetPattern → Times → ExpectedDestination → Expectation
 expected asked operation target times place =
     record { askers = asked.askers; who = asked.who; operation = operation; target = target; times = times; place = place }
 
@@ -146,23 +146,23 @@ is_remark (b ∷ bs) = b == byte "#"
 -- ---- what is answered
 
 -- how an expectation stands of a configuration
-abbrev pub StandsFor : Config → Expectation → Standing → Type 0
+abbrev pub StandsFor : Config → Expectation → ExpectationOutcome → Type 0
 StandsFor config e standing = StandsSo config.rules config.users config.own.domains e standing
 
 -- a question isn't decided as expected, and this is its text
 pub record FailsAt (config : Config) (e : Expectation) (text : List ℕ) : Type 0 where
   pub fault : Fault
-  pub fails : StandsFor config e (Standing.Fails fault)
+  pub fails : StandsFor config e (ExpectationOutcome.Fails fault)
   pub told : text ≡ fault_text config fault
 
 -- what is answered of an expectation: nothing, where it holds, or a question that isn't decided so
 abbrev pub AnswersFor : Config → Expectation → Option (List ℕ) → Type 0
-AnswersFor config e None = StandsFor config e Standing.Holds
+AnswersFor config e None = StandsFor config e ExpectationOutcome.Holds
 AnswersFor config e (Some text) = FailsAt config e text
 
 -- why nothing is: memory ran out, or there aren't examples of all that it means
 abbrev pub IsRefusedFor : Config → Expectation → LineError → Type 0
-IsRefusedFor config e why = (why ≡ NoMemory) ⊎ ((why ≡ Unsaid) × StandsFor config e Standing.Unsaid)
+IsRefusedFor config e why = (why ≡ NoMemory) ⊎ ((why ≡ Unsaid) × StandsFor config e ExpectationOutcome.Unsaid)
 
 -- a line is an expectation, and this is answered of it
 pub record AnswersLine (config : Config) (line : List ℕ) (answer : Option (List ℕ)) : Type 0 where

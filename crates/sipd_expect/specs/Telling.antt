@@ -3,8 +3,8 @@ use Rattle.std.specs.Prelude.{ℕ, List, ◌++◌, codes, Option, Some, None}
 use Rattle.sip_policy.specs.declared.operation.Operation.{Operation}
 use Rattle.sip_config_types.specs.declared.config.Config.{Config}
 use Rattle.sip_matrix.specs.declared.expectation.Fault.{Fault}
-use Rattle.sipd_questions.specs.Decide.{aor_text, line_for}
-use Rattle.sipd_questions.specs.Show.{clock_text}
+use Rattle.sipd_ask.specs.Decide.{aor_text, line_for}
+use Rattle.sipd_ask.specs.Show.{clock_text}
 
 abbrev pub asker_text : Option (List ℕ) → List ℕ
 asker_text None = codes "nobody"

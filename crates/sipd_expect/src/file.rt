@@ -1,6 +1,6 @@
 //! The lines of a file of expectations, held against the policy of a configuration one by one.
 ghost use Rattle.std.specs.Prelude.{◌≡◌, ◌&&◌, IfOk, IfErr};
-ghost use Rattle.sipd_questions.specs.Fronts;
+ghost use Rattle.sipd_ask.specs.Fronts;
 ghost use Rattle.sip_text.specs.TextLines.{lines_of};
 ghost use Rattle.sipd_expect.specs.File as Definitions;
 ghost use Rattle.sipd_expect.specs.Line.{IsRefused};
@@ -13,7 +13,7 @@ use std::alloc::{AllocError, Global};
 
 /// What is told of a file.
 #[derive(Drop)]
-pub struct Told {
+pub struct ExpectationReport {
     /// A line for each line that fails: `line N: ` and the question that isn't decided so, with what is decided about it.
     pub text: Bytes,
     /// Whether none fails.
@@ -75,7 +75,7 @@ fn both(one: bool, other: bool) -> bool
 /// What is told of a file: a line for each one that fails, in their order, and whether none does. It stops at the first line that isn't known
 /// to hold or to fail.
 #[tactic(auto, using(crate::proofs::Files::leads_on, crate::proofs::Files::answered, crate::proofs::Files::refused_here, crate::proofs::Files::refused_last))]
-pub fn told_of(alloc: Global, config: &Config, file: &[u8]) -> Result<Told, FileError>
+pub fn told_of(alloc: Global, config: &Config, file: &[u8]) -> Result<ExpectationReport, FileError>
     ensures answer { IfOk result (λ told. Definitions.FileIs config.now (lines_of file.now) told.holds) }
     ensures refused { IfErr result (λ e. Definitions.SomeRefused config.now (lines_of file.now) e.why) }
 {
@@ -92,7 +92,7 @@ pub fn told_of(alloc: Global, config: &Config, file: &[u8]) -> Result<Told, File
         rest = behind;
     }
     match tell_line(alloc, config, number, rest, &mut text) {
-        Ok(is) => Ok(Told {
+        Ok(is) => Ok(ExpectationReport {
             text,
             holds: both(holds, is),
         }),

@@ -2,7 +2,7 @@
 //! so, and one that isn't.
 //!
 //! - Used: `sipd_tools`, for `check --expect`.
-//! - Not here: that no question is missing (`sip_matrix`), and what is decided about one (`sipd_questions`).
+//! - Not here: that no question is missing (`sip_matrix`), and what is decided about one (`sipd_ask`).
 //! - Tried: worked examples in `src/examples.rt`, as contracts that compute; `tests/expectations.py`.
 //!
 //! ```text
@@ -18,5 +18,5 @@ mod telling;
 mod times;
 
 pub use error::LineError;
-pub use file::{FileError, Told, told_of};
+pub use file::{ExpectationReport, FileError, told_of};
 pub use line::fault_of_line;

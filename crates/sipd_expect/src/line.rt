@@ -9,15 +9,17 @@ use crate::times::times_of;
 use sip_config_types::Config;
 use sip_config_values::{ConfigError, target_of, verdict_of, who_of};
 use sip_hops::Hop;
-use sip_matrix::{Askers, Expectation, Place, Standing, Times, standing_of};
+use sip_matrix::{
+    Askers, Expectation, ExpectationOutcome, ExpectedDestination, Times, standing_of,
+};
 use sip_policy::{Operation, OperationPattern, RuleVerdict, TargetPattern, Users, Who};
 use sip_text::{Bytes, same_bytes, split_word};
-use sipd_questions::{QuestionError, operation_asked};
+use sipd_ask::{QuestionError, operation_asked};
 use std::alloc::{AllocError, Global};
 
 /// Who is meant to ask, and which users.
 #[derive(Drop)]
-struct Asked {
+struct ExpectedAskers {
     askers: Askers,
     who: Who,
 }
@@ -88,22 +90,22 @@ fn askers_for(users: &Users, who: &Who) -> Option<Askers>
 }
 
 /// Those whom a rule of these words is for.
-fn asked_as(users: &Users, who: Who) -> Result<Asked, LineError>
+fn asked_as(users: &Users, who: Who) -> Result<ExpectedAskers, LineError>
     ensures { Reads result (Definitions.asked_as users.now (Ok who)) }
 {
     match askers_for(users, &who) {
-        Some(askers) => Ok(Asked { askers, who }),
+        Some(askers) => Ok(ExpectedAskers { askers, who }),
         None => Err(LineError::UnknownGroup),
     }
 }
 
 /// `nobody`, or as in a rule.
-fn asked_by(alloc: Global, users: &Users, text: &[u8]) -> Result<Asked, LineError>
+fn asked_by(alloc: Global, users: &Users, text: &[u8]) -> Result<ExpectedAskers, LineError>
     ensures { Reads result (Definitions.asked_by users.now text.now) }
 {
     if same_bytes(text, b"nobody") {
         let askers = Askers::Nobody;
-        return Ok(Asked {
+        return Ok(ExpectedAskers {
             askers,
             who: Who::Anyone,
         });
@@ -179,25 +181,25 @@ fn target_by(alloc: Global, text: &[u8]) -> Result<TargetPattern, LineError>
 }
 
 /// The hop of a verdict.
-fn place_as(verdict: RuleVerdict) -> Result<Place, LineError>
+fn place_as(verdict: RuleVerdict) -> Result<ExpectedDestination, LineError>
     ensures { Reads result (Definitions.place_as (Ok verdict)) }
 {
     match verdict {
-        RuleVerdict::Via(hop) => Ok(Place::Hop(hop)),
+        RuleVerdict::Via(hop) => Ok(ExpectedDestination::Hop(hop)),
         RuleVerdict::Allow => Err(LineError::BadPlace),
         RuleVerdict::Deny => Err(LineError::BadPlace),
     }
 }
 
 /// Nothing, `bindings`, or `via HOP` as in a rule.
-fn place_by(hops: &[Hop], text: &[u8]) -> Result<Place, LineError>
+fn place_by(hops: &[Hop], text: &[u8]) -> Result<ExpectedDestination, LineError>
     ensures { Reads result (Definitions.place_by hops.now text.now) }
 {
     if text.is_empty() {
-        return Ok(Place::Anywhere);
+        return Ok(ExpectedDestination::Anywhere);
     }
     if same_bytes(text, b"bindings") {
-        return Ok(Place::Bindings);
+        return Ok(ExpectedDestination::Bindings);
     }
     match verdict_of(hops, text) {
         Ok(verdict) => place_as(verdict),
@@ -215,13 +217,13 @@ fn place_by(hops: &[Hop], text: &[u8]) -> Result<Place, LineError>
 }
 
 /// Where it goes, which is said where it goes anywhere.
-fn place_for(hops: &[Hop], times: Times, text: &[u8]) -> Result<Place, LineError>
+fn place_for(hops: &[Hop], times: Times, text: &[u8]) -> Result<ExpectedDestination, LineError>
     ensures { Reads result (Definitions.place_for hops.now times text.now) }
 {
     match times {
         Times::Never => {
             if text.is_empty() {
-                Ok(Place::Anywhere)
+                Ok(ExpectedDestination::Anywhere)
             } else {
                 Err(LineError::BadPlace)
             }
@@ -240,7 +242,7 @@ fn expectation_of(
     ensures { Reads result (Definitions.expectation_of users.now hops.now line.now) }
 {
     let who = who_text(alloc, line)?;
-    let Asked { askers, who } = asked_by(alloc, users, who.as_slice())?;
+    let ExpectedAskers { askers, who } = asked_by(alloc, users, who.as_slice())?;
     let (word, rest) = split_word(behind_who(line));
     let operation = operation_by(alloc, word)?;
     let (word, rest) = split_word(rest);
@@ -273,7 +275,7 @@ fn standing_for(
     alloc: Global,
     config: &Config,
     expectation: &Expectation,
-) -> Result<Standing, AllocError>
+) -> Result<ExpectationOutcome, AllocError>
     ensures { IfOk result (Definitions.StandsFor config.now expectation.now) }
 {
     standing_of(
@@ -295,9 +297,9 @@ fn answer_to(
     ensures refused { IfErr result (Definitions.IsRefusedFor config.now expectation.now) }
 {
     match standing_for(alloc, config, expectation)? {
-        Standing::Holds => Ok(None),
-        Standing::Fails(fault) => Ok(Some(fault_text(alloc, config, &fault)?)),
-        Standing::Unsaid => Err(LineError::Unsaid),
+        ExpectationOutcome::Holds => Ok(None),
+        ExpectationOutcome::Fails(fault) => Ok(Some(fault_text(alloc, config, &fault)?)),
+        ExpectationOutcome::Unsaid => Err(LineError::Unsaid),
     }
 }
 

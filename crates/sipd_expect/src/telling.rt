@@ -1,7 +1,7 @@
 //! A question that isn't decided as expected, in words.
 ghost use Rattle.std.specs.Prelude.{◌≡◌, ◌++◌, codes, IfOk, OnOk};
 ghost use Rattle.std.specs.Option.{option_copied};
-ghost use Rattle.sipd_questions.specs.Decide.{aor_text};
+ghost use Rattle.sipd_ask.specs.Decide.{aor_text};
 ghost use Rattle.sipd_expect.specs.Telling as Definitions;
 
 use sip_config_types::Config;
@@ -9,7 +9,7 @@ use sip_matrix::Fault;
 use sip_policy::Operation;
 use sip_text::Bytes;
 use sip_uri::Aor;
-use sipd_questions::{line_for, put_clock};
+use sipd_ask::{line_for, put_clock};
 use std::alloc::{AllocError, Global};
 
 /// The name of the proven user, if one is.

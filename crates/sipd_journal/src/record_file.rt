@@ -1,6 +1,6 @@
 //! The file of a record as the system has it: made for its owner alone, marked in its first word, and looked at whether it is still there.
-//! What is written into it is in `sip_record`.
-use sip_record::RecordMark;
+//! What is written into it is in `sip_journal`.
+use sip_journal::RecordMark;
 use std::fs::{OpenFile, OpenOptions};
 use std::io::{ErrorKind, Seek, SeekFrom, Write};
 use std::os::unix::fs::OpenOptionsExt;

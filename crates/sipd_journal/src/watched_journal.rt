@@ -1,8 +1,8 @@
 ghost use Rattle.std.specs.Prelude.{◌≡◌, [], IfSome, Option};
-ghost use Rattle.sip_record.specs.Record.{Notes};
+ghost use Rattle.sip_journal.specs.Record.{Notes};
 
 use crate::record_file::RecordFile;
-use sip_record::{Journal, NoJournal, OnFault, RecordMark, Recorder};
+use sip_journal::{Journal, NoJournal, OnFault, RecordMark, Recorder};
 use std::rt::Files;
 
 /// Why nothing more is recorded.

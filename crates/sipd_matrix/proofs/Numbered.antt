@@ -10,7 +10,7 @@ use Rattle.sip_policy.specs.Decision.{deciding_rule}
 use Rattle.sip_policy.specs.User.{is_users_name}
 use Rattle.sip_config_types.specs.declared.config.Config.{Config}
 use Rattle.sip_matrix.specs.declared.column.Column.{Column}
-use Rattle.sip_matrix.specs.declared.table.Table.{Table}
+use Rattle.sip_matrix.specs.declared.table.PolicyTable.{PolicyTable}
 use Rattle.sip_matrix.specs.Address.{column_of}
 use Rattle.sip_matrix.specs.Asker.{ask_alike, is_in_row, is_own}
 use Rattle.sip_matrix.specs.Column.{are_asked_alike}
@@ -42,7 +42,7 @@ one_there true n number e same = or_left _ _ (is_number n number same)
 one_there false n number e same = absurd (true≢false (sym e))
 
 module _ (config : Config) (operation : Operation) (aor : Aor) (minute : ℕ) where
-  abbrev table : Table
+  abbrev table : PolicyTable
   table = table_of config.rules config.users config.own.domains
 
   abbrev decided : Option (List ℕ) → ℕ

@@ -8,7 +8,7 @@ use Rattle.sip_policy.specs.Decision.{decision_with}
 use Rattle.sip_hops.specs.declared.hop.Hop.{Hop}
 use Rattle.sip_config_types.specs.declared.config.Config.{Config}
 use Rattle.sip_matrix.specs.declared.column.Column.{Column}
-use Rattle.sip_matrix.specs.declared.table.Table.{Table}
+use Rattle.sip_matrix.specs.declared.table.PolicyTable.{PolicyTable}
 use Rattle.sip_matrix.specs.Column.{is_known}
 use Rattle.sip_matrix.specs.Cell.{rule_in}
 use Rattle.sip_matrix.specs.Own as Owned
@@ -125,15 +125,15 @@ numbers_of_row config operation columns class piece row =
     number_of_others config operation columns class piece row ++ number_of_own config operation columns class piece row
 
 -- of all rows, for a class
-abbrev pub numbers_of_class : Config → Operation → Table → ℕ → Column → List ℕ
+abbrev pub numbers_of_class : Config → Operation → PolicyTable → ℕ → Column → List ℕ
 numbers_of_class config operation table piece class =
     (number_at config operation None class (are_known config class) piece ∷ [])
     ++ flat_map (numbers_of_row config operation table.columns class piece) table.rows
 
 -- of all classes, in a piece of the day
-abbrev pub numbers_of_piece : Config → Operation → Table → ℕ → List ℕ
+abbrev pub numbers_of_piece : Config → Operation → PolicyTable → ℕ → List ℕ
 numbers_of_piece config operation table piece = flat_map (numbers_of_class config operation table piece) table.classes
 
 -- of the whole table
-abbrev pub numbers_of : Config → Operation → Table → List ℕ
+abbrev pub numbers_of : Config → Operation → PolicyTable → List ℕ
 numbers_of config operation table = flat_map (numbers_of_piece config operation table) table.pieces

@@ -10,7 +10,7 @@ use Rattle.sip_policy.specs.Operation.{matches_operation}
 use Rattle.sip_config_types.specs.declared.config.Config.{Config}
 use Rattle.sip_matrix.specs.declared.column.Column.{Column}
 use Rattle.sip_matrix.specs.declared.column.Column.TheVariants.{Named, Begins, Elsewhere}
-use Rattle.sip_matrix.specs.declared.table.Table.{Table}
+use Rattle.sip_matrix.specs.declared.table.PolicyTable.{PolicyTable}
 use Rattle.sip_matrix.specs.Asker.{ask_alike}
 use Rattle.sip_matrix.specs.Column.{are_asked_alike}
 use Rattle.sip_matrix.specs.Table.{table_of}
@@ -63,7 +63,7 @@ abbrev pub field_text : Config → Operation → List Column → Column → ℕ 
 field_text config operation columns class piece row = padded (cell_text config operation columns class piece (Some row))
 
 -- the cells of a class, and its addresses
-abbrev pub class_line : Config → Operation → Table → ℕ → Column → List ℕ
+abbrev pub class_line : Config → Operation → PolicyTable → ℕ → Column → List ℕ
 class_line config operation table piece class =
     padded (cell_text config operation table.columns class piece None)
     ++ flat_map (field_text config operation table.columns class piece) table.rows
@@ -71,11 +71,11 @@ class_line config operation table piece class =
     ++ codes "\n"
 
 -- who asks, above the cells
-abbrev pub head_line : Table → List ℕ
+abbrev pub head_line : PolicyTable → List ℕ
 head_line table = padded (codes "nobody") ++ flat_map padded table.rows ++ codes " asks for\n"
 
 -- a piece of the day
-abbrev pub piece_lines : Config → Operation → Table → ℕ → List ℕ
+abbrev pub piece_lines : Config → Operation → PolicyTable → ℕ → List ℕ
 piece_lines config operation table piece =
     codes "\nfrom " ++ clock_text piece ++ codes "\n" ++ head_line table ++ flat_map (class_line config operation table piece) table.classes
 
@@ -130,11 +130,11 @@ abbrev pub unnamed : Config → List ℕ
 unnamed config = flat_map (hop_line config.hops config.rules) config.hops ++ flat_map (user_lines config.rules) config.users
 
 -- the users of each row, and the rules for the operation, the hops and the groups that decide nothing
-abbrev pub foot : Config → Operation → Table → List ℕ → List ℕ
+abbrev pub foot : Config → Operation → PolicyTable → List ℕ → List ℕ
 foot config operation table numbers =
     codes "\n" ++ flat_map (row_line config) table.rows ++ flat_map (unused_line operation numbers) config.rules ++ unnamed config
 
-abbrev pub text_of : Config → Operation → Table → List ℕ
+abbrev pub text_of : Config → Operation → PolicyTable → List ℕ
 text_of config operation table =
     title config operation ++ legend ++ flat_map (piece_lines config operation table) table.pieces
     ++ foot config operation table (numbers_of config operation table)

@@ -2,7 +2,7 @@
 //! each class of who asks.
 //!
 //! - Used: `sipd_tools`, for the command `matrix`; `sipd_matrix_forms` and `sipd_matrix_changes`, for what stands in a cell and its words.
-//! - Not here: which cells there are, and that they are all (`sip_matrix`); one question (`sipd_questions`).
+//! - Not here: which cells there are, and that they are all (`sip_matrix`); one question (`sipd_ask`).
 //! - Tried: worked examples in `src/examples.rt`, as contracts that compute.
 //!
 //! That no rule which decides is told to decide nothing, and that all users of a row are of its groups, is said in `laws`.
@@ -13,7 +13,7 @@ pub mod examples;
 pub mod laws;
 mod numbers;
 mod text;
-mod unused;
+mod unused_names;
 mod words;
 
 pub use cells::{

@@ -5,7 +5,7 @@ ghost use Rattle.sipd_matrix.specs.Cells as Definitions;
 
 use crate::cells::{are_known, has_others, has_own, number_at};
 use sip_config_types::Config;
-use sip_matrix::{Column, Table};
+use sip_matrix::{Column, PolicyTable};
 use sip_policy::Operation;
 use sip_text::{Bytes, Items};
 use std::alloc::{AllocError, Global};
@@ -92,7 +92,7 @@ fn add_class(
     numbers: &mut Items<u32>,
     config: &Config,
     operation: &Operation,
-    table: &Table,
+    table: &PolicyTable,
     piece: u16,
     class: &Column,
 ) -> Result<(), AllocError>
@@ -116,7 +116,7 @@ fn add_classes(
     numbers: &mut Items<u32>,
     config: &Config,
     operation: &Operation,
-    table: &Table,
+    table: &PolicyTable,
     piece: u16,
     classes: &[Column],
 ) -> Result<(), AllocError>
@@ -133,7 +133,7 @@ fn add_pieces(
     numbers: &mut Items<u32>,
     config: &Config,
     operation: &Operation,
-    table: &Table,
+    table: &PolicyTable,
     pieces: &[u16],
 ) -> Result<(), AllocError>
     ensures { OnOk result (numbers.new ≡ numbers.old ++ flat_map (Definitions.numbers_of_piece config.now operation.now table.now) pieces.now) }
@@ -150,7 +150,7 @@ pub fn numbers_of(
     alloc: Global,
     config: &Config,
     operation: &Operation,
-    table: &Table,
+    table: &PolicyTable,
 ) -> Result<Items<u32>, AllocError>
     ensures { IfOk result (λ numbers. numbers ≡ Definitions.numbers_of config.now operation.now table.now) }
 {

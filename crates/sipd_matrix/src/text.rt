@@ -7,10 +7,10 @@ ghost use Rattle.sipd_matrix.specs.Cells.{cell_text};
 
 use crate::cells::{are_of_class, are_of_row, put_cell};
 use crate::numbers::numbers_of;
-use crate::unused::{is_named, put_all_groups, put_hops};
+use crate::unused_names::{is_named, put_all_groups, put_hops};
 use crate::words::{operation_word, put_both, put_clock, put_column, put_padded, put_signed};
 use sip_config_types::Config;
-use sip_matrix::{Column, Table, table_of};
+use sip_matrix::{Column, PolicyTable, table_of};
 use sip_policy::{Operation, Rule, User};
 use sip_text::{Bytes, Items, same_bytes};
 use std::alloc::{AllocError, Global};
@@ -104,7 +104,7 @@ fn put_class(
     text: &mut Bytes,
     config: &Config,
     operation: &Operation,
-    table: &Table,
+    table: &PolicyTable,
     piece: u16,
     class: &Column,
 ) -> Result<(), AllocError>
@@ -123,7 +123,7 @@ fn put_classes(
     text: &mut Bytes,
     config: &Config,
     operation: &Operation,
-    table: &Table,
+    table: &PolicyTable,
     piece: u16,
     classes: &[Column],
 ) -> Result<(), AllocError>
@@ -145,7 +145,7 @@ fn put_heads(text: &mut Bytes, rows: &[Bytes]) -> Result<(), AllocError>
 }
 
 /// Adds who asks, above the cells.
-fn put_head(text: &mut Bytes, table: &Table) -> Result<(), AllocError>
+fn put_head(text: &mut Bytes, table: &PolicyTable) -> Result<(), AllocError>
     ensures { OnOk result (text.new ≡ text.old ++ Definitions.head_line table.now) }
 {
     put_padded(text, b"nobody")?;
@@ -159,7 +159,7 @@ fn put_piece(
     text: &mut Bytes,
     config: &Config,
     operation: &Operation,
-    table: &Table,
+    table: &PolicyTable,
     piece: u16,
 ) -> Result<(), AllocError>
     ensures { OnOk result (text.new ≡ text.old ++ Definitions.piece_lines config.now operation.now table.now piece) }
@@ -177,7 +177,7 @@ fn put_pieces(
     text: &mut Bytes,
     config: &Config,
     operation: &Operation,
-    table: &Table,
+    table: &PolicyTable,
     pieces: &[u16],
 ) -> Result<(), AllocError>
     ensures { OnOk result (text.new ≡ text.old ++ flat_map (Definitions.piece_lines config.now operation.now table.now) pieces.now) }
@@ -369,7 +369,7 @@ pub fn put_foot(
     text: &mut Bytes,
     config: &Config,
     operation: &Operation,
-    table: &Table,
+    table: &PolicyTable,
     numbers: &Items<u32>,
 ) -> Result<(), AllocError>
     ensures { OnOk result (text.new ≡ text.old ++ Definitions.foot config.now operation.now table.now numbers.now) }
@@ -392,7 +392,7 @@ fn text_of(
     alloc: Global,
     config: &Config,
     operation: &Operation,
-    table: &Table,
+    table: &PolicyTable,
 ) -> Result<Bytes, AllocError>
     ensures { IfOk result (λ text. text ≡ Definitions.text_of config.now operation.now table.now) }
 {

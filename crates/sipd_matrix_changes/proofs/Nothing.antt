@@ -8,7 +8,7 @@ use Rattle.sip_policy.specs.declared.operation.Operation.{Operation}
 use Rattle.sip_policy.specs.User.{is_users_name}
 use Rattle.sip_config_types.specs.declared.config.Config.{Config}
 use Rattle.sip_matrix.specs.declared.column.Column.{Column}
-use Rattle.sip_matrix.specs.declared.table.Table.{Table}
+use Rattle.sip_matrix.specs.declared.table.PolicyTable.{PolicyTable}
 use Rattle.sip_matrix.proofs.Firsts.{counted_there}
 use Rattle.sip_matrix.proofs.Minutes.{one_piece}
 use Rattle.sipd_matrix_changes.specs.Both.{are_asked_alike_by_both, ask_alike_of_both, asks_own, column_of, is_in_row}
@@ -50,7 +50,7 @@ no_line e = ap has_byte e
 -- ---- one cell
 
 module _ (old new : Config) (operation : Operation) where
-  abbrev table : Table
+  abbrev table : PolicyTable
   table = table_of old new
 
   -- where its line is empty, it isn't told

@@ -8,7 +8,7 @@ use Rattle.sip_policy.specs.declared.rule.Rule.{Rule}
 use Rattle.sip_policy.specs.User.{is_own_domain, is_users_name}
 use Rattle.sip_config_types.specs.declared.config.Config.{Config}
 use Rattle.sip_matrix.specs.declared.column.Column.{Column}
-use Rattle.sip_matrix.specs.declared.table.Table.{Table}
+use Rattle.sip_matrix.specs.declared.table.PolicyTable.{PolicyTable}
 use Rattle.sip_matrix.specs.Address as Address
 use Rattle.sip_matrix.specs.Asker.{ask_alike, names_of}
 use Rattle.sip_matrix.specs.Column.{are_asked_alike}
@@ -88,7 +88,7 @@ abbrev pub all_columns : Config → Config → List Column
 all_columns old new = Tables.all_columns (rules_of old new) (users_of old new) (domains_of old new)
 
 -- the table of both
-abbrev pub table_of : Config → Config → Table
+abbrev pub table_of : Config → Config → PolicyTable
 table_of old new =
     record {
       rows = kinds_of (ask_alike_of_both old new) (names_of (users_of old new));

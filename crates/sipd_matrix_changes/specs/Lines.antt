@@ -6,7 +6,7 @@ use Rattle.sip_policy.specs.declared.user.User.{User}
 use Rattle.sip_policy.specs.User.{is_users_name}
 use Rattle.sip_config_types.specs.declared.config.Config.{Config}
 use Rattle.sip_matrix.specs.declared.column.Column.{Column}
-use Rattle.sip_matrix.specs.declared.table.Table.{Table}
+use Rattle.sip_matrix.specs.declared.table.PolicyTable.{PolicyTable}
 use Rattle.sipd_matrix.specs.Cells.{value_text}
 use Rattle.sipd_matrix.specs.Text.{clock_text, column_text, end_of}
 use Rattle.sipd_matrix_changes.specs.Both.{are_asked_alike_by_both, ask_alike_of_both, proven_to, table_of}
@@ -55,36 +55,36 @@ askers_text old new columns class row own =
     ++ flat_map (member_text old new class) columns
 
 -- the line of a cell
-abbrev pub cell_line : Config → Config → Operation → Table → ℕ → Column → Option (List ℕ) → Bool → List ℕ
+abbrev pub cell_line : Config → Config → Operation → PolicyTable → ℕ → Column → Option (List ℕ) → Bool → List ℕ
 cell_line old new operation table piece class row own =
     span_text table.pieces piece ++ codes " " ++ values_text old new operation row class own piece
     ++ askers_text old new table.columns class row own ++ codes "\n"
 
 -- the same, if it is told
-abbrev pub own_line : Config → Config → Operation → Table → ℕ → Column → Option (List ℕ) → Bool → List ℕ
+abbrev pub own_line : Config → Config → Operation → PolicyTable → ℕ → Column → Option (List ℕ) → Bool → List ℕ
 own_line old new operation table piece class row own =
     if is_told old new operation table.columns piece class row own then cell_line old new operation table piece class row own else []
 
 -- those of a row: for other addresses, and for own ones
-abbrev pub row_lines : Config → Config → Operation → Table → ℕ → Column → Option (List ℕ) → List ℕ
+abbrev pub row_lines : Config → Config → Operation → PolicyTable → ℕ → Column → Option (List ℕ) → List ℕ
 row_lines old new operation table piece class row =
     own_line old new operation table piece class row false ++ own_line old new operation table piece class row true
 
 -- the same of a row of users
-abbrev pub user_lines : Config → Config → Operation → Table → ℕ → Column → List ℕ → List ℕ
+abbrev pub user_lines : Config → Config → Operation → PolicyTable → ℕ → Column → List ℕ → List ℕ
 user_lines old new operation table piece class row = row_lines old new operation table piece class (Some row)
 
 -- those of a class: nobody's, and those of each row of users
-abbrev pub class_lines : Config → Config → Operation → Table → ℕ → Column → List ℕ
+abbrev pub class_lines : Config → Config → Operation → PolicyTable → ℕ → Column → List ℕ
 class_lines old new operation table piece class =
     row_lines old new operation table piece class None ++ flat_map (user_lines old new operation table piece class) table.rows
 
 -- those of a piece of the day
-abbrev pub piece_lines : Config → Config → Operation → Table → ℕ → List ℕ
+abbrev pub piece_lines : Config → Config → Operation → PolicyTable → ℕ → List ℕ
 piece_lines old new operation table piece = flat_map (class_lines old new operation table piece) table.classes
 
 -- all
-abbrev pub lines_of : Config → Config → Operation → Table → List ℕ
+abbrev pub lines_of : Config → Config → Operation → PolicyTable → List ℕ
 lines_of old new operation table = flat_map (piece_lines old new operation table) table.pieces
 
 -- what changes between two configurations, of an operation

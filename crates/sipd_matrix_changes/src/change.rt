@@ -4,7 +4,7 @@ ghost use Rattle.std.specs.Option.{option_copied};
 ghost use Rattle.sipd_matrix_changes.specs.Both;
 ghost use Rattle.sipd_matrix_changes.specs.Change as Definitions;
 
-use crate::both::{ask_alike, proven_to};
+use crate::both_configurations::{ask_alike, proven_to};
 use crate::table::are_asked_alike;
 use sip_config_types::Config;
 use sip_matrix::{Column, agree};

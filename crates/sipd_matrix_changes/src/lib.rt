@@ -7,7 +7,7 @@
 //! That no question is missing that is decided otherwise, and none is told that isn't, is said in `laws`.
 #![tactic(auto)]
 
-mod both;
+mod both_configurations;
 mod change;
 pub mod examples;
 pub mod laws;

@@ -4,11 +4,11 @@ ghost use Rattle.std.specs.List.{flat_map};
 ghost use Rattle.std.specs.Option.{option_copied};
 ghost use Rattle.sipd_matrix_changes.specs.Lines as Definitions;
 
-use crate::both::{ask_alike, proven_to};
+use crate::both_configurations::{ask_alike, proven_to};
 use crate::change::{has_question, is_told, own_to};
 use crate::table::{are_asked_alike, table_of};
 use sip_config_types::Config;
-use sip_matrix::{Column, Table};
+use sip_matrix::{Column, PolicyTable};
 use sip_policy::{Operation, User};
 use sip_text::Bytes;
 use sipd_matrix::{end_of, put_both, put_clock, put_column, put_value};
@@ -211,7 +211,7 @@ fn put_cell(
     old: &Config,
     new: &Config,
     operation: &Operation,
-    table: &Table,
+    table: &PolicyTable,
     piece: u16,
     class: &Column,
     row: Option<&[u8]>,
@@ -234,7 +234,7 @@ fn put_own(
     old: &Config,
     new: &Config,
     operation: &Operation,
-    table: &Table,
+    table: &PolicyTable,
     piece: u16,
     class: &Column,
     row: Option<&[u8]>,
@@ -258,7 +258,7 @@ fn put_both_of(
     old: &Config,
     new: &Config,
     operation: &Operation,
-    table: &Table,
+    table: &PolicyTable,
     piece: u16,
     class: &Column,
     row: Option<&[u8]>,
@@ -279,7 +279,7 @@ fn put_rows(
     old: &Config,
     new: &Config,
     operation: &Operation,
-    table: &Table,
+    table: &PolicyTable,
     piece: u16,
     class: &Column,
     rows: &[Bytes],
@@ -300,7 +300,7 @@ fn put_class(
     old: &Config,
     new: &Config,
     operation: &Operation,
-    table: &Table,
+    table: &PolicyTable,
     piece: u16,
     class: &Column,
 ) -> Result<(), AllocError>
@@ -317,7 +317,7 @@ fn put_classes(
     old: &Config,
     new: &Config,
     operation: &Operation,
-    table: &Table,
+    table: &PolicyTable,
     piece: u16,
     classes: &[Column],
 ) -> Result<(), AllocError>
@@ -335,7 +335,7 @@ fn put_pieces(
     old: &Config,
     new: &Config,
     operation: &Operation,
-    table: &Table,
+    table: &PolicyTable,
     pieces: &[u16],
 ) -> Result<(), AllocError>
     ensures { OnOk result (text.new ≡ text.old ++ flat_map (Definitions.piece_lines old.now new.now operation.now table.now) pieces.now) }
@@ -353,7 +353,7 @@ fn lines_of(
     old: &Config,
     new: &Config,
     operation: &Operation,
-    table: &Table,
+    table: &PolicyTable,
 ) -> Result<Bytes, AllocError>
     ensures { IfOk result (λ text. text ≡ Definitions.lines_of old.now new.now operation.now table.now) }
 {

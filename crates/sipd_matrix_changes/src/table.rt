@@ -7,9 +7,9 @@ ghost use Rattle.sip_matrix.specs.Kinds.{kinds_of, with_kind};
 ghost use Rattle.sipd_matrix_changes.specs.Both as Definitions;
 ghost use Rattle.sipd_matrix_changes.specs.Both.{are_asked_alike_by_both, ask_alike_of_both};
 
-use crate::both::{ask_alike, domains_of, rules_of, users_of};
+use crate::both_configurations::{ask_alike, domains_of, rules_of, users_of};
 use sip_config_types::Config;
-use sip_matrix::{Column, Table, all_columns, columns_among, pieces_of};
+use sip_matrix::{Column, PolicyTable, all_columns, columns_among, pieces_of};
 use sip_policy::User;
 use sip_text::{Bytes, Items};
 use sipd_matrix::are_of_class;
@@ -131,7 +131,7 @@ fn pieces_of_both(alloc: Global, old: &Config, new: &Config) -> Result<Items<u16
 }
 
 /// The table of two configurations together. `AllocError` is the only refusal.
-pub(crate) fn table_of(alloc: Global, old: &Config, new: &Config) -> Result<Table, AllocError>
+pub(crate) fn table_of(alloc: Global, old: &Config, new: &Config) -> Result<PolicyTable, AllocError>
     ensures { IfOk result (λ table. table ≡ Definitions.table_of old.now new.now) }
 {
     let rows = rows_of(alloc, old, new)?;
@@ -139,7 +139,7 @@ pub(crate) fn table_of(alloc: Global, old: &Config, new: &Config) -> Result<Tabl
     let columns = columns_among(alloc, all.as_slice())?;
     let classes = classes_among(alloc, old, new, all.as_slice())?;
     let pieces = pieces_of_both(alloc, old, new)?;
-    Ok(Table {
+    Ok(PolicyTable {
         rows,
         columns,
         classes,

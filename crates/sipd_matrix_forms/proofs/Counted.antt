@@ -12,7 +12,7 @@ use Rattle.sip_policy.specs.Decision.{deciding_rule}
 use Rattle.sip_policy.specs.User.{is_users_name}
 use Rattle.sip_config_types.specs.declared.config.Config.{Config}
 use Rattle.sip_matrix.specs.declared.column.Column.{Column}
-use Rattle.sip_matrix.specs.declared.table.Table.{Table}
+use Rattle.sip_matrix.specs.declared.table.PolicyTable.{PolicyTable}
 use Rattle.sip_matrix.specs.Address.{column_of}
 use Rattle.sip_matrix.specs.Asker.{ask_alike, is_in_row, is_own}
 use Rattle.sip_matrix.specs.Column.{are_asked_alike}
@@ -80,7 +80,7 @@ and_yes true = refl
 and_yes false = refl
 
 module _ (config : Config) (operation : Operation) (proven : Option (List ℕ)) (aor : Aor) (minute : ℕ) where
-  abbrev table : Table
+  abbrev table : PolicyTable
   table = table_of config.rules config.users config.own.domains
 
   abbrev test : Cell → Bool

@@ -7,9 +7,9 @@ use Rattle.sip_policy.specs.declared.operation.Operation.{Operation}
 use Rattle.sip_policy.specs.User.{is_users_address}
 use Rattle.sip_hops.specs.declared.hop.Hop.{Hop as ConfiguredHop}
 use Rattle.sip_config_types.specs.declared.config.Config.{Config}
-use Rattle.sipd_questions.specs.declared.destination.Destination.{Destination}
-use Rattle.sipd_questions.specs.declared.destination.Destination.TheVariants.{Registrar, Bindings, NotFound}
-use Rattle.sipd_questions.specs.Destination.{destination_of}
+use Rattle.sipd_ask.specs.declared.destination.Destination.{Destination}
+use Rattle.sipd_ask.specs.declared.destination.Destination.TheVariants.{Registrar, Bindings, NotFound}
+use Rattle.sipd_ask.specs.Destination.{destination_of}
 use Rattle.sipd_matrix.specs.Cells.{hop_mark, mark_of, sent_mark}
 use Rattle.sipd_matrix_forms.specs.Destinations.{hop_sign, hop_word, place_by, sign_by}
 use Rattle.sipd_matrix_forms.specs.Outcome.{hop_place, place_of, place_of_known, sent_place}

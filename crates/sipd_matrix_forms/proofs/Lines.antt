@@ -5,7 +5,7 @@ use Rattle.std.proofs.lemmas.List.Concat.{flat_map-append}
 use Rattle.sip_policy.specs.declared.operation.Operation.{Operation}
 use Rattle.sip_config_types.specs.declared.config.Config.{Config}
 use Rattle.sip_matrix.specs.declared.column.Column.{Column}
-use Rattle.sip_matrix.specs.declared.table.Table.{Table}
+use Rattle.sip_matrix.specs.declared.table.PolicyTable.{PolicyTable}
 use Rattle.sipd_matrix_forms.specs.Cells.{Cell, cell_at, cells_of, cells_of_class, cells_of_piece, cells_of_row, is_split}
 use Rattle.sipd_matrix_forms.specs.Csv.{cell_line, class_lines, csv_of, header, line_of, piece_lines, row_lines, user_lines}
 
@@ -16,7 +16,7 @@ flat_in write parts whole same [] = refl
 flat_in write parts whole same (x ∷ xs) =
     ap₂ (λ (a b : List ℕ). a ++ b) (same x) (flat_in write parts whole same xs) ∙ sym (flat_map-append write (parts x) (flat_map parts xs))
 
-module _ (config : Config) (operation : Operation) (table : Table) where
+module _ (config : Config) (operation : Operation) (table : PolicyTable) where
   abbrev line : Cell → List ℕ
   line = line_of config operation table
 

@@ -6,7 +6,7 @@ use Rattle.sip_uri.specs.declared.aor.Aor.{Aor}
 use Rattle.sip_policy.specs.declared.operation.Operation.{Operation}
 use Rattle.sip_config_types.specs.declared.config.Config.{Config}
 use Rattle.sip_matrix.specs.declared.column.Column.{Column}
-use Rattle.sip_matrix.specs.declared.table.Table.{Table}
+use Rattle.sip_matrix.specs.declared.table.PolicyTable.{PolicyTable}
 use Rattle.sip_matrix.specs.Address.{column_of}
 use Rattle.sip_matrix.specs.Asker.{is_in_row, is_own}
 use Rattle.sip_matrix.specs.Column.{are_asked_alike}
@@ -36,17 +36,17 @@ cells_of_row config operation columns piece class row =
     ∷ (if is_split config operation columns piece class row then cell_at piece class row true ∷ [] else [])
 
 -- of all rows
-abbrev pub cells_of_class : Config → Operation → Table → ℕ → Column → List Cell
+abbrev pub cells_of_class : Config → Operation → PolicyTable → ℕ → Column → List Cell
 cells_of_class config operation table piece class =
     cells_of_row config operation table.columns piece class None
     ++ flat_map (λ row. cells_of_row config operation table.columns piece class (Some row)) table.rows
 
 -- of all classes
-abbrev pub cells_of_piece : Config → Operation → Table → ℕ → List Cell
+abbrev pub cells_of_piece : Config → Operation → PolicyTable → ℕ → List Cell
 cells_of_piece config operation table piece = flat_map (cells_of_class config operation table piece) table.classes
 
 -- all
-abbrev pub cells_of : Config → Operation → Table → List Cell
+abbrev pub cells_of : Config → Operation → PolicyTable → List Cell
 cells_of config operation table = flat_map (cells_of_piece config operation table) table.pieces
 
 -- whether a question is of a class of a piece of the day, and of a row

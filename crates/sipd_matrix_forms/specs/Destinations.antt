@@ -3,8 +3,8 @@ use Rattle.std.specs.Prelude.{ℕ, List, [], ◌++◌, codes, Option, Some, None
 use Rattle.std.specs.List.{slice_get}
 use Rattle.sip_policy.specs.declared.decision.Decision.{Decision}
 use Rattle.sip_hops.specs.declared.hop.Hop.{Hop as ConfiguredHop}
-use Rattle.sipd_questions.specs.declared.destination.Destination.{Destination}
-use Rattle.sipd_questions.specs.declared.destination.Destination.TheVariants.{Nowhere, Registrar, Bindings, Hop, NotFound}
+use Rattle.sipd_ask.specs.declared.destination.Destination.{Destination}
+use Rattle.sipd_ask.specs.declared.destination.Destination.TheVariants.{Nowhere, Registrar, Bindings, Hop, NotFound}
 
 -- ---- the sign in a cell
 

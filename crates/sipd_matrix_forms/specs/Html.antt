@@ -5,7 +5,7 @@ use Rattle.std.specs.Str.{byte, bytes_eq}
 use Rattle.sip_policy.specs.declared.operation.Operation.{Operation}
 use Rattle.sip_config_types.specs.declared.config.Config.{Config}
 use Rattle.sip_matrix.specs.declared.column.Column.{Column}
-use Rattle.sip_matrix.specs.declared.table.Table.{Table}
+use Rattle.sip_matrix.specs.declared.table.PolicyTable.{PolicyTable}
 use Rattle.sip_matrix.specs.Table.{table_of}
 use Rattle.sipd_matrix.specs.Cells.{cell_text, numbers_of}
 use Rattle.sipd_matrix.specs.Text.{clock_text, end_of, foot, legend, member_text, title}
@@ -72,7 +72,7 @@ abbrev pub target_cell : Config → List Column → Column → List ℕ
 target_cell config columns class = codes "<td>" ++ escaped (flat_map (member_text config class) columns) ++ codes "</td>"
 
 -- a line of the table
-abbrev pub class_row : Config → Operation → Table → ℕ → Column → List ℕ
+abbrev pub class_row : Config → Operation → PolicyTable → ℕ → Column → List ℕ
 class_row config operation table piece class =
     codes "<tr>" ++ data_cell config operation table.columns class piece None
     ++ flat_map (user_cell config operation table.columns class piece) table.rows
@@ -82,14 +82,14 @@ class_row config operation table piece class =
 abbrev pub head_cell : List ℕ → List ℕ
 head_cell name = codes "<th>" ++ escaped name ++ codes "</th>"
 
-abbrev pub head_row : Table → List ℕ
+abbrev pub head_row : PolicyTable → List ℕ
 head_row table = codes "<tr><th>nobody</th>" ++ flat_map head_cell table.rows ++ codes "<th>asks for</th></tr>\n"
 
 -- a piece of the day
-abbrev pub piece_title : Table → ℕ → List ℕ
+abbrev pub piece_title : PolicyTable → ℕ → List ℕ
 piece_title table piece = codes "<h2>" ++ clock_text piece ++ codes "-" ++ clock_text (end_of table.pieces piece) ++ codes "</h2>\n"
 
-abbrev pub piece_table : Config → Operation → Table → ℕ → List ℕ
+abbrev pub piece_table : Config → Operation → PolicyTable → ℕ → List ℕ
 piece_table config operation table piece =
     piece_title table piece ++ codes "<table>\n" ++ head_row table ++ flat_map (class_row config operation table piece) table.classes ++ codes "</table>\n"
 
@@ -121,10 +121,10 @@ abbrev pub signs : List ℕ
 signs = text_block legend
 
 -- what stands under the cells: the users of each row, and the rules, the hops and the groups that decide nothing
-abbrev pub text_end : Config → Operation → Table → List ℕ → List ℕ
+abbrev pub text_end : Config → Operation → PolicyTable → List ℕ → List ℕ
 text_end config operation table numbers = text_block (foot config operation table numbers) ++ codes "</body>\n</html>\n"
 
-abbrev pub html_of : Config → Operation → Table → List ℕ
+abbrev pub html_of : Config → Operation → PolicyTable → List ℕ
 html_of config operation table =
     page_begin ++ heading config operation ++ signs ++ flat_map (piece_table config operation table) table.pieces
     ++ text_end config operation table (numbers_of config operation table)

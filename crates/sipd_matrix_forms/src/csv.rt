@@ -7,7 +7,7 @@ ghost use Rattle.sipd_matrix_forms.specs.Csv as Definitions;
 
 use crate::outcome::{place_at, verdict_at};
 use sip_config_types::Config;
-use sip_matrix::{Column, Table, table_of};
+use sip_matrix::{Column, PolicyTable, table_of};
 use sip_policy::Operation;
 use sip_text::Bytes;
 use sipd_matrix::{
@@ -124,7 +124,7 @@ pub(crate) fn own_at(config: &Config, class: &Column, row: Option<&[u8]>, second
 }
 
 /// Adds when.
-fn put_span(text: &mut Bytes, table: &Table, piece: u16) -> Result<(), AllocError>
+fn put_span(text: &mut Bytes, table: &PolicyTable, piece: u16) -> Result<(), AllocError>
     ensures { OnOk result (text.new ≡ text.old ++ Definitions.span_fields table.now piece) }
 {
     put_number(text, u64::from(piece))?;
@@ -137,7 +137,7 @@ fn put_question(
     text: &mut Bytes,
     config: &Config,
     operation: &Operation,
-    table: &Table,
+    table: &PolicyTable,
     piece: u16,
     class: &Column,
     row: Option<&[u8]>,
@@ -178,7 +178,7 @@ fn put_cell(
     text: &mut Bytes,
     config: &Config,
     operation: &Operation,
-    table: &Table,
+    table: &PolicyTable,
     piece: u16,
     class: &Column,
     row: Option<&[u8]>,
@@ -200,7 +200,7 @@ fn put_second(
     text: &mut Bytes,
     config: &Config,
     operation: &Operation,
-    table: &Table,
+    table: &PolicyTable,
     piece: u16,
     class: &Column,
     row: Option<&[u8]>,
@@ -223,7 +223,7 @@ fn put_row(
     text: &mut Bytes,
     config: &Config,
     operation: &Operation,
-    table: &Table,
+    table: &PolicyTable,
     piece: u16,
     class: &Column,
     row: Option<&[u8]>,
@@ -241,7 +241,7 @@ fn put_rows(
     text: &mut Bytes,
     config: &Config,
     operation: &Operation,
-    table: &Table,
+    table: &PolicyTable,
     piece: u16,
     class: &Column,
     rows: &[Bytes],
@@ -261,7 +261,7 @@ fn put_class(
     text: &mut Bytes,
     config: &Config,
     operation: &Operation,
-    table: &Table,
+    table: &PolicyTable,
     piece: u16,
     class: &Column,
 ) -> Result<(), AllocError>
@@ -277,7 +277,7 @@ fn put_classes(
     text: &mut Bytes,
     config: &Config,
     operation: &Operation,
-    table: &Table,
+    table: &PolicyTable,
     piece: u16,
     classes: &[Column],
 ) -> Result<(), AllocError>
@@ -294,7 +294,7 @@ fn put_pieces(
     text: &mut Bytes,
     config: &Config,
     operation: &Operation,
-    table: &Table,
+    table: &PolicyTable,
     pieces: &[u16],
 ) -> Result<(), AllocError>
     ensures { OnOk result (text.new ≡ text.old ++ flat_map (Definitions.piece_lines config.now operation.now table.now) pieces.now) }
@@ -318,7 +318,7 @@ fn csv_of(
     alloc: Global,
     config: &Config,
     operation: &Operation,
-    table: &Table,
+    table: &PolicyTable,
 ) -> Result<Bytes, AllocError>
     ensures { IfOk result (λ text. text ≡ Definitions.csv_of config.now operation.now table.now) }
 {

@@ -7,7 +7,7 @@ ghost use Rattle.sipd_matrix_forms.specs.Html as Definitions;
 use crate::csv::own_at;
 use crate::outcome::{place_at, verdict_at};
 use sip_config_types::Config;
-use sip_matrix::{Column, Table, table_of};
+use sip_matrix::{Column, PolicyTable, table_of};
 use sip_policy::Operation;
 use sip_text::{Bytes, Items, same_bytes};
 use sipd_matrix::{
@@ -169,7 +169,7 @@ fn put_class(
     text: &mut Bytes,
     config: &Config,
     operation: &Operation,
-    table: &Table,
+    table: &PolicyTable,
     piece: u16,
     class: &Column,
 ) -> Result<(), AllocError>
@@ -189,7 +189,7 @@ fn put_classes(
     text: &mut Bytes,
     config: &Config,
     operation: &Operation,
-    table: &Table,
+    table: &PolicyTable,
     piece: u16,
     classes: &[Column],
 ) -> Result<(), AllocError>
@@ -219,7 +219,7 @@ fn put_head_cells(text: &mut Bytes, rows: &[Bytes]) -> Result<(), AllocError>
 }
 
 /// Adds who asks, above the cells.
-fn put_head(text: &mut Bytes, table: &Table) -> Result<(), AllocError>
+fn put_head(text: &mut Bytes, table: &PolicyTable) -> Result<(), AllocError>
     ensures { OnOk result (text.new ≡ text.old ++ Definitions.head_row table.now) }
 {
     text.extend(b"<tr><th>nobody</th>")?;
@@ -227,7 +227,7 @@ fn put_head(text: &mut Bytes, table: &Table) -> Result<(), AllocError>
     text.extend(b"<th>asks for</th></tr>\n")
 }
 
-fn put_piece_title(text: &mut Bytes, table: &Table, piece: u16) -> Result<(), AllocError>
+fn put_piece_title(text: &mut Bytes, table: &PolicyTable, piece: u16) -> Result<(), AllocError>
     ensures { OnOk result (text.new ≡ text.old ++ Definitions.piece_title table.now piece) }
 {
     text.extend(b"<h2>")?;
@@ -243,7 +243,7 @@ fn put_piece(
     text: &mut Bytes,
     config: &Config,
     operation: &Operation,
-    table: &Table,
+    table: &PolicyTable,
     piece: u16,
 ) -> Result<(), AllocError>
     ensures { OnOk result (text.new ≡ text.old ++ Definitions.piece_table config.now operation.now table.now piece) }
@@ -261,7 +261,7 @@ fn put_pieces(
     text: &mut Bytes,
     config: &Config,
     operation: &Operation,
-    table: &Table,
+    table: &PolicyTable,
     pieces: &[u16],
 ) -> Result<(), AllocError>
     ensures { OnOk result (text.new ≡ text.old ++ flat_map (Definitions.piece_table config.now operation.now table.now) pieces.now) }
@@ -312,7 +312,7 @@ fn put_end(
     text: &mut Bytes,
     config: &Config,
     operation: &Operation,
-    table: &Table,
+    table: &PolicyTable,
     numbers: &Items<u32>,
 ) -> Result<(), AllocError>
     ensures { OnOk result (text.new ≡ text.old ++ Definitions.text_end config.now operation.now table.now numbers.now) }
@@ -335,7 +335,7 @@ fn html_of(
     alloc: Global,
     config: &Config,
     operation: &Operation,
-    table: &Table,
+    table: &PolicyTable,
 ) -> Result<Bytes, AllocError>
     ensures { IfOk result (λ text. text ≡ Definitions.html_of config.now operation.now table.now) }
 {

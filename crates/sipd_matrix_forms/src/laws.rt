@@ -6,10 +6,10 @@ ghost use Rattle.sip_policy.specs.declared.operation.Operation.{Operation};
 ghost use Rattle.sip_policy.specs.Decision.{deciding_rule};
 ghost use Rattle.sip_policy.specs.User.{is_users_address};
 ghost use Rattle.sip_config_types.specs.declared.config.Config.{Config};
-ghost use Rattle.sip_matrix.specs.declared.table.Table.{Table};
+ghost use Rattle.sip_matrix.specs.declared.table.PolicyTable.{PolicyTable};
 ghost use Rattle.sip_matrix.specs.Expected.{is_asker};
 ghost use Rattle.sip_matrix.specs.Table.{columns_of, table_of};
-ghost use Rattle.sipd_questions.specs.Destination.{destination_of};
+ghost use Rattle.sipd_ask.specs.Destination.{destination_of};
 ghost use Rattle.sipd_matrix.specs.Cells.{mark_of, number_at, number_of};
 ghost use Rattle.sipd_matrix_forms.specs.Cells.{Cell, cells_of, is_of};
 ghost use Rattle.sipd_matrix_forms.specs.Destinations.{place_by, sign_by};
@@ -54,6 +54,6 @@ pub fn no_text_is_markup()
 
 /// Behind the names of the fields there is a line for each cell, and no other.
 pub fn each_cell_has_one_line()
-    ensures { (config : Config) (operation : Operation) (table : Table)
+    ensures { (config : Config) (operation : Operation) (table : PolicyTable)
         → csv_of config operation table ≡ header ++ flat_map (line_of config operation table) (cells_of config operation table) }
 {}

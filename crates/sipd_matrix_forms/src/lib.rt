@@ -1,7 +1,7 @@
 //! The whole policy of a configuration in other forms than text: comma-separated values, and a page of HTML.
 //!
 //! - Used: `sipd_tools`, for `matrix --csv` and `matrix --html`.
-//! - Not here: which cells there are (`sip_matrix`), the table as text (`sipd_matrix`), and one question (`sipd_questions`).
+//! - Not here: which cells there are (`sip_matrix`), the table as text (`sipd_matrix`), and one question (`sipd_ask`).
 //! - Tried: worked examples in `src/examples.rt`, as contracts that compute.
 //!
 //! That each cell has one line, each question one cell, that a cell says where a request goes as `decide` does, and that no text of a

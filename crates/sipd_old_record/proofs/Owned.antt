@@ -14,7 +14,7 @@ use Rattle.sip_segment_text.specs.declared.upcoming.Upcoming.TheVariants as upco
 use Rattle.sip_config.specs.Stated.{StatesNone}
 use Rattle.sip_segment_config.specs.Last.{IsDamagedPart}
 use Rattle.sip_segment_config.specs.Stops.{IsNext, NextIs, ReadStops}
-use Rattle.sip_segment_config.specs.declared.reading.Held.{Held}
+use Rattle.sip_segment_config.specs.declared.reading.RecordedConfig.{RecordedConfig}
 use Rattle.sip_segment_config.specs.declared.stop.SegmentStop.{SegmentStop}
 use Rattle.sip_segment_config.specs.declared.stop.SegmentStop.TheVariants.{NoMemory, Damaged, Cut, Read, TooLong, NoConfiguration, OtherFrame}
 use Rattle.sipd_old_record.specs.Own.{BeginsAsEvent, HoldsNone, HoldsOwn, IsNoEvent, OwnStops}
@@ -81,7 +81,7 @@ own_was digest old mid new before between after bytes config kept number fewer h
       same = h.same;
     }
 
-pub own_ahead : (result : Result (Option Held) SegmentStop) (digest : List ℕ) (next : Upcoming) (old mid new : Reading) (before between after : Option (List ℕ))
+pub own_ahead : (result : Result (Option RecordedConfig) SegmentStop) (digest : List ℕ) (next : Upcoming) (old mid new : Reading) (before between after : Option (List ℕ))
     → ComesNext next old mid before between → mid.number ≡ old.number → left mid ≤ left old
     → IfOk result (λ found. IfSome found (λ held. HoldsOwn digest mid new between after held.text held.config))
     → IfOk result (λ found. IfSome found (λ held. HoldsOwn digest old new before after held.text held.config))
@@ -90,7 +90,8 @@ own_ahead (Ok (Some held)) digest next old mid new before between after comes nu
 own_ahead (Ok None) digest next old mid new before between after comes number fewer h = tt
 own_ahead (Err stop) digest next old mid new before between after comes number fewer h = tt
 
-pub stops_ahead : (result : Result (Option Held) SegmentStop) (digest : List ℕ) (F : Type 0) (next : Upcoming) (old mid : Reading) (before between : Option (List ℕ))
+pub stops_ahead : (result : Result (Option RecordedConfig) SegmentStop) (digest : List ℕ) (F : Type 0) (next : Upcoming) (old mid : Reading)
+    (before between : Option (List ℕ))
     → ComesNext next old mid before between → mid.number ≡ old.number
     → IfErr result (OwnStops digest F (pending mid between) mid.number) → IfErr result (OwnStops digest F (pending old before) old.number)
 stops_ahead (Ok found) digest F next old mid before between comes number h = tt
@@ -118,7 +119,7 @@ none_was old mid new before between after k h = record {
   none = empty_of (pending old before) (pending new after) (Keeps-trans (pending old before) (pending mid between) (pending new after) k h.kept) h.at_end;
 }
 
-pub none_ahead : (result : Result (Option Held) SegmentStop) (next : Upcoming) (old mid new : Reading) (before between after : Option (List ℕ))
+pub none_ahead : (result : Result (Option RecordedConfig) SegmentStop) (next : Upcoming) (old mid new : Reading) (before between after : Option (List ℕ))
     → ComesNext next old mid before between
     → IfOk result (λ found. IfNone found (IsOver mid new between after)) → IfOk result (λ found. IfNone found (HoldsNone old new before after))
 none_ahead (Ok None) next old mid new before between after comes h = none_was old mid new before between after (next_kept next old mid before between comes) h

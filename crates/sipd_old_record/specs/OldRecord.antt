@@ -4,8 +4,8 @@ use Rattle.std.specs.Io.KnownBytes.{Consumes, IsAtEnd, Keeps}
 use Rattle.std.specs.declared.io.ErrorKind.{ErrorKind}
 use Rattle.sip_replay_script.specs.Devices.{IsFault}
 use Rattle.sip_replay_script.specs.Lines.{is_end}
-use Rattle.sip_record.specs.RecordHead.{head_of}
-use Rattle.sip_record.specs.declared.record_head.RecordHead.{RecordHead}
+use Rattle.sip_journal.specs.RecordHead.{head_of}
+use Rattle.sip_journal.specs.declared.record_head.RecordHead.{RecordHead}
 use Rattle.sipd_exit.specs.Exits.{exit_of_kind}
 use Rattle.sipd_exit.specs.declared.exit.Exit.{Exit}
 use Rattle.sipd_exit.specs.declared.exit.Exit.TheVariants.{Memory, NoRecord}

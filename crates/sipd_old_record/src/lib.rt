@@ -3,14 +3,15 @@
 //!
 //! - Used: `sipd_start`, for the record from which a server goes on; `sipd_replay`, for the one that is replayed; `sipd_tools`, for one that
 //!   a change is told against.
-//! - Not here: what the first line says (`sip_record`), how a configuration stands in a record (`sip_segment_config`), and what stands behind
+//! - Not here: what the first line says (`sip_journal`), how a configuration stands in a record (`sip_segment_config`), and what
+//!   stands behind
 //!   the first one (`sip_resume`).
 //! - Tried: `tests/serve.py`, `tests/faults.py`.
 #![tactic(auto)]
 
 pub mod laws;
 mod old_record;
-mod own;
+mod record_configuration;
 
 pub use old_record::{OldRecord, head_in, is_made_with, line_of_file, open_any_record, open_file};
-pub use own::own_configuration;
+pub use record_configuration::own_configuration;

@@ -7,7 +7,7 @@ ghost use Rattle.sipd_exit.specs.declared.exit.Exit.TheVariants.{Memory};
 ghost use Rattle.sipd_old_record.specs.OldRecord.{line_of_file, IsFirstLine, IsReaderFault, IsRefused, IsSystemFault, ReadsByte, SaysHead, WasSaid};
 ghost use Rattle.sipd_old_record.specs.Readers.{most_asks, HasStopped, WasAsked};
 
-use sip_record::{RecordHead, read_head};
+use sip_journal::{RecordHead, read_head};
 use sip_replay_script::TellingReader;
 use sipd_exit::Exit;
 use std::alloc::Global;

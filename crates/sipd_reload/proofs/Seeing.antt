@@ -8,29 +8,29 @@ use Rattle.sipd_reload.specs.declared.look.Look.TheVariants as looks
 use Rattle.sipd_reload.specs.declared.seen.Seen.{Seen}
 use Rattle.sipd_reload.specs.declared.sight.Sight.TheVariants as sights
 use Rattle.sipd_reload.specs.declared.stamp.Stamp.{Stamp}
-use Rattle.sipd_reload.specs.declared.told.Told.{Told}
-use Rattle.sipd_reload.specs.declared.told.Told.TheVariants.{Stamped, Gave}
+use Rattle.sipd_reload.specs.declared.file_answer.FileAnswer.{FileAnswer}
+use Rattle.sipd_reload.specs.declared.file_answer.FileAnswer.TheVariants.{Stamped, Gave}
 
 -- its stamp couldn't be had
-pub sees_failed : (seen : Seen) (before after : Option (List Told)) (fault : FileFault) → GrewBy (Stamped (Err fault)) before after
+pub sees_failed : (seen : Seen) (before after : Option (List FileAnswer)) (fault : FileFault) → GrewBy (Stamped (Err fault)) before after
     → Sees seen before after (sights.Failed fault)
 sees_failed seen before after fault grew =
     record { answers = record { stamp = Err fault; bytes = Err fault }; told = (after, grew, refl); is_sight = refl }
 
 -- it isn't read
-pub sees_same : (seen : Seen) (before after : Option (List Told)) (stamp : Stamp) → is_read seen stamp ≡ false
+pub sees_same : (seen : Seen) (before after : Option (List FileAnswer)) (stamp : Stamp) → is_read seen stamp ≡ false
     → GrewBy (Stamped (Ok stamp)) before after → Sees seen before after sights.Same
 sees_same seen before after stamp unread grew =
     record { answers = record { stamp = Ok stamp; bytes = Err Gone }; told = rw unread (after, grew, refl); is_sight = rw unread refl }
 
 -- it is read
-pub sees_held : (seen : Seen) (before between after : Option (List Told)) (stamp : Stamp) (bytes : List ℕ) → is_read seen stamp ≡ true
+pub sees_held : (seen : Seen) (before between after : Option (List FileAnswer)) (stamp : Stamp) (bytes : List ℕ) → is_read seen stamp ≡ true
     → GrewBy (Stamped (Ok stamp)) before between → GrewBy (Gave (Ok bytes)) between after → Sees seen before after (sights.Held stamp bytes)
 sees_held seen before between after stamp bytes read grew gave =
     record { answers = record { stamp = Ok stamp; bytes = Ok bytes }; told = rw read (between, grew, (after, gave, refl)); is_sight = rw read refl }
 
 -- it can't be read
-pub sees_unread : (seen : Seen) (before between after : Option (List Told)) (stamp : Stamp) (fault : FileFault) → is_read seen stamp ≡ true
+pub sees_unread : (seen : Seen) (before between after : Option (List FileAnswer)) (stamp : Stamp) (fault : FileFault) → is_read seen stamp ≡ true
     → GrewBy (Stamped (Ok stamp)) before between → GrewBy (Gave (Err fault)) between after → Sees seen before after (sights.Failed fault)
 sees_unread seen before between after stamp fault read grew gave =
     record { answers = record { stamp = Ok stamp; bytes = Err fault }; told = rw read (between, grew, (after, gave, refl)); is_sight = rw read refl }

@@ -6,7 +6,7 @@ use Rattle.std.specs.declared.io.ErrorKind.TheVariants.{NotFound, OutOfMemory}
 use Rattle.sipd_reload.specs.declared.file_fault.FileFault.{FileFault}
 use Rattle.sipd_reload.specs.declared.file_fault.FileFault.TheVariants.{NoMemory, Gone, TooLong, Device}
 use Rattle.sipd_reload.specs.declared.stamp.Stamp.{Stamp}
-use Rattle.sipd_reload.specs.declared.told.Told.{Told}
+use Rattle.sipd_reload.specs.declared.file_answer.FileAnswer.{FileAnswer}
 
 -- the most bytes that are read of a configuration
 abbrev pub most_bytes : ℕ
@@ -24,15 +24,15 @@ same_stamp left right =
     nat_eq left.inode right.inode && nat_eq left.seconds right.seconds && nat_eq left.nanoseconds right.nanoseconds && nat_eq left.length right.length
 
 -- what a file told has grown by this answer, where it is told still
-abbrev pub GrewBy : Told → Option (List Told) → Option (List Told) → Type 0
+abbrev pub GrewBy : FileAnswer → Option (List FileAnswer) → Option (List FileAnswer) → Type 0
 GrewBy last old None = ⊤
 GrewBy last None (Some all) = ⊥
 GrewBy last (Some list) (Some all) = all ≡ list ++ last ∷ []
 
 -- what a file told has grown by these answers, one after the other, and by no other
-abbrev pub GrewByAll : List Told → Option (List Told) → Option (List Told) → Type 0
+abbrev pub GrewByAll : List FileAnswer → Option (List FileAnswer) → Option (List FileAnswer) → Type 0
 GrewByAll [] old new = new ≡ old
-GrewByAll (first ∷ rest) old new = (between : Option (List Told)) × GrewBy first old between × GrewByAll rest between new
+GrewByAll (first ∷ rest) old new = (between : Option (List FileAnswer)) × GrewBy first old between × GrewByAll rest between new
 
 -- ---- reading
 

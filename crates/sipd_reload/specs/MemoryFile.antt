@@ -5,14 +5,14 @@ use Rattle.sipd_reload.specs.declared.file_fault.FileFault.{FileFault}
 use Rattle.sipd_reload.specs.declared.file_fault.FileFault.TheVariants.{Gone}
 use Rattle.sipd_reload.specs.declared.file_state.FileState.{FileState}
 use Rattle.sipd_reload.specs.declared.stamp.Stamp.{Stamp}
-use Rattle.sipd_reload.specs.declared.told.Told.{Told}
+use Rattle.sipd_reload.specs.declared.file_answer.FileAnswer.{FileAnswer}
 
 -- what a file over memory is seen as: what it shows, state by state; how many of these it has shown; and what it answered, where there was
 -- memory to tell it
 pub record MemoryFileState : Type 0 where
   pub states : List FileState
   pub shown : ℕ
-  pub told : Option (List Told)
+  pub told : Option (List FileAnswer)
 
 -- there is no file
 abbrev pub gone : FileState

@@ -10,8 +10,8 @@ use Rattle.sipd_reload.specs.declared.seen.Seen.TheVariants as seens
 use Rattle.sipd_reload.specs.declared.sight.Sight.{Sight}
 use Rattle.sipd_reload.specs.declared.sight.Sight.TheVariants as sights
 use Rattle.sipd_reload.specs.declared.stamp.Stamp.{Stamp}
-use Rattle.sipd_reload.specs.declared.told.Told.{Told}
-use Rattle.sipd_reload.specs.declared.told.Told.TheVariants.{Stamped, Gave}
+use Rattle.sipd_reload.specs.declared.file_answer.FileAnswer.{FileAnswer}
+use Rattle.sipd_reload.specs.declared.file_answer.FileAnswer.TheVariants.{Stamped, Gave}
 
 -- ---- what is asked of the file
 
@@ -44,11 +44,11 @@ reads seen (Ok stamp) = is_read seen stamp
 reads seen (Err fault) = false
 
 -- what a look is told: the stamp, and the bytes where it reads them
-abbrev pub asked : Seen → Answers → List Told
+abbrev pub asked : Seen → Answers → List FileAnswer
 asked seen answers = Stamped answers.stamp ∷ (if reads seen answers.stamp then Gave answers.bytes ∷ [] else [])
 
 -- a look at a file, of which this is known, sees this
-pub record Sees (seen : Seen) (before after : Option (List Told)) (sight : Sight) : Type 0 where
+pub record Sees (seen : Seen) (before after : Option (List FileAnswer)) (sight : Sight) : Type 0 where
   pub answers : Answers
   pub told : GrewByAll (asked seen answers) before after
   pub is_sight : sight ≡ sight_of seen answers
@@ -63,7 +63,7 @@ pub record WatchState : Type 0 where
   pub looked : ℕ
   pub seen : Seen
   pub fault : Option FileFault
-  pub told : Option (List Told)
+  pub told : Option (List FileAnswer)
 
 -- whether these are the bytes that were refused
 abbrev pub is_refused : Option (List ℕ) → List ℕ → Bool
@@ -140,7 +140,7 @@ abbrev pub is_due : WatchState → ℕ → Bool
 is_due watch now = nat_le (watch.looked + second) now
 
 -- what the watch is told at a moment, whose file gives these answers where it is asked
-abbrev pub asked_at : WatchState → ℕ → Answers → List Told
+abbrev pub asked_at : WatchState → ℕ → Answers → List FileAnswer
 asked_at watch now answers = if is_due watch now then asked watch.seen answers else []
 
 -- what it answers

@@ -4,7 +4,7 @@ ghost use Rattle.sipd_reload.specs.Examples.{at_first, stamp, holds, other_holds
 ghost use Rattle.sipd_reload.specs.Watch.{asked_at, with_taken, with_refused};
 ghost use Rattle.sipd_reload.specs.declared.file_fault.FileFault.TheVariants.{NoMemory, Gone, TooLong, Device};
 ghost use Rattle.sipd_reload.specs.declared.look.Look.TheVariants.{Nothing, Unsettled, Settled, Unread};
-ghost use Rattle.sipd_reload.specs.declared.told.Told.TheVariants.{Stamped, Gave};
+ghost use Rattle.sipd_reload.specs.declared.file_answer.FileAnswer.TheVariants.{Stamped, Gave};
 
 /// A file that is written in pieces isn't offered before it stays as it is for a second. One that is put in the place of the old one is
 /// offered a second later, though it has the same length and was changed at the same moment; one that changes endlessly never is.

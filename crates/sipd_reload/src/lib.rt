@@ -15,6 +15,7 @@
 #![tactic(auto)]
 
 pub mod examples;
+mod file_answer;
 mod file_fault;
 mod file_state;
 pub mod laws;
@@ -26,10 +27,10 @@ mod reading;
 mod seen;
 mod sight;
 mod stamp;
-mod told;
 mod watch;
 mod watched_file;
 
+pub use file_answer::FileAnswer;
 pub use file_fault::FileFault;
 pub use file_state::FileState;
 pub use limits::MOST_BYTES;
@@ -38,6 +39,5 @@ pub use memory_file::MemoryFile;
 pub use path_file::PathFile;
 pub use reading::read_configuration_file;
 pub use stamp::Stamp;
-pub use told::Told;
 pub use watch::Watch;
 pub use watched_file::WatchedFile;

@@ -4,13 +4,13 @@ ghost use Rattle.sipd_reload.specs.File.{GrewBy, most_bytes, short_bytes};
 ghost use Rattle.sipd_reload.specs.MemoryFile as Definitions;
 ghost use Rattle.sipd_reload.specs.MemoryFile.{next_shown};
 ghost use Rattle.sipd_reload.specs.declared.file_fault.FileFault.TheVariants.{NoMemory};
-ghost use Rattle.sipd_reload.specs.declared.told.Told.TheVariants.{Stamped, Gave};
+ghost use Rattle.sipd_reload.specs.declared.file_answer.FileAnswer.TheVariants.{Stamped, Gave};
 
+use crate::file_answer::FileAnswer;
 use crate::file_fault::FileFault;
 use crate::file_state::FileState;
 use crate::limits::{MOST_BYTES, short_stamp};
 use crate::stamp::Stamp;
-use crate::told::Told;
 use crate::watched_file::WatchedFile;
 use sip_text::Bytes;
 use std::alloc::Global;
@@ -24,7 +24,7 @@ pub struct MemoryFile {
     states: Vec<FileState>,
     /// How many of these it has shown.
     shown: usize,
-    told: Option<Vec<Told>>,
+    told: Option<Vec<FileAnswer>>,
 }
 
 impl Model for MemoryFile {
@@ -92,7 +92,7 @@ fn copy_of(alloc: Global, bytes: &Result<Bytes, FileFault>) -> Option<Result<Byt
 }
 
 /// What is told, and this last, while there is memory for that.
-fn with_last(told: Option<Vec<Told>>, last: Told) -> Option<Vec<Told>>
+fn with_last(told: Option<Vec<FileAnswer>>, last: FileAnswer) -> Option<Vec<FileAnswer>>
     ensures { GrewBy last (option_map (λ told. told.items) told) (option_map (λ told. told.items) result) }
 {
     let mut told = told?;
@@ -116,7 +116,7 @@ impl MemoryFile {
     }
 
     /// What it answered, oldest first; none once there was no memory to tell it.
-    pub fn told(&self) -> Option<&[Told]>
+    pub fn told(&self) -> Option<&[FileAnswer]>
         ensures { option_map (λ told. told.now) result ≡ self.now.told }
     {
         match &self.told {
@@ -140,7 +140,7 @@ impl WatchedFile for MemoryFile {
             self.shown += 1;
         }
         let stamp = stamp_at(self.states.as_slice(), self.shown);
-        self.told = with_last(self.told.take(), Told::Stamped(stamp));
+        self.told = with_last(self.told.take(), FileAnswer::Stamped(stamp));
         stamp
     }
 
@@ -153,7 +153,7 @@ impl WatchedFile for MemoryFile {
     {
         let bytes = bytes_at(self.alloc, self.states.as_slice(), self.shown);
         self.told = match copy_of(self.alloc, &bytes) {
-            Some(copy) => with_last(self.told.take(), Told::Gave(copy)),
+            Some(copy) => with_last(self.told.take(), FileAnswer::Gave(copy)),
             None => None,
         };
         bytes

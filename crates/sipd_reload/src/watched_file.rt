@@ -1,7 +1,7 @@
 ghost use Rattle.std.specs.Prelude.{◌≤◌, List, Option, length, IfOk};
 ghost use Rattle.sipd_reload.specs.File.{GrewBy, most_bytes};
-ghost use Rattle.sipd_reload.specs.declared.told.Told.{Told};
-ghost use Rattle.sipd_reload.specs.declared.told.Told.TheVariants.{Stamped, Gave};
+ghost use Rattle.sipd_reload.specs.declared.file_answer.FileAnswer.{FileAnswer};
+ghost use Rattle.sipd_reload.specs.declared.file_answer.FileAnswer.TheVariants.{Stamped, Gave};
 
 use crate::file_fault::FileFault;
 use crate::stamp::Stamp;
@@ -9,7 +9,7 @@ use sip_text::Bytes;
 
 /// The file of a configuration, which others change. It may tell what it answered, oldest first.
 pub trait WatchedFile: Drop {
-    ghost told: { Self → Option (List Told) };
+    ghost told: { Self → Option (List FileAnswer) };
 
     /// What tells whether it was changed. Refusals: `Gone`, `TooLong`, `Device`, `NoMemory`.
     fn stamp(&mut self) -> Result<Stamp, FileFault>

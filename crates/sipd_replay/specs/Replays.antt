@@ -3,7 +3,7 @@ use Rattle.std.specs.Prelude.{◌≡◌, ◌≢◌, ◌⊎◌, ℕ, List, [], Op
 use Rattle.std.specs.Borrow.{Bor}
 use Rattle.std.specs.Io.KnownBytes.{Keeps}
 use Rattle.sip_config_types.specs.declared.config.Config.{Config}
-use Rattle.sip_record.specs.declared.record_head.RecordHead.{RecordHead}
+use Rattle.sip_journal.specs.declared.record_head.RecordHead.{RecordHead}
 use Rattle.sip_replay.specs.Records.{IsRecordReplay, IsRecordUnreplayed}
 use Rattle.sip_replay_script.specs.Devices.{later}
 use Rattle.sip_replay_script.specs.Lines.{IsSpent, Reading, pending}

@@ -8,11 +8,11 @@ ghost use Rattle.sipd_replay.specs.Replays.{BeginsWith, GivesOwn, HasDigest, IsK
 
 use sip_config_types::Config;
 use sip_event::Boot;
+use sip_journal::{RecordHead, RecordMark};
 use sip_policy::Rules;
-use sip_record::{RecordHead, RecordMark};
 use sip_replay::resume::RecordError;
 use sip_replay_print::Printer;
-use sip_replay_script::{Lines, PrintStop, TellingReader, TellingWriter, hand_on};
+use sip_replay_script::{PrintStop, ScriptLines, TellingReader, TellingWriter, hand_on};
 use sip_segment_config::SegmentStop;
 use sip_timers::Timers;
 use sipd_exit::{DeviceFault, Exit, Stated, config_of_bytes, stated_in};
@@ -70,7 +70,7 @@ fn exit_of_print(stop: PrintStop) -> Exit
 fn first_of<I: TellingReader>(
     alloc: Global,
     head: &RecordHead,
-    lines: &mut Lines,
+    lines: &mut ScriptLines,
     reader: &mut I,
 ) -> Result<Option<Config>, Exit>
     ensures own { IfOk result (λ found. IfSome found (GivesOwn head.now.digest lines.old lines.new (I.remaining reader.old) (I.remaining reader.new))) }
@@ -119,7 +119,7 @@ fn configuration_of<I: TellingReader>(
     alloc: Global,
     head: &RecordHead,
     named: Option<&Stated>,
-    lines: &mut Lines,
+    lines: &mut ScriptLines,
     reader: &mut I,
 ) -> Result<Config, Exit>
     ensures begins { IfOk result (BeginsWith head.now.digest named.entry lines.old lines.new (I.remaining reader.old) (I.remaining reader.new)) }
@@ -148,7 +148,7 @@ fn replay_behind<T: Timers, P: Rules, I: TellingReader, W: TellingWriter + Drop>
         (GaveUp (W.has_failed printer.new.writer) (W.called printer.new.writer)) (I.remaining reader.old)
         (W.contents printer.old.writer) (W.contents printer.new.writer)) }
 {
-    let mut lines = Lines::new(alloc)?;
+    let mut lines = ScriptLines::new(alloc)?;
     let config = configuration_of(alloc, head, named, &mut lines, reader)?;
     let boot = Boot {
         word: head.word,

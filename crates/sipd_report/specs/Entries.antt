@@ -4,8 +4,8 @@ use Rattle.std.specs.Prelude.{option_map, is_none}
 use Rattle.std.specs.List.{filter_map}
 use Rattle.std.specs.Str.{bytes_eq}
 use Rattle.sip_audit.specs.declared.record.Record.{Record}
-use Rattle.sip_audit.specs.declared.record.Outcome.{Outcome}
-use Rattle.sip_audit.specs.declared.record.Outcome.TheVariants.{Challenge, Deny, Sent, Answer}
+use Rattle.sip_audit.specs.declared.record.AuditOutcome.{AuditOutcome}
+use Rattle.sip_audit.specs.declared.record.AuditOutcome.TheVariants.{Challenge, Deny, Sent, Answer}
 use Rattle.sip_audit.specs.Reading.{record_of}
 use Rattle.sipd_report.specs.declared.query.Query.{Query}
 
@@ -37,14 +37,14 @@ abbrev pub is_no_entry : List ℕ → Bool
 is_no_entry line = is_filled line && is_none (entry_of line)
 
 -- the rule that decided; 0 is that none matched, and at a challenge none decided
-abbrev pub ruling_of : Outcome → Option ℕ
+abbrev pub ruling_of : AuditOutcome → Option ℕ
 ruling_of (Challenge status) = None
 ruling_of (Deny rule) = Some rule
 ruling_of (Sent rule targets) = Some rule
 ruling_of (Answer rule status) = Some rule
 
 -- whether policy denied
-abbrev pub is_denial : Outcome → Bool
+abbrev pub is_denial : AuditOutcome → Bool
 is_denial (Challenge status) = false
 is_denial (Deny rule) = true
 is_denial (Sent rule targets) = false

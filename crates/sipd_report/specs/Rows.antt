@@ -2,8 +2,8 @@
 use Rattle.std.specs.Prelude.{ℕ, ℤ, List, [], ◌++◌, codes, decimal, Option, Some, None}
 use Rattle.sip_audit.specs.Lines.{who_text, target_text, operation_text}
 use Rattle.sip_audit.specs.declared.record.Record.{Record}
-use Rattle.sip_audit.specs.declared.record.Outcome.{Outcome}
-use Rattle.sip_audit.specs.declared.record.Outcome.TheVariants.{Challenge, Deny, Sent, Answer}
+use Rattle.sip_audit.specs.declared.record.AuditOutcome.{AuditOutcome}
+use Rattle.sip_audit.specs.declared.record.AuditOutcome.TheVariants.{Challenge, Deny, Sent, Answer}
 use Rattle.sipd_report.specs.declared.query.Form.{Form}
 use Rattle.sipd_report.specs.declared.cells.Cells.{Cells}
 use Rattle.sipd_report.specs.Entries.{ruling_of}
@@ -15,14 +15,14 @@ ruling_text None = codes "-"
 ruling_text (Some rule) = decimal rule
 
 -- what became of a request, in the words of its audit line
-abbrev pub outcome_words : Outcome → List ℕ
+abbrev pub outcome_words : AuditOutcome → List ℕ
 outcome_words (Challenge status) = codes "challenge " ++ decimal status
 outcome_words (Deny rule) = codes "deny"
 outcome_words (Sent rule targets) = codes "sent " ++ decimal targets
 outcome_words (Answer rule status) = codes "answer " ++ decimal status
 
 -- the same, without the number of targets
-abbrev pub outcome_kind : Outcome → List ℕ
+abbrev pub outcome_kind : AuditOutcome → List ℕ
 outcome_kind (Challenge status) = codes "challenge " ++ decimal status
 outcome_kind (Deny rule) = codes "deny"
 outcome_kind (Sent rule targets) = codes "sent"

@@ -6,7 +6,7 @@ ghost use Rattle.sipd_report.specs.Examples.{answered};
 ghost use Rattle.sipd_report.specs.Rows.{cells_of};
 ghost use Rattle.sipd_report.specs.Entries.{lines_of, is_by_rule, is_of_user, is_denial, ruling_of};
 ghost use Rattle.sipd_report.specs.Times.{offset_text, shown_seconds};
-ghost use Rattle.sip_audit.specs.declared.record.Outcome.TheVariants.{Challenge, Deny, Answer};
+ghost use Rattle.sip_audit.specs.declared.record.AuditOutcome.TheVariants.{Challenge, Deny, Answer};
 ghost use Rattle.sipd_report.specs.Totals.{totals_of};
 
 /// Dates by their number of days since 1 January 1970.

@@ -8,7 +8,7 @@ ghost use Rattle.sipd_report.specs.Lines.{EndsLine, GoesOn, GivesLine};
 ghost use Rattle.sipd_report.specs.Refusals.{ReadStops};
 
 use crate::error::ReportError;
-use sip_replay_script::{Lines, TellingReader, end_of_line};
+use sip_replay_script::{ScriptLines, TellingReader, end_of_line};
 use std::alloc::AllocError;
 
 /// The most bytes of a line that are kept: one more than an audit line has.
@@ -18,7 +18,7 @@ const KEPT: usize = 200_001;
 /// `NoMemory`; `Read`, where the reader fails or was asked as often as it may be.
 #[tactic(auto, using(crate::proofs::Ends::gathers_nothing))]
 pub fn next_front<R: TellingReader>(
-    lines: &mut Lines,
+    lines: &mut ScriptLines,
     reader: &mut R,
     line: &mut Vec<u8>,
 ) -> Result<bool, ReportError>
@@ -42,7 +42,7 @@ pub fn next_front<R: TellingReader>(
 
 /// Whether there is an unread byte; if all were given, the reader is asked.
 #[tactic(auto, using(crate::proofs::Ends::some_left))]
-fn is_more<R: TellingReader>(lines: &mut Lines, reader: &mut R) -> Result<bool, ReportError>
+fn is_more<R: TellingReader>(lines: &mut ScriptLines, reader: &mut R) -> Result<bool, ReportError>
     ensures kept { OnOk result (Keeps (pending lines.old (R.remaining reader.old)) (pending lines.new (R.remaining reader.new))) }
     ensures some { IfOk result (λ more. more ≡ true → 1 ≤ length lines.new.unread) }
     ensures end { IfOk result (λ more. more ≡ false → IsAtEnd (pending lines.new (R.remaining reader.new))) }
@@ -59,7 +59,7 @@ fn is_more<R: TellingReader>(lines: &mut Lines, reader: &mut R) -> Result<bool, 
 }
 
 /// Moves the unread bytes up to the first LF to the line, or all of them; whether there was an LF.
-fn take_part(lines: &mut Lines, line: &mut Vec<u8>) -> Result<bool, AllocError>
+fn take_part(lines: &mut ScriptLines, line: &mut Vec<u8>) -> Result<bool, AllocError>
     requires { length line.old.items ≤ 200001 }
     ensures short { OnOk result (length line.new.items ≤ 200001) }
     ensures ends { IfOk result (λ ended. ended ≡ true → EndsLine lines.old lines.new line.old.items line.new.items) }
@@ -79,7 +79,7 @@ fn take_part(lines: &mut Lines, line: &mut Vec<u8>) -> Result<bool, AllocError>
 }
 
 /// Moves the unread bytes up to the first LF, which stands at a place, to the line, and passes it.
-fn take_ended(lines: &mut Lines, line: &mut Vec<u8>, place: usize) -> Result<(), AllocError>
+fn take_ended(lines: &mut ScriptLines, line: &mut Vec<u8>, place: usize) -> Result<(), AllocError>
     requires few { length line.old.items ≤ 200001 }
     requires ends { EndsAt lines.old.unread place }
     ensures short { OnOk result (length line.new.items ≤ 200001) }
@@ -93,7 +93,7 @@ fn take_ended(lines: &mut Lines, line: &mut Vec<u8>, place: usize) -> Result<(),
 }
 
 /// Moves the unread bytes, none of which is LF, to the line.
-fn take_all(lines: &mut Lines, line: &mut Vec<u8>) -> Result<(), AllocError>
+fn take_all(lines: &mut ScriptLines, line: &mut Vec<u8>) -> Result<(), AllocError>
     requires few { length line.old.items ≤ 200001 }
     requires none { count_by is_end lines.old.unread ≡ 0 }
     ensures short { OnOk result (length line.new.items ≤ 200001) }

@@ -1,7 +1,7 @@
 ghost use Rattle.std.specs.Prelude.{◌≡◌, option_map};
 ghost use Rattle.sipd_report.specs.Entries as Definitions;
 
-use sip_audit::{Outcome, Record};
+use sip_audit::{AuditOutcome, Record};
 use sip_text::{Bytes, same_bytes};
 
 /// The form of a report.
@@ -52,14 +52,14 @@ fn is_of_user(wanted: Option<&[u8]>, who: &Option<Bytes>) -> bool
 }
 
 /// The rule that decided, if one did.
-pub(crate) fn ruling_of(outcome: Outcome) -> Option<u32>
+pub(crate) fn ruling_of(outcome: AuditOutcome) -> Option<u32>
     ensures { result ≡ Definitions.ruling_of outcome }
 {
     match outcome {
-        Outcome::Challenge { status: _ } => None,
-        Outcome::Deny { rule } => Some(rule),
-        Outcome::Sent { rule, targets: _ } => Some(rule),
-        Outcome::Answer { rule, status: _ } => Some(rule),
+        AuditOutcome::Challenge { status: _ } => None,
+        AuditOutcome::Deny { rule } => Some(rule),
+        AuditOutcome::Sent { rule, targets: _ } => Some(rule),
+        AuditOutcome::Answer { rule, status: _ } => Some(rule),
     }
 }
 
@@ -75,16 +75,16 @@ fn is_by_rule(wanted: Option<u32>, ruling: Option<u32>) -> bool
     }
 }
 
-fn is_denial(outcome: Outcome) -> bool
+fn is_denial(outcome: AuditOutcome) -> bool
     ensures { result ≡ Definitions.is_denial outcome }
 {
     match outcome {
-        Outcome::Challenge { status: _ } => false,
-        Outcome::Deny { rule: _ } => true,
-        Outcome::Sent {
+        AuditOutcome::Challenge { status: _ } => false,
+        AuditOutcome::Deny { rule: _ } => true,
+        AuditOutcome::Sent {
             rule: _,
             targets: _,
         } => false,
-        Outcome::Answer { rule: _, status: _ } => false,
+        AuditOutcome::Answer { rule: _, status: _ } => false,
     }
 }

@@ -19,7 +19,7 @@ use crate::query::{Form, Query};
 use crate::row::cells_of;
 use crate::tally::Tally;
 use sip_audit::Record;
-use sip_replay_script::{Lines, TellingReader, TellingWriter, hand_on, put};
+use sip_replay_script::{ScriptLines, TellingReader, TellingWriter, hand_on, put};
 use sip_text::Bytes;
 use std::alloc::{AllocError, Global};
 
@@ -46,7 +46,7 @@ pub fn report<I: TellingReader, W: TellingWriter>(
         (I.has_failed input.new ⊎ (I.asked input.new ≡ later 4294967295 (I.asked input.old))) (GaveUp (W.has_failed output.new) (W.called output.new))) }
     ensures asked { IsAsked 4294967295 (I.asked input.old) (I.asked input.new) }
 {
-    let mut lines = Lines::new(alloc)?;
+    let mut lines = ScriptLines::new(alloc)?;
     let mut line = Vec::new(alloc);
     let mut tally = Tally::new(alloc);
     begin(alloc, query.form, output)?;
@@ -70,7 +70,7 @@ fn begin<W: TellingWriter>(alloc: Global, form: Form, output: &mut W) -> Result<
 fn take_next<I: TellingReader, W: TellingWriter>(
     alloc: Global,
     query: &Query<'_>,
-    lines: &mut Lines,
+    lines: &mut ScriptLines,
     line: &mut Vec<u8>,
     tally: &mut Tally,
     input: &mut I,

@@ -7,7 +7,7 @@ use crate::cells::Cells;
 use crate::query::{Form, ruling_of};
 use crate::target::put_target;
 use crate::times::{push_minutes, put_time};
-use sip_audit::{Outcome, Record, operation_word, who_word};
+use sip_audit::{AuditOutcome, Record, operation_word, who_word};
 use sip_text::Bytes;
 use std::alloc::{AllocError, Global};
 
@@ -29,29 +29,37 @@ fn put_counted(text: &mut Bytes, word: &[u8], number: u64) -> Result<(), AllocEr
     text.push_decimal(number)
 }
 
-fn put_outcome(text: &mut Bytes, outcome: Outcome) -> Result<(), AllocError>
+fn put_outcome(text: &mut Bytes, outcome: AuditOutcome) -> Result<(), AllocError>
     ensures { OnOk result (text.new ≡ text.old ++ Definitions.outcome_words outcome) }
 {
     match outcome {
-        Outcome::Challenge { status } => put_counted(text, b"challenge ", u64::from(status)),
-        Outcome::Deny { rule: _ } => text.extend(b"deny"),
-        Outcome::Sent { rule: _, targets } => put_counted(text, b"sent ", u64::from(targets)),
-        Outcome::Answer { rule: _, status } => put_counted(text, b"answer ", u64::from(status)),
+        AuditOutcome::Challenge { status } => put_counted(text, b"challenge ", u64::from(status)),
+        AuditOutcome::Deny { rule: _ } => text.extend(b"deny"),
+        AuditOutcome::Sent { rule: _, targets } => put_counted(text, b"sent ", u64::from(targets)),
+        AuditOutcome::Answer { rule: _, status } => put_counted(
+            text,
+            b"answer ",
+            u64::from(status),
+        ),
     }
 }
 
 /// Adds what became of a request, without the number of its targets.
-pub(crate) fn put_outcome_kind(text: &mut Bytes, outcome: Outcome) -> Result<(), AllocError>
+pub(crate) fn put_outcome_kind(text: &mut Bytes, outcome: AuditOutcome) -> Result<(), AllocError>
     ensures { OnOk result (text.new ≡ text.old ++ Definitions.outcome_kind outcome) }
 {
     match outcome {
-        Outcome::Challenge { status } => put_counted(text, b"challenge ", u64::from(status)),
-        Outcome::Deny { rule: _ } => text.extend(b"deny"),
-        Outcome::Sent {
+        AuditOutcome::Challenge { status } => put_counted(text, b"challenge ", u64::from(status)),
+        AuditOutcome::Deny { rule: _ } => text.extend(b"deny"),
+        AuditOutcome::Sent {
             rule: _,
             targets: _,
         } => text.extend(b"sent"),
-        Outcome::Answer { rule: _, status } => put_counted(text, b"answer ", u64::from(status)),
+        AuditOutcome::Answer { rule: _, status } => put_counted(
+            text,
+            b"answer ",
+            u64::from(status),
+        ),
     }
 }
 

@@ -9,7 +9,7 @@ ghost use Rattle.sipd_report.specs.Totals.{one_more};
 use crate::query::ruling_of;
 use crate::row::{put_outcome_kind, put_ruling};
 use crate::totals::Totals;
-use sip_audit::{Outcome, Record, who_word};
+use sip_audit::{AuditOutcome, Record, who_word};
 use sip_text::Bytes;
 use std::alloc::{AllocError, Global};
 
@@ -107,7 +107,7 @@ impl Tally {
 }
 
 /// One more of the rule that decided.
-fn add_ruling(alloc: Global, rules: &mut Totals, outcome: Outcome) -> Result<(), AllocError>
+fn add_ruling(alloc: Global, rules: &mut Totals, outcome: AuditOutcome) -> Result<(), AllocError>
     ensures { OnOk result (rules.new ≡ one_more rules.old (Rows.ruling_text (Entries.ruling_of outcome))) }
 {
     let mut text = Bytes::new(alloc);
@@ -116,7 +116,11 @@ fn add_ruling(alloc: Global, rules: &mut Totals, outcome: Outcome) -> Result<(),
 }
 
 /// One more of what became of a request.
-fn add_outcome(alloc: Global, outcomes: &mut Totals, outcome: Outcome) -> Result<(), AllocError>
+fn add_outcome(
+    alloc: Global,
+    outcomes: &mut Totals,
+    outcome: AuditOutcome,
+) -> Result<(), AllocError>
     ensures { OnOk result (outcomes.new ≡ one_more outcomes.old (Rows.outcome_kind outcome)) }
 {
     let mut text = Bytes::new(alloc);

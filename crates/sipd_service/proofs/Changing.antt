@@ -6,10 +6,10 @@ use Rattle.sip_config_types.specs.declared.config.Config.{Config}
 use Rattle.sip_config_change.specs.declared.key.FrameKey.{FrameKey}
 use Rattle.sip_config_change.specs.Frame.{frame_key_of}
 use Rattle.model_bounds.specs.state.declared.server.Server.{Server}
-use Rattle.sip_record.specs.Record.{Notes}
+use Rattle.sip_journal.specs.Record.{Notes}
 use Rattle.sip_loop.specs.Serving.{Told}
-use Rattle.sip_loop_link.specs.declared.datagram.Heard.{Heard}
-use Rattle.sip_loop_link.specs.declared.datagram.Given.{Given}
+use Rattle.sip_transport.specs.declared.datagram.HeardDatagram.{HeardDatagram}
+use Rattle.sip_transport.specs.declared.datagram.Given.{Given}
 use Rattle.sip_loop.specs.run.engine.declared.change_error.ChangeError.{ChangeError}
 use Rattle.sip_loop.specs.run.engine.declared.change_error.ChangeError.TheVariants.{OtherFrame}
 use Rattle.sipd_reload.specs.Watch.{WatchState}
@@ -50,11 +50,11 @@ stays_failed (Some old) new e h = absurd (cc)
 pub with_readings : (t : Told) (readings : Option (List ℕ)) → t.readings ≡ readings → t ≡ record t { readings = readings }
 with_readings t readings e = ap (λ (r : Option (List ℕ)). record t { readings = r }) e
 
-pub with_link : (t : Told) (heard : Option (List (Option Heard))) (given : Option (List Given)) → t.heard ≡ heard → t.given ≡ given
+pub with_link : (t : Told) (heard : Option (List (Option HeardDatagram))) (given : Option (List Given)) → t.heard ≡ heard → t.given ≡ given
     → t ≡ record t { heard = heard; given = given }
-with_link t heard given e f = ap₂ (λ (h : Option (List (Option Heard))) (g : Option (List Given)). record t { heard = h; given = g }) e f
+with_link t heard given e f = ap₂ (λ (h : Option (List (Option HeardDatagram))) (g : Option (List Given)). record t { heard = h; given = g }) e f
 
-pub with_three : (t : Told) (heard : Option (List (Option Heard))) (given : Option (List Given)) (readings : Option (List ℕ)) → t.heard ≡ heard → t.given ≡ given
+pub with_three : (t : Told) (heard : Option (List (Option HeardDatagram))) (given : Option (List Given)) (readings : Option (List ℕ)) → t.heard ≡ heard → t.given ≡ given
     → t.readings ≡ readings
     → t ≡ record t { heard = heard; given = given; readings = readings }
 with_three t heard given readings e f h = with_link t heard given e f ∙ ap (λ (r : Option (List ℕ)). record t { heard = heard; given = given; readings = r }) h

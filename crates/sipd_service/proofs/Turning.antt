@@ -6,7 +6,7 @@ use Rattle.std.specs.Io.KnownBytes.{Appends}
 use Rattle.std.proofs.KnownBytes.{Appends-nil, Appends-trans}
 use Rattle.sip_audit.specs.declared.record.Record.{Record}
 use Rattle.sip_uri.specs.declared.addr.Addr.{Addr}
-use Rattle.sip_record.specs.Recorder.{told}
+use Rattle.sip_journal.specs.Recorder.{told}
 use Rattle.sip_loop.specs.Printing.{lines_of, record_text, Prints}
 use Rattle.sip_loop.specs.Serving.{Told, gathered, kept, records_logged}
 use Rattle.sipd_exit.specs.Exits.{IsPrintFault}

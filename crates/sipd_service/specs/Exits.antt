@@ -2,8 +2,8 @@
 use Rattle.std.specs.Prelude.{◌≡◌}
 use Rattle.sip_loop.specs.declared.audit_log.AuditFault.{AuditFault}
 use Rattle.sip_loop.specs.declared.audit_log.AuditFault.TheVariants as audits
-use Rattle.sip_loop.specs.declared.served.ServeError.{ServeError}
-use Rattle.sip_loop.specs.declared.served.ServeError.TheVariants as serving
+use Rattle.sip_loop.specs.declared.serve_error.ServeError.{ServeError}
+use Rattle.sip_loop.specs.declared.serve_error.ServeError.TheVariants as serving
 use Rattle.sipd_exit.specs.Exits.{IsPrintFault}
 use Rattle.sipd_exit.specs.declared.device_fault.DeviceFault.{DeviceFault}
 use Rattle.sipd_exit.specs.declared.device_fault.DeviceFault.TheVariants.{Other}

@@ -3,7 +3,7 @@ use Rattle.std.specs.Prelude.{◌≡◌, ◌⊎◌, ℕ, List, Option, Some, Non
 use Rattle.sip_config_types.specs.declared.config.Config.{Config}
 use Rattle.sip_config_change.specs.Frame.{frame_key_of}
 use Rattle.model_bounds.specs.state.declared.server.Server.{Server}
-use Rattle.sip_record.specs.Record.{NotesConfiguration}
+use Rattle.sip_journal.specs.Record.{NotesConfiguration}
 use Rattle.sip_config.specs.Stated.{States}
 use Rattle.sip_guard.specs.Guard.{GuardState, hearing}
 use Rattle.sipd_service.specs.Hops.{hop_addresses}

@@ -4,17 +4,17 @@ use Rattle.std.specs.Prelude.{◌≡◌, ◌<◌, ◌⊎◌, ℕ, Bool, false, z
 use Rattle.std.specs.Io.KnownBytes.{Appends}
 use Rattle.rand_core.specs.Stream.{Stream}
 use Rattle.sip_audit.specs.declared.record.Record.{Record}
-use Rattle.sip_loop_link.specs.Told.{and_counted, GrewBy}
+use Rattle.sip_transport.specs.Told.{and_counted, GrewBy}
 use Rattle.sip_loop.specs.run.engine.Engine.{Engine}
 use Rattle.sip_loop.specs.run.engine.engine_time.Next.{IsNext}
 use Rattle.sip_loop.specs.run.engine.engine_time.fork.Due.{IsNothingDue}
 use Rattle.sip_loop.specs.run.Due.{standing_of}
 use Rattle.sip_guard.specs.Guard.{GuardState}
-use Rattle.sip_record.specs.Record.{Notes}
-use Rattle.sip_record.specs.Recorder.{told}
+use Rattle.sip_journal.specs.Record.{Notes}
+use Rattle.sip_journal.specs.Recorder.{told}
 use Rattle.sipd_reload.specs.Watch.{WatchState}
 use Rattle.sip_loop.specs.Serving.{Told, IsServed, IsUnserved, kept, told_by}
-use Rattle.sip_loop.specs.declared.served.ServeError.{ServeError}
+use Rattle.sip_loop.specs.declared.serve_error.ServeError.{ServeError}
 use Rattle.sipd_exit.specs.Exits.{IsPrintFault}
 use Rattle.sipd_exit.specs.declared.device_fault.DeviceFault.{DeviceFault}
 use Rattle.sipd_exit.specs.declared.exit.Exit.{Exit}

@@ -11,7 +11,7 @@ mod line_printer;
 mod printing;
 mod reloading;
 mod service;
-mod unheard;
+mod unheard_lines;
 
 pub use hops::hops_of;
 pub use line_printer::LinePrinter;

@@ -2,7 +2,7 @@
 ghost use Rattle.std.specs.Prelude.{◌≡◌, true, false, Err, IfErr, OnOk, OnErr, None};
 ghost use Rattle.std.specs.Io.KnownBytes.{Appends};
 ghost use Rattle.sip_loop.specs.Printing.{Prints};
-ghost use Rattle.sip_record.specs.Recorder.{told};
+ghost use Rattle.sip_journal.specs.Recorder.{told};
 ghost use Rattle.sipd_exit.specs.Exits.{IsPrintFault};
 ghost use Rattle.sipd_service.specs.Exits;
 ghost use Rattle.sipd_service.specs.Printing.{serving_text, turns_text};

@@ -2,7 +2,7 @@
 //! One turn itself is `serve` of `sip_loop`.
 ghost use Rattle.std.specs.Prelude.{◌≡◌, ◌^◌, ◌-◌, [], false, None, IfErr, IfNone, IfSome, IsSome, OnErr, OnOk};
 ghost use Rattle.std.specs.Io.KnownBytes.{Appends};
-ghost use Rattle.sip_record.specs.Record.{Notes};
+ghost use Rattle.sip_journal.specs.Record.{Notes};
 ghost use Rattle.sipd_exit.specs.Exits.{IsPrintFault};
 ghost use Rattle.sipd_service.specs.Exits;
 ghost use Rattle.sipd_service.specs.Printing.{PrintsServed, start_text};
@@ -11,17 +11,17 @@ ghost use Rattle.sipd_service.specs.Turns.{AreTurns, EndsCounted, EndsEarly, End
 
 use crate::line_printer::LinePrinter;
 use crate::reloading::reload;
-use crate::unheard::tell_unheard;
+use crate::unheard_lines::tell_unheard;
 use rand_core::Rng;
 use sip_audit::Record;
 use sip_guard::Guard;
+use sip_journal::JournalFault;
 use sip_loop::engine::Engine;
 use sip_loop::{AuditFault, AuditLog, ServeError, serve};
-use sip_loop_link::{Clock, Link};
 use sip_policy::Rules;
-use sip_record::JournalFault;
 use sip_text::Bytes;
 use sip_timers::Timers;
+use sip_transport::{Clock, Link};
 use sip_uri::Addr;
 use sipd_exit::{DeviceFault, Exit};
 use sipd_journal::{Unrecorded, WatchedJournal};

@@ -14,9 +14,9 @@ use Rattle.sip_resume.specs.run.engine.Engine.{Engine}
 use Rattle.sip_resume.specs.run.engine.engine_time.proxy.Proxy.{Secrets, secrets_of}
 use Rattle.sip_resume.specs.run.Due.{standing_of}
 use Rattle.sip_resume.proofs.of_standings.{standing_is}
-use Rattle.sip_record.specs.Record.{NotesConfiguration}
-use Rattle.sip_record.specs.declared.record_head.RecordHead.{RecordHead}
-use Rattle.sip_record.specs.declared.record_mark.RecordMark.TheVariants.{Whole}
+use Rattle.sip_journal.specs.Record.{NotesConfiguration}
+use Rattle.sip_journal.specs.declared.record_head.RecordHead.{RecordHead}
+use Rattle.sip_journal.specs.declared.record_mark.RecordMark.TheVariants.{Whole}
 use Rattle.sip_replay_script.specs.Lines.{Reading, pending}
 use Rattle.sip_resume.specs.Outputs.{Outputs}
 use Rattle.sip_resume.specs.Whole.{IsRecordResumed}

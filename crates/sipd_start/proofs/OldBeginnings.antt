@@ -5,10 +5,10 @@ use Rattle.std.proofs.KnownBytes.{prepend_known-nil}
 use Rattle.sip_config.specs.Stated.{States}
 use Rattle.sip_config_change.specs.Frame.{frame_key_of}
 use Rattle.sip_config_types.specs.declared.config.Config.{Config}
-use Rattle.sip_record.specs.declared.record_head.RecordHead.{RecordHead}
+use Rattle.sip_journal.specs.declared.record_head.RecordHead.{RecordHead}
 use Rattle.sip_replay_script.specs.Devices.{later}
 use Rattle.sip_replay_script.specs.Lines.{IsSpent, Reading, pending}
-use Rattle.sip_segment_config.specs.declared.reading.Held.{Held}
+use Rattle.sip_segment_config.specs.declared.reading.RecordedConfig.{RecordedConfig}
 use Rattle.sip_segment_config.specs.declared.stop.SegmentStop.{SegmentStop}
 use Rattle.sip_segment_config.specs.declared.stop.SegmentStop.TheVariants as segments
 use Rattle.sipd_old_record.specs.Own.{HoldsNone, HoldsOwn, OwnStops}
@@ -58,13 +58,13 @@ unheld_so bytes digest F before now head events lines asks why stop law new aske
 
 -- ---- what is known of it
 
-abbrev pub OwnIs : RecordHead → Option Held → Reading → Reading → Option (List ℕ) → Option (List ℕ) → Type 0
+abbrev pub OwnIs : RecordHead → Option RecordedConfig → Reading → Reading → Option (List ℕ) → Option (List ℕ) → Type 0
 OwnIs head own old new events rest = IfSome own (λ held. HoldsOwn head.digest old new events rest held.text held.config)
 
-abbrev pub NoneIs : Option Held → Reading → Reading → Option (List ℕ) → Option (List ℕ) → Type 0
+abbrev pub NoneIs : Option RecordedConfig → Reading → Reading → Option (List ℕ) → Option (List ℕ) → Type 0
 NoneIs own old new events rest = IfNone own (HoldsNone old new events rest)
 
-pub unbegun_of : (bytes digest : List ℕ) (F : Type 0) (head : RecordHead) (events rest : Option (List ℕ)) (own : Option Held) (old new : Reading)
+pub unbegun_of : (bytes digest : List ℕ) (F : Type 0) (head : RecordHead) (events rest : Option (List ℕ)) (own : Option RecordedConfig) (old new : Reading)
     (stop : StartStop) → old ≡ fresh → OwnIs head own old new events rest → NoneIs own old new events rest
     → IsNotFirst bytes digest head own stop → IsUnbegun F bytes digest head events stop
 unbegun_of bytes digest F head events rest None old new (Exits exit) is holds none h = h
@@ -86,17 +86,17 @@ unbegun_of bytes digest F head events rest (Some own) old new (NotResumed reason
   },
 ))
 
-pub begun_of : (bytes digest : List ℕ) (head : RecordHead) (events rest : Option (List ℕ)) (own : Option Held) (first : Held) (old new : Reading)
+pub begun_of : (bytes digest : List ℕ) (head : RecordHead) (events rest : Option (List ℕ)) (own : Option RecordedConfig) (first : RecordedConfig) (old new : Reading)
     → old ≡ fresh → OwnIs head own old new events rest → NoneIs own old new events rest
     → IfSome own (λ held. (first ≡ held) × HaveFrameOf bytes held.config) → IfNone own ((first.text ≡ bytes) × (head.digest ≡ digest))
     → IsBegunBy bytes digest head events new rest first.text
 begun_of bytes digest head events rest None first old new is holds none own file = ByFile (subst (λ (r : Reading). HoldsNone r new events rest) is none) file.1 file.0
 begun_of bytes digest head events rest (Some held) first old new is holds none own file =
-    subst (λ (f : Held). IsBegunBy bytes digest head events new rest f.text) (sym own.0)
+    subst (λ (f : RecordedConfig). IsBegunBy bytes digest head events new rest f.text) (sym own.0)
     (ByOwn held.config (subst (λ (r : Reading). HoldsOwn head.digest r new events rest held.text held.config) is holds) own.1)
 
-pub states_of : (head : RecordHead) (events rest : Option (List ℕ)) (bytes : List ℕ) (own : Option Held) (first : Held) (old new : Reading)
+pub states_of : (head : RecordHead) (events rest : Option (List ℕ)) (bytes : List ℕ) (own : Option RecordedConfig) (first : RecordedConfig) (old new : Reading)
     → OwnIs head own old new events rest → IfSome own (λ held. (first ≡ held) × HaveFrameOf bytes held.config)
     → IfNone own (States first.text first.config) → States first.text first.config
 states_of head events rest bytes None first old new holds own file = file
-states_of head events rest bytes (Some held) first old new holds own file = subst (λ (f : Held). States f.text f.config) (sym own.0) holds.gives.states
+states_of head events rest bytes (Some held) first old new holds own file = subst (λ (f : RecordedConfig). States f.text f.config) (sym own.0) holds.gives.states

@@ -14,10 +14,10 @@ use Rattle.sip_config_change.specs.Frame.{frame_key_of}
 use Rattle.sip_config_types.specs.declared.config.Config.{Config}
 use Rattle.sip_event.specs.declared.event.Boot.{Boot}
 use Rattle.sip_event.specs.declared.event.StepOut.{StepOut}
-use Rattle.sip_record.specs.declared.record_head.RecordHead.{RecordHead}
-use Rattle.sip_record.specs.declared.record_mark.RecordMark.TheVariants.{Whole}
+use Rattle.sip_journal.specs.declared.record_head.RecordHead.{RecordHead}
+use Rattle.sip_journal.specs.declared.record_mark.RecordMark.TheVariants.{Whole}
 use Rattle.sip_replay_script.specs.Devices.{later}
-use Rattle.sip_record.specs.Record.{NotesConfiguration}
+use Rattle.sip_journal.specs.Record.{NotesConfiguration}
 use Rattle.sip_replay_script.specs.Lines.{IsSpent, Reading, is_end, pending}
 use Rattle.sip_segment_config.specs.Stops.{ReadStops}
 use Rattle.sip_segment_config.specs.declared.stop.SegmentStop.{SegmentStop}

@@ -4,8 +4,8 @@ use Rattle.std.specs.Prelude.{Result, Ok, Err, IfOk}
 use Rattle.sip_event.specs.declared.event.StepOut.{StepOut}
 use Rattle.model_bounds.specs.state.declared.server.Server.{Server}
 use Rattle.model_order.specs.Order.{Standing}
-use Rattle.sip_record.specs.declared.record_head.RecordHead.{RecordHead}
-use Rattle.sip_record.specs.declared.record_mark.RecordMark.TheVariants.{Whole}
+use Rattle.sip_journal.specs.declared.record_head.RecordHead.{RecordHead}
+use Rattle.sip_journal.specs.declared.record_mark.RecordMark.TheVariants.{Whole}
 use Rattle.sipd_old_record.specs.OldRecord.{SaysHead}
 use Rattle.sipd_start.specs.Begins.{GoesOn, GoesOnFrom}
 use Rattle.sipd_start.proofs.Beginnings.{goes_on_from}

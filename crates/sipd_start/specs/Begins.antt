@@ -6,10 +6,10 @@ use Rattle.sip_event.specs.declared.event.StepOut.{StepOut}
 use Rattle.model_bounds.specs.state.declared.server.Server.{Server}
 use Rattle.model_order.specs.Order.{Standing, first_standing}
 use Rattle.sip_resume.specs.run.engine.engine_time.proxy.Proxy.{Secrets, secrets_of}
-use Rattle.sip_record.specs.declared.record_head.RecordHead.{RecordHead}
-use Rattle.sip_record.specs.declared.record_mark.RecordMark.{RecordMark}
-use Rattle.sip_record.specs.declared.record_mark.RecordMark.TheVariants.{Whole, Broken, Left}
-use Rattle.sip_record.specs.Record.{NotesConfiguration}
+use Rattle.sip_journal.specs.declared.record_head.RecordHead.{RecordHead}
+use Rattle.sip_journal.specs.declared.record_mark.RecordMark.{RecordMark}
+use Rattle.sip_journal.specs.declared.record_mark.RecordMark.TheVariants.{Whole, Broken, Left}
+use Rattle.sip_journal.specs.Record.{NotesConfiguration}
 use Rattle.sip_resume.specs.Outputs.{Outputs}
 use Rattle.sip_resume.specs.Whole.{IsRecordResumed, IsRecordUnresumed}
 use Rattle.sip_resume.specs.declared.record_error.RecordError.{RecordError}

@@ -4,9 +4,9 @@ use Rattle.sip_config.specs.Stated.{States}
 use Rattle.sip_config_change.specs.Frame.{frame_key_of}
 use Rattle.sip_config_change.specs.declared.key.FrameKey.{FrameKey}
 use Rattle.sip_config_types.specs.declared.config.Config.{Config}
-use Rattle.sip_record.specs.declared.record_head.RecordHead.{RecordHead}
+use Rattle.sip_journal.specs.declared.record_head.RecordHead.{RecordHead}
 use Rattle.sip_replay_script.specs.Lines.{Reading}
-use Rattle.sip_segment_config.specs.declared.reading.Held.{Held}
+use Rattle.sip_segment_config.specs.declared.reading.RecordedConfig.{RecordedConfig}
 use Rattle.sip_segment_config.specs.declared.stop.SegmentStop.{SegmentStop}
 use Rattle.sipd_old_record.specs.Own.{HoldsNone, HoldsOwn, OwnStops, unread}
 use Rattle.sipd_start.specs.Stops.{EndsStart, unheld}
@@ -49,7 +49,7 @@ pub record IsOfOtherFrame (bytes : List ℕ) (head : RecordHead) (events : Optio
   pub other : frame_key_of config own ≡ Some key
 
 -- why a record's first events weren't taken with its own configuration, where it holds that, or with the file's
-abbrev pub IsNotFirst : List ℕ → List ℕ → RecordHead → Option Held → StartStop → Type 0
+abbrev pub IsNotFirst : List ℕ → List ℕ → RecordHead → Option RecordedConfig → StartStop → Type 0
 IsNotFirst bytes digest head own (Exits exit) = EndsStart bytes exit
 IsNotFirst bytes digest head None (NotResumed reason) = (reason ≡ OtherConfiguration) × (head.digest ≢ digest)
 IsNotFirst bytes digest head (Some own) (NotResumed reason) =

@@ -4,8 +4,8 @@ use Rattle.std.specs.Str.{bytes_eq}
 use Rattle.std.specs.declared.io.ErrorKind.{ErrorKind}
 use Rattle.std.specs.declared.io.ErrorKind.TheVariants.{OutOfMemory, AlreadyExists, NotFound, PermissionDenied, NotADirectory, IsADirectory, ReadOnlyFilesystem}
 use Rattle.std.specs.declared.io.ErrorKind.TheVariants.{FilesystemLoop, InvalidFilename, InvalidInput, Unsupported}
-use Rattle.sip_record.specs.declared.on_fault.OnFault.{OnFault}
-use Rattle.sip_record.specs.declared.on_fault.OnFault.TheVariants as recorders
+use Rattle.sip_journal.specs.declared.on_fault.OnFault.{OnFault}
+use Rattle.sip_journal.specs.declared.on_fault.OnFault.TheVariants as recorders
 use Rattle.sipd_exit.specs.declared.record_place.RecordFault.{RecordFault}
 use Rattle.sipd_exit.specs.declared.record_place.RecordFault.TheVariants.{GoOn, End}
 use Rattle.sipd_exit.specs.declared.record_place.RecordPlace.{RecordPlace}

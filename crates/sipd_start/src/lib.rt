@@ -2,7 +2,8 @@
 //! have the stack that it needs.
 //!
 //! - Used: `sipd_command`, before it serves.
-//! - Not here: the serving; the numbers of a start (`sipd_boot`); what stands in a record (`sip_record`), and the first line of an older one (`sipd_old_record`).
+//! - Not here: the serving; the numbers of a start (`sipd_boot`); what stands in a record (`sip_journal`), and the first line of
+//!   an older one (`sipd_old_record`).
 //! - Tried: `tests/serve.py`, `tests/faults.py`.
 #![tactic(auto)]
 

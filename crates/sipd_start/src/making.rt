@@ -7,7 +7,7 @@ ghost use Rattle.sipd_start.specs.Places;
 ghost use Rattle.sipd_start.specs.Stops.{IsUnmade};
 
 use crate::record_folder::files_in;
-use sip_record::{OnFault, RecordHead, Recorder, head_text};
+use sip_journal::{OnFault, RecordHead, Recorder, head_text};
 use sipd_exit::{Exit, RecordFault, RecordPlace, Stated};
 use sipd_journal::{RecordFile, new_file};
 use std::fs::OpenFile;

@@ -1,11 +1,11 @@
 use sip_config_types::Config;
-use sip_replay_script::Lines;
+use sip_replay_script::ScriptLines;
 use sip_text::Buffer;
 
 /// What is left of a record of which no event is taken yet.
 #[derive(Drop)]
 pub struct OldLines {
-    pub lines: Lines,
+    pub lines: ScriptLines,
     /// The bytes of the configuration with which its first events were taken.
     pub first: Buffer,
 }

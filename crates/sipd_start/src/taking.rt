@@ -5,7 +5,7 @@ ghost use Rattle.sip_resume.specs.run.Due.{standing_of};
 ghost use Rattle.sip_config.specs.Stated.{States};
 ghost use Rattle.sip_config_change.specs.Frame.{frame_key_of};
 ghost use Rattle.sip_config_change.specs.declared.key.FrameKey.{FrameKey};
-ghost use Rattle.sip_record.specs.Record.{NotesConfiguration};
+ghost use Rattle.sip_journal.specs.Record.{NotesConfiguration};
 ghost use Rattle.sip_replay_script.specs.Devices.{later};
 ghost use Rattle.sip_replay_script.specs.Lines.{pending};
 ghost use Rattle.sipd_exit.specs.declared.exit.Exit.TheVariants.{Memory, Recording};
@@ -22,13 +22,13 @@ use crate::old_lines::{OldBeginning, OldLines};
 use sip_config_change::frame_key;
 use sip_config_change::laws::frame_is_place_and_realm;
 use sip_config_types::Config;
+use sip_journal::{Journal, JournalFault, RecordHead};
 use sip_policy::Rules;
-use sip_record::{Journal, JournalFault, RecordHead};
 use sip_replay_print::NoSink;
-use sip_replay_script::{Lines, TellingReader};
+use sip_replay_script::{ScriptLines, TellingReader};
 use sip_resume::engine::{ChangeError, Engine};
 use sip_resume::{Resumed, resume_record};
-use sip_segment_config::Held;
+use sip_segment_config::RecordedConfig;
 use sip_text::Buffer;
 use sip_timers::Timers;
 use sipd_exit::{Exit, Stated, config_of_bytes};
@@ -41,11 +41,11 @@ use std::alloc::Global;
 const OWN_LINE: u64 = 2;
 
 /// Lines of which nothing is read.
-fn new_lines(alloc: Global) -> Result<Lines, Exit>
+fn new_lines(alloc: Global) -> Result<ScriptLines, Exit>
     ensures new { IfOk result (λ lines. lines ≡ unread) }
     ensures refused { IfErr result (λ exit. exit ≡ Memory) }
 {
-    Ok(Lines::new(alloc)?)
+    Ok(ScriptLines::new(alloc)?)
 }
 
 /// That a record's own configuration is one of the same server to others as that of a file. `OtherFrame` is the only refusal.
@@ -75,8 +75,8 @@ fn first_of(
     alloc: Global,
     stated: &Stated,
     head: &RecordHead,
-    own: Option<Held>,
-) -> Result<Held, StartStop>
+    own: Option<RecordedConfig>,
+) -> Result<RecordedConfig, StartStop>
     ensures states { IfNone own (IfOk result (λ first. States first.text first.config)) }
     ensures frame { IfOk result (λ first. HaveFrameOf stated.now.bytes first.config) }
     ensures own { IfSome own (λ held. IfOk result (λ first. (first ≡ held) × HaveFrameOf stated.now.bytes held.config)) }
@@ -92,7 +92,7 @@ fn first_of(
         }
         None if is_made_with(head, &stated.digest) => {
             let text = copy_of(alloc, stated)?;
-            Ok(Held { text, config })
+            Ok(RecordedConfig { text, config })
         }
         None => Err(StartStop::NotResumed(NotResumed::OtherConfiguration)),
     }
@@ -121,7 +121,7 @@ pub fn old_beginning<I: TellingReader>(
         Err(stop) => return Err(unheld(stop)),
     };
     let first = first_of(alloc, stated, head, own)?;
-    let Held { text, config } = first;
+    let RecordedConfig { text, config } = first;
     let lines = OldLines { lines, first: text };
     Ok(OldBeginning { lines, config })
 }

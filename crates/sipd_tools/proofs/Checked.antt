@@ -6,9 +6,9 @@ use Rattle.sip_config.specs.values.declared.error.ConfigError.{ConfigError}
 use Rattle.sip_config_types.specs.declared.config.Config.{Config}
 use Rattle.sipd_expect.specs.File.{FileIs}
 use Rattle.sip_text.specs.TextLines.{lines_of}
-use Rattle.sipd_mistakes.specs.Mistakes.{IsReadingOf}
-use Rattle.sipd_mistakes.specs.declared.telling.Reading.{Reading}
-use Rattle.sipd_mistakes.specs.declared.telling.Reading.TheVariants.{Refused, Stated}
+use Rattle.sipd_config_faults.specs.Mistakes.{IsReadingOf}
+use Rattle.sipd_config_faults.specs.declared.telling.Reading.{Reading}
+use Rattle.sipd_config_faults.specs.declared.telling.Reading.TheVariants.{Refused, Stated}
 use Rattle.sipd_tools.specs.Checks.{HoldsAs, IsReadAs, IsTextRefused}
 
 reading_is : (bytes text : List ℕ) (reading so : Reading) → text ≡ bytes → reading ≡ so → IsReadingOf text reading → IsReadingOf bytes so

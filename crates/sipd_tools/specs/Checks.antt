@@ -14,10 +14,10 @@ use Rattle.sipd_exit.specs.declared.exit.Exit.TheVariants.{OtherFrame, Unexpecte
 use Rattle.sipd_expect.specs.File.{FileIs, SomeRefused}
 use Rattle.sip_text.specs.TextLines.{lines_of}
 use Rattle.sipd_expect.specs.declared.error.LineError.{LineError}
-use Rattle.sipd_mistakes.specs.Encoding.{encoding_text}
-use Rattle.sipd_mistakes.specs.Mistakes.{IsReadingOf}
-use Rattle.sipd_mistakes.specs.declared.telling.Reading.TheVariants.{Refused, Stated}
-use Rattle.sipd_questions.specs.Show.{shown_lines}
+use Rattle.sipd_config_faults.specs.Encoding.{encoding_text}
+use Rattle.sipd_config_faults.specs.Mistakes.{IsReadingOf}
+use Rattle.sipd_config_faults.specs.declared.telling.Reading.TheVariants.{Refused, Stated}
+use Rattle.sipd_ask.specs.Show.{shown_lines}
 use Rattle.sipd_tools.specs.Against.{IsBefore, TellsChange}
 use Rattle.sipd_tools.specs.Ends.{EndsAs, IsUnanswered}
 

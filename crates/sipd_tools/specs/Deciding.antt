@@ -4,14 +4,14 @@ use Rattle.std.specs.Io.KnownBytes.{Appends}
 use Rattle.sip_policy.specs.declared.decision.Decision.{Decision}
 use Rattle.sip_policy.specs.Window.{minute_of}
 use Rattle.sip_config_types.specs.declared.config.Config.{Config}
-use Rattle.sipd_questions.specs.declared.answer.Answer.{Answer}
-use Rattle.sipd_questions.specs.Question.{ShownQuestion}
-use Rattle.sipd_questions.specs.Answers.{answer_to}
+use Rattle.sipd_ask.specs.declared.answer.Answer.{Answer}
+use Rattle.sipd_ask.specs.Question.{ShownQuestion}
+use Rattle.sipd_ask.specs.Answers.{answer_to}
 use Rattle.sipd_arguments.specs.declared.call.DecideCall.{DecideCall}
 use Rattle.sipd_arguments.specs.declared.call.DecideCall.TheVariants.{Question, Log}
 use Rattle.sipd_arguments.specs.declared.call.QuestionCall.{QuestionCall}
-use Rattle.sipd_arguments.specs.declared.call.Verdict.{Verdict}
-use Rattle.sipd_arguments.specs.declared.call.Verdict.TheVariants.{Allow, Deny, Challenge}
+use Rattle.sipd_arguments.specs.declared.call.ExpectedDecision.{ExpectedDecision}
+use Rattle.sipd_arguments.specs.declared.call.ExpectedDecision.TheVariants.{Allow, Deny, Challenge}
 use Rattle.sipd_exit.specs.declared.exit.Exit.{Exit}
 use Rattle.sipd_exit.specs.declared.exit.Exit.TheVariants.{OtherDecision}
 use Rattle.sipd_asked_again.specs.Steps.{AsksAgain, IsRefused}
@@ -22,14 +22,14 @@ use Rattle.sipd_tools.specs.Ends.{IsUntold}
 use Rattle.sipd_tools.specs.Reporting.{exit_of_report}
 
 -- what a decision is to who expects one: a rule that lets a request through allows it, whether by a hop or not, and whether anybody is there
-abbrev pub verdict_of : Decision → Verdict
+abbrev pub verdict_of : Decision → ExpectedDecision
 verdict_of (Decision.Allow id) = Allow
 verdict_of (Decision.Via id place) = Allow
 verdict_of (Decision.Deny id) = Deny
 verdict_of Decision.Challenge = Challenge
 
 -- what the rules decide is what is expected, if something is; where a check refuses what is asked before any rule is, no rule decides so
-abbrev pub IsExpected : Option Verdict → Option Decision → Type 0
+abbrev pub IsExpected : Option ExpectedDecision → Option Decision → Type 0
 IsExpected None decision = ⊤
 IsExpected (Some verdict) decision = option_map verdict_of decision ≡ Some verdict
 

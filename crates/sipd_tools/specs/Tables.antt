@@ -3,7 +3,7 @@ use Rattle.std.specs.Prelude.{◌≡◌, ◌⊎◌, ℕ, Bool, true, false, List
 use Rattle.std.specs.Io.KnownBytes.{Appends}
 use Rattle.sip_policy.specs.declared.operation.Operation.{Operation}
 use Rattle.sip_config_types.specs.declared.config.Config.{Config}
-use Rattle.sipd_questions.specs.Question.{operation_asked}
+use Rattle.sipd_ask.specs.Question.{operation_asked}
 use Rattle.sipd_matrix.specs.Text.{matrix_text}
 use Rattle.sipd_matrix_forms.specs.Csv.{csv_text}
 use Rattle.sipd_matrix_forms.specs.Html.{html_text}

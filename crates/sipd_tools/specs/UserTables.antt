@@ -3,11 +3,11 @@ use Rattle.std.specs.Prelude.{◌≡◌, ℕ, Bool, true, false, List, [], Optio
 use Rattle.std.specs.Io.KnownBytes.{Appends}
 use Rattle.sip_config_types.specs.declared.config.Config.{Config}
 use Rattle.sipd_arguments.specs.declared.call.UserCall.{UserCall}
-use Rattle.sipd_questions.specs.Password.{ReadsPassword}
-use Rattle.sipd_questions.specs.User.{added_user, user_table}
-use Rattle.sipd_questions.specs.declared.error.QuestionError.{QuestionError}
-use Rattle.sipd_questions.specs.declared.user.UserDigests.{UserDigests}
-use Rattle.sipd_questions.specs.declared.user.UserDigests.TheVariants.{Md5, Both}
+use Rattle.sipd_ask.specs.Password.{ReadsPassword}
+use Rattle.sipd_ask.specs.User.{added_user, user_table}
+use Rattle.sipd_ask.specs.declared.error.QuestionError.{QuestionError}
+use Rattle.sipd_ask.specs.declared.user.UserDigests.{UserDigests}
+use Rattle.sipd_ask.specs.declared.user.UserDigests.TheVariants.{Md5, Both}
 use Rattle.sipd_tools.specs.Against.{IsStated}
 
 -- the realm that is said; an empty one, if none is, which is refused

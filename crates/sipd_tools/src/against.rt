@@ -6,8 +6,8 @@ ghost use Rattle.sipd_tools.specs.Against;
 ghost use Rattle.sipd_tools.specs.Against.{Begins, IsBefore, IsFirstUnread, IsLastBehind, IsLastOf, IsNotLast, IsStated, IsWithoutLast};
 
 use sip_config_types::Config;
-use sip_record::RecordHead;
-use sip_replay_script::{Lines, TellingReader};
+use sip_journal::RecordHead;
+use sip_replay_script::{ScriptLines, TellingReader};
 use sip_segment_config::{SegmentStop, last_configuration};
 use sipd_exit::{DeviceFault, Exit, config_of};
 use sipd_old_record::{line_of_file, open_any_record, own_configuration};
@@ -36,7 +36,7 @@ fn exit_of_last(stop: SegmentStop) -> Exit
 fn first_of<I: TellingReader>(
     alloc: Global,
     head: &RecordHead,
-    lines: &mut Lines,
+    lines: &mut ScriptLines,
     events: &mut I,
 ) -> Result<Option<Config>, Exit>
     ensures first { IfOk result (Begins head.now.digest lines.old lines.new (I.remaining events.old) (I.remaining events.new)) }
@@ -54,7 +54,7 @@ fn first_of<I: TellingReader>(
 fn last_behind<I: TellingReader>(
     alloc: Global,
     first: Option<Config>,
-    lines: &mut Lines,
+    lines: &mut ScriptLines,
     events: &mut I,
 ) -> Result<Config, Exit>
     ensures last { IfOk result (IsLastBehind first (pending lines.old (I.remaining events.old))) }
@@ -84,7 +84,7 @@ fn last_of<I: TellingReader>(
     ensures refused { IfErr result (IsNotLast head.now.digest (I.has_failed events.new) (I.asked events.old) (I.asked events.new)
         (I.remaining events.old)) }
 {
-    let mut lines = Lines::new(alloc)?;
+    let mut lines = ScriptLines::new(alloc)?;
     let first = first_of(alloc, head, &mut lines, events)?;
     last_behind(alloc, first, &mut lines, events)
 }

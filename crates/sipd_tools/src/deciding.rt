@@ -4,7 +4,7 @@ ghost use Rattle.std.specs.Prelude.{◌≡◌, ◌⊎◌, IfErr, IfOk, OnOk};
 ghost use Rattle.sip_replay_script.specs.Devices.{later, GaveUp};
 ghost use Rattle.sipd_asked_again.specs.Steps.{AsksAgain};
 ghost use Rattle.sipd_exit.specs.declared.exit.Exit.TheVariants.{OtherDecision};
-ghost use Rattle.sipd_questions.specs.Question.{shown};
+ghost use Rattle.sipd_ask.specs.Question.{shown};
 ghost use Rattle.sipd_tools.specs.Deciding as Definitions;
 ghost use Rattle.sipd_tools.specs.Deciding.{Answered, AnswersAsExpected, Decides, DecidesLog, DecidesOne, DecidesOtherwise, EndsAnswering};
 ghost use Rattle.sipd_tools.specs.Deciding.{EndsDeciding, EndsLog, IsExpected, IsMinute};
@@ -14,10 +14,10 @@ use crate::tools::{exit_of_decision, exit_of_report, name_of};
 use sip_config_types::Config;
 use sip_policy::{Decision, minute_of};
 use sip_replay_script::{TellingReader, TellingWriter};
-use sipd_arguments::{DecideCall, QuestionCall, Verdict};
+use sipd_arguments::{DecideCall, ExpectedDecision, QuestionCall};
+use sipd_ask::{DecideQuestion, answer_to};
 use sipd_asked_again::{Counts, ask_again};
 use sipd_exit::{DeviceFault, Exit, config_of, print};
-use sipd_questions::{DecideQuestion, answer_to};
 use std::alloc::Global;
 use std::io::{Read, Write};
 use std::rt::{Clock, Files};
@@ -42,18 +42,18 @@ fn minute_asked<R: Clock>(rt: &R, named: Option<u16>, offset: i16) -> Result<u16
 }
 
 /// What a decision is to who expects one.
-fn verdict_of(decision: Decision) -> Verdict
+fn verdict_of(decision: Decision) -> ExpectedDecision
     ensures { result ≡ Definitions.verdict_of decision }
 {
     match decision {
-        Decision::Allow(_) | Decision::Via(_, _) => Verdict::Allow,
-        Decision::Deny(_) => Verdict::Deny,
-        Decision::Challenge => Verdict::Challenge,
+        Decision::Allow(_) | Decision::Via(_, _) => ExpectedDecision::Allow,
+        Decision::Deny(_) => ExpectedDecision::Deny,
+        Decision::Challenge => ExpectedDecision::Challenge,
     }
 }
 
 /// Holds what the rules decide against what is expected. `OtherDecision` where it is another, or no rule decides.
-fn hold_decision(expected: Option<Verdict>, decision: Option<Decision>) -> Result<(), Exit>
+fn hold_decision(expected: Option<ExpectedDecision>, decision: Option<Decision>) -> Result<(), Exit>
     ensures held { OnOk result (IsExpected expected decision) }
     ensures refused { IfErr result (λ exit. (exit ≡ OtherDecision) × (IsExpected expected decision → ⊥)) }
 {

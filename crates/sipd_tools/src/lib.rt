@@ -2,7 +2,7 @@
 //! made.
 //!
 //! - Used: `sipd_command`.
-//! - Not here: what is said (`sipd_mistakes`, `sipd_questions`, `sipd_matrix`, `sipd_changes`, `sipd_expect`, `sipd_report`,
+//! - Not here: what is said (`sipd_config_faults`, `sipd_ask`, `sipd_matrix`, `sipd_changes`, `sipd_expect`, `sipd_report`,
 //!   `sipd_asked_again`), and what a record holds
 //!   (`sip_segment_config`).
 //! - Tried: `test_server`, `tests/mistakes.py`, `tests/changes.py`, `tests/expectations.py`, `tests/serve.py`, `tests/faults.py`.
@@ -10,7 +10,7 @@
 
 mod against;
 mod deciding;
-mod expected;
+mod expectations;
 mod tools;
 
 pub use deciding::decide;

@@ -7,8 +7,8 @@ ghost use Rattle.sip_replay_script.specs.Devices.{later, GaveUp};
 ghost use Rattle.sipd_arguments.specs.Summary;
 ghost use Rattle.sipd_exit.specs.Exits.{IsPrintFault};
 ghost use Rattle.sipd_exit.specs.declared.exit.Exit.TheVariants.{OtherFrame, OtherPolicy};
-ghost use Rattle.sipd_questions.specs.Question;
-ghost use Rattle.sipd_questions.specs.Show;
+ghost use Rattle.sipd_ask.specs.Question;
+ghost use Rattle.sipd_ask.specs.Show;
 ghost use Rattle.sipd_report.specs.Report.{Reports};
 ghost use Rattle.sipd_tools.specs.Against.{ChangesPolicy, KeepsPolicy, TellsChange};
 ghost use Rattle.sipd_tools.specs.Checks.{Checks, EndsChecking, EndsTelling, EndsUnderstanding, EndsWithin, IsReadAs, IsUnderstood};
@@ -21,23 +21,23 @@ ghost use Rattle.sipd_tools.specs.UserTables;
 ghost use Rattle.sipd_tools.specs.UserTables.{AddsUser, MakesUser, MakesUserAlone};
 
 use crate::against::before_of;
-use crate::expected::{hold, lines_in};
+use crate::expectations::{hold, lines_in};
 use sip_config::ConfigError;
 use sip_config_types::Config;
 use sip_policy::Operation;
 use sip_replay_script::{TellingReader, TellingWriter};
 use sip_text::Bytes;
 use sipd_arguments::{CheckCall, MatrixCall, ReportCall, UserCall, summary_of};
+use sipd_ask::{
+    QuestionError, UserDigests, added_user, digest_warning, operation_asked, password_in, show,
+    user_table,
+};
 use sipd_changes::{can_be_taken, changes_of, told};
+use sipd_config_faults::{Reading, explain_encoding, read_or_tell};
 use sipd_exit::{DeviceFault, Exit, bytes_in, config_of, config_of_bytes, print};
 use sipd_matrix::matrix_text;
 use sipd_matrix_changes::changes_text;
 use sipd_matrix_forms::{csv_text, html_text};
-use sipd_mistakes::{Reading, explain_encoding, read_or_tell};
-use sipd_questions::{
-    QuestionError, UserDigests, added_user, digest_warning, operation_asked, password_in, show,
-    user_table,
-};
 use sipd_report::{Form, Query, ReportError, report};
 use std::alloc::{AllocError, Global};
 use std::io::{Read, Write};

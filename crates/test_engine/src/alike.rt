@@ -6,7 +6,7 @@ use crate::kinds::{TestServer, opened};
 use crate::refusals::{event_of, step};
 use crate::registers::Datagram;
 use sip_event::Event;
-use sip_replay_script::{Gathered, Lines, next_line};
+use sip_replay_script::{Gathered, ScriptLines, next_line};
 use std::alloc::{AllocError, Global};
 
 /// What two engines take, each its calls, and whether they are the same then.
@@ -97,7 +97,7 @@ fn go(engine: &mut TestServer, event: &Event) -> Result<(), Fault> {
 /// Takes the events of a script, one after another.
 fn go_on(alloc: Global, engine: &mut TestServer, script: &[u8]) -> Result<(), Fault> {
     let mut input = script;
-    let mut lines = Lines::new(alloc)?;
+    let mut lines = ScriptLines::new(alloc)?;
     let mut bytes = Gathered::new(alloc);
     for _ in 0..u64::MAX {
         let Some(line) = next_line(alloc, &mut lines, &mut input, &mut bytes)? else {

@@ -1,7 +1,7 @@
 //! What a recorder writes of configurations, and of what is taken under them, read again.
 
-use sip_record::{Journal, OnFault, Recorder};
-use sip_replay_script::{Lines, next_recorded};
+use sip_journal::{Journal, OnFault, Recorder};
+use sip_replay_script::{ScriptLines, next_recorded};
 use sip_segment_text::{ConfigurationStop, Upcoming, look_ahead, next_configuration};
 use sip_text::Buffer;
 use std::alloc::{AllocError, Global};
@@ -39,7 +39,7 @@ pub fn configurations_written(alloc: Global) -> Result<bool, AllocError> {
 }
 
 /// Whether a configuration comes next, and is this one.
-fn is_configured(alloc: Global, lines: &mut Lines, rest: &mut &[u8], text: &[u8]) -> bool {
+fn is_configured(alloc: Global, lines: &mut ScriptLines, rest: &mut &[u8], text: &[u8]) -> bool {
     if !matches!(look_ahead(lines, rest), Ok(Upcoming::Configuration)) {
         return false;
     }
@@ -51,7 +51,7 @@ fn is_configured(alloc: Global, lines: &mut Lines, rest: &mut &[u8], text: &[u8]
 }
 
 /// Whether an event comes next.
-fn is_event(alloc: Global, lines: &mut Lines, rest: &mut &[u8]) -> bool {
+fn is_event(alloc: Global, lines: &mut ScriptLines, rest: &mut &[u8]) -> bool {
     if !matches!(look_ahead(lines, rest), Ok(Upcoming::Event)) {
         return false;
     }
@@ -64,7 +64,7 @@ fn is_read_again(alloc: Global, text: &[u8]) -> Result<bool, AllocError> {
     if record.configured(text).is_err() || record.passed(5).is_err() {
         return Ok(false);
     }
-    let mut lines = Lines::new(alloc)?;
+    let mut lines = ScriptLines::new(alloc)?;
     let mut rest = record.writer.as_slice();
     Ok(
         is_configured(alloc, &mut lines, &mut rest, text)
@@ -96,7 +96,7 @@ pub fn configurations_read(alloc: Global) -> bool {
 
 /// What comes of a record in which a configuration of at most three bytes is to stand next; nothing where there is no memory for it.
 fn next_of(alloc: Global, mut record: &[u8]) -> Result<Option<Buffer>, ConfigurationStop> {
-    let mut lines = Lines::new(alloc)?;
+    let mut lines = ScriptLines::new(alloc)?;
     next_configuration(alloc, &mut lines, &mut record, 3)
 }
 

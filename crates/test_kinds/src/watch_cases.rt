@@ -2,7 +2,7 @@
 use crate::case::{Case, Trial};
 use sip_text::Bytes;
 use sipd_reload::{
-    FileFault, FileState, Look, MemoryFile, PathFile, Stamp, Told, Watch, WatchedFile,
+    FileAnswer, FileFault, FileState, Look, MemoryFile, PathFile, Stamp, Watch, WatchedFile,
 };
 use std::alloc::{AllocError, Global};
 use std::fs;
@@ -295,7 +295,7 @@ fn told_by(file: &MemoryFile) -> Option<(usize, usize)> {
     let told = file.told()?;
     let mut stamps = 0usize;
     for told in told {
-        if let Told::Stamped(_) = told {
+        if let FileAnswer::Stamped(_) = told {
             stamps = stamps.saturating_add(1);
         }
     }

@@ -4,9 +4,9 @@ use crate::{
     nonces, onward, reply, text, uri,
 };
 use sip_edit_response::reason_of;
-use sip_header::{bracketed_place, cseq_of};
+use sip_header::{bracketed_host_port, cseq_of};
 use sip_text::is_token;
-use sip_uri::plain_place;
+use sip_uri::plain_host_port;
 use std::alloc::Global;
 use std::io;
 use test_forms::tell;
@@ -72,7 +72,7 @@ impl Row {
             Row::BadEscapePrinted => text::bad_escape_printed(alloc),
             Row::Uri(text, is_uri) => uri::is_read(alloc, text, is_uri),
             Row::PlainPlace(text, host, port) => uri::is_plain_place(text, host, port),
-            Row::NoPlainPlace(text) => plain_place(text).is_none(),
+            Row::NoPlainPlace(text) => plain_host_port(text).is_none(),
             Row::SchemePrinted => uri::scheme_printed(alloc),
             Row::Equal(left, right, wanted) => {
                 equality::are_equal(alloc, left, right) == Some(wanted)
@@ -84,7 +84,7 @@ impl Row {
             Row::BracketedPlace(value, host, port) => {
                 header::is_bracketed_place(value, host, port)
             }
-            Row::NoBracketedPlace(value) => bracketed_place(value).is_none(),
+            Row::NoBracketedPlace(value) => bracketed_host_port(value).is_none(),
             Row::Read(text) => message::is_read(alloc, text),
             Row::PartsOfTheDatagram => message::parts_of_the_datagram(alloc),
             Row::Refusal(text, number) => message::refusal_of(alloc, text) == number,

@@ -1,6 +1,6 @@
 use crate::bytes::is_place;
 use crate::cases::Row;
-use sip_header::{NameAddr, bracketed_place, name_addr_of, route_of};
+use sip_header::{NameAddr, bracketed_host_port, name_addr_of, route_of};
 use std::alloc::Global;
 use test_forms::says_nothing;
 
@@ -72,5 +72,5 @@ pub(crate) fn is_no_route(alloc: Global, value: &[u8]) -> bool {
 }
 
 pub(crate) fn is_bracketed_place(value: &[u8], host: &[u8], port: Option<u16>) -> bool {
-    is_place(bracketed_place(value), host, port)
+    is_place(bracketed_host_port(value), host, port)
 }

@@ -1,6 +1,6 @@
 use crate::bytes::{gives_bytes, is_place};
 use crate::cases::Row;
-use sip_uri::{UriError, parse_uri, plain_place, write_uri};
+use sip_uri::{UriError, parse_uri, plain_host_port, write_uri};
 use std::alloc::Global;
 use test_forms::gives_text;
 
@@ -31,7 +31,7 @@ pub(crate) const TEXTS_OF_URIS: &[Row] = &[
 
 /// Whether the place of a URI is read where it stands.
 pub(crate) fn is_plain_place(text: &[u8], host: &[u8], port: Option<u16>) -> bool {
-    is_place(plain_place(text), host, port)
+    is_place(plain_host_port(text), host, port)
 }
 
 /// Whether a text is read and written as it was, or is no URI.

@@ -3,7 +3,7 @@
 
 use crate::phone::Phone;
 use crate::trial::Trial;
-use sip_loop_link::UdpLink;
+use sip_transport::UdpLink;
 use sip_uri::Addr;
 use std::alloc::{AllocError, Global};
 use std::io;

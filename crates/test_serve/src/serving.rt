@@ -6,8 +6,8 @@ use crate::datagrams::Datagram;
 use crate::logs::{Closed, LastPrinted};
 use crate::trial::{Course, Fails, LONGEST, Trial, over_memory};
 use sip_loop::ServeError;
-use sip_loop_link::Sending::{Failed, Went};
-use sip_loop_link::{MemoryLink, Sending};
+use sip_transport::SendOutcome::{Failed, Went};
+use sip_transport::{MemoryLink, SendOutcome};
 use std::alloc::Global;
 
 /// The first number that no datagram has: 2^62.
@@ -27,7 +27,7 @@ pub(crate) enum Act {
     /// Nothing can be written to its record any more.
     FillsRecord,
     /// Behind so many datagrams the link was given these, and nothing else.
-    Gave(usize, &'static [(Datagram, Sending)]),
+    Gave(usize, &'static [(Datagram, SendOutcome)]),
     /// What was recorded begins so.
     RecordBegins(&'static [u8]),
     /// What was recorded ends so.
@@ -58,7 +58,7 @@ const CALL: &Course = &Course {
 };
 
 /// The copies of both INVITEs.
-const COPIES: &[(Datagram, Sending)] = &[(Datagram::Invite1, Went), (Datagram::Invite2, Went)];
+const COPIES: &[(Datagram, SendOutcome)] = &[(Datagram::Invite1, Went), (Datagram::Invite2, Went)];
 
 /// The call rings.
 const RINGS: &[Act] = &[
@@ -220,7 +220,7 @@ pub(crate) const CLOCK_GOES_BACK: &Scene = &Scene {
 
 /// All that is due of the call by 126,000 ms: both INVITEs seven times, at the last 31,500 ms behind the call; then,
 /// 32,000 ms behind the call, the answer, and ten copies of it within 32,000 ms more.
-const WHOLE_CALL: &[(Datagram, Sending)] = &[
+const WHOLE_CALL: &[(Datagram, SendOutcome)] = &[
     (Datagram::Trying, Went),
     (Datagram::Invite1, Went),
     (Datagram::Invite2, Went),

@@ -3,15 +3,15 @@ use crate::counting::Counting;
 use crate::datagrams::Datagram;
 use sip_config_types::sample;
 use sip_event::Boot;
+use sip_journal::{OnFault, Recorder};
 use sip_loop::engine::Engine;
 use sip_loop::{AuditLog, NoAudit, ServeError, serve};
-use sip_loop_link::{Given, Link, MemoryClock, MemoryLink, Sending};
 use sip_policy_index::IndexedRules;
-use sip_record::{OnFault, Recorder};
 use sip_replay_print::NoSink;
-use sip_replay_script::Lines;
+use sip_replay_script::ScriptLines;
 use sip_resume::{RecordError, resume_record};
 use sip_timers_wheel::WheelTimers;
+use sip_transport::{Given, Link, MemoryClock, MemoryLink, SendOutcome};
 use std::alloc::{AllocError, Global};
 
 /// The most bytes of a configuration in a record, where a trial names no others.
@@ -86,7 +86,7 @@ impl<L: Link> Trial<L> {
 
     /// Takes a record that may hold configurations, of at most so many bytes each; how many of its lines were taken.
     pub fn resume(&mut self, mut record: &[u8], longest: usize) -> Result<u64, RecordError> {
-        let Ok(mut lines) = Lines::new(self.alloc) else {
+        let Ok(mut lines) = ScriptLines::new(self.alloc) else {
             return Err(RecordError::NoMemory);
         };
         let resumed = resume_record(
@@ -145,14 +145,14 @@ impl Fails {
 }
 
 /// Whether this is the datagram that was given, and what became of it.
-fn is(given: &Given, wanted: Datagram, sending: Sending) -> bool {
+fn is(given: &Given, wanted: Datagram, sending: SendOutcome) -> bool {
     given.to == wanted.addr()
         && given.bytes.as_slice() == wanted.bytes()
         && given.sending == sending
 }
 
 /// Whether these are the datagrams that were given.
-fn are(given: &[Given], wanted: &[(Datagram, Sending)]) -> bool {
+fn are(given: &[Given], wanted: &[(Datagram, SendOutcome)]) -> bool {
     for (given, (datagram, sending)) in given.iter().zip(wanted) {
         if !is(given, *datagram, *sending) {
             return false;
@@ -163,7 +163,7 @@ fn are(given: &[Given], wanted: &[(Datagram, Sending)]) -> bool {
 
 impl Trial<MemoryLink> {
     /// Whether the link was given these behind so many, and nothing else.
-    pub fn gave(&self, behind: usize, wanted: &[(Datagram, Sending)]) -> bool {
+    pub fn gave(&self, behind: usize, wanted: &[(Datagram, SendOutcome)]) -> bool {
         match self.link.given().get(behind..) {
             Some(given) => are(given, wanted),
             None => false,

@@ -4,7 +4,7 @@ use crate::kinds::{TestServer, opened};
 use crate::refusals::take::take;
 use sip_event::Event;
 use sip_replay_print::{PrintRoom, print_step};
-use sip_replay_script::{Gathered, Line, Lines, next_line};
+use sip_replay_script::{EventLine, Gathered, ScriptLines, next_line};
 use sip_text::Bytes;
 use std::alloc::{AllocError, Global};
 use std::io::{Read, Write};
@@ -31,10 +31,14 @@ fn take_event<W: Write, M: Write>(
 }
 
 /// The event that a line begins, a datagram with a copy of these bytes.
-pub(crate) fn event_of(alloc: Global, line: Line, bytes: &Gathered) -> Result<Event, AllocError> {
+pub(crate) fn event_of(
+    alloc: Global,
+    line: EventLine,
+    bytes: &Gathered,
+) -> Result<Event, AllocError> {
     match line {
-        Line::Whole(event) => Ok(event),
-        Line::Head(head) => Ok(Event::Datagram {
+        EventLine::Whole(event) => Ok(event),
+        EventLine::Head(head) => Ok(Event::Datagram {
             at: head.at,
             word: head.word,
             from: head.from,
@@ -47,7 +51,7 @@ pub(crate) fn event_of(alloc: Global, line: Line, bytes: &Gathered) -> Result<Ev
 fn take_all<I: Read, W: Write, M: Write>(
     alloc: Global,
     engine: &mut TestServer,
-    lines: &mut Lines,
+    lines: &mut ScriptLines,
     bytes: &mut Gathered,
     input: &mut I,
     output: &mut W,
@@ -72,7 +76,7 @@ pub fn play<I: Read, W: Write, M: Write>(
     marks: &mut M,
 ) -> Result<u64, Fault> {
     let mut engine = opened(alloc, 1)?;
-    let mut lines = Lines::new(alloc)?;
+    let mut lines = ScriptLines::new(alloc)?;
     let mut bytes = Gathered::new(alloc);
     take_all(
         alloc,

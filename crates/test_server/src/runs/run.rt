@@ -4,7 +4,7 @@ use sip_policy::ListRules;
 use sip_policy_index::IndexedRules;
 use sip_timers::ListTimers;
 use sip_timers_wheel::WheelTimers;
-use sipd_arguments::{Call, Parsed, ReplayCall, parse};
+use sipd_arguments::{Parsed, ProgramCall, ReplayCall, parse};
 use sipd_command::{command, replay_script};
 use sipd_exit::{DeviceFault, Exit};
 use std::io::Write;
@@ -45,7 +45,7 @@ fn replay_on_lists<R: Files + AllocGlobal>(
 ) -> Result<(), Exit> {
     let mut input = script;
     match parse(rt.alloc(), words)? {
-        Parsed::Call(Call::Replay(ReplayCall::Script { config })) => {
+        Parsed::Call(ProgramCall::Replay(ReplayCall::Script { config })) => {
             let path = config.as_ref().map(String::as_str);
             replay_script::<ListTimers, ListRules, R, &[u8], Vec<u8>>(rt, path, &mut input, output)
         }

@@ -1,6 +1,6 @@
 use Rattle.std.proofs.Common.{◌≡◌, [], drop}
 use Rattle.toml.specs.View.{items_view}
-use Rattle.sip_config_values.specs.declared.key.Key.TheVariants as keys
+use Rattle.sip_config_values.specs.declared.key.ConfigKey.TheVariants as keys
 use Rattle.sip_config_values.specs.Rows.{rows_after}
 use Rattle.sip_config.specs.Rules.{new_id}
 use Rattle.sip_config.proofs.rules.ids_of.Given as goal

@@ -2,7 +2,7 @@ use Rattle.std.proofs.Common.{◌+◌, [], ◌∷◌, ◌++◌, drop, List, ap, 
 use Rattle.std.proofs.lemmas.Result.{err_from_is_err_and}
 use Rattle.toml.specs.View.{table_view, items_view}
 use Rattle.sip_policy.specs.declared.rule.Rule.{Rule}
-use Rattle.sip_config_values.specs.declared.key.Key.TheVariants as keys
+use Rattle.sip_config_values.specs.declared.key.ConfigKey.TheVariants as keys
 use Rattle.sip_config_values.specs.Rows.{rows_after}
 use Rattle.sip_config.specs.Rules.{rule_at}
 use Rattle.sip_config.proofs.Rows.{went_on, stopped, row_at}

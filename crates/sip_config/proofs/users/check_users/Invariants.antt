@@ -1,6 +1,6 @@
 use Rattle.std.proofs.Common.{◌≡◌, drop}
 use Rattle.toml.specs.View.{items_view}
-use Rattle.sip_config_values.specs.declared.key.Key.TheVariants as keys
+use Rattle.sip_config_values.specs.declared.key.ConfigKey.TheVariants as keys
 use Rattle.sip_config_values.specs.Rows.{all_pass}
 use Rattle.sip_config.specs.Users.{user_line}
 use Rattle.sip_config.proofs.users.check_users.Given as goal

@@ -1,7 +1,7 @@
 use Rattle.std.proofs.Common.{ℕ, ◌+◌, [], drop, List}
 use Rattle.std.proofs.lemmas.Result.{err_from_is_err_and}
 use Rattle.toml.specs.View.{table_view, items_view}
-use Rattle.sip_config_values.specs.declared.key.Key.TheVariants as keys
+use Rattle.sip_config_values.specs.declared.key.ConfigKey.TheVariants as keys
 use Rattle.sip_config_values.specs.Rows.{rows_after}
 use Rattle.sip_config.specs.Users.{new_name, name_behind}
 use Rattle.sip_config.proofs.Rows.{went_on, stopped, rows_at}

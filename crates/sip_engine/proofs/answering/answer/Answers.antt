@@ -1,6 +1,6 @@
 use Rattle.std.proofs.Common.{ap}
-use Rattle.sip_core.specs.state.KeptRequest.{KeptRequest}
-use Rattle.sip_core.specs.verdict_model.Verdict as Definition
+use Rattle.sip_verdict.specs.state.KeptRequest.{KeptRequest}
+use Rattle.sip_verdict.specs.verdict_model.Verdict as Definition
 use Rattle.sip_engine.proofs.Taken.{message_is}
 use Rattle.sip_engine.proofs.answering.answer.Goals as goal
 

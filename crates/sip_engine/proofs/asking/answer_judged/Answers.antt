@@ -1,5 +1,5 @@
 use Rattle.std.proofs.Common.{ap}
-use Rattle.sip_core.specs.state.KeptRequest.{KeptRequest}
+use Rattle.sip_verdict.specs.state.KeptRequest.{KeptRequest}
 use Rattle.sip_engine.proofs.Taken.{told}
 use Rattle.sip_engine.proofs.asking.answer_judged.Goals as goal
 

@@ -1,7 +1,7 @@
 use Rattle.std.proofs.Common.{◌<◌, ◌^◌, ℕ, subst, sym, arith}
 use Rattle.sip_model.specs.steps_model.Step.{NoneAgainBefore, NoneAgainBy, NoneBefore, NoneBy, moment_of}
-use Rattle.sip_core.specs.context_model.Retransmission.{resends}
-use Rattle.sip_core.specs.state.State.{deadlines}
+use Rattle.sip_verdict.specs.context_model.Retransmission.{resends}
+use Rattle.sip_verdict.specs.state.State.{deadlines}
 use Rattle.sip_engine.proofs.Numbered.{later_is_not_before}
 use Rattle.sip_engine.proofs.stepping.deliver.Goals as goal
 

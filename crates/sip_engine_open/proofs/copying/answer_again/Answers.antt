@@ -1,8 +1,8 @@
 use Rattle.std.proofs.Common.{◌∙◌, ◌++◌, List, Option, sym, ap}
 use Rattle.std.specs.Option.{unwrap_or}
 use Rattle.sip_event.specs.declared.packet.Packet.{Packet}
-use Rattle.sip_core.specs.context_model.Retransmission.{answers_again}
-use Rattle.sip_dialog_lessons.specs.state.declared.open_request.OpenRequest.{OpenRequest}
+use Rattle.sip_verdict.specs.context_model.Retransmission.{answers_again}
+use Rattle.sip_dialog_updates.specs.state.declared.open_request.OpenRequest.{OpenRequest}
 use Rattle.sip_engine_open.proofs.Effects.{again_done}
 use Rattle.sip_engine_open.proofs.copying.answer_again.Goals as goal
 

@@ -10,7 +10,7 @@ returns-clause-leaves g c =
       packets_are = c.in_ok-packets.ensures.sent;
       records_are = c.new.ensures;
       leaves =
-          left_same c.args.arrival (replaced c.args.draft.change c.args.proxy.now.state.requests) c.args.draft.drafted.lessons c.args.proxy.now.state
+          left_same c.args.arrival (replaced c.args.draft.change c.args.proxy.now.state.requests) c.args.draft.drafted.updates c.args.proxy.now.state
           c.change.new.self.state c.count-number.new.self.state
           c.requires.coming.number_is c.in_ok-packets.ensures.becomes c.count-number.ensures.counted;
     }

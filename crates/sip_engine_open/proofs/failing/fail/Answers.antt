@@ -12,18 +12,18 @@ returns-clause-does g c =
 
 pub returns-clause-at_moment : goal.returns-clause-at_moment
 returns-clause-at_moment g c =
-    left_at c.args.now c.in_ok-draft.draft.drafted.packets (replaced c.in_ok-draft.draft.change c.args.proxy.now.state.requests) c.in_ok-draft.draft.drafted.lessons
+    left_at c.args.now c.in_ok-draft.draft.drafted.packets (replaced c.in_ok-draft.draft.change c.args.proxy.now.state.requests) c.in_ok-draft.draft.drafted.updates
     c.args.proxy.now.state
     c.change.new.proxy.state c.change.result c.change.ensures.leaves
 
 pub returns-clause-moment : goal.returns-clause-moment
 returns-clause-moment g c =
-    left_moment c.args.now c.in_ok-draft.draft.drafted.packets (replaced c.in_ok-draft.draft.change c.args.proxy.now.state.requests) c.in_ok-draft.draft.drafted.lessons
+    left_moment c.args.now c.in_ok-draft.draft.drafted.packets (replaced c.in_ok-draft.draft.change c.args.proxy.now.state.requests) c.in_ok-draft.draft.drafted.updates
     c.args.proxy.now.state
     c.change.new.proxy.state c.change.result c.change.ensures.leaves
 
 pub returns-clause-next_stays : goal.returns-clause-next_stays
 returns-clause-next_stays g c =
-    left_next c.args.now c.in_ok-draft.draft.drafted.packets (replaced c.in_ok-draft.draft.change c.args.proxy.now.state.requests) c.in_ok-draft.draft.drafted.lessons
+    left_next c.args.now c.in_ok-draft.draft.drafted.packets (replaced c.in_ok-draft.draft.change c.args.proxy.now.state.requests) c.in_ok-draft.draft.drafted.updates
     c.args.proxy.now.state
     c.change.new.proxy.state c.change.result c.change.ensures.leaves

@@ -12,20 +12,20 @@ returns-clause-step g c =
 
 pub returns-clause-at_first : goal.returns-clause-at_first
 returns-clause-at_first g c =
-    left_at c.args.first.due c.in_ok-draft.draft.drafted.packets (replaced c.in_ok-draft.draft.change c.args.proxy.now.state.requests) c.in_ok-draft.draft.drafted.lessons
+    left_at c.args.first.due c.in_ok-draft.draft.drafted.packets (replaced c.in_ok-draft.draft.change c.args.proxy.now.state.requests) c.in_ok-draft.draft.drafted.updates
     c.args.proxy.now.state
     c.change.new.proxy.state c.change.result c.change.ensures.leaves
 
 pub returns-clause-at_moment : goal.returns-clause-at_moment
 returns-clause-at_moment g c =
     left_at_moment c.args.first.due c.in_ok-draft.draft.drafted.packets (replaced c.in_ok-draft.draft.change c.args.proxy.now.state.requests)
-    c.in_ok-draft.draft.drafted.lessons
+    c.in_ok-draft.draft.drafted.updates
     c.args.proxy.now.state c.change.new.proxy.state c.change.result c.change.ensures.leaves
 
 pub returns-clause-next_stays : goal.returns-clause-next_stays
 returns-clause-next_stays g c =
     left_next c.args.first.due c.in_ok-draft.draft.drafted.packets (replaced c.in_ok-draft.draft.change c.args.proxy.now.state.requests)
-    c.in_ok-draft.draft.drafted.lessons c.args.proxy.now.state
+    c.in_ok-draft.draft.drafted.updates c.args.proxy.now.state
     c.change.new.proxy.state c.change.result c.change.ensures.leaves
 
 pub end-requires-clause-kept : goal.end-requires-clause-kept

@@ -1,6 +1,6 @@
 use Rattle.std.proofs.Common.{◌<◌, ◌^◌, drop}
 use Rattle.std.specs.List.{AllByRecursion}
-use Rattle.sip_dialog_lessons.specs.state.declared.branch.Branch.{Branch}
+use Rattle.sip_dialog_updates.specs.state.declared.branch.Branch.{Branch}
 use Rattle.sip_fork.proofs.change.numbers_fit.Given as goal
 
 -- so it is if it is so of the branches that are left

@@ -1,10 +1,10 @@
 use Rattle.std.proofs.Common.{◌≤◌, List, length, arith}
 use Rattle.std.specs.Prelude.{count_by}
 use Rattle.std.proofs.lemmas.List.Sums.{count_by-le-length}
-use Rattle.sip_dialog_lessons.specs.state.declared.open_request.Upward.{Upward}
+use Rattle.sip_dialog_updates.specs.state.declared.open_request.Upward.{Upward}
 use Rattle.model_steps.specs.context_model.Opening.{opening}
 use Rattle.sip_context.specs.Inputs.{outcome_of}
-use Rattle.sip_dialog_lessons.specs.Telling.{is_early_or_success}
+use Rattle.sip_dialog_updates.specs.Telling.{is_early_or_success}
 use Rattle.sip_fork.proofs.Once.{input_once, opening_once}
 use Rattle.sip_fork.proofs.dialogs.changes_begin_once.Goals as goal
 

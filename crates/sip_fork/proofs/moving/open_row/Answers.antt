@@ -1,8 +1,8 @@
 use Rattle.std.proofs.Common.{◌≡◌, ◌<◌, List, None, position, sym, ◌∙◌, ap, subst}
 use Rattle.std.specs.List.{All}
 use Rattle.sip_transaction_table.specs.Key.{same_key}
-use Rattle.sip_transaction_table.specs.declared.key.Key.{Key}
-use Rattle.sip_dialog_lessons.specs.state.declared.open_request.OpenRequest.{OpenRequest}
+use Rattle.sip_transaction_table.specs.declared.key.TransactionKey.{TransactionKey}
+use Rattle.sip_dialog_updates.specs.state.declared.open_request.OpenRequest.{OpenRequest}
 use Rattle.sip_request.specs.declared.request.Request.{Request}
 use Rattle.sip_request.specs.transactions_model.Matching.{AreBranched}
 use Rattle.sip_fork.specs.Contexts.{AreTied, IsFitting}
@@ -21,7 +21,7 @@ begin-requires-clause-ready g c =
 pub push-requires-clause-alone : goal.push-requires-clause-alone
 push-requires-clause-alone g c =
     let same : c.begin.new.place.open_request.key ≡ c.args.opening.key = ap (λ (x : OpenRequest). x.key) (c.begin.ensures.request ∙ c.opening.view_is) in
-    subst (λ (k : Key). position (λ (r : Request). same_key r.open_request.key k) c.args.table.now.rows ≡ None) (sym same) c.requires.alone
+    subst (λ (k : TransactionKey). position (λ (r : Request). same_key r.open_request.key k) c.args.table.now.rows ≡ None) (sym same) c.requires.alone
 
 pub returns-clause-tied : goal.returns-clause-tied
 returns-clause-tied g c =

@@ -1,6 +1,6 @@
 use Rattle.std.proofs.Common.{ℕ, [], ◌∷◌, refl}
-use Rattle.sip_dialog_lessons.specs.state.declared.open_request.OpenRequest.{OpenRequest}
-use Rattle.sip_dialog_lessons.specs.state.declared.server.Server.{Server}
+use Rattle.sip_dialog_updates.specs.state.declared.open_request.OpenRequest.{OpenRequest}
+use Rattle.sip_dialog_updates.specs.state.declared.server.Server.{Server}
 use Rattle.model_steps.specs.context_model.Opening.{arriving, branches_from, dialog_branch, forking, opening}
 use Rattle.sip_request.specs.transactions_model.Matching.{AreBranched}
 use Rattle.model_branches.specs.Kept.{AreKept}

@@ -1,5 +1,5 @@
 use Rattle.std.proofs.Common.{◌∙◌, ap}
-use Rattle.sip_dialog_lessons.specs.state.declared.open_request.OpenRequest.{OpenRequest}
+use Rattle.sip_dialog_updates.specs.state.declared.open_request.OpenRequest.{OpenRequest}
 use Rattle.sip_context.specs.Inputs.{outcome}
 use Rattle.sip_fork.proofs.Copied.{planned}
 use Rattle.sip_fork.proofs.planning.prepared.Goals as goal

@@ -1,8 +1,8 @@
 use Rattle.std.proofs.Common.{◌≡◌, ℕ, ◌≤◌, Bool, true, false, Some, refl}
 use Rattle.std.specs.Prelude.{◌&&◌, not}
-use Rattle.sip_dialog_lessons.specs.state.declared.branch.Branch.{Branch}
-use Rattle.sip_dialog_lessons.specs.state.declared.open_request.OpenRequest.{OpenRequest}
-use Rattle.sip_dialog_lessons.specs.state.State.{is_invite, phase_deadline, side_deadline}
+use Rattle.sip_dialog_updates.specs.state.declared.branch.Branch.{Branch}
+use Rattle.sip_dialog_updates.specs.state.declared.open_request.OpenRequest.{OpenRequest}
+use Rattle.sip_dialog_updates.specs.state.State.{is_invite, phase_deadline, side_deadline}
 use Rattle.sip_request.specs.transactions_model.Fits.{BranchFits, Fits, HasOtherClient, HasOtherServer}
 use Rattle.sip_request.specs.transactions_model.Ties.{branch_timers, due_at, side_timers}
 use Rattle.sip_fork.proofs.timing.timers_stand_for_moments.Goals as goal

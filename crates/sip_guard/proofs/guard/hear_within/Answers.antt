@@ -1,7 +1,7 @@
 use Rattle.std.proofs.Common.{◌≡◌, Some, sym, ap, ◌∙◌, arith, Option, List}
-use Rattle.sip_loop_link.specs.Told.{and_then, heard_of, left_of}
-use Rattle.sip_loop_link.specs.declared.datagram.Heard.{Heard}
-use Rattle.sip_loop_link.specs.declared.datagram.Instead.{Instead}
+use Rattle.sip_transport.specs.Told.{and_then, heard_of, left_of}
+use Rattle.sip_transport.specs.declared.datagram.HeardDatagram.{HeardDatagram}
+use Rattle.sip_transport.specs.declared.datagram.Instead.{Instead}
 use Rattle.sip_uri.specs.declared.addr.Addr.{Addr}
 use Rattle.sip_guard.proofs.Passing.{one_passed}
 use Rattle.sip_guard.proofs.guard.hear_within.Goals as goal
@@ -11,7 +11,7 @@ loop-passed-preserved g c =
     let L = g.L.Link in
     let held = L.held c.receive.new.self in
     let told = L.heard c.loop-passed.link in
-    let datagram : Heard = record { from = c.in-Some.from; bytes = held } in
+    let datagram : HeardDatagram = record { from = c.in-Some.from; bytes = held } in
     let heard : L.heard c.receive.new.self ≡ and_then told (Some datagram) = c.in_ok-from.ensures.tells
     ∙ ap (λ (from : Option Addr). and_then told (heard_of from held)) c.in-Some.is in
     let fresh = rw c.in-Some.is at c.in_ok-from.ensures.fresh in
@@ -49,7 +49,7 @@ loop-passed-preserved g c =
           })
           c.loop-passed.passed datagram c.loop-passed.invariant.0 c.loop-passed-test.true
           (aside.0 ∙ ap (λ (instead : Instead). left_of instead told) c.instead_behind.ensures)
-          (aside.1 ∙ ap (λ (list : Option (List Heard)). and_then list datagram) c.in_ok-from.ensures.aside)
+          (aside.1 ∙ ap (λ (list : Option (List HeardDatagram)). and_then list datagram) c.in_ok-from.ensures.aside)
           (c.set_aside.ensures.given ∙ c.in_ok-from.ensures.given) (c.set_aside.ensures.waits ∙ c.in_ok-from.ensures.waits)
           (c.set_aside.ensures.counted ∙ c.in_ok-from.ensures.counted) (c.set_aside.ensures.failures ∙ c.in_ok-from.ensures.ok)
           (sym c.admit.ensures.within ∙ c.if-admit.false) (c.admit.ensures.beyond c.if-admit.false),

@@ -1,5 +1,5 @@
 use Rattle.std.proofs.Common.{◌≡◌, ◌∙◌, List, map, ap}
-use Rattle.sip_location.specs.Filed.{bindings_of}
+use Rattle.sip_location.specs.AorBindings.{bindings_of}
 use Rattle.sip_location.specs.KeptBinding.{KeptBinding, kept_of}
 use Rattle.sip_location.specs.Registration.{edited}
 use Rattle.sip_location.proofs.Keeping.{kept_again}

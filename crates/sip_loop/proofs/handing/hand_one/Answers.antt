@@ -1,7 +1,7 @@
 use Rattle.std.proofs.Common.{◌≡◌, ◌∙◌, ap, drop, get_or, sym, subst, List, Option, ℕ}
 use Rattle.std.proofs.lemmas.Result.{err_from_is_err_and, on_ok_weaker, IfErr-weaker}
 use Rattle.sip_run.specs.Due.{standing_of}
-use Rattle.sip_loop.specs.declared.served.ServeError.TheVariants.{NoMemory}
+use Rattle.sip_loop.specs.declared.serve_error.ServeError.TheVariants.{NoMemory}
 use Rattle.sip_event.specs.declared.packet.Packet.{Packet}
 use Rattle.sip_run.specs.engine.Engine.{Engine}
 use Rattle.model_order.specs.Order.{Standing}

@@ -3,14 +3,14 @@ use Rattle.std.proofs.lemmas.Result.{err_from_is_err_and, on_ok_weaker, IfErr-we
 use Rattle.model_bounds.specs.steps_model.Step.{Given as ForEvent}
 use Rattle.model_bounds.specs.state.declared.server.Server.{Server}
 use Rattle.sip_run.specs.engine.Engine.{Engine}
-use Rattle.sip_record.specs.Record.{Notes}
+use Rattle.sip_journal.specs.Record.{Notes}
 use Rattle.sip_run.specs.Due.{standing_of}
-use Rattle.sip_loop_link.specs.declared.datagram.Given.{Given}
-use Rattle.sip_loop_link.specs.declared.datagram.Heard.{Heard}
+use Rattle.sip_transport.specs.declared.datagram.Given.{Given}
+use Rattle.sip_transport.specs.declared.datagram.HeardDatagram.{HeardDatagram}
 use Rattle.sip_loop.specs.Courses.{Breaks, Course, Others, TurnBreaks, TurnGoes, told_with, waiting_at}
 use Rattle.sip_loop.specs.Serving.{event_of_turn, kept, told_by, turn_at}
 use Rattle.sip_loop.proofs.Turning.{turn_broken, turn_goes, turn_unlogged, turn_unsent, turn_untold}
-use Rattle.sip_loop.specs.declared.served.ServeError.TheVariants as Refusal
+use Rattle.sip_loop.specs.declared.serve_error.ServeError.TheVariants as Refusal
 use Rattle.sip_loop.proofs.serving.take_turn.Goals as goal
 
 pub returns-in_err-taken-clause-broken : goal.returns-in_err-taken-clause-broken
@@ -76,8 +76,8 @@ returns-in_err-log_records-clause-broken g c =
 pub returns-clause-goes : goal.returns-clause-goes
 returns-clause-goes g c =
     on_ok_weaker c.hand_out.result
-    (λ handed readings. subst (λ (o : Option (List (Option Heard))). TurnGoes c.args.engine.now.server (standing_of c.args.engine.now) (standing_of c.hand_out.new.engine)
-    c.args.at
+    (λ handed readings. subst (λ (o : Option (List (Option HeardDatagram))). TurnGoes c.args.engine.now.server (standing_of c.args.engine.now)
+    (standing_of c.hand_out.new.engine) c.args.at
     (told_by (g.L.Link.heard c.args.link.now) (g.L.Link.given c.args.link.now) readings
     (kept (g.J.Journal.written c.args.journal.now) (g.J.Journal.faulted c.args.journal.now))
     (kept (g.A.AuditLog.printed c.args.audit.now) (g.A.AuditLog.faulted c.args.audit.now)) (g.W.Rng.stream c.args.words.now))
@@ -153,8 +153,8 @@ returns-clause-broken g c =
     (told_by (g.L.Link.heard c.hand_out.new.link) (g.L.Link.given c.hand_out.new.link) readings
     (kept (g.J.Journal.written c.hand_out.new.journal) (g.J.Journal.faulted c.hand_out.new.journal))
     (kept (g.A.AuditLog.printed c.log_records.new.audit) (g.A.AuditLog.faulted c.log_records.new.audit)) (g.W.Rng.stream c.take_event.new.words)) e)
-    (λ e h readings. subst (λ (o : Option (List (Option Heard))). TurnBreaks c.args.engine.now.server (standing_of c.args.engine.now) (standing_of c.hand_out.new.engine)
-    c.args.at
+    (λ e h readings. subst (λ (o : Option (List (Option HeardDatagram))). TurnBreaks c.args.engine.now.server (standing_of c.args.engine.now)
+    (standing_of c.hand_out.new.engine) c.args.at
     (told_by (g.L.Link.heard c.args.link.now) (g.L.Link.given c.args.link.now) readings
     (kept (g.J.Journal.written c.args.journal.now) (g.J.Journal.faulted c.args.journal.now))
     (kept (g.A.AuditLog.printed c.args.audit.now) (g.A.AuditLog.faulted c.args.audit.now)) (g.W.Rng.stream c.args.words.now))

@@ -1,8 +1,8 @@
 use Rattle.std.proofs.Common.{◌∙◌, sym, zero, suc, ap, arith, subst, Option, List, ℕ}
 use Rattle.std.proofs.lemmas.Result.{err_from_is_err_and, on_ok_weaker, IfErr-weaker}
 use Rattle.sip_run.specs.Due.{standing_of}
-use Rattle.sip_loop_link.specs.Told.{counted}
-use Rattle.sip_loop_link.specs.declared.datagram.Heard.{Heard}
+use Rattle.sip_transport.specs.Told.{counted}
+use Rattle.sip_transport.specs.declared.datagram.HeardDatagram.{HeardDatagram}
 use Rattle.model_bounds.specs.state.declared.server.Server.{Server}
 use Rattle.sip_loop.specs.Courses.{Breaks, TurnBreaks, TurnGoes}
 use Rattle.sip_loop.specs.Serving.{between_turns, kept, told_by}
@@ -24,7 +24,7 @@ pub returns-in_err-pass_due-clause-broken : goal.returns-in_err-pass_due-clause-
 returns-in_err-pass_due-clause-broken g c =
     let p = err_from_is_err_and c.from_residual.result c.from_residual.ensures.1 in
     rw (p.1, p.2)
-    (subst (λ (o : Option (List (Option Heard))). Breaks c.args.engine.now.server (standing_of c.args.engine.now) (standing_of c.pass_due.new.engine)
+    (subst (λ (o : Option (List (Option HeardDatagram))). Breaks c.args.engine.now.server (standing_of c.args.engine.now) (standing_of c.pass_due.new.engine)
     (between_turns c.args.engine.now.state.moment)
     (told_by (g.L.Link.heard c.args.link.now) (g.L.Link.given c.args.link.now) (g.C.Clock.readings c.args.clock.now)
     (kept (g.J.Journal.written c.args.journal.now) (g.J.Journal.faulted c.args.journal.now))
@@ -82,7 +82,7 @@ returns-clause-goes g c =
     (kept (g.J.Journal.written c.take_turn.new.journal) (g.J.Journal.faulted c.take_turn.new.journal))
     (kept (g.A.AuditLog.printed c.take_turn.new.audit) (g.A.AuditLog.faulted c.take_turn.new.audit)) (g.W.Rng.stream c.take_turn.new.words)))
     c.pass_due.ensures.server
-    (subst (λ (o : Option (List (Option Heard))). TurnGoes c.pass_due.new.engine.server (standing_of c.pass_due.new.engine) (standing_of c.take_turn.new.engine)
+    (subst (λ (o : Option (List (Option HeardDatagram))). TurnGoes c.pass_due.new.engine.server (standing_of c.pass_due.new.engine) (standing_of c.take_turn.new.engine)
     c.now-at.result
     (told_by o (g.L.Link.given c.pass_due.new.link) (g.C.Clock.readings c.now-at.new.self)
     (kept (g.J.Journal.written c.pass_due.new.journal) (g.J.Journal.faulted c.pass_due.new.journal))
@@ -139,7 +139,7 @@ returns-clause-broken g c =
     (kept (g.J.Journal.written c.take_turn.new.journal) (g.J.Journal.faulted c.take_turn.new.journal))
     (kept (g.A.AuditLog.printed c.take_turn.new.audit) (g.A.AuditLog.faulted c.take_turn.new.audit)) (g.W.Rng.stream c.take_turn.new.words)) e)
     c.pass_due.ensures.server
-    (subst (λ (o : Option (List (Option Heard))). TurnBreaks c.pass_due.new.engine.server (standing_of c.pass_due.new.engine) (standing_of c.take_turn.new.engine)
+    (subst (λ (o : Option (List (Option HeardDatagram))). TurnBreaks c.pass_due.new.engine.server (standing_of c.pass_due.new.engine) (standing_of c.take_turn.new.engine)
     c.now-at.result
     (told_by o (g.L.Link.given c.pass_due.new.link) (g.C.Clock.readings c.now-at.new.self)
     (kept (g.J.Journal.written c.pass_due.new.journal) (g.J.Journal.faulted c.pass_due.new.journal))

@@ -1,5 +1,5 @@
 use Rattle.std.proofs.Common.{sym, ◌∙◌}
-use Rattle.sip_message.specs.declared.line.Line.TheVariants.{Part}
+use Rattle.sip_message.specs.declared.line.WholeLine.TheVariants.{Part}
 use Rattle.sip_message.proofs.Rows.{shorter}
 use Rattle.sip_message.proofs.Wholes.{begun, fold_more, no_more_folds, never_ends}
 use Rattle.sip_message.proofs.lines.whole_line.Goals as goal

@@ -1,5 +1,5 @@
 use Rattle.std.proofs.Common.{drop, ap, sym, ◌∙◌, slice_index_or}
-use Rattle.sip_policy_index.specs.Asked.{applies_to}
+use Rattle.sip_policy_index.specs.RuleQuestion.{applies_to}
 use Rattle.sip_policy_index.proofs.Least.{stops, finds, ends, found_least}
 use Rattle.sip_policy_index.proofs.search.first_below.Goals as goal
 

@@ -1,5 +1,5 @@
 use Rattle.std.proofs.Common.{◌≡◌, drop}
-use Rattle.sip_policy_index.specs.Asked.{applies_to}
+use Rattle.sip_policy_index.specs.RuleQuestion.{applies_to}
 use Rattle.sip_policy_index.proofs.Least.{first_below}
 use Rattle.sip_policy_index.proofs.search.first_below.Given as goal
 

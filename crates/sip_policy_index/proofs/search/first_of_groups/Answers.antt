@@ -1,6 +1,6 @@
 use Rattle.std.proofs.Common.{take, ◌+◌, ap₂, ◌∙◌}
 use Rattle.sip_policy_index.specs.Code.{text_code, is_of_class, is_of_classes, group_codes}
-use Rattle.sip_policy_index.specs.Asked.{applies_to}
+use Rattle.sip_policy_index.specs.RuleQuestion.{applies_to}
 use Rattle.sip_policy_index.proofs.Classes.{more_groups}
 use Rattle.sip_policy_index.proofs.Least.{least_of_none, least_of_more}
 use Rattle.sip_policy_index.proofs.search.first_of_groups.Goals as goal

@@ -1,7 +1,7 @@
 use Rattle.std.proofs.Common.{◌≡◌, ◌&&◌, min, take}
 use Rattle.sip_policy_index.specs.Code.{is_of_classes, group_codes}
 use Rattle.sip_policy_index.specs.Places.{first_place}
-use Rattle.sip_policy_index.specs.Asked.{applies_to}
+use Rattle.sip_policy_index.specs.RuleQuestion.{applies_to}
 use Rattle.sip_policy_index.proofs.search.first_of_groups.Given as goal
 
 -- the least for the groups so far

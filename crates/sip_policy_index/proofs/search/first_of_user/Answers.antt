@@ -1,7 +1,7 @@
 use Rattle.std.proofs.Common.{◌||◌, refl, ap, ◌∙◌}
 use Rattle.sip_policy.specs.declared.rule.Rule.{Rule}
 use Rattle.sip_policy_index.specs.Code.{text_code, is_of_class, is_of_classes, group_codes, class_codes}
-use Rattle.sip_policy_index.specs.Asked.{applies_to}
+use Rattle.sip_policy_index.specs.RuleQuestion.{applies_to}
 use Rattle.sip_policy_index.proofs.Classes.{users_classes}
 use Rattle.sip_policy_index.proofs.Least.{least_of_more}
 use Rattle.sip_policy_index.proofs.search.first_of_user.Goals as goal

@@ -3,7 +3,7 @@ use Rattle.std.specs.Option.{option_copied}
 use Rattle.sip_policy.specs.declared.operation.Operation.{Operation}
 use Rattle.sip_policy.specs.declared.rule.Rule.{Rule}
 use Rattle.sip_policy_index.specs.Code.{text_code}
-use Rattle.sip_policy_index.specs.Asked.{applies_to, is_looked_at}
+use Rattle.sip_policy_index.specs.RuleQuestion.{applies_to, is_looked_at}
 use Rattle.sip_policy_index.proofs.Classes.{registers, lists, looked_at_one, looked_at_either}
 use Rattle.sip_policy_index.proofs.Least.{least_of_more, least_of_all}
 use Rattle.sip_policy_index.proofs.search.first_place.Goals as goal

@@ -1,6 +1,6 @@
 use Rattle.std.proofs.Common.{◌≡◌, ℕ, ◌≤◌, ◌∙◌, List, Some, slice_get, sym, ap, subst, arith}
-use Rattle.sip_dialog_lessons.specs.state.State.{with_one_more}
-use Rattle.sip_dialog_lessons.specs.state.declared.open_request.OpenRequest.{OpenRequest}
+use Rattle.sip_dialog_updates.specs.state.State.{with_one_more}
+use Rattle.sip_dialog_updates.specs.state.declared.open_request.OpenRequest.{OpenRequest}
 use Rattle.sip_fork.specs.Firing.{IsQueueOf, KeepsOrder}
 use Rattle.sip_fork.specs.Keeping.{IsKeptAs}
 use Rattle.sip_fork.specs.steps_model.Effect.{replaced}

@@ -1,5 +1,5 @@
 use Rattle.std.proofs.Common.{◌≡◌, ◌≤◌, List, Some, slice_get, subst, arith}
-use Rattle.sip_dialog_lessons.specs.state.declared.open_request.OpenRequest.{OpenRequest}
+use Rattle.sip_dialog_updates.specs.state.declared.open_request.OpenRequest.{OpenRequest}
 use Rattle.sip_fork.specs.Keeping.{IsKeptAs}
 use Rattle.sip_fork.specs.request.Near.{most_timers}
 use Rattle.sip_proxy.proofs.changing.change_at.Goals as goal

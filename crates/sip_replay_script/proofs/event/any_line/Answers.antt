@@ -3,7 +3,7 @@ use Rattle.std.proofs.lemmas.Result.{err_from_is_err_and}
 use Rattle.sip_replay_script.specs.Lines.{IsSpent, pending}
 use Rattle.sip_replay_script.specs.Script.{datagram_at}
 use Rattle.sip_replay_script.specs.Events.{GivesFirst}
-use Rattle.sip_replay_script.specs.declared.event.First.TheVariants.{Says}
+use Rattle.sip_replay_script.specs.declared.event.EventBeginning.TheVariants.{Says}
 use Rattle.sip_replay_script.proofs.Datagrams.{said_head}
 use Rattle.sip_replay_script.proofs.Damaged.{no_first_line, said_head_stops, said_other}
 use Rattle.sip_replay_script.proofs.event.any_line.Goals as goal

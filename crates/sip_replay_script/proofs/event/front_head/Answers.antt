@@ -1,4 +1,4 @@
-use Rattle.sip_replay_script.specs.declared.script.Line.TheVariants.{Head}
+use Rattle.sip_replay_script.specs.declared.script.EventLine.TheVariants.{Head}
 use Rattle.sip_replay_script.proofs.Datagrams.{at_once_passed}
 use Rattle.sip_replay_script.proofs.event.front_head.Goals as goal
 

@@ -1,7 +1,7 @@
 use Rattle.std.proofs.Common.{refl}
 use Rattle.std.proofs.lemmas.Result.{err_from_is_err_and}
 use Rattle.sip_event.specs.declared.event.Event.TheVariants.{Time}
-use Rattle.sip_replay_script.specs.declared.script.Line.TheVariants.{Whole}
+use Rattle.sip_replay_script.specs.declared.script.EventLine.TheVariants.{Whole}
 use Rattle.sip_replay_script.specs.Lines.{IsSpent}
 use Rattle.sip_replay_script.specs.Script.{datagram_at}
 use Rattle.sip_replay_script.proofs.Datagrams.{at_once_passed, said_head, said_whole}

@@ -1,6 +1,6 @@
 use Rattle.std.proofs.Common.{◌≡◌, [], ◌∷◌, Some, length}
 use Rattle.sip_text.specs.Lists.{between_cuts}
-use Rattle.sip_text.specs.declared.lists.Place.TheVariants.{Outside}
+use Rattle.sip_text.specs.declared.lists.ListState.TheVariants.{Outside}
 use Rattle.sip_text.proofs.one_item.has_no_cut.Given as goal
 
 -- if the rest is one item, so is the whole

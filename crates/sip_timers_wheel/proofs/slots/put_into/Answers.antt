@@ -1,6 +1,6 @@
 use Rattle.std.proofs.Common.{◌≡◌, [], ◌∷◌, ◌++◌, Some, set, get_or}
 use Rattle.slab.specs.Slab.{get}
-use Rattle.sip_timers_wheel.specs.declared.row.Row.{Row}
+use Rattle.sip_timers_wheel.specs.declared.row.TimerRow.{TimerRow}
 use Rattle.sip_timers_wheel.specs.Threads.{timer_of, lists_of, AreHeld}
 use Rattle.sip_timers_wheel.proofs.Holding.{row_at}
 use Rattle.sip_timers_wheel.proofs.Whole.{differ_at, fits_at, fresh_at, put_at, held_again, lists_are}
@@ -15,7 +15,7 @@ put_behind-requires-clause-fresh c = fresh_at c.args.rows.now c.args.heads.now c
 pub put_behind-requires-clause-fits : goal.put_behind-requires-clause-fits
 put_behind-requires-clause-fits c = fits_at c.args.rows.now c.args.heads.now c.args.slot _ c.requires.held c.requires.within
 
-held_after : (c : goal.After-put_behind) → (row : Row) → get c.args.rows.now c.args.number.0 ≡ Some row
+held_after : (c : goal.After-put_behind) → (row : TimerRow) → get c.args.rows.now c.args.number.0 ≡ Some row
     → AreHeld 0 c.put_behind.new.rows (set c.args.heads.now c.args.slot c.put_behind.new.self)
     (set (lists_of c.args.rows.now c.args.heads.now) c.args.slot (get_or (lists_of c.args.rows.now c.args.heads.now) c.args.slot [] ++ timer_of c.args.number.0 row ∷ []))
 held_after c row found = put_at c.args.rows.now c.put_behind.new.rows c.args.heads.now c.args.slot _ c.put_behind.new.self (timer_of c.args.number.0 row) c.requires.held

@@ -1,4 +1,4 @@
-use Rattle.sip_core.specs.declared.verdict.Outcome.TheVariants.{Challenge, Deny, Send, Register}
+use Rattle.sip_verdict.specs.declared.verdict.PolicyOutcome.TheVariants.{Challenge, Deny, Send, Register}
 use Rattle.sip_uas.proofs.Serving.{serves, opens, serves_challenge, serves_denial, serves_nobody, serves_registering, opens_at_once, opens_registering}
 use Rattle.sip_uas.proofs.judging.judged.Goals as goal
 

@@ -1,6 +1,6 @@
 use Rattle.std.proofs.Common.{◌≡◌, ◌++◌, take}
 use Rattle.std.specs.List.{flat_map, list_any}
-use Rattle.sipd_questions.specs.Show.{rule_text}
+use Rattle.sipd_ask.specs.Show.{rule_text}
 use Rattle.sipd_changes.specs.declared.difference.Revision.TheVariants.{Goes}
 use Rattle.sipd_changes.specs.declared.difference.Difference.TheVariants.{Rule}
 use Rattle.sipd_changes.specs.Changes.{unless, is_number}

@@ -1,5 +1,5 @@
 use Rattle.std.proofs.Common.{◌≡◌, ◌∙◌, inl, inr, ℕ, List, Option, refl, sym, ap, subst, MatchOption}
-use Rattle.sip_loop_link.specs.Told.{GrewBy, and_counted}
+use Rattle.sip_transport.specs.Told.{GrewBy, and_counted}
 use Rattle.sip_loop.specs.run.engine.engine_time.Next.{IsNext}
 use Rattle.sip_loop.specs.run.engine.engine_time.fork.Due.{IsNothingDue}
 use Rattle.model_bounds.specs.state.declared.proxy_state.ProxyState.{ProxyState}

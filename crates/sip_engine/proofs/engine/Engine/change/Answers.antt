@@ -1,5 +1,5 @@
 use Rattle.std.proofs.Common.{◌∙◌, sym, ap}
-use Rattle.sip_core.specs.state.declared.server.Server.{Server}
+use Rattle.sip_verdict.specs.state.declared.server.Server.{Server}
 use Rattle.sip_config_change.specs.Frame.{frame_key_of}
 use Rattle.sip_engine.proofs.Leading.{none_left, reached_under}
 use Rattle.sip_engine.proofs.engine.Engine.change.Goals as goal

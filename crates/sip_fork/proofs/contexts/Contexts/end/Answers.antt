@@ -1,7 +1,7 @@
 use Rattle.std.proofs.Common.{◌≡◌, ◌+◌, ◌==◌, Some, None, position, slice_get, sym, ◌∙◌, ap, subst, List}
 use Rattle.std.specs.Option.{unwrap_or}
 use Rattle.model_steps.specs.Effect.{replaced}
-use Rattle.sip_dialog_lessons.specs.state.declared.open_request.OpenRequest.{OpenRequest}
+use Rattle.sip_dialog_updates.specs.state.declared.open_request.OpenRequest.{OpenRequest}
 use Rattle.sip_request.specs.declared.request.Request.{Request}
 use Rattle.sip_request.specs.transactions_model.Near.{IsWithin}
 use Rattle.sip_fork.specs.Contexts.{Contexts}

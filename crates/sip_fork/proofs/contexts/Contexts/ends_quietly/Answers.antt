@@ -1,6 +1,6 @@
 use Rattle.std.proofs.Common.{◌≡◌, ◌≤◌, Some, slice_get, sym, ◌∙◌, ap, subst, []}
 use Rattle.std.specs.Option.{unwrap_or}
-use Rattle.sip_dialog_lessons.specs.state.declared.open_request.OpenRequest.{OpenRequest}
+use Rattle.sip_dialog_updates.specs.state.declared.open_request.OpenRequest.{OpenRequest}
 use Rattle.sip_request.specs.declared.request.Request.{Request}
 use Rattle.sip_context.specs.Inputs.{Outcome, changing, outcome_of}
 use Rattle.sip_fork.specs.Quiet.{alone, ends_alone}

@@ -1,5 +1,5 @@
 use Rattle.std.proofs.Common.{sym, ◌∙◌, ◌==◌}
-use Rattle.sip_dialog_lessons.specs.state.declared.open_request.OpenRequest.{OpenRequest}
+use Rattle.sip_dialog_updates.specs.state.declared.open_request.OpenRequest.{OpenRequest}
 use Rattle.sip_request.specs.declared.request.Request.{Request}
 use Rattle.sip_fork.proofs.Mapped.{position-map, found-map}
 use Rattle.sip_fork.proofs.contexts.Contexts.find_number.Goals as goal

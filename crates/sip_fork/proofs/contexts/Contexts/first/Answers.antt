@@ -1,6 +1,6 @@
 use Rattle.std.proofs.Common.{◌≡◌, Option, Some, slice_get, IfSome, sym, ◌∙◌, subst}
 use Rattle.sip_fork.specs.Due.{GoesAgainBefore, IsDue, IsOfOwner}
-use Rattle.sip_fork.specs.declared.due.Due.{Due}
+use Rattle.sip_fork.specs.declared.first_due.Due.{Due}
 use Rattle.sip_fork.proofs.Earliest.{nothing_due, first_found, first_due, is_first, of_first, some_of, number_there}
 use Rattle.sip_fork.proofs.contexts.Contexts.first.Goals as goal
 

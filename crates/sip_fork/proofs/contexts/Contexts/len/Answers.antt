@@ -1,6 +1,6 @@
 use Rattle.std.proofs.Common.{◌≡◌, ◌<◌, false}
 use Rattle.sip_transaction_table.specs.Key.{same_key}
-use Rattle.sip_dialog_lessons.specs.state.declared.open_request.OpenRequest.{OpenRequest}
+use Rattle.sip_dialog_updates.specs.state.declared.open_request.OpenRequest.{OpenRequest}
 use Rattle.sip_request.specs.declared.request.Request.{Request}
 use Rattle.sip_fork.proofs.Mapped.{pairs-map}
 use Rattle.sip_fork.proofs.contexts.Contexts.len.Goals as goal

@@ -1,7 +1,7 @@
 use Rattle.std.proofs.Common.{◌≡◌, ◌<◌, None, position, sym, ◌∙◌, subst}
 use Rattle.std.specs.List.{All}
-use Rattle.sip_dialog_lessons.specs.state.State.{has_key}
-use Rattle.sip_dialog_lessons.specs.state.declared.open_request.OpenRequest.{OpenRequest}
+use Rattle.sip_dialog_updates.specs.state.State.{has_key}
+use Rattle.sip_dialog_updates.specs.state.declared.open_request.OpenRequest.{OpenRequest}
 use Rattle.sip_request.specs.declared.request.Request.{Request}
 use Rattle.sip_fork.specs.Contexts.{Contexts}
 use Rattle.sip_fork.proofs.Mapped.{position-map, all-map}

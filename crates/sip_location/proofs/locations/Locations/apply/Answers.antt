@@ -1,5 +1,5 @@
 use Rattle.sip_location.specs.Locations.{Planned}
-use Rattle.sip_location.specs.Filed.{bindings_of}
+use Rattle.sip_location.specs.AorBindings.{bindings_of}
 use Rattle.sip_location.proofs.Planning.{carried_out}
 use Rattle.sip_location.proofs.locations.Locations.apply.Goals as goal
 

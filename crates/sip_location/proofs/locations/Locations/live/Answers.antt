@@ -2,7 +2,7 @@ use Rattle.std.proofs.Common.{◌∙◌, sym, ap}
 use Rattle.std.specs.Prelude.{filter}
 use Rattle.sip_uri.specs.declared.aor.Aor.{Aor}
 use Rattle.sip_location.specs.Binding.{is_live}
-use Rattle.sip_location.specs.Filed.{bindings_of}
+use Rattle.sip_location.specs.AorBindings.{bindings_of}
 use Rattle.sip_location.proofs.Planning.{live_of_own}
 use Rattle.sip_location.proofs.locations.Locations.live.Goals as goal
 

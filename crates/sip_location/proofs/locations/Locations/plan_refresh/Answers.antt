@@ -1,7 +1,7 @@
 use Rattle.std.proofs.Common.{◌≡◌, ◌∙◌, List, ap, subst}
 use Rattle.std.specs.Prelude.{IsOk, IfSome}
 use Rattle.sip_location.specs.declared.binding.Binding.{Binding}
-use Rattle.sip_location.specs.Filed.{bindings_of}
+use Rattle.sip_location.specs.AorBindings.{bindings_of}
 use Rattle.sip_location.specs.Locations.{of_aor}
 use Rattle.sip_location.specs.Registration.{edited, registered}
 use Rattle.sip_location.specs.Refreshing.{asked_by, IsMade}

@@ -1,5 +1,5 @@
 use Rattle.std.proofs.Common.{◌≡◌, Option, true, ap, is_some}
-use Rattle.sip_message_fields.specs.declared.known.KnownName.{KnownName}
+use Rattle.sip_message_fields.specs.declared.known_names.KnownName.{KnownName}
 use Rattle.sip_message_fields.proofs.ToldNames.{told_apart}
 use Rattle.sip_message_fields.proofs.view_name.ViewName.is_named.Goals as goal
 

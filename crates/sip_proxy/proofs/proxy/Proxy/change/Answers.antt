@@ -1,5 +1,5 @@
 use Rattle.std.proofs.Common.{◌≡◌, List, Some, slice_get, subst}
-use Rattle.sip_dialog_lessons.specs.state.declared.open_request.OpenRequest.{OpenRequest}
+use Rattle.sip_dialog_updates.specs.state.declared.open_request.OpenRequest.{OpenRequest}
 use Rattle.sip_proxy.specs.Proxy.{Proxy}
 use Rattle.sip_proxy.proofs.proxy.Proxy.change.Goals as goal
 

@@ -1,5 +1,5 @@
 use Rattle.std.proofs.Common.{ap}
-use Rattle.sip_dialog_lessons.specs.state.KeptRequest.{KeptRequest}
+use Rattle.sip_dialog_updates.specs.state.KeptRequest.{KeptRequest}
 use Rattle.sip_uas.proofs.Answered.{replied_with}
 use Rattle.sip_uas.proofs.judged_request.JudgedRequest.replied.Goals as goal
 

@@ -1,5 +1,0 @@
-use Rattle.model_meanings.proofs.NotAsked.{step_stays}
-use Rattle.model_meanings.proofs.configurations.what_stands_is_not_judged_again.Goals as goal
-
-pub returns : goal.returns
-returns c = step_stays

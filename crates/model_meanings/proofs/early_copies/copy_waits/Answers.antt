@@ -1,5 +1,0 @@
-use Rattle.model_meanings.proofs.Copying.{early_refused}
-use Rattle.model_meanings.proofs.early_copies.copy_waits.Goals as goal
-
-pub returns : goal.returns
-returns c = early_refused

@@ -1,5 +1,0 @@
-use Rattle.model_meanings.proofs.CallAnswers.{late_refused}
-use Rattle.model_meanings.proofs.extra_answers.late_ringing_stays.Goals as goal
-
-pub returns : goal.returns
-returns c = late_refused

@@ -1,5 +1,0 @@
-use Rattle.model_meanings.proofs.CallAnswers.{lost_refused}
-use Rattle.model_meanings.proofs.extra_answers.lost_answer_stays.Goals as goal
-
-pub returns : goal.returns
-returns c = lost_refused

@@ -1,5 +1,0 @@
-use Rattle.model_meanings.proofs.CallAnswers.{passed_refused}
-use Rattle.model_meanings.proofs.extra_answers.trying_stays.Goals as goal
-
-pub returns : goal.returns
-returns c = passed_refused

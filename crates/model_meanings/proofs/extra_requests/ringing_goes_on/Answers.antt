@@ -1,9 +1,0 @@
-use Rattle.model_meanings.proofs.CallRequests.{unwanted_refused}
-use Rattle.model_meanings.proofs.GivingUp.{call_goes_on}
-use Rattle.model_meanings.proofs.extra_requests.ringing_goes_on.Goals as goal
-
-pub returns-clause-nobody : goal.returns-clause-nobody
-returns-clause-nobody c = call_goes_on
-
-pub returns-clause-refused : goal.returns-clause-refused
-returns-clause-refused c = unwanted_refused

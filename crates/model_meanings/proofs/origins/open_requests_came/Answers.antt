@@ -1,5 +1,0 @@
-use Rattle.model_meanings.proofs.Requests.{chain_come}
-use Rattle.model_meanings.proofs.origins.open_requests_came.Goals as goal
-
-pub returns : goal.returns
-returns c = chain_come c.steps_have_parts.ensures

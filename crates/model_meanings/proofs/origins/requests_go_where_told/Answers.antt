@@ -1,5 +1,0 @@
-use Rattle.model_meanings.proofs.Going.{within_goes}
-use Rattle.model_meanings.proofs.origins.requests_go_where_told.Goals as goal
-
-pub returns : goal.returns
-returns c = within_goes c.known_dialogs_were_told.ensures

@@ -1,5 +1,0 @@
-use Rattle.model_meanings.proofs.Granting.{granted}
-use Rattle.model_meanings.proofs.successes.made_ok_is_a_list_or_a_cancels.Goals as goal
-
-pub returns : goal.returns
-returns c = granted c.numbers_differ.ensures

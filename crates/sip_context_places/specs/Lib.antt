@@ -1,2 +1,0 @@
-pub mod RouteFacts
-pub mod Given

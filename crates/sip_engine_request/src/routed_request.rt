@@ -1,0 +1,15 @@
+ghost use Rattle.std.specs.Prelude.{◌≡◌, true};
+ghost use Rattle.sip_verdict.specs.Verdict.{are_somebody};
+
+use sip_targets::Targets;
+use sip_verdict::Judged;
+
+/// What policy decided about a request that goes to its targets (RFC 3261 16.5), lent: the rule that lets it through, and the
+/// targets, which are somebody.
+#[derive(Drop)]
+pub struct RoutedRequest<'a, 'v> {
+    pub judged: &'a Judged<'v>,
+    pub rule: u32,
+    pub targets: &'a Targets,
+    pub ghost somebody: { are_somebody targets.now ≡ true },
+}

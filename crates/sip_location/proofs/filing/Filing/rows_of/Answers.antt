@@ -1,4 +1,0 @@
-use Rattle.sip_location.proofs.filing.Filing.rows_of.Goals as goal
-
-pub returns : goal.returns
-returns c = rw c.of.ensures at c.rows_at.ensures

@@ -1,0 +1,72 @@
+-- Where addresses lead that are a URI in brackets and nothing else.
+use Rattle.std.proofs.Common.{◌≡◌, ◌⊎◌, ℕ, Bool, true, false, List, [], ◌∷◌, Option, Some, None, refl, sym, ap, ◌∙◌, inl, inr}
+use Rattle.std.specs.Prelude.{◌||◌, option_map, if◌then◌else◌}
+use Rattle.std.specs.Option.{option_and_then, unwrap_or}
+use Rattle.sip_uri.specs.Port.{port_value, port_number}
+use Rattle.sip_uri.specs.declared.uri.Uri.{Uri}
+use Rattle.sip_uri.specs.declared.scheme.Scheme.TheVariants as Scheme
+use Rattle.sip_uri.specs.PlainPlace.{loose_routing}
+use Rattle.sip_message_fields.specs.declared.field.Field.{Field}
+use Rattle.sip_message_fields.specs.declared.field_name.FieldName.TheVariants as Name
+use Rattle.sip_message_fields.specs.FieldName.{is_same_name}
+use Rattle.sip_header.specs.declared.name_addr.NameAddr.{NameAddr}
+use Rattle.sip_header.specs.NameAddr.{name_addr_of}
+use Rattle.sip_header.specs.Route.{route_of}
+use Rattle.sip_header.specs.PlainAddress.{IsBracketedHostPort}
+use Rattle.sip_hops.specs.HostAddress.{is_by_udp, port_or_default}
+use Rattle.sip_dialog.specs.Addresses.{item_in}
+use Rattle.sip_route_facts.specs.ContactHostPorts as Given
+use Rattle.sip_route_facts.specs.RouteFacts as Facts
+use Rattle.sip_uri.proofs.PlainUris.{number_is}
+
+default_is : (digits : Option (List ℕ)) (port : Option ℕ) → option_map port_value digits ≡ option_map (λ n. Some n) port
+    → port_or_default digits ≡ Some (unwrap_or port 5060)
+default_is None None e = refl
+default_is None (Some n) e = absurd cc
+default_is (Some ds) None e = absurd cc
+default_is (Some ds) (Some n) e = cc
+
+pub first_is : (value host : List ℕ) (port : Option ℕ) → IsBracketedHostPort value host port
+    → Some (record { host = host; port = unwrap_or port 5060 }) ≡ Facts.first_host_port (value ∷ [])
+first_is value host port is =
+    let first : Facts.first_host_port (value ∷ []) ≡ Facts.host_port_in is.address.uri =
+    ap (option_and_then (λ (route : NameAddr). Facts.host_port_in route.uri)) is.is_route in
+    let there : Facts.host_port_in is.address.uri ≡ Some (record { host = is.uri.host; port = unwrap_or (port_number is.uri.port) 5060 }) =
+    ap Facts.host_port_in is.has_uri in
+    sym (first ∙ there ∙ ap (λ (h : List ℕ). Some (record { host = h; port = unwrap_or (port_number is.uri.port) 5060 })) is.has_host
+    ∙ ap (λ (p : Option ℕ). Some (record { host = host; port = unwrap_or p 5060 })) (number_is is.uri.port port is.has_port))
+
+by_udp : (uri : Uri) → uri.scheme ≡ Scheme.Sip → (uri.parameters ≡ []) ⊎ (uri.parameters ≡ loose_routing) → is_by_udp uri ≡ true
+by_udp uri sip (inl none) = rw (sip, none) refl
+by_udp uri sip (inr loose) = rw (sip, loose) refl
+
+there_is : (value host : List ℕ) (port : Option ℕ) (is : IsBracketedHostPort value host port)
+    → Given.host_port_by is.address.uri ≡ Some (record { host = host; port = unwrap_or port 5060 })
+there_is value host port is =
+    let udp : is_by_udp is.uri ≡ true = by_udp is.uri is.is_sip is.parameters in
+    let there : Given.host_port_by_udp is.uri ≡ Some (record { host = is.uri.host; port = unwrap_or port 5060 }) = rw (udp, default_is is.uri.port port is.has_port) refl
+    in
+    ap Given.host_port_by is.has_uri ∙ there ∙ ap (λ (h : List ℕ). Some (record { host = h; port = unwrap_or port 5060 })) is.has_host
+
+one_of : (c r : Bool) (o p : Option NameAddr) (address : NameAddr) → (c || r) ≡ true → o ≡ Some address → p ≡ Some address
+    → (if c then o else if r then p else None) ≡ Some address
+one_of true r o p address e first second = first
+one_of false true o p address e first second = second
+one_of false false o p address e first second = absurd cc
+
+pub host_port_is : (field : Field) (host : List ℕ) (port : Option ℕ) → (is_same_name field.name Name.Contact || is_same_name field.name Name.RecordRoute) ≡ true
+    → IsBracketedHostPort field.value host port
+    → Some (record { host = host; port = unwrap_or port 5060 }) ≡ Given.host_port_in field
+host_port_is field host port named is =
+    let item : item_in field ≡ Some is.address = one_of (is_same_name field.name Name.Contact) (is_same_name field.name Name.RecordRoute) (name_addr_of field.value)
+    (route_of field.value) is.address named is.is_address is.is_route in
+    sym (ap (option_and_then (λ (i : NameAddr). Given.host_port_by i.uri)) item ∙ there_is field.value host port is)
+
+neither : (c r : Bool) (o p : Option NameAddr) → (c || r) ≡ false → (if c then o else if r then p else None) ≡ None
+neither true r o p e = absurd cc
+neither false true o p e = absurd cc
+neither false false o p e = refl
+
+pub no_host_port : (field : Field) → (is_same_name field.name Name.Contact || is_same_name field.name Name.RecordRoute) ≡ false → None ≡ Given.host_port_in field
+no_host_port field other = sym (ap (option_and_then (λ (i : NameAddr). Given.host_port_by i.uri))
+    (neither (is_same_name field.name Name.Contact) (is_same_name field.name Name.RecordRoute) (name_addr_of field.value) (route_of field.value) other))

@@ -1,0 +1,2 @@
+pub mod RouteFacts
+pub mod ContactHostPorts

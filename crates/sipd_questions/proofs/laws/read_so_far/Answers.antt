@@ -1,5 +1,0 @@
-use Rattle.sipd_questions.proofs.ReadPasswords.{read_so_far}
-use Rattle.sipd_questions.proofs.laws.read_so_far.Goals as goal
-
-pub returns : goal.returns
-returns c = λ name realm text digests. read_so_far name realm text digests

@@ -1,8 +1,0 @@
-use Rattle.std.proofs.Common.{◌≡◌, ◌++◌, take}
-use Rattle.std.specs.List.{flat_map}
-use Rattle.sipd_questions.specs.Show.{hop_line}
-use Rattle.sipd_questions.proofs.showing.put_hops.Given as goal
-
--- the lines so far are written
-abbrev pub invariant-loop-hop : goal.invariant-loop-hop
-invariant-loop-hop l = l.text ≡ l.fn.text ++ flat_map hop_line (take l.hop-index l.hops)

@@ -1,8 +1,0 @@
-use Rattle.std.proofs.Common.{◌≡◌, ◌++◌, take}
-use Rattle.std.specs.List.{flat_map}
-use Rattle.sipd_questions.specs.Show.{rule_line}
-use Rattle.sipd_questions.proofs.showing.put_rules.Given as goal
-
--- the lines so far are written
-abbrev pub invariant-loop-rule : goal.invariant-loop-rule
-invariant-loop-rule l = l.text ≡ l.fn.text ++ flat_map (rule_line l.hops) (take l.rule-index l.rules)
