@@ -23,7 +23,7 @@ NAME = re.compile(r"`([^`]+)`")
 TRIALS = re.compile(r"`(\w+)`: ((?:`\w+`(?:, )?)+)")
 # The functions that no program calls, or `test_server` alone, and why the page names them all the same.
 WITHOUT = {
-    "sip_recorded::laws::replay_prints_what_was_served": "a law of what two functions do, which nothing calls",
+    "sip_replay::recorded_laws::replay_prints_what_was_served": "a law of what two functions do, which nothing calls",
     "model_laws::headline::access_is_the_headline": "a law over histories, which nothing calls",
     r"sip_engine::(?:\w+::)*Engine(?:Drop|Model)?::is_same": "whether two servers go on alike is asked by tests alone yet",
     r"sip_location::(?:\w+::)*Locations(?:Model)?::is_same": "the same of their bindings",

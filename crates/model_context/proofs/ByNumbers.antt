@@ -7,10 +7,10 @@ use Rattle.std.specs.List.{AllByRecursion}
 use Rattle.std.specs.Str.{bytes_eq}
 use Rattle.std.proofs.lemmas.Slice.Eq.{bytes_eq-Decides}
 use Rattle.std.proofs.lemmas.List.Sums.{sum_by-cons}
-use Rattle.sip_edit.specs.declared.branch_id.BranchId.{BranchId}
-use Rattle.sip_edit.specs.OwnVia.{branch_text}
-use Rattle.sip_edit.specs.BranchId.{branch_id_of}
-use Rattle.sip_edit.proofs.BranchIds.{id_with, branch_read, branch_written}
+use Rattle.sip_state.specs.edits.declared.branch_id.BranchId.{BranchId}
+use Rattle.sip_state.specs.edits.OwnVia.{branch_text}
+use Rattle.sip_state.specs.edits.BranchId.{branch_id_of}
+use Rattle.sip_state.proofs.of_edits.BranchIds.{id_with, branch_read, branch_written}
 use Rattle.sip_state.specs.declared.server.Server.{Server}
 use Rattle.sip_state.specs.declared.open_request.OpenRequest.{OpenRequest}
 use Rattle.sip_state.specs.declared.branch.Branch.{Branch}

@@ -9,7 +9,7 @@ use Rattle.sip_message_form.specs.declared.message.Message.{Message}
 use Rattle.sip_message_form.specs.Text.{text_of}
 use Rattle.sip_message_fields.specs.declared.field_name.FieldName.TheVariants as Name
 use Rattle.sip_message_fields.specs.Values.{first_value}
-use Rattle.sip_edit.specs.OwnVia.{without_top_via}
+use Rattle.sip_state.specs.edits.OwnVia.{without_top_via}
 use Rattle.sip_best.specs.declared.final_answer.Final.{Final}
 use Rattle.sip_best.specs.Best.{best_of}
 use Rattle.sip_event.specs.declared.packet.Packet.{Packet}

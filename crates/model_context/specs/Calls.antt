@@ -5,8 +5,8 @@ use Rattle.sip_message_fields.specs.declared.field_name.FieldName.TheVariants as
 use Rattle.sip_message_form.specs.declared.message.Start.TheVariants.{Status}
 use Rattle.sip_message_form.specs.declared.message.Message.{Message}
 use Rattle.sip_hops.specs.Examples.{local}
-use Rattle.sip_edit.specs.OwnVia.{branch_text}
-use Rattle.sip_edit.specs.OnwardExamples as Onward
+use Rattle.sip_state.specs.edits.OwnVia.{branch_text}
+use Rattle.sip_state.specs.edits.OnwardExamples as Onward
 use Rattle.sip_state.specs.config_types.Sample as Settings
 use Rattle.sip_event.specs.declared.packet.Packet.{Packet}
 use Rattle.sip_state.specs.declared.server.Server.{Server}

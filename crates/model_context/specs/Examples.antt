@@ -5,7 +5,7 @@ use Rattle.sip_message_fields.specs.declared.field_name.FieldName.TheVariants as
 use Rattle.sip_message_form.specs.declared.message.Start.TheVariants.{Status}
 use Rattle.sip_message_form.specs.declared.message.Message.{Message}
 use Rattle.sip_hops.specs.Examples as Places
-use Rattle.sip_edit.specs.OnwardExamples as Onward
+use Rattle.sip_state.specs.edits.OnwardExamples as Onward
 use Rattle.sip_state.specs.config_types.Sample as Settings
 use Rattle.sip_event.specs.declared.packet.Packet.{Packet}
 use Rattle.sip_state.specs.declared.server.Server.{Server}

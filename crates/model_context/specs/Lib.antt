@@ -7,6 +7,6 @@ pub mod Opening
 pub mod Retransmission
 pub mod Examples
 pub use Rattle.sip_state.specs.config_types
-pub use Rattle.sip_edit.specs as edit
+pub use Rattle.sip_state.specs.edits as edit
 pub use Rattle.sip_edit_response.specs as edit_response
 pub use Rattle.sip_state.specs as state

@@ -8,7 +8,7 @@ use Rattle.sip_uri.specs.Uri as UriText
 use Rattle.sip_message_form.specs.declared.message.Message.{Message}
 use Rattle.sip_state.specs.transaction_table.declared.key.TransactionKey.{TransactionKey}
 use Rattle.sip_state.specs.transaction_table.Key.{key_of}
-use Rattle.sip_edit.specs.Onward.{onward_uri}
+use Rattle.sip_state.specs.edits.Onward.{onward_uri}
 use Rattle.sip_targets.specs.declared.target.Target.{Target}
 use Rattle.sip_best.specs.declared.final_answer.Final.{Final}
 use Rattle.sip_state.specs.declared.server.Server.{Server}

@@ -5,10 +5,10 @@ use Rattle.sip_message_fields.specs.declared.field.Field.{Field}
 use Rattle.sip_message_form.specs.declared.message.Message.{Message}
 use Rattle.sip_message_form.specs.Text.{text_of}
 use Rattle.sip_uri.specs.declared.addr.Addr.{Addr}
-use Rattle.sip_edit.specs.OwnVia.{branch_text}
-use Rattle.sip_edit.specs.Onward.{onward_of, with_record_route}
-use Rattle.sip_edit.specs.OwnRequests.{ack_with, cancel_of}
-use Rattle.sip_edit.specs.ReceivedRequest.{received, response_address}
+use Rattle.sip_state.specs.edits.OwnVia.{branch_text}
+use Rattle.sip_state.specs.edits.Onward.{onward_of, with_record_route}
+use Rattle.sip_state.specs.edits.OwnRequests.{ack_with, cancel_of}
+use Rattle.sip_state.specs.edits.ReceivedRequest.{received, response_address}
 use Rattle.sip_edit_response.specs.Reply.{reply_of}
 use Rattle.sip_edit_response.specs.Tags.{to_tag}
 use Rattle.sip_event.specs.declared.packet.Packet.{Packet}

@@ -1,12 +1,12 @@
 -- The client transaction of an INVITE beside its branch.
 use Rattle.std.proofs.Common.{◌≡◌, ℕ, ◌+◌, ◌<◌, ◌≤◌, ◌==◌, Bool, true, false, cond, [], ◌∷◌, refl, sym, subst}
 use Rattle.sip_timers.specs.declared.letter.Letter.TheVariants as By
-use Rattle.sip_client.specs.ClientInvite.{client_invite, invite_machine, row, runs, Heard, provisional, success, failure}
-use Rattle.sip_client.specs.declared.actions.ClientAction.TheVariants.{SendAgain, Up, Start}
-use Rattle.sip_client.specs.declared.actions.Report.TheVariants.{Timeout, Unavailable}
-use Rattle.sip_client.specs.declared.client_invite.ClientInvite.{ClientInvite}
-use Rattle.sip_client.specs.declared.client_invite.ClientInvite.TheVariants.{Calling, Proceeding}
-use Rattle.sip_client.specs.declared.client_invite.ClientInviteInput.TheVariants.{Received, Fired, Fault, GivenUp}
+use Rattle.sip_transactions.specs.ClientInvite.{client_invite, invite_machine, row, runs, Heard, provisional, success, failure}
+use Rattle.sip_transactions.specs.declared.client_actions.ClientAction.TheVariants.{SendAgain, Up, Start}
+use Rattle.sip_transactions.specs.declared.client_actions.Report.TheVariants.{Timeout, Unavailable}
+use Rattle.sip_transactions.specs.declared.client_invite.ClientInvite.{ClientInvite}
+use Rattle.sip_transactions.specs.declared.client_invite.ClientInvite.TheVariants.{Calling, Proceeding}
+use Rattle.sip_transactions.specs.declared.client_invite.ClientInviteInput.TheVariants.{Received, Fired, Fault, GivenUp}
 use Rattle.sip_context_branches.specs.state.State.{is_final, is_provisional, is_success, is_failure}
 use Rattle.sip_context_branches.specs.state.declared.branch.Phase.{Phase}
 use Rattle.sip_context_branches.specs.state.declared.branch.Phase.TheVariants.{Unheard, Cancelled, Done, Ended}

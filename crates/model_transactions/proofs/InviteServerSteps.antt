@@ -3,12 +3,12 @@ use Rattle.std.proofs.Common.{◌≡◌, ℕ, ◌+◌, ◌<◌, ◌≤◌, Bool,
 use Rattle.std.specs.Prelude.{◌&&◌, not}
 use Rattle.sip_message_form.specs.Text.{text_of}
 use Rattle.sip_timers.specs.declared.letter.Letter.TheVariants as By
-use Rattle.sip_server.specs.ServerAction.{copy_actions}
-use Rattle.sip_server.specs.ServerInvite.{server_invite, invite_machine, answers_copy}
-use Rattle.sip_server.specs.declared.actions.ServerAction.TheVariants.{Send, SendAgain, Start}
-use Rattle.sip_server.specs.declared.server_invite.ServerInvite.{ServerInvite}
-use Rattle.sip_server.specs.declared.server_invite.ServerInvite.TheVariants.{Proceeding, Completed, Confirmed, Accepted, Terminated}
-use Rattle.sip_server.specs.declared.server_invite.ServerInviteInput.TheVariants.{Invite, Ack, Answer, Fired}
+use Rattle.sip_transactions.specs.ServerAction.{copy_actions}
+use Rattle.sip_transactions.specs.ServerInvite.{server_invite, invite_machine, answers_copy}
+use Rattle.sip_transactions.specs.declared.server_actions.ServerAction.TheVariants.{Send, SendAgain, Start}
+use Rattle.sip_transactions.specs.declared.server_invite.ServerInvite.{ServerInvite}
+use Rattle.sip_transactions.specs.declared.server_invite.ServerInvite.TheVariants.{Proceeding, Completed, Confirmed, Accepted, Terminated}
+use Rattle.sip_transactions.specs.declared.server_invite.ServerInviteInput.TheVariants.{Invite, Ack, Answer, Fired}
 use Rattle.sip_context_branches.specs.state.State.{first_resend, is_invite, is_answering, is_success, is_failure, is_provisional}
 use Rattle.sip_context_branches.specs.state.declared.open_request.LastAnswer.{LastAnswer}
 use Rattle.sip_context_branches.specs.state.declared.open_request.OpenRequest.{OpenRequest}

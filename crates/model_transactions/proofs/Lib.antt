@@ -19,3 +19,6 @@ pub mod Opened
 pub mod NearTimers
 pub mod Entries
 pub mod Queues
+pub mod Branched
+pub mod BranchEvents
+pub mod Apart

@@ -5,8 +5,8 @@ use Rattle.std.specs.List.{AllByRecursion}
 use Rattle.std.proofs.lemmas.Bool.Decides.{nat_tests}
 use Rattle.sip_timers.specs.declared.letter.Letter.{Letter}
 use Rattle.sip_timers.specs.declared.letter.Letter.TheVariants as By
-use Rattle.sip_client.specs.declared.client_other.ClientOther.{ClientOther}
-use Rattle.sip_server.specs.declared.server_other.ServerOther.{ServerOther}
+use Rattle.sip_transactions.specs.declared.client_other.ClientOther.{ClientOther}
+use Rattle.sip_transactions.specs.declared.server_other.ServerOther.{ServerOther}
 use Rattle.sip_timers.specs.declared.timer.Owner.{Owner}
 use Rattle.sip_timers.specs.declared.timer.Timer.{Timer}
 use Rattle.sip_context_branches.specs.state.State.{is_success, phase_deadline, side_deadline}

@@ -1,11 +1,11 @@
 -- The client transaction of another request, or of a CANCEL, beside its branch.
 use Rattle.std.proofs.Common.{◌≡◌, ℕ, ◌+◌, ◌<◌, ◌≤◌, true, false, [], ◌∷◌, refl}
 use Rattle.sip_timers.specs.declared.letter.Letter.TheVariants as By
-use Rattle.sip_client.specs.ClientOther.{client_other, other_machine, row, provisional, final}
-use Rattle.sip_client.specs.declared.actions.ClientAction.TheVariants.{SendAgain, Up, Start}
-use Rattle.sip_client.specs.declared.actions.Report.TheVariants.{Response, Timeout, Unavailable}
-use Rattle.sip_client.specs.declared.client_other.ClientOther.{ClientOther}
-use Rattle.sip_client.specs.declared.client_other.ClientOtherInput.TheVariants.{Received, Fired, Fault}
+use Rattle.sip_transactions.specs.ClientOther.{client_other, other_machine, row, provisional, final}
+use Rattle.sip_transactions.specs.declared.client_actions.ClientAction.TheVariants.{SendAgain, Up, Start}
+use Rattle.sip_transactions.specs.declared.client_actions.Report.TheVariants.{Response, Timeout, Unavailable}
+use Rattle.sip_transactions.specs.declared.client_other.ClientOther.{ClientOther}
+use Rattle.sip_transactions.specs.declared.client_other.ClientOtherInput.TheVariants.{Received, Fired, Fault}
 use Rattle.sip_context_branches.specs.state.State.{is_final, is_provisional}
 use Rattle.sip_context_branches.specs.state.declared.branch.Phase.{Phase}
 use Rattle.sip_context_branches.specs.state.declared.branch.Phase.TheVariants.{Unheard, Heard, Done, Ended}

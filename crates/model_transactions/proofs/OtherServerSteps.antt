@@ -3,11 +3,11 @@ use Rattle.std.proofs.Common.{◌≡◌, ℕ, ◌+◌, ◌<◌, ◌≤◌, Bool,
 use Rattle.std.specs.Prelude.{◌&&◌, not}
 use Rattle.sip_message_form.specs.Text.{text_of}
 use Rattle.sip_timers.specs.declared.letter.Letter.TheVariants as By
-use Rattle.sip_server.specs.ServerAction.{copy_actions}
-use Rattle.sip_server.specs.ServerOther.{server_other, other_machine, answers_copy}
-use Rattle.sip_server.specs.declared.server_other.ServerOther.{ServerOther}
-use Rattle.sip_server.specs.declared.server_other.ServerOther.TheVariants.{Trying, Proceeding}
-use Rattle.sip_server.specs.declared.server_other.ServerOtherInput.TheVariants.{Request, Answer, Fired}
+use Rattle.sip_transactions.specs.ServerAction.{copy_actions}
+use Rattle.sip_transactions.specs.ServerOther.{server_other, other_machine, answers_copy}
+use Rattle.sip_transactions.specs.declared.server_other.ServerOther.{ServerOther}
+use Rattle.sip_transactions.specs.declared.server_other.ServerOther.TheVariants.{Trying, Proceeding}
+use Rattle.sip_transactions.specs.declared.server_other.ServerOtherInput.TheVariants.{Request, Answer, Fired}
 use Rattle.sip_context_branches.specs.state.State.{is_invite, is_answering, is_success, is_provisional}
 use Rattle.sip_context_branches.specs.state.declared.open_request.LastAnswer.{LastAnswer}
 use Rattle.sip_context_branches.specs.state.declared.open_request.OpenRequest.{OpenRequest}

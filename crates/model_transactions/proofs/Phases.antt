@@ -8,8 +8,8 @@ use Rattle.sip_context_branches.specs.state.declared.branch.Phase.{Phase}
 use Rattle.sip_context_branches.specs.state.declared.branch.Phase.TheVariants.{Unheard, Heard, Cancelled, Done, Ended}
 use Rattle.sip_context_branches.specs.state.declared.resend.Resend.{Resend}
 use Rattle.sip_context_branches.specs.state.State.{is_final, is_success, is_failure, is_provisional, first_resend}
-use Rattle.sip_client.specs.declared.client_invite.ClientInvite.TheVariants as Call
-use Rattle.sip_client.specs.declared.client_other.ClientOther.TheVariants as Other
+use Rattle.sip_transactions.specs.declared.client_invite.ClientInvite.TheVariants as Call
+use Rattle.sip_transactions.specs.declared.client_other.ClientOther.TheVariants as Other
 use Rattle.sip_context_branches.specs.context_model.Branches.{is_same_branch, turned, phased, marked_branch, is_cancellable, is_ready, cancel_branch, held_branch}
 use Rattle.sip_context_branches.specs.context_model.Branches.{with_cancel, invite_heard, other_heard}
 use Rattle.model_transactions.specs.InviteClient as ForCall

@@ -7,8 +7,8 @@ use Rattle.sip_context_branches.specs.state.declared.open_request.LastAnswer.{La
 use Rattle.sip_context_branches.specs.state.declared.open_request.Side.{Side}
 use Rattle.sip_context_branches.specs.state.declared.open_request.Side.TheVariants.{Answering, Closing, Acknowledged, Closed}
 use Rattle.sip_context_branches.specs.state.State.{is_answering, is_success, is_provisional}
-use Rattle.sip_server.specs.declared.server_invite.ServerInvite.TheVariants as OfInviteState
-use Rattle.sip_server.specs.declared.server_other.ServerOther.TheVariants as OfOtherState
+use Rattle.sip_transactions.specs.declared.server_invite.ServerInvite.TheVariants as OfInviteState
+use Rattle.sip_transactions.specs.declared.server_other.ServerOther.TheVariants as OfOtherState
 use Rattle.sip_context_branches.specs.context_model.Branches.{is_closing, has_success, was_refused, acknowledged_side}
 use Rattle.model_transactions.specs.InviteServer as ForInvite
 use Rattle.model_transactions.specs.OtherServer as ForOther

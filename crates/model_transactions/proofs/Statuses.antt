@@ -2,14 +2,14 @@
 use Rattle.std.proofs.Common.{◌≡◌, ℕ, ◌<◌, ◌≤◌, Bool, true, false, cond, refl, arith, leb}
 use Rattle.std.specs.Prelude.{◌&&◌}
 use Rattle.std.proofs.lemmas.Bool.Decides.{nat_tests}
-use Rattle.sip_client.specs.ClientInvite as InviteClient
-use Rattle.sip_client.specs.ClientOther as OtherClient
-use Rattle.sip_client.specs.declared.client_invite.ClientInviteInput.TheVariants as ToInvite
-use Rattle.sip_client.specs.declared.client_other.ClientOtherInput.TheVariants as ToOther
-use Rattle.sip_server.specs.ServerInvite as InviteServer
-use Rattle.sip_server.specs.ServerOther as OtherServer
-use Rattle.sip_server.specs.declared.server_invite.ServerInviteInput.TheVariants as OfInvite
-use Rattle.sip_server.specs.declared.server_other.ServerOtherInput.TheVariants as OfOther
+use Rattle.sip_transactions.specs.ClientInvite as InviteClient
+use Rattle.sip_transactions.specs.ClientOther as OtherClient
+use Rattle.sip_transactions.specs.declared.client_invite.ClientInviteInput.TheVariants as ToInvite
+use Rattle.sip_transactions.specs.declared.client_other.ClientOtherInput.TheVariants as ToOther
+use Rattle.sip_transactions.specs.ServerInvite as InviteServer
+use Rattle.sip_transactions.specs.ServerOther as OtherServer
+use Rattle.sip_transactions.specs.declared.server_invite.ServerInviteInput.TheVariants as OfInvite
+use Rattle.sip_transactions.specs.declared.server_other.ServerOtherInput.TheVariants as OfOther
 use Rattle.sip_context_branches.specs.state.State.{is_success, is_failure, is_provisional}
 
 -- ---- the tests among themselves

@@ -1,10 +1,10 @@
 -- An open request whose parts fit their transactions: each is as some state of its machine has it (RFC 3261 17, RFC 6026).
 use Rattle.std.specs.Prelude.{◌≡◌, ℕ, Bool, true, false, List, Option}
 use Rattle.std.specs.List.{AllByRecursion}
-use Rattle.sip_client.specs.declared.client_invite.ClientInvite.{ClientInvite}
-use Rattle.sip_client.specs.declared.client_other.ClientOther.{ClientOther}
-use Rattle.sip_server.specs.declared.server_invite.ServerInvite.{ServerInvite}
-use Rattle.sip_server.specs.declared.server_other.ServerOther.{ServerOther}
+use Rattle.sip_transactions.specs.declared.client_invite.ClientInvite.{ClientInvite}
+use Rattle.sip_transactions.specs.declared.client_other.ClientOther.{ClientOther}
+use Rattle.sip_transactions.specs.declared.server_invite.ServerInvite.{ServerInvite}
+use Rattle.sip_transactions.specs.declared.server_other.ServerOther.{ServerOther}
 use Rattle.sip_context_branches.specs.state.declared.branch.Branch.{Branch}
 use Rattle.sip_context_branches.specs.state.declared.branch.Phase.{Phase}
 use Rattle.sip_context_branches.specs.state.declared.resend.Resend.{Resend}

@@ -5,10 +5,10 @@ use Rattle.std.specs.Option.{option_map_or}
 use Rattle.sip_event.specs.declared.packet.Packet.{Packet}
 use Rattle.sip_timers.specs.declared.letter.Letter.{Letter}
 use Rattle.sip_timers.specs.declared.letter.Letter.TheVariants as By
-use Rattle.sip_server.specs.declared.actions.ServerAction.{ServerAction}
-use Rattle.sip_server.specs.declared.actions.ServerAction.TheVariants.{Send, Up, Start}
-use Rattle.sip_server.specs.declared.server_invite.ServerInvite.{ServerInvite}
-use Rattle.sip_server.specs.declared.server_invite.ServerInvite.TheVariants.{Proceeding, Completed, Confirmed, Accepted, Terminated}
+use Rattle.sip_transactions.specs.declared.server_actions.ServerAction.{ServerAction}
+use Rattle.sip_transactions.specs.declared.server_actions.ServerAction.TheVariants.{Send, Up, Start}
+use Rattle.sip_transactions.specs.declared.server_invite.ServerInvite.{ServerInvite}
+use Rattle.sip_transactions.specs.declared.server_invite.ServerInvite.TheVariants.{Proceeding, Completed, Confirmed, Accepted, Terminated}
 use Rattle.sip_context_branches.specs.state.declared.open_request.LastAnswer.{LastAnswer}
 use Rattle.sip_context_branches.specs.state.declared.open_request.OpenRequest.{OpenRequest}
 use Rattle.sip_context_branches.specs.state.declared.open_request.Side.{Side}

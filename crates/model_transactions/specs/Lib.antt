@@ -9,6 +9,7 @@ pub mod Fits
 pub mod Near
 pub mod Queue
 pub mod Matching
+pub mod Kept
 pub use Rattle.sip_context_branches.specs as context_branches
 pub use Rattle.sip_context_branches.specs.context_model
 pub use Rattle.sip_context_branches.specs.state

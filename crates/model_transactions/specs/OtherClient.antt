@@ -3,11 +3,11 @@
 use Rattle.std.specs.Prelude.{ℕ, ◌+◌, if◌then◌else◌, List, [], ◌∷◌}
 use Rattle.sip_timers.specs.declared.letter.Letter.{Letter}
 use Rattle.sip_timers.specs.declared.letter.Letter.TheVariants as By
-use Rattle.sip_client.specs.declared.actions.ClientAction.{ClientAction}
-use Rattle.sip_client.specs.declared.actions.ClientAction.TheVariants.{Up}
-use Rattle.sip_client.specs.declared.actions.Report.TheVariants.{Response}
-use Rattle.sip_client.specs.declared.client_other.ClientOther.{ClientOther}
-use Rattle.sip_client.specs.declared.client_other.ClientOther.TheVariants.{Trying, Proceeding, Completed, Terminated}
+use Rattle.sip_transactions.specs.declared.client_actions.ClientAction.{ClientAction}
+use Rattle.sip_transactions.specs.declared.client_actions.ClientAction.TheVariants.{Up}
+use Rattle.sip_transactions.specs.declared.client_actions.Report.TheVariants.{Response}
+use Rattle.sip_transactions.specs.declared.client_other.ClientOther.{ClientOther}
+use Rattle.sip_transactions.specs.declared.client_other.ClientOther.TheVariants.{Trying, Proceeding, Completed, Terminated}
 use Rattle.sip_context_branches.specs.state.declared.branch.Phase.{Phase}
 use Rattle.sip_context_branches.specs.state.declared.branch.Phase.TheVariants.{Unheard, Heard, Cancelled, Done, Ended}
 use Rattle.sip_context_branches.specs.state.declared.resend.Resend.{Resend}

@@ -3,10 +3,10 @@
 use Rattle.std.specs.Prelude.{ℕ, ◌≡◌, true, false, if◌then◌else◌, List, [], ◌∷◌, Option, Some, None}
 use Rattle.sip_timers.specs.declared.letter.Letter.{Letter}
 use Rattle.sip_timers.specs.declared.letter.Letter.TheVariants as By
-use Rattle.sip_server.specs.declared.actions.ServerAction.{ServerAction}
-use Rattle.sip_server.specs.declared.actions.ServerAction.TheVariants.{Send, Start}
-use Rattle.sip_server.specs.declared.server_other.ServerOther.{ServerOther}
-use Rattle.sip_server.specs.declared.server_other.ServerOther.TheVariants.{Trying, Proceeding, Completed, Terminated}
+use Rattle.sip_transactions.specs.declared.server_actions.ServerAction.{ServerAction}
+use Rattle.sip_transactions.specs.declared.server_actions.ServerAction.TheVariants.{Send, Start}
+use Rattle.sip_transactions.specs.declared.server_other.ServerOther.{ServerOther}
+use Rattle.sip_transactions.specs.declared.server_other.ServerOther.TheVariants.{Trying, Proceeding, Completed, Terminated}
 use Rattle.sip_context_branches.specs.state.declared.open_request.LastAnswer.{LastAnswer}
 use Rattle.sip_context_branches.specs.state.declared.open_request.Side.{Side}
 use Rattle.sip_context_branches.specs.state.declared.open_request.Side.TheVariants.{Answering, Closing, Acknowledged, Closed}

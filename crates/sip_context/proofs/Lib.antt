@@ -1,2 +1,3 @@
+pub mod SentPackets
 pub mod Joined
 pub mod Settled

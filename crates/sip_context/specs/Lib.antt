@@ -1,3 +1,4 @@
+pub mod Base
 pub mod Inputs
 pub mod Sent
 pub mod Sides

@@ -6,6 +6,7 @@ ghost use Rattle.sip_message_form.specs.Text.{text_of};
 ghost use Rattle.sip_context_branches.specs.state.State as States;
 ghost use Rattle.sip_context_branches.specs.context_model.Branches as Contexts;
 
+use crate::caller_packets::written_answer;
 use crate::side::{is_answering, side_after};
 use sip_best::{Final, best};
 use sip_context_branches::all_final;
@@ -13,7 +14,6 @@ use sip_context_branches::state::{
     AnswerText, KeptAnswer, LastAnswer, OpenRequest, Server, Upward, first_resend, is_invite,
     is_provisional, is_success,
 };
-use sip_context_packets::written_answer;
 use sip_text::Items;
 use std::alloc::{AllocError, Global};
 

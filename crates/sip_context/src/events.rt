@@ -8,6 +8,7 @@ ghost use Rattle.sip_context_branches.specs.context_model.Retransmission;
 ghost use Rattle.sip_context.specs.Inputs.{IsFit, changing, outcome, outcome_of, repeating};
 
 use crate::acknowledging::take_ack;
+use crate::caller_packets::answer_to;
 use crate::cancelling::take_cancel;
 use crate::deadlines::{pass_branch, pass_side};
 use crate::faults::take_fault;
@@ -15,9 +16,9 @@ use crate::input::Input;
 use crate::responses::take_response;
 use crate::sent::Sent;
 use crate::state::{Branch, OpenRequest, Server};
+use crate::target_packets::{ack_packets, branch_packets};
 use sip_base::Shared;
 use sip_context_branches::{answer_again, answer_went, branch_went, is_acked_again};
-use sip_context_packets::{ack_packets, answer_to, branch_packets};
 use sip_event::Packet;
 use sip_message_form::View;
 use sip_text::{Bytes, Items};

@@ -13,6 +13,7 @@ use crate::relays::{further, kept_final, relayed_provisional, relayed_success};
 use crate::sent::Sent;
 use crate::settling::{settle, settle_alone};
 use crate::side::is_answering;
+use crate::target_packets::ack_packets;
 use sip_base::Shared;
 use sip_best::Final;
 use sip_context_branches::state::{
@@ -20,7 +21,6 @@ use sip_context_branches::state::{
     is_success,
 };
 use sip_context_branches::{invite_heard, is_final, mark, other_heard, set_final, set_phase};
-use sip_context_packets::ack_packets;
 use sip_event::Packet;
 use sip_message_fields::FieldName;
 use sip_message_form::View;

@@ -7,9 +7,9 @@ ghost use Rattle.sip_context.specs.Sent.{change_of};
 
 use crate::answers::{best_upward, tell};
 use crate::sent::Sent;
+use crate::target_packets::packets_of_branches;
 use sip_context_branches::state::{Branch, OpenRequest, Server, Upward};
 use sip_context_branches::{add_cancels, new_cancels};
-use sip_context_packets::packets_of_branches;
 use sip_event::Packet;
 use sip_text::Items;
 use std::alloc::{AllocError, Global};

@@ -4,7 +4,7 @@
 //! a CANCEL. Nothing here waits or reads a clock.
 //!
 //! - Used: `sip_context`, `sip_forwarding` for copies, and `sip_fork` for the moments.
-//! - Not here: packets (`sip_context_packets`).
+//! - Not here: packets (`sip_context`).
 //! - Tried: worked examples of `model_context`, which its contracts cite.
 #![tactic(auto)]
 
@@ -33,4 +33,9 @@ pub mod state {
         AnswerText, Branch, KeptAnswer, LastAnswer, OpenRequest, Phase, Resend, Server, Side,
         Upward, first_resend, is_decline, is_failure, is_invite, is_provisional, is_success,
     };
+}
+
+/// Of `model_context`.
+pub mod context_model {
+    pub use model_context::state;
 }

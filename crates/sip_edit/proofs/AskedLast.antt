@@ -7,12 +7,12 @@ use Rattle.sip_text.specs.Words.{is_token_text, is_same_text}
 use Rattle.sip_text.proofs.PartLaws.{only_parts}
 use Rattle.sip_uri.specs.declared.addr.Addr.{Addr}
 use Rattle.sip_uri.specs.Addresses.{ip_text}
-use Rattle.sip_header.specs.declared.parameters.HeaderParameter.{HeaderParameter}
-use Rattle.sip_header.specs.declared.via.Via.{Via}
-use Rattle.sip_header.specs.Parameters.{IsParameter, parameter_of}
-use Rattle.sip_header.specs.Via.{via_of, IsVia}
-use Rattle.sip_header.proofs.Words.{AllPassing}
-use Rattle.sip_header.proofs.ParameterLaws.{is_plain, plain_text, written_via}
+use Rattle.sip_route.specs.header.declared.parameters.HeaderParameter.{HeaderParameter}
+use Rattle.sip_route.specs.header.declared.via.Via.{Via}
+use Rattle.sip_route.specs.header.Parameters.{IsParameter, parameter_of}
+use Rattle.sip_route.specs.header.Via.{via_of, IsVia}
+use Rattle.sip_route.proofs.of_header.Words.{AllPassing}
+use Rattle.sip_route.proofs.of_header.ParameterLaws.{is_plain, plain_text, written_via}
 use Rattle.sip_edit.specs.TopVia.{is_parameter, edited, with_source, received_as, received_via, IsBeforePort}
 use Rattle.sip_edit.proofs.Unedited.{named, joined, as_written}
 

@@ -16,10 +16,10 @@ use Rattle.sip_message_fields.specs.Values.{with_first}
 use Rattle.sip_message_form.specs.declared.message.Start.TheVariants.{Request}
 use Rattle.sip_message_form.specs.declared.message.Message.{Message}
 use Rattle.sip_message_form.specs.Text.{text_of}
-use Rattle.sip_header.specs.CSeq.{cseq_of}
-use Rattle.sip_header.specs.MaxForwards.{max_forwards_of}
-use Rattle.sip_header.specs.declared.max_forwards.MaxForwards.{MaxForwards}
-use Rattle.sip_header.specs.declared.max_forwards.MaxForwards.TheVariants.{Absent, Hops, Malformed}
+use Rattle.sip_route.specs.header.CSeq.{cseq_of}
+use Rattle.sip_route.specs.header.MaxForwards.{max_forwards_of}
+use Rattle.sip_route.specs.header.declared.max_forwards.MaxForwards.{MaxForwards}
+use Rattle.sip_route.specs.header.declared.max_forwards.MaxForwards.TheVariants.{Absent, Hops, Malformed}
 use Rattle.sip_header_credentials.specs.Credentials.{credentials_of, is_realm}
 use Rattle.sip_route.specs.declared.own.Own.{Own}
 use Rattle.sip_route.specs.declared.routes_kept.RoutesKept.{RoutesKept}

@@ -11,8 +11,8 @@ use Rattle.sip_message_fields.specs.Values.{first_value}
 use Rattle.sip_message_form.specs.declared.message.Message.{Message}
 use Rattle.sip_message_form.specs.declared.message.Start.TheVariants.{Request}
 use Rattle.sip_message_form.specs.Text.{start_text, field_text, text_of}
-use Rattle.sip_header.specs.declared.cseq.CSeq.{CSeq}
-use Rattle.sip_header.specs.CSeq.{cseq_of}
+use Rattle.sip_route.specs.header.declared.cseq.CSeq.{CSeq}
+use Rattle.sip_route.specs.header.CSeq.{cseq_of}
 use Rattle.sip_route.specs.declared.routes_kept.RoutesKept.{RoutesKept}
 use Rattle.sip_route.specs.RoutesKept.{stays, behind_route, behind, fields_kept}
 use Rattle.sip_route.specs.Way.{request_uri}

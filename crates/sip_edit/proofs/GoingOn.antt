@@ -5,9 +5,9 @@ use Rattle.sip_message_fields.specs.declared.field.Field.{Field}
 use Rattle.sip_message_fields.specs.declared.field_name.FieldName.TheVariants as Name
 use Rattle.sip_message_fields.specs.FieldName.{is_same_name}
 use Rattle.sip_message_form.specs.declared.message.Message.{Message}
-use Rattle.sip_header.specs.declared.max_forwards.MaxForwards.{MaxForwards}
-use Rattle.sip_header.specs.declared.max_forwards.MaxForwards.TheVariants.{Absent, Hops, Malformed}
-use Rattle.sip_header.specs.MaxForwards.{max_forwards_of}
+use Rattle.sip_route.specs.header.declared.max_forwards.MaxForwards.{MaxForwards}
+use Rattle.sip_route.specs.header.declared.max_forwards.MaxForwards.TheVariants.{Absent, Hops, Malformed}
+use Rattle.sip_route.specs.header.MaxForwards.{max_forwards_of}
 use Rattle.sip_route.specs.declared.own.Own.{Own}
 use Rattle.sip_route.specs.declared.routes_kept.RoutesKept.{RoutesKept}
 use Rattle.sip_route.specs.RoutesKept.{stays, behind, fields_kept}

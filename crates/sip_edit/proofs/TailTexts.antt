@@ -13,8 +13,8 @@ use Rattle.sip_message_fields.specs.FieldName.{is_same_name, spelling}
 use Rattle.sip_message_fields.specs.Values.{with_first}
 use Rattle.sip_message_form.specs.declared.message.Message.{Message}
 use Rattle.sip_message_form.specs.Text.{field_text}
-use Rattle.sip_header.specs.declared.max_forwards.MaxForwards.{MaxForwards}
-use Rattle.sip_header.specs.MaxForwards.{hops_in, max_forwards_of}
+use Rattle.sip_route.specs.header.declared.max_forwards.MaxForwards.{MaxForwards}
+use Rattle.sip_route.specs.header.MaxForwards.{hops_in, max_forwards_of}
 use Rattle.sip_header_credentials.specs.Credentials.{credentials_of, is_realm}
 use Rattle.sip_route.specs.declared.routes_kept.RoutesKept.{RoutesKept}
 use Rattle.sip_route.specs.RoutesKept.{stays, behind_route}

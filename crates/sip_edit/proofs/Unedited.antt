@@ -12,12 +12,12 @@ use Rattle.sip_text.specs.Lists.{trimmed}
 use Rattle.sip_text.specs.Cuts.{parts_at}
 use Rattle.sip_text.proofs.PartLaws.{only_parts}
 use Rattle.sip_uri.specs.declared.addr.Addr.{Addr}
-use Rattle.sip_header.specs.declared.parameters.HeaderParameter.{HeaderParameter}
-use Rattle.sip_header.specs.declared.via.Via.{Via}
-use Rattle.sip_header.specs.Parameters.{IsAssigned, IsParameterBy, IsParameter, parameter_of}
-use Rattle.sip_header.specs.Via.{via_of, IsVia}
-use Rattle.sip_header.proofs.Words.{AllPassing, while_is, all_weaker}
-use Rattle.sip_header.proofs.ParameterLaws.{is_plain, plain_text, written_via}
+use Rattle.sip_route.specs.header.declared.parameters.HeaderParameter.{HeaderParameter}
+use Rattle.sip_route.specs.header.declared.via.Via.{Via}
+use Rattle.sip_route.specs.header.Parameters.{IsAssigned, IsParameterBy, IsParameter, parameter_of}
+use Rattle.sip_route.specs.header.Via.{via_of, IsVia}
+use Rattle.sip_route.proofs.of_header.Words.{AllPassing, while_is, all_weaker}
+use Rattle.sip_route.proofs.of_header.ParameterLaws.{is_plain, plain_text, written_via}
 use Rattle.sip_edit.specs.TopVia.{before_equals, is_parameter, edited, asks_for_port, source_of, with_source, received_as, received_via}
 
 -- ---- the name of a parameter

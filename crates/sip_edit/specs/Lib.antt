@@ -9,3 +9,4 @@ pub mod Lowering
 pub mod Tail
 pub mod Onward
 pub mod OnwardExamples
+pub mod OwnViaPrefix

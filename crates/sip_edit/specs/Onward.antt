@@ -11,11 +11,11 @@ use Rattle.sip_message_form.specs.declared.message.Start.{Start}
 use Rattle.sip_message_form.specs.declared.message.Start.TheVariants.{Request, Status}
 use Rattle.sip_message_form.specs.declared.message.Message.{Message}
 use Rattle.sip_message_fields.specs.FieldName.{is_same_name}
-use Rattle.sip_header.specs.declared.max_forwards.MaxForwards.{MaxForwards}
-use Rattle.sip_header.specs.declared.max_forwards.MaxForwards.TheVariants.{Absent, Hops, Malformed}
+use Rattle.sip_route.specs.header.declared.max_forwards.MaxForwards.{MaxForwards}
+use Rattle.sip_route.specs.header.declared.max_forwards.MaxForwards.TheVariants.{Absent, Hops, Malformed}
 use Rattle.sip_route.specs.declared.own.Own.{Own}
 use Rattle.sip_header_credentials.specs.Credentials.{credentials_of, is_realm}
-use Rattle.sip_header.specs.MaxForwards.{max_forwards_of}
+use Rattle.sip_route.specs.header.MaxForwards.{max_forwards_of}
 use Rattle.sip_route.specs.Own.{record_route_uri}
 use Rattle.sip_route.specs.Way.{request_uri, fields_left, way_of}
 use Rattle.sip_edit.specs.OwnRequests.{seventy}

@@ -8,7 +8,7 @@ use Rattle.sip_message_form.specs.declared.message.Message.{Message}
 use Rattle.sip_message_form.specs.Text.{start_text, field_text, text_of}
 use Rattle.sip_message_fields.specs.Named.{all_named, first_of}
 use Rattle.sip_message_fields.specs.Values.{first_value, with_first}
-use Rattle.sip_header.specs.CSeq.{cseq_of}
+use Rattle.sip_route.specs.header.CSeq.{cseq_of}
 use Rattle.sip_route.specs.declared.routes_kept.RoutesKept.{RoutesKept}
 use Rattle.sip_route.specs.RoutesKept.{fields_kept}
 use Rattle.sip_route.specs.declared.own.Own.{Own}

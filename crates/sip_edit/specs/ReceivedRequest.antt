@@ -4,10 +4,10 @@ use Rattle.std.specs.Option.{option_and_then, option_map_or}
 use Rattle.sip_message_fields.specs.declared.field_name.FieldName.TheVariants as Name
 use Rattle.sip_message_fields.specs.declared.field.Field.{Field}
 use Rattle.sip_message_form.specs.declared.message.Message.{Message}
-use Rattle.sip_header.specs.declared.via.Via.{Via}
+use Rattle.sip_route.specs.header.declared.via.Via.{Via}
 use Rattle.sip_message_fields.specs.Values.{first_value, with_first}
-use Rattle.sip_header.specs.Via.{via_of}
-use Rattle.sip_header.specs.Parameters.{parameter_of}
+use Rattle.sip_route.specs.header.Via.{via_of}
+use Rattle.sip_route.specs.header.Parameters.{parameter_of}
 use Rattle.sip_uri.specs.declared.addr.Addr.{Addr}
 use Rattle.sip_edit.specs.TopVia.{received_via}
 

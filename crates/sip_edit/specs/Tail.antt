@@ -9,9 +9,9 @@ use Rattle.sip_message_form.specs.Text.{start_text, field_text}
 use Rattle.sip_route.specs.declared.own.Own.{Own}
 use Rattle.sip_route.specs.declared.routes_kept.RoutesKept.{RoutesKept}
 use Rattle.sip_edit.specs.Onward.{with_uri, record_route_field}
-use Rattle.sip_header.specs.declared.max_forwards.MaxForwards.{MaxForwards}
-use Rattle.sip_header.specs.declared.max_forwards.MaxForwards.TheVariants.{Absent, Hops, Malformed}
-use Rattle.sip_header.specs.MaxForwards.{max_forwards_of}
+use Rattle.sip_route.specs.header.declared.max_forwards.MaxForwards.{MaxForwards}
+use Rattle.sip_route.specs.header.declared.max_forwards.MaxForwards.TheVariants.{Absent, Hops, Malformed}
+use Rattle.sip_route.specs.header.MaxForwards.{max_forwards_of}
 use Rattle.sip_edit.specs.OwnRequests.{seventy}
 use Rattle.sip_edit.specs.Lowering.{hops_left, default_hops, fields_on, fields_by}
 

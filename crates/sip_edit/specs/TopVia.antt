@@ -4,9 +4,9 @@ use Rattle.std.specs.List.{take_while, flat_map, list_any}
 use Rattle.std.specs.Str.{byte, bytes_eq}
 use Rattle.sip_text.specs.Words.{is_same_text}
 use Rattle.sip_text.specs.Lists.{trimmed}
-use Rattle.sip_header.specs.declared.via.Via.{Via}
+use Rattle.sip_route.specs.header.declared.via.Via.{Via}
 use Rattle.sip_text.specs.Cuts.{parts_at}
-use Rattle.sip_header.specs.Via.{via_of}
+use Rattle.sip_route.specs.header.Via.{via_of}
 use Rattle.sip_uri.specs.declared.addr.Addr.{Addr}
 use Rattle.sip_uri.specs.Addresses.{ip_text}
 

@@ -7,10 +7,10 @@ ghost use Rattle.sip_edit.specs.Onward as Spec;
 ghost use Rattle.sip_edit.specs.Lowering as Lowering;
 ghost use Rattle.sip_header_credentials.specs.Credentials.{credentials_of, is_realm};
 
-use sip_header::MaxForwards;
 use sip_header_credentials::credentials_of;
 use sip_message_fields::{FieldName, Value, ViewField};
 use sip_message_form::View;
+use sip_route::header::MaxForwards;
 use sip_route::{Own, uri_left};
 use sip_text::{Bytes, same_bytes, split_once};
 use sip_uri::{UriError, parse_uri, write_uri};

@@ -1,5 +1,5 @@
 //! This server's Via and its branch (RFC 3261 8.1.1.7, 16.6 step 8, 18.1.1), and a response without its top Via (16.7 step 3).
-//! How a response is known by such a Via is in `sip_own_via`.
+//! How a response is known by such a Via is in `sip_edit`.
 ghost use Rattle.std.specs.Prelude.{◌≡◌, ◌++◌, codes, decimal, drop, IfOk, IsTrue, OnOk};
 ghost use Rattle.sip_message_fields.specs.declared.field_name.FieldName.TheVariants as Name;
 ghost use Rattle.sip_message_fields.specs.Values;
@@ -94,7 +94,7 @@ fn put_branch_parameter(
 }
 
 /// Adds this server's Via to a target as a field, as `own_via_value` and `branch_text` give it, straight where it is sent.
-#[tactic(auto, using(crate::proofs::OwnVias::line_is))]
+#[tactic(auto, using(crate::proofs::OwnViaLines::line_is))]
 pub(crate) fn put_via(
     out: &mut Buffer,
     own: &Own,

@@ -1,13 +1,13 @@
 ghost use Rattle.std.specs.Prelude.{◌≡◌, Some, codes, is_some, IfOk};
-ghost use Rattle.sip_header.specs.Parameters.{parameter_of};
+ghost use Rattle.sip_route.specs.header.Parameters.{parameter_of};
 ghost use Rattle.sip_message_fields.specs.declared.field_name.FieldName.TheVariants as Name;
 ghost use Rattle.sip_message_fields.specs.Values.{with_first};
 ghost use Rattle.sip_uri.specs.declared.addr.Addr.{Addr};
 ghost use Rattle.sip_edit.specs.ReceivedRequest.{address_by, at_port};
 
-use sip_header::{Via, one_before_rport, parameter_of};
 use sip_message_fields::FieldName;
 use sip_message_form::View;
+use sip_route::header::{Via, one_before_rport, parameter_of};
 use std::alloc::{AllocError, Global};
 
 /// A request whose top Via has another value, as `received_via` gives it (RFC 3261 18.2.1). No byte is copied.

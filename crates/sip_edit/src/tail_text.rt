@@ -11,10 +11,10 @@ ghost use Rattle.sip_edit.specs.Tail as Tails;
 
 use crate::onward::{hops_left, is_for_realm};
 use crate::received_request::with_top_via;
-use sip_header::{MaxForwards, max_forwards_of};
 use sip_message_fields::{FieldName, KnownName, Value, ViewField, ViewFields, ViewName};
 use sip_message_form::{View, put_body, put_field, put_line};
 use sip_route::RoutesKept;
+use sip_route::header::{MaxForwards, max_forwards_of};
 use sip_text::{Buffer, Bytes};
 use std::alloc::{AllocError, Global};
 

@@ -4,15 +4,15 @@ ghost use Rattle.std.specs.Prelude.{◌≡◌, ◌++◌, ◌||◌, not, false, l
 ghost use Rattle.std.specs.Str.{bytes_eq};
 ghost use Rattle.sip_text.specs.Cuts.{parts_at};
 ghost use Rattle.sip_text.specs.Lists.{trimmed};
-ghost use Rattle.sip_header.specs.Parameters.{parameter_of};
-ghost use Rattle.sip_header.specs.Via.{via_of};
+ghost use Rattle.sip_route.specs.header.Parameters.{parameter_of};
+ghost use Rattle.sip_route.specs.header.Via.{via_of};
 ghost use Rattle.sip_uri.specs.Addresses.{ip_text};
 ghost use Rattle.sip_uri.specs.declared.addr.Addr.{Addr};
 ghost use Rattle.sip_edit.specs.ReceivedRequest.{address_by, at_port};
 ghost use Rattle.sip_edit.specs.TopVia;
 
 use crate::received_request::{asks_for_port, port_asked};
-use sip_header::{Via, one_before_rport, parameter_of};
+use sip_route::header::{Via, one_before_rport, parameter_of};
 use sip_route::is_address;
 use sip_text::{Buffer, Bytes, first_part, same_bytes, same_no_case, without_blanks};
 use sip_uri::Addr;

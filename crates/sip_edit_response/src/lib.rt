@@ -2,7 +2,7 @@
 //! of Contact in a list of bindings, and the fields that only some responses have (RFC 3261 8.2.6, 10.3;
 //! RFC 2617 3.2.1; RFC 8760 2.3).
 //!
-//! - Used: `sip_context_packets`, for whatever this server answers by itself.
+//! - Used: `sip_context`, for whatever this server answers by itself.
 //! - Not here: an answer of a phone that goes on (`sip_edit`).
 //! - Tried: worked examples in `src/examples.rt`, as contracts that compute and `extras.rt`; `test_parts`.
 //!

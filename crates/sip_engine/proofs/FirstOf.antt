@@ -12,13 +12,13 @@ use Rattle.sip_model.specs.state.declared.open_request.OpenRequest.{OpenRequest}
 use Rattle.sip_model.specs.state.declared.proxy_state.ProxyState.{ProxyState}
 use Rattle.sip_model.specs.state.declared.server.Server.{Server}
 use Rattle.sip_model.specs.steps_model.Step.{IsDeadline, IsOverdue, IsResend, OfSide, OfBranch}
-use Rattle.sip_engine_open.specs.fork.Due.{is_part}
-use Rattle.sip_engine_open.specs.fork.request.Queued.{entries}
-use Rattle.sip_engine_open.specs.fork.Firing.{KeepsOrder}
-use Rattle.sip_engine_open.specs.fork.request.transactions_model.Queue.{entries_of, entry_of, queue_after}
-use Rattle.sip_engine_open.specs.Timers as Fired
+use Rattle.sip_engine_request.specs.fork.Due.{is_part}
+use Rattle.sip_engine_request.specs.fork.request.Queued.{entries}
+use Rattle.sip_engine_request.specs.fork.Firing.{KeepsOrder}
+use Rattle.sip_engine_request.specs.fork.request.transactions_model.Queue.{entries_of, entry_of, queue_after}
+use Rattle.sip_engine_request.specs.Timers as Fired
 use Rattle.sip_engine.specs.declared.error.StepError.{StepError}
-use Rattle.model_order.specs.Order as Order
+use Rattle.sip_model.specs.TimerOrder as Order
 
 equal : (n m : ℕ) → (n == m) ≡ true → n ≡ m
 equal n m e = grind (arith, nat_tests)

@@ -11,7 +11,7 @@ use Rattle.sip_verdict.specs.state.State.{first_state}
 use Rattle.sip_verdict.specs.state.declared.proxy_state.ProxyState.{ProxyState}
 use Rattle.sip_verdict.specs.state.declared.server.Server.{Server}
 use Rattle.sip_timers.specs.declared.timer.Timer.{Timer}
-use Rattle.sip_engine_open.specs.Timers.{IsFiredFirst, IsOfTimer}
+use Rattle.sip_engine_request.specs.Timers.{IsFiredFirst, IsOfTimer}
 use Rattle.sip_engine.specs.Engine.{IsReached}
 use Rattle.sip_engine.specs.declared.error.StepError.{StepError}
 

@@ -5,4 +5,4 @@ mod Leading
 mod Numbered
 mod Waiting
 mod FirstOf
-pub use Rattle.model_order.proofs.Along as of_order
+pub use Rattle.sip_model.proofs.Along as of_order

@@ -4,7 +4,7 @@ use Rattle.std.specs.List.{position_or_len}
 use Rattle.std.specs.Option.{option_map}
 use Rattle.std.proofs.lemmas.Bool.Decides.{nat_tests}
 use Rattle.std.proofs.lemmas.Option.{slice_get-get_or}
-use Rattle.sip_engine_open.specs.fork.Places.{branch_at}
+use Rattle.sip_engine_request.specs.fork.Places.{branch_at}
 use Rattle.sip_verdict.specs.state.declared.branch.Branch.{Branch}
 use Rattle.sip_verdict.specs.state.declared.open_request.OpenRequest.{OpenRequest}
 

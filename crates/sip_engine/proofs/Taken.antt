@@ -7,8 +7,8 @@ use Rattle.sip_event.specs.declared.event.StepOut.{StepOut}
 use Rattle.sip_message_form.specs.declared.message.Message.{Message}
 use Rattle.sip_model.specs.steps_model.Effect.{counted, datagram_effect, effect_of, nothing}
 use Rattle.sip_model.specs.steps_model.Step.{Does}
-use Rattle.sip_engine_open.specs.forwarding.Arrivals.{arrival_of}
-use Rattle.sip_engine_open.specs.forwarding.declared.arrival.Arrival.{Arrival}
+use Rattle.sip_engine_request.specs.forwarding.Arrivals.{arrival_of}
+use Rattle.sip_engine_request.specs.forwarding.declared.arrival.Arrival.{Arrival}
 use Rattle.sip_verdict.specs.state.declared.proxy_state.ProxyState.{ProxyState}
 use Rattle.sip_verdict.specs.state.declared.server.Server.{Server}
 use Rattle.sip_verdict.specs.verdict_model.Verdict as Definition
@@ -19,7 +19,7 @@ use Rattle.sip_verdict.specs.declared.verdict.PolicyOutcome.TheVariants as Decid
 use Rattle.sip_verdict.specs.declared.verdict.Verdict.{Verdict}
 use Rattle.sip_verdict.specs.declared.verdict.Verdict.TheVariants as Arrived
 use Rattle.sip_dialog.specs.declared.dialog.DialogId.{DialogId}
-use Rattle.sip_engine_open.specs.fork.Places.{branch_at}
+use Rattle.sip_engine_request.specs.fork.Places.{branch_at}
 use Rattle.sip_uri.specs.declared.addr.Addr.{Addr}
 use Rattle.sip_transaction_table.specs.declared.key.TransactionKey.{TransactionKey}
 use Rattle.sip_location.specs.declared.binding.Binding.{Binding}

@@ -2,8 +2,8 @@
 use Rattle.std.proofs.Common.{◌≡◌, ◌≤◌, ◌<◌, ℕ, List, [], ◌∷◌, Option, Some, None, MatchOption, IfSome, nat_lt, Bool, true, false, refl, arith}
 use Rattle.std.specs.List.{AllByRecursion}
 use Rattle.std.proofs.lemmas.Bool.Decides.{nat_tests}
-use Rattle.sip_engine_open.specs.Next.{IsNext}
-use Rattle.sip_engine_open.specs.fork.Due.{IsNothingDue}
+use Rattle.sip_engine_request.specs.Next.{IsNext}
+use Rattle.sip_engine_request.specs.fork.Due.{IsNothingDue}
 use Rattle.sip_model.specs.steps_model.Step.{NoneAgainBefore, NoneAgainBy, NoneBefore, NoneBy}
 use Rattle.sip_verdict.specs.context_model.Retransmission.{resends}
 use Rattle.sip_verdict.specs.state.State.{deadlines}

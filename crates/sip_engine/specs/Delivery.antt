@@ -6,7 +6,7 @@ use Rattle.sip_verdict.specs.declared.verdict.Verdict.TheVariants as Arrived
 use Rattle.sip_dialog.specs.declared.dialog.DialogId.{DialogId}
 use Rattle.sip_uri.specs.declared.addr.Addr.{Addr}
 use Rattle.sip_transaction_table.specs.declared.key.TransactionKey.{TransactionKey}
-use Rattle.sip_engine_open.specs.forwarding.declared.arrival.Arrival.{Arrival}
+use Rattle.sip_engine_request.specs.forwarding.declared.arrival.Arrival.{Arrival}
 use Rattle.sip_verdict.specs.state.declared.proxy_state.ProxyState.{ProxyState}
 use Rattle.sip_verdict.specs.state.declared.server.Server.{Server}
 use Rattle.sip_verdict.specs.verdict_model.Verdict as Definition

@@ -4,7 +4,7 @@ use Rattle.sip_model.specs.Run.{Link, IsChain}
 use Rattle.sip_verdict.specs.state.State.{first_state}
 use Rattle.sip_verdict.specs.state.declared.proxy_state.ProxyState.{ProxyState}
 use Rattle.sip_verdict.specs.state.declared.server.Server.{Server}
-use Rattle.sip_engine_open.specs.proxy.Proxy.{Secrets}
+use Rattle.sip_engine_request.specs.proxy.Proxy.{Secrets}
 use Rattle.sip_timers.specs.declared.timer.Timer.{Timer}
 
 -- the configured server, the state that it is in, the timers that stand, in the order in which they fire, and the secrets of its tables

@@ -1,12 +1,12 @@
 ghost use Rattle.std.specs.Prelude.{◌≡◌, false, IfOk};
-ghost use Rattle.sip_engine_open.specs.transactions_model.Fits.{IsFinalAnswer};
+ghost use Rattle.sip_engine_request.specs.transactions_model.Fits.{IsFinalAnswer};
 ghost use Rattle.sip_verdict.specs.verdict_model.Verdict as Definition;
 ghost use Rattle.sip_engine_request.specs.Steps.{IsNew, IsWhole, Takes};
 
 use crate::keeping::keep;
 use crate::new_request::NewRequest;
 use sip_base::Shared;
-use sip_engine_open::proxy::{Configured, Proxy};
+use sip_engine_request::proxy::{Configured, Proxy};
 use sip_engine_request::{KeyedRequest, take_answered, take_cancel};
 use sip_event::StepOut;
 use sip_message_fields::Fields;

@@ -14,7 +14,7 @@ use crate::going::go_to;
 use crate::keeping::keep;
 use crate::new_request::NewRequest;
 use sip_base::Shared;
-use sip_engine_open::proxy::{Configured, Proxy};
+use sip_engine_request::proxy::{Configured, Proxy};
 use sip_engine_request::uas::is_answered_here;
 use sip_engine_request::{KeyedRequest, RoutedRequest, take_judged};
 use sip_event::StepOut;

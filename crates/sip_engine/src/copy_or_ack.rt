@@ -2,10 +2,10 @@
 //! The ACK of a 2xx is a transaction of its own (13.2.2.4), and goes on or is dropped.
 ghost use Rattle.std.specs.Prelude.{◌≡◌, ◌<◌, ◌&&◌, codes, length, slice_get, Some, IfOk};
 ghost use Rattle.std.specs.Str.{bytes_eq};
-ghost use Rattle.sip_engine_open.specs.proxy.Proxy.{IsComing};
+ghost use Rattle.sip_engine_request.specs.proxy.Proxy.{IsComing};
 ghost use Rattle.sip_verdict.specs.Verdict.{IsRequestOf};
 ghost use Rattle.sip_transaction_table.specs.declared.key.TransactionKey.{TransactionKey};
-ghost use Rattle.sip_engine_open.specs.forwarding.Arrivals.{arrival_of};
+ghost use Rattle.sip_engine_request.specs.forwarding.Arrivals.{arrival_of};
 ghost use Rattle.sip_verdict.specs.state.declared.open_request.OpenRequest.{OpenRequest};
 ghost use Rattle.sip_verdict.specs.verdict_model.Verdict as Definition;
 ghost use Rattle.sip_verdict.specs.context_model.Branches as Branches;
@@ -14,10 +14,9 @@ ghost use Rattle.sip_engine.specs.Delivery as Delivery;
 
 use crate::delivery_laws::acks_are_dropped_or_go_on;
 use sip_dialog::DialogId;
-use sip_engine_open::context::is_accepted;
-use sip_engine_open::proxy::{Configured, Proxy, ReceivedRequest};
-use sip_engine_open::{take_copy, take_dropped};
-use sip_engine_request::send_ack;
+use sip_engine_request::context::is_accepted;
+use sip_engine_request::proxy::{Configured, Proxy, ReceivedRequest};
+use sip_engine_request::{send_ack, take_copy, take_dropped};
 use sip_event::StepOut;
 use sip_policy::Rules;
 use sip_timers::Timers;

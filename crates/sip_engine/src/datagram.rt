@@ -1,21 +1,21 @@
 //! From the bytes of a datagram to the module that takes its step: a response, a request with the key of an open one, or a new one
 //! (RFC 3261 17.1.3, 17.2.3). Moment and number were looked at in `stepping`.
 ghost use Rattle.std.specs.Prelude.{◌≡◌, IfOk, OnOk, OnErr};
-ghost use Rattle.sip_engine_open.specs.fork.Firing.{KeepsOrder};
+ghost use Rattle.sip_engine_request.specs.fork.Firing.{KeepsOrder};
 ghost use Rattle.sip_verdict.specs.Incoming.{IsRequest};
-ghost use Rattle.sip_engine_open.specs.proxy.Proxy.{IsComing};
+ghost use Rattle.sip_engine_request.specs.proxy.Proxy.{IsComing};
 ghost use Rattle.sip_model.specs.steps_model.Effect.{datagram_effect};
 ghost use Rattle.sip_model.specs.steps_model.Step.{Does};
-ghost use Rattle.sip_engine_open.specs.forwarding.Arrivals.{arrival_of};
+ghost use Rattle.sip_engine_request.specs.forwarding.Arrivals.{arrival_of};
 ghost use Rattle.sip_verdict.specs.verdict_model.Verdict as Definition;
 ghost use Rattle.sip_engine_request.specs.Steps.{IsWhole, Takes};
 
 use crate::copy_or_ack::take_known;
 use crate::new_step::take_new;
 use crate::responses::take_reply;
-use sip_engine_open::forwarding::Arrival;
-use sip_engine_open::proxy::{Configured, Proxy, ReceivedRequest, ReceivedResponse};
-use sip_engine_open::take_dropped;
+use sip_engine_request::forwarding::Arrival;
+use sip_engine_request::proxy::{Configured, Proxy, ReceivedRequest, ReceivedResponse};
+use sip_engine_request::take_dropped;
 use sip_event::StepOut;
 use sip_header::Via;
 use sip_message_form::View;

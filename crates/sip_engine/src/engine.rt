@@ -1,15 +1,15 @@
 //! The public calls of the server, and what each of them promises. The steps behind them are taken in `stepping`.
 ghost use Rattle.std.specs.Prelude.{◌≡◌, ◌≤◌, ◌<◌, ◌^◌, ◌⊎◌, ℕ, true, [], None, Some, Err, MatchOption, IsOk, IfOk, IfErr, IfSome, OnErr, OnOk};
 ghost use Rattle.sip_event.specs.declared.event.Event.TheVariants.{Datagram, Fault};
-ghost use Rattle.sip_engine_open.specs.Faults.{failed_of};
-ghost use Rattle.sip_engine_open.specs.Next.{IsNext};
-ghost use Rattle.sip_engine_open.specs.fork.Due.{IsNothingDue};
-ghost use Rattle.sip_engine_open.specs.proxy.Proxy.{secrets_of};
-ghost use Rattle.sip_engine_open.specs.fork.request.Queued.{entries};
-ghost use Rattle.sip_engine_open.specs.fork.request.transactions_model.Queue.{entries_of, queue_after};
-ghost use Rattle.model_order.specs.Order.{IsFirstOf};
+ghost use Rattle.sip_engine_request.specs.Faults.{failed_of};
+ghost use Rattle.sip_engine_request.specs.Next.{IsNext};
+ghost use Rattle.sip_engine_request.specs.fork.Due.{IsNothingDue};
+ghost use Rattle.sip_engine_request.specs.proxy.Proxy.{secrets_of};
+ghost use Rattle.sip_engine_request.specs.fork.request.Queued.{entries};
+ghost use Rattle.sip_engine_request.specs.fork.request.transactions_model.Queue.{entries_of, queue_after};
+ghost use Rattle.sip_model.specs.TimerOrder.{IsFirstOf};
 ghost use Rattle.sip_location.specs.Binding.{live};
-ghost use Rattle.model_same.specs.SameAhead.{SameAhead};
+ghost use Rattle.sip_model.specs.SameAhead.{SameAhead};
 ghost use Rattle.sip_model.specs.steps_model.Step.{Given, Passing, IsDeadline, IsResend, IsStep, IsTime, NoneAgainBefore, NoneAgainBy};
 ghost use Rattle.sip_model.specs.steps_model.Step.{NoneBefore, NoneBy, moment_of};
 ghost use Rattle.sip_verdict.specs.state.State.{first_state};
@@ -27,7 +27,7 @@ use crate::stepping::{self, Coming};
 use sip_config_change::frame_key;
 use sip_config_change::laws::policy_in_the_old_frame_is_new;
 use sip_config_types::Config;
-use sip_engine_open::proxy::Proxy;
+use sip_engine_request::proxy::Proxy;
 use sip_event::{Boot, StepOut, Ticket};
 use sip_location::LiveBindings;
 use sip_model::periods::histories_are_under_each;
@@ -154,13 +154,13 @@ impl<T: Timers, R: Rules> Engine<T, R> {
             × NoneAgainBy m self.now.state.requests }
     {
         reached_states_are_sound();
-        sip_engine_open::laws::next_moment_is_first();
+        sip_engine_request::open_laws::next_moment_is_first();
         let _judge = &self.judge;
-        sip_engine_open::next_due(&self.proxy)
+        sip_engine_request::next_due(&self.proxy)
     }
 
     /// Only where another server of the same configuration and word goes on as this one does: whatever comes, the same is sent
-    /// and recorded (`runs_same` of `model_same`). What one of them may hold and the other not is never asked for again: dead
+    /// and recorded (`runs_same` of `sip_model`). What one of them may hold and the other not is never asked for again: dead
     /// nonces, expired bindings, dialogs that aren't known, the order of the known ones, and which INVITE began those with a
     /// 2xx. Takes no memory, and costs by what stands in both.
     pub fn is_same(&self, other: &Engine<T, R>) -> bool

@@ -9,7 +9,7 @@ use crate::keeping::keep_onward;
 use crate::new_request::NewRequest;
 use sip_base::Shared;
 use sip_dialog::DialogId;
-use sip_engine_open::proxy::{Configured, Proxy};
+use sip_engine_request::proxy::{Configured, Proxy};
 use sip_engine_request::{KeyedRequest, RoutedRequest, send_to, send_within};
 use sip_event::StepOut;
 use sip_timers::Timers;

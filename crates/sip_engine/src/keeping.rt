@@ -2,7 +2,7 @@ ghost use Rattle.std.specs.Prelude.{◌≡◌, IfOk};
 ghost use Rattle.sip_verdict.specs.state.Names.{AreNames};
 
 use sip_base::Shared;
-use sip_engine_open::proxy::ReceivedRequest;
+use sip_engine_request::proxy::ReceivedRequest;
 use sip_verdict::state::{DialogNames, KeptRequest, Server};
 use std::alloc::{AllocError, Global};
 

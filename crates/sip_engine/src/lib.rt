@@ -38,5 +38,5 @@ pub use error::StepError;
 
 /// Of `sip_model`.
 pub mod model {
-    pub use sip_model::{laws, runs};
+    pub use sip_model::{bounds, laws, runs};
 }

@@ -1,15 +1,15 @@
 ghost use Rattle.std.specs.Prelude.{◌≡◌, ◌||◌, if◌then◌else◌, Some, IsSome, IfOk};
 ghost use Rattle.sip_verdict.specs.Incoming.{IsResponse};
-ghost use Rattle.sip_engine_open.specs.proxy.Proxy.{IsComing};
-ghost use Rattle.sip_engine_open.specs.fork.Places.{branch_at};
-ghost use Rattle.sip_engine_open.specs.forwarding.Arrivals.{arrival_of};
+ghost use Rattle.sip_engine_request.specs.proxy.Proxy.{IsComing};
+ghost use Rattle.sip_engine_request.specs.fork.Places.{branch_at};
+ghost use Rattle.sip_engine_request.specs.forwarding.Arrivals.{arrival_of};
 ghost use Rattle.sip_verdict.specs.state.declared.branch.Branch.{Branch};
 ghost use Rattle.sip_verdict.specs.state.declared.open_request.OpenRequest.{OpenRequest};
 ghost use Rattle.sip_verdict.specs.verdict_model.Verdict as Definition;
 ghost use Rattle.sip_engine_request.specs.Steps.{IsWhole, Takes};
 
-use sip_engine_open::proxy::{Configured, Proxy, ReceivedResponse};
-use sip_engine_open::{take_dropped, take_response};
+use sip_engine_request::proxy::{Configured, Proxy, ReceivedResponse};
+use sip_engine_request::{take_dropped, take_response};
 use sip_event::StepOut;
 use sip_timers::Timers;
 use sip_verdict::laws;

@@ -1,10 +1,10 @@
 //! The steps behind the calls of `Engine`: moment and number are looked at, then one step is taken, whole or not at all.
 ghost use Rattle.std.specs.Prelude.{◌≡◌, ◌≤◌, ◌<◌, ◌^◌, ◌⊎◌, ℕ, false, None, Err, IsOk, IfOk, IfErr, IfSome, OnOk, OnErr};
-ghost use Rattle.sip_engine_open.specs.fork.Firing.{KeepsOrder};
+ghost use Rattle.sip_engine_request.specs.fork.Firing.{KeepsOrder};
 ghost use Rattle.sip_event.specs.declared.event.Event.TheVariants.{Datagram, Fault};
-ghost use Rattle.sip_engine_open.specs.Faults.{failed_of};
-ghost use Rattle.sip_engine_open.specs.Next.{IsNext};
-ghost use Rattle.sip_engine_open.specs.Timers.{IsFiredFirst};
+ghost use Rattle.sip_engine_request.specs.Faults.{failed_of};
+ghost use Rattle.sip_engine_request.specs.Next.{IsNext};
+ghost use Rattle.sip_engine_request.specs.Timers.{IsFiredFirst};
 ghost use Rattle.sip_model.specs.steps_model.Step.{Given, Passing, IsDeadline, IsResend, IsStep, IsTime, NoneAgainBefore, NoneAgainBy};
 ghost use Rattle.sip_model.specs.steps_model.Step.{NoneBefore, NoneBy, moment_of};
 ghost use Rattle.sip_engine.specs.Engine.{IsReached};
@@ -14,8 +14,8 @@ ghost use Rattle.sip_engine.specs.declared.error.StepError.TheVariants.{NoMemory
 use crate::error::StepError;
 use crate::histories::reached_states_are_sound;
 use crate::take_datagram;
-use sip_engine_open::forwarding::Arrival;
-use sip_engine_open::proxy::{Configured, Proxy};
+use sip_engine_request::forwarding::Arrival;
+use sip_engine_request::proxy::{Configured, Proxy};
 use sip_event::{StepOut, Ticket};
 use sip_policy::Rules;
 use sip_timers::Timers;
@@ -81,7 +81,7 @@ pub(crate) fn fire<T: Timers, R: Rules>(
     let server = judge.server();
     let hops = judge.hops();
     let configured = Configured { server, hops };
-    let out = sip_engine_open::fire(alloc, &configured, proxy, now)?;
+    let out = sip_engine_request::fire(alloc, &configured, proxy, now)?;
     Ok(out)
 }
 
@@ -159,6 +159,6 @@ pub(crate) fn fault<T: Timers, R: Rules>(
     let server = judge.server();
     let hops = judge.hops();
     let configured = Configured { server, hops };
-    let out = sip_engine_open::fault(alloc, &configured, proxy, now, ticket)?;
+    let out = sip_engine_request::fault(alloc, &configured, proxy, now, ticket)?;
     Ok(out)
 }

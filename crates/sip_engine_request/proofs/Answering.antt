@@ -5,7 +5,7 @@ use Rattle.std.specs.declared.alloc.AllocError.{AllocError}
 use Rattle.sip_event.specs.declared.event.StepOut.{StepOut}
 use Rattle.sip_proxy.specs.Proxy.{Becomes, with_bindings, with_nonces}
 use Rattle.sip_audit.specs.declared.record.Record.{Record}
-use Rattle.sip_verdict.specs.context_model.Opening.{closing}
+use Rattle.sip_proxy.specs.verdict.context_model.Opening.{closing}
 use Rattle.sip_dialog.specs.Sameness.{SameDialogs}
 use Rattle.sip_dialog.specs.declared.dialog.Dialog.{Dialog}
 use Rattle.sip_message_fields.specs.declared.field.Field.{Field}
@@ -24,7 +24,7 @@ use Rattle.sip_dialog_updates.specs.state.State.{has_key, with_one_more}
 use Rattle.sip_dialog_updates.specs.state.declared.open_request.OpenRequest.{OpenRequest}
 use Rattle.sip_dialog_updates.specs.state.declared.proxy_state.ProxyState.{ProxyState}
 use Rattle.sip_dialog_updates.specs.state.declared.server.Server.{Server}
-use Rattle.sip_verdict.specs.verdict_model.Verdict.{is_full}
+use Rattle.sip_proxy.specs.verdict.verdict_model.Verdict.{is_full}
 use Rattle.sip_uas.specs.Drafts as Drafts
 use Rattle.sip_uas.specs.Drafts.{IsOpenable, with_opened}
 use Rattle.sip_uas.specs.declared.answer_draft.AnswerDraft.{AnswerDraft}

@@ -2,14 +2,14 @@
 use Rattle.std.proofs.Common.{◌≡◌, ◌∙◌, ◌≤◌, ℕ, IfSome, true, List, [], ◌∷◌, Option, Result, Some, Ok, refl, sym, ap, subst, true≢false}
 use Rattle.sip_event.specs.declared.event.StepOut.{StepOut}
 use Rattle.sip_proxy.specs.Proxy.{Becomes, with_bindings, with_nonces}
-use Rattle.sip_verdict.specs.Verdict.{HasRoomFor, IsOutcome, plan_of}
-use Rattle.sip_verdict.specs.declared.verdict.Judged.{Judged}
-use Rattle.sip_verdict.specs.declared.verdict.PolicyOutcome.{PolicyOutcome}
-use Rattle.sip_verdict.specs.declared.verdict.PolicyOutcome.TheVariants.{Challenge, Deny, Send, Register}
-use Rattle.sip_verdict.specs.context_model.Opening.{closing}
+use Rattle.sip_proxy.specs.verdict.Verdict.{HasRoomFor, IsOutcome, plan_of}
+use Rattle.sip_proxy.specs.verdict.declared.verdict.Judged.{Judged}
+use Rattle.sip_proxy.specs.verdict.declared.verdict.PolicyOutcome.{PolicyOutcome}
+use Rattle.sip_proxy.specs.verdict.declared.verdict.PolicyOutcome.TheVariants.{Challenge, Deny, Send, Register}
+use Rattle.sip_proxy.specs.verdict.context_model.Opening.{closing}
 use Rattle.sip_message_fields.specs.declared.field.Field.{Field}
 use Rattle.sip_message_form.specs.declared.message.Message.{Message}
-use Rattle.sip_verdict.specs.declared.registering.Registering.TheVariants as Judge
+use Rattle.sip_proxy.specs.verdict.declared.registering.Registering.TheVariants as Judge
 use Rattle.sip_location.specs.Locations.{IsPlan, Planned}
 use Rattle.sip_location.specs.Registration.{registered}
 use Rattle.sip_location.specs.Sameness.{SameBindings, SameOutcome}
@@ -27,8 +27,8 @@ use Rattle.sip_dialog_updates.specs.state.declared.proxy_state.ProxyState.{Proxy
 use Rattle.sip_dialog_updates.specs.state.declared.server.Server.{Server}
 use Rattle.sip_targets.specs.declared.targets.Targets.{Targets}
 use Rattle.sip_targets.specs.declared.targets.Targets.TheVariants as To
-use Rattle.sip_verdict.specs.verdict_model.Verdict as Definition
-use Rattle.sip_verdict.specs.verdict_model.declared.question.Question.{Question}
+use Rattle.sip_proxy.specs.verdict.verdict_model.Verdict as Definition
+use Rattle.sip_proxy.specs.verdict.verdict_model.declared.question.Question.{Question}
 use Rattle.sip_uas.specs.Asking.{after_asking, are_nobody, is_answered_here}
 use Rattle.sip_uas.specs.Drafts as Drafts
 use Rattle.sip_uas.specs.Drafts.{AreBound, with_opened}

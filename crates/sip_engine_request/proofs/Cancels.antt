@@ -6,9 +6,9 @@ use Rattle.std.proofs.lemmas.Option.{slice_get-get_or}
 use Rattle.sip_proxy.specs.Drafts.{IsDrafted}
 use Rattle.sip_proxy.specs.Proxy.{Becomes, IsCounted}
 use Rattle.sip_audit.specs.declared.record.Record.{Record}
-use Rattle.sip_verdict.specs.context_model.Branches.{cancelled}
-use Rattle.sip_verdict.specs.context_model.Opening.{closing}
-use Rattle.sip_verdict.specs.context_model.Sending.{answer_packet}
+use Rattle.sip_proxy.specs.verdict.context_model.Branches.{cancelled}
+use Rattle.sip_proxy.specs.verdict.context_model.Opening.{closing}
+use Rattle.sip_proxy.specs.verdict.context_model.Sending.{answer_packet}
 use Rattle.sip_proxy.specs.declared.drafting.EventDraft.{EventDraft}
 use Rattle.sip_dialog.specs.Sameness.{SameDialogs}
 use Rattle.sip_dialog.specs.declared.dialog.Dialog.{Dialog}
@@ -34,7 +34,7 @@ use Rattle.sip_dialog_updates.specs.state.State.{with_one_more}
 use Rattle.sip_dialog_updates.specs.state.declared.open_request.OpenRequest.{OpenRequest}
 use Rattle.sip_dialog_updates.specs.state.declared.proxy_state.ProxyState.{ProxyState}
 use Rattle.sip_dialog_updates.specs.state.declared.server.Server.{Server}
-use Rattle.sip_verdict.specs.verdict_model.Verdict as Definition
+use Rattle.sip_proxy.specs.verdict.verdict_model.Verdict as Definition
 use Rattle.sip_uas.specs.Drafts.{IsOpenable}
 use Rattle.sip_uas.proofs.Replying.{text_by}
 

@@ -4,7 +4,7 @@ use Rattle.sip_proxy.specs.Proxy.{Becomes}
 use Rattle.sip_audit.specs.declared.record.AuditOutcome.TheVariants.{Sent}
 use Rattle.sip_audit.specs.declared.record.Record.{Record}
 use Rattle.sip_auth.specs.Proof.{used}
-use Rattle.sip_verdict.specs.context_model.Opening.{opening}
+use Rattle.sip_proxy.specs.verdict.context_model.Opening.{opening}
 use Rattle.sip_dialog.specs.Sameness.{SameDialogs}
 use Rattle.sip_dialog.specs.declared.dialog.Dialog.{Dialog}
 use Rattle.sip_dialog.specs.declared.dialog.DialogId.{DialogId}
@@ -31,9 +31,9 @@ use Rattle.sip_dialog_updates.specs.state.declared.server.Server.{Server}
 use Rattle.sip_targets.specs.declared.targets.Targets.{Targets}
 use Rattle.sip_targets.specs.declared.targets.Targets.TheVariants.{Bindings, Hop, NotFound, Unavailable}
 use Rattle.sip_targets.specs.Targets.{target_list}
-use Rattle.sip_verdict.specs.verdict_model.Verdict as Definition
-use Rattle.sip_verdict.specs.verdict_model.declared.question.Question.{Question}
-use Rattle.sip_verdict.specs.Verdict.{are_somebody}
+use Rattle.sip_proxy.specs.verdict.verdict_model.Verdict as Definition
+use Rattle.sip_proxy.specs.verdict.verdict_model.declared.question.Question.{Question}
+use Rattle.sip_proxy.specs.verdict.Verdict.{are_somebody}
 
 -- ---- a request
 

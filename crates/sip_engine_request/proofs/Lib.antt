@@ -4,3 +4,13 @@ pub mod Cancels
 pub mod Counted
 pub mod ForwardCounted
 pub mod Forked
+mod CountedStates
+mod Effects
+mod Found
+mod Drafts
+mod Failed
+mod Lists
+mod Moments
+mod Results
+mod Steps
+mod Quiet

@@ -1,8 +1,8 @@
 -- What a step does for a new request that is answered here, once its answer was drafted (RFC 3261 8.2, 9.2, 10.3, 16.5, 22).
 use Rattle.std.specs.Prelude.{◌≡◌, ℕ, false, position, List, Option, None}
-use Rattle.sip_verdict.specs.Verdict.{Is}
-use Rattle.sip_verdict.specs.declared.verdict.Judged.{Judged}
-use Rattle.sip_verdict.specs.declared.verdict.Verdict.TheVariants as Arrived
+use Rattle.sip_proxy.specs.verdict.Verdict.{Is}
+use Rattle.sip_proxy.specs.verdict.declared.verdict.Judged.{Judged}
+use Rattle.sip_proxy.specs.verdict.declared.verdict.Verdict.TheVariants as Arrived
 use Rattle.sip_uas.specs.transactions_model.Fits.{Fits}
 use Rattle.sip_uas.specs.transactions_model.Matching.{AreBranched}
 use Rattle.sip_location.specs.declared.binding.Binding.{Binding}
@@ -12,7 +12,7 @@ use Rattle.sip_dialog_updates.specs.state.State.{has_key}
 use Rattle.sip_dialog_updates.specs.state.declared.open_request.OpenRequest.{OpenRequest}
 use Rattle.sip_dialog_updates.specs.state.declared.proxy_state.ProxyState.{ProxyState}
 use Rattle.sip_dialog_updates.specs.state.declared.server.Server.{Server}
-use Rattle.sip_verdict.specs.verdict_model.Verdict as Definition
+use Rattle.sip_proxy.specs.verdict.verdict_model.Verdict as Definition
 use Rattle.sip_uas.specs.Asking.{AnswersFinally}
 
 -- ---- what was decided

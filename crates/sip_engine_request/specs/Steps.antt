@@ -12,7 +12,7 @@ use Rattle.sip_uas.specs.forwarding.declared.arrival.Arrival.{Arrival}
 use Rattle.sip_dialog_updates.specs.state.State.{has_key}
 use Rattle.sip_dialog_updates.specs.state.declared.proxy_state.ProxyState.{ProxyState}
 use Rattle.sip_dialog_updates.specs.state.declared.server.Server.{Server}
-use Rattle.sip_verdict.specs.verdict_model.Verdict as Definition
+use Rattle.sip_proxy.specs.verdict.verdict_model.Verdict as Definition
 
 -- A step does what a verdict on the message of a datagram says.
 abbrev pub Takes : Server → ProxyState → Arrival → Message → Definition.Verdict → StepOut → ProxyState → Type 0

@@ -1,6 +1,6 @@
 ghost use Rattle.std.specs.Prelude.{IfOk};
 ghost use Rattle.sip_proxy.specs.Proxy.{IsComing};
-ghost use Rattle.sip_verdict.specs.verdict_model.Verdict as Definition;
+ghost use Rattle.sip_proxy.specs.verdict.verdict_model.Verdict as Definition;
 ghost use Rattle.sip_engine_request.specs.Steps.{IsWhole, Takes};
 
 use crate::forwarded_request::take_updates;

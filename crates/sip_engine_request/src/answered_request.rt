@@ -1,6 +1,6 @@
 ghost use Rattle.std.specs.Prelude.{IfOk};
 ghost use Rattle.sip_uas.specs.transactions_model.Fits.{IsFinalAnswer};
-ghost use Rattle.sip_verdict.specs.verdict_model.Verdict as Definition;
+ghost use Rattle.sip_proxy.specs.verdict.verdict_model.Verdict as Definition;
 ghost use Rattle.sip_engine_request.specs.Steps.{IsNew, IsWhole, Takes};
 
 use crate::taking::take_draft;

@@ -1,11 +1,11 @@
 //! The step of a CANCEL (RFC 3261 9.2, 16.10): its own answer, and what it makes of the open request that it names.
 ghost use Rattle.std.specs.Prelude.{◌≡◌, ◌+◌, ◌<◌, ◌^◌, ◌++◌, ◌∷◌, [], false, length, slice_get, IfOk, IfSome};
 ghost use Rattle.std.specs.Option.{option_and_then};
-ghost use Rattle.sip_verdict.specs.context_model.Opening.{closing};
+ghost use Rattle.sip_proxy.specs.verdict.context_model.Opening.{closing};
 ghost use Rattle.sip_message_form.specs.Text.{text_of};
 ghost use Rattle.sip_uas.specs.forwarding.Arrivals.{arrival_of};
-ghost use Rattle.sip_verdict.specs.context_model.Sending.{answer_packet, made_answer};
-ghost use Rattle.sip_verdict.specs.verdict_model.Verdict as Definition;
+ghost use Rattle.sip_proxy.specs.verdict.context_model.Sending.{answer_packet, made_answer};
+ghost use Rattle.sip_proxy.specs.verdict.verdict_model.Verdict as Definition;
 ghost use Rattle.sip_uas.specs.Drafts.{IsOpenable};
 ghost use Rattle.sip_engine_request.specs.Steps.{IsNew, IsWhole, Takes};
 

@@ -2,7 +2,7 @@ ghost use Rattle.std.specs.Prelude.{◌≡◌, ℕ, List};
 ghost use Rattle.sip_timers.specs.declared.timer.Timer.{Timer};
 ghost use Rattle.sip_proxy.specs.fork.Firing.{KeepsOrder};
 ghost use Rattle.sip_proxy.specs.Proxy.{with_bindings, with_nonces};
-ghost use Rattle.sip_verdict.specs.Verdict.{HasRoomFor, plan_of};
+ghost use Rattle.sip_proxy.specs.verdict.Verdict.{HasRoomFor, plan_of};
 ghost use Rattle.sip_location.specs.Sameness.{SameBindings};
 ghost use Rattle.sip_location.specs.declared.binding.Binding.{Binding};
 ghost use Rattle.sip_uas.specs.forwarding.Arrivals.{arrival_of};
@@ -10,9 +10,9 @@ ghost use Rattle.sip_uas.specs.Asking.{after_asking, after_outcome};
 ghost use Rattle.sip_uas.specs.Drafts.{AreBound};
 
 use sip_proxy::Proxy;
+use sip_proxy::verdict::{Judged, PolicyOutcome};
 use sip_timers::Timers;
 use sip_uas::forwarding::Arrival;
-use sip_verdict::{Judged, PolicyOutcome};
 
 /// A challenge issues the nonce of its datagram's word (RFC 3261 22.1). Takes no memory.
 fn take_challenge<T: Timers>(proxy: &mut Proxy<T>, arrival: Arrival, outcome: &PolicyOutcome)

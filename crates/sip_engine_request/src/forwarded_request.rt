@@ -7,7 +7,7 @@ ghost use Rattle.sip_dialog_updates.specs.DialogUpdates.{beginnings};
 ghost use Rattle.sip_proxy.specs.steps_model.Effect.{asked, counted};
 ghost use Rattle.sip_uas.specs.forwarding.Arrivals.{arrival_of};
 ghost use Rattle.sip_dialog_updates.specs.state.State.{has_key, with_one_more};
-ghost use Rattle.sip_verdict.specs.verdict_model.Verdict.{is_full};
+ghost use Rattle.sip_proxy.specs.verdict.verdict_model.Verdict.{is_full};
 ghost use Rattle.sip_engine_request.specs.Steps.{IsWhole};
 
 use sip_dialog_updates::DialogUpdates;
@@ -15,10 +15,10 @@ use sip_event::Packet;
 use sip_proxy::Proxy;
 use sip_proxy::fork::NewRow;
 use sip_proxy::forwarding::Forwarded;
+use sip_proxy::verdict::Judged;
 use sip_text::Items;
 use sip_timers::Timers;
 use sip_uas::forwarding::Arrival;
-use sip_verdict::Judged;
 use std::alloc::{AllocError, Global};
 
 /// A request that a datagram brought, and that is sent on, is opened, the dialogs learn of it, and the datagram takes its

@@ -1,8 +1,8 @@
 ghost use Rattle.std.specs.Prelude.{◌≡◌, true, Option, IfOk};
-ghost use Rattle.sip_verdict.specs.Verdict.{HasRoomFor, Is};
-ghost use Rattle.sip_verdict.specs.declared.verdict.Verdict.TheVariants as Arrived;
+ghost use Rattle.sip_proxy.specs.verdict.Verdict.{HasRoomFor, Is};
+ghost use Rattle.sip_proxy.specs.verdict.declared.verdict.Verdict.TheVariants as Arrived;
 ghost use Rattle.sip_dialog_updates.specs.state.declared.open_request.OpenRequest.{OpenRequest};
-ghost use Rattle.sip_verdict.specs.verdict_model.Verdict as Definition;
+ghost use Rattle.sip_proxy.specs.verdict.verdict_model.Verdict as Definition;
 ghost use Rattle.sip_uas.specs.Asking as Asking;
 ghost use Rattle.sip_engine_request.specs.Admitting.{IsAnswered};
 ghost use Rattle.sip_engine_request.specs.Steps.{IsNew, IsWhole, Takes};
@@ -12,9 +12,9 @@ use crate::taking::take_draft;
 use sip_dialog_updates::state::Server;
 use sip_event::StepOut;
 use sip_proxy::Proxy;
+use sip_proxy::verdict::Judged;
 use sip_timers::Timers;
 use sip_uas::{KeyedRequest, judged as draft_judged};
-use sip_verdict::Judged;
 use std::alloc::{AllocError, Global};
 
 /// The step of a request outside a dialog about which policy was asked, and that is answered here: it is challenged, denied,

@@ -4,15 +4,15 @@ ghost use Rattle.sip_proxy.specs.steps_model.Effect as Effects;
 ghost use Rattle.sip_uas.specs.forwarding.Arrivals.{arrival_of};
 ghost use Rattle.sip_dialog_updates.specs.state.declared.server.Server.{Server};
 ghost use Rattle.sip_targets.specs.Targets.{target_list};
-ghost use Rattle.sip_verdict.specs.verdict_model.Verdict.{minute_on};
+ghost use Rattle.sip_proxy.specs.verdict.verdict_model.Verdict.{minute_on};
 
 use crate::RoutedRequest;
 use sip_audit::{AuditOutcome, Record};
+use sip_proxy::verdict::state::KeptRequest;
 use sip_targets::Targets;
 use sip_text::Items;
 use sip_uas::forwarding::Arrival;
 use sip_uas::records_of;
-use sip_verdict::state::KeptRequest;
 use std::alloc::{AllocError, Global};
 
 /// How many targets there are, if that is a number of 32 bits.

@@ -1,8 +1,8 @@
 ghost use Rattle.std.specs.Prelude.{◌≡◌, true};
-ghost use Rattle.sip_verdict.specs.Verdict.{are_somebody};
+ghost use Rattle.sip_proxy.specs.verdict.Verdict.{are_somebody};
 
+use sip_proxy::verdict::Judged;
 use sip_targets::Targets;
-use sip_verdict::Judged;
 
 /// What policy decided about a request that goes to its targets (RFC 3261 16.5), lent: the rule that lets it through, and the
 /// targets, which are somebody.

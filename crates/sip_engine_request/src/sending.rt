@@ -1,5 +1,5 @@
 ghost use Rattle.std.specs.Prelude.{◌≡◌, false, IfOk};
-ghost use Rattle.sip_verdict.specs.verdict_model.Verdict as Definition;
+ghost use Rattle.sip_proxy.specs.verdict.verdict_model.Verdict as Definition;
 ghost use Rattle.sip_engine_request.specs.Steps.{IsNew, IsWhole, Takes};
 
 use crate::RoutedRequest;

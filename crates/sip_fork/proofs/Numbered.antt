@@ -3,7 +3,7 @@ use Rattle.std.proofs.Common.{◌≡◌, ℕ, zero, suc, ◌<◌, List, [], ◌�
 use Rattle.std.specs.List.{AllByRecursion}
 use Rattle.sip_dialog_updates.specs.state.declared.open_request.OpenRequest.{OpenRequest}
 use Rattle.sip_request.specs.declared.request.Request.{Request}
-use Rattle.model_branches.specs.Kept.{AreNumbered}
+use Rattle.sip_request.specs.transactions_model.Kept.{AreNumbered}
 
 abbrev seen : List Request → List OpenRequest
 seen rows = map (λ (r : Request). r.open_request) rows

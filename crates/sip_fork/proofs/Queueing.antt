@@ -30,7 +30,7 @@ use Rattle.sip_request.specs.declared.request.Request.{Request}
 use Rattle.sip_request.proofs.of_entries.{entry_is, entries-cons, entries-append, has_counts, has_by_count, lacks_by_count, lacks_counts, all_there, every}
 use Rattle.sip_request.proofs.Queued.{queued, by_entries}
 use Rattle.sip_fork.specs.Contexts.{AreTied, IsKept}
-use Rattle.model_branches.specs.Kept.{AreNumbered}
+use Rattle.sip_request.specs.transactions_model.Kept.{AreNumbered}
 use Rattle.sip_fork.specs.Firing.{IsQueueOf, KeepsOrder}
 use Rattle.sip_fork.specs.Queue.{IsQueue}
 use Rattle.sip_fork.proofs.Tying.{contexts, kept_at}

@@ -9,7 +9,7 @@ use Rattle.model_steps.specs.context_model.BranchById.{HasNumbers}
 use Rattle.sip_request.specs.transactions_model.Near.{IsWithin}
 use Rattle.sip_request.specs.transactions_model.Fits.{Fits}
 use Rattle.sip_request.specs.transactions_model.Matching.{AreBranched}
-use Rattle.model_branches.specs.Kept.{AreNumbered}
+use Rattle.sip_request.specs.transactions_model.Kept.{AreNumbered}
 use Rattle.sip_request.specs.declared.request.Request.{Request}
 use Rattle.sip_request.specs.Named.{HasKeys, named_by}
 use Rattle.sip_request.specs.Near.{most_timers}

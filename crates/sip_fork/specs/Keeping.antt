@@ -9,7 +9,7 @@ use Rattle.sip_context.specs.declared.input.Input.TheVariants.{AnswerAgain}
 use Rattle.sip_request.specs.transactions_model.Fits.{Fits}
 use Rattle.sip_request.specs.transactions_model.Matching.{AreBranched}
 use Rattle.sip_request.specs.transactions_model.Near.{IsWithin}
-use Rattle.model_branches.specs.Kept.{AreKept}
+use Rattle.sip_request.specs.transactions_model.Kept.{AreKept}
 
 -- a branch of a request is one whose moment has come to send again (RFC 3261 17.1.1.2, 17.1.2.2)
 pub record IsToSendAgain (r : OpenRequest) (now : ℕ) (b : Branch) : Type 0 where

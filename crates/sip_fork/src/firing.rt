@@ -5,7 +5,7 @@ ghost use Rattle.sip_dialog_updates.specs.state.declared.open_request.OpenReques
 ghost use Rattle.model_steps.specs.Effect.{replaced};
 ghost use Rattle.sip_fork.specs.Firing.{IsQueueOf, KeepsOrder};
 
-use model_branches::transactions_model::queue::queues_join;
+use sip_request::transactions_model::queue::queues_join;
 
 /// What opens a request, and changes another one then, keeps the order in which timers fire as what does both at once.
 pub fn orders_join()

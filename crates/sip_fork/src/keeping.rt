@@ -9,8 +9,8 @@ ghost use Rattle.sip_request.specs.transactions_model.Fits.{Fits};
 ghost use Rattle.sip_request.specs.transactions_model.Near.{IsWithin};
 ghost use Rattle.sip_fork.specs.Keeping.{IsKeptAs, IsOf};
 
-use model_branches::laws::{branches_are_kept, branches_stay};
 use sip_request::transactions_model::bounds::{branches_are_within, leaves_room};
+use sip_request::transactions_model::branches::{branches_are_kept, branches_stay};
 use sip_request::transactions_model::events::{
     caller_keeps, deadline_keeps, fault_keeps, resend_keeps, response_keeps,
 };

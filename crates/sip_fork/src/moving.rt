@@ -7,7 +7,7 @@ ghost use Rattle.sip_request.specs.Near.{IsNear, most_timers};
 ghost use Rattle.sip_timers.specs.Moves.{IsHeld, Moves};
 ghost use Rattle.sip_timers.specs.Setting.{SetsInOrder};
 ghost use Rattle.sip_request.specs.transactions_model.Matching.{AreBranched, AreMatched};
-ghost use Rattle.model_branches.specs.Kept.{AreKept};
+ghost use Rattle.sip_request.specs.transactions_model.Kept.{AreKept};
 ghost use Rattle.sip_request.specs.Order.{keyed, named_in_order};
 ghost use Rattle.sip_fork.specs.Firing.{KeepsOrder};
 ghost use Rattle.sip_timers.specs.Timers.{KeysDiffer};
@@ -21,8 +21,8 @@ use crate::change::{ChangedRow, NewRow};
 use crate::ending::stop;
 use crate::queue::Queue;
 use crate::row::OpenRow;
-use model_branches::laws::timers_are_apart;
 use sip_request::Request;
+use sip_request::transactions_model::branches::timers_are_apart;
 use sip_timers::Timers;
 use sip_transaction_table::{Boxed, Transaction, TransactionTable};
 

@@ -8,7 +8,7 @@ ghost use Rattle.model_steps.specs.context_model.Opening.{arriving, branches_fro
 ghost use Rattle.sip_request.specs.transactions_model.Fits.{IsFinalAnswer};
 ghost use Rattle.sip_fork.specs.Keeping.{IsKeptAs};
 
-use model_branches::laws::branches_begin;
+use sip_request::transactions_model::branches::branches_begin;
 use sip_request::transactions_model::fitting_events::opens_fitting;
 use sip_request::transactions_model::openings::{answered_at_once, sent_on};
 

@@ -2,7 +2,7 @@ ghost use Rattle.std.specs.Prelude.{◌≡◌, ◌++◌, OnOk};
 ghost use Rattle.sip_context_branches.specs.context_model.Retransmission;
 
 use model_steps::state::OpenRequest;
-use sip_context::context_packets::answer_to;
+use sip_context::answer_to;
 use sip_context_branches::answer_again;
 use sip_event::Packet;
 use sip_text::{Bytes, Items};

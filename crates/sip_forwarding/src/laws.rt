@@ -9,7 +9,7 @@ ghost use Rattle.sip_dialog_updates.specs.state.declared.server.Server.{Server};
 ghost use Rattle.sip_forwarding.specs.context_model.Opening.{opening};
 ghost use Rattle.sip_forwarding.specs.Forwarding.{IsOpenable, call_to, call_within};
 
-use model_branches::laws::branches_begin;
+use model_transactions::branches::branches_begin;
 use model_transactions::fitting_events::opens_fitting;
 use model_transactions::openings::sent_on;
 

@@ -11,9 +11,8 @@ ghost use Rattle.model_steps.specs.Effect as Effects;
 
 use crate::packets::{change_packets, put_packets};
 use model_steps::state::{AnswerText, Branch, LastAnswer, OpenRequest, Server, Upward};
-use sip_context::context_packets::{answer_to, made_answer, packets_of_branches};
 use sip_context::state::{first_resend, is_invite};
-use sip_context::{Sent, settle_alone};
+use sip_context::{Sent, answer_to, made_answer, packets_of_branches, settle_alone};
 use sip_event::Packet;
 use sip_message_fields::Fields;
 use sip_text::{Bytes, Items};

@@ -1,5 +1,5 @@
 //! In which order an event's packets go: ACKs, then answers to the caller, then CANCELs (this project's profile).
-//! Their bytes are made in `sip_context_packets`.
+//! Their bytes are made in `sip_context`.
 ghost use Rattle.std.specs.Prelude.{◌≡◌, ◌++◌, ◌∷◌, [], false, IfOk, OnOk};
 ghost use Rattle.sip_message_form.specs.Text.{text_of};
 ghost use Rattle.sip_context_branches.specs.context_model.Sending as Sendings;
@@ -8,8 +8,7 @@ ghost use Rattle.model_steps.specs.Effect as Effects;
 ghost use Rattle.sip_forwarding.specs.Moved.{emptied};
 
 use model_steps::state::{OpenRequest, Upward};
-use sip_context::Sent;
-use sip_context::context_packets::answer_to;
+use sip_context::{Sent, answer_to};
 use sip_event::Packet;
 use sip_text::{Bytes, Items};
 use std::alloc::{AllocError, Global};

@@ -10,7 +10,7 @@ ghost use Rattle.sip_forwarding.specs.Arrivals.{arrived};
 use crate::arrival::{Arrival, arriving};
 use model_steps::state::{AnswerText, KeptRequest, LastAnswer, OpenRequest, Server, Side};
 use sip_base::Shared;
-use sip_context::context_packets::{answer_packet, made_answer};
+use sip_context::{answer_packet, made_answer};
 use sip_event::Packet;
 use sip_message_fields::Fields;
 use sip_timers::T1;

@@ -2,10 +2,10 @@
 use Rattle.std.proofs.Common.{◌≡◌, ℕ, ◌+◌, ◌<◌, Bool, true, false, cond, List, [], ◌∷◌, ◌++◌, length, map, get_or, take, refl, sym, ap, ◌∙◌, append-nil}
 use Rattle.std.proofs.lemmas.List.{map-append, take_more}
 use Rattle.std.proofs.lemmas.List.Elements.{filter-append}
-use Rattle.sip_message_fields.specs.declared.field_name.FieldName.{FieldName}
-use Rattle.sip_message_fields.specs.declared.field.Field.{Field}
-use Rattle.sip_message_fields.specs.FieldName.{is_same_name}
-use Rattle.sip_message_fields.specs.Values.{values_of}
+use Rattle.sip_message_form.specs.fields.declared.field_name.FieldName.{FieldName}
+use Rattle.sip_message_form.specs.fields.declared.field.Field.{Field}
+use Rattle.sip_message_form.specs.fields.FieldName.{is_same_name}
+use Rattle.sip_message_form.specs.fields.Values.{values_of}
 use Rattle.sip_header.specs.declared.core_values.Found.{Found}
 use Rattle.sip_header.specs.CoreFields.{the_one}
 use Rattle.sip_header.specs.Found.{found_of, and_value, value_in}

@@ -1,11 +1,11 @@
 -- The first value of a field, by its values.
 use Rattle.std.proofs.Common.{◌≡◌, ℕ, Bool, true, false, cond, List, [], ◌∷◌, Option, Some, None, refl}
-use Rattle.sip_message_fields.specs.declared.field_name.FieldName.{FieldName}
-use Rattle.sip_message_fields.specs.declared.field.Field.{Field}
-use Rattle.sip_message_fields.specs.Values.{values_of, first_value}
+use Rattle.sip_message_form.specs.fields.declared.field_name.FieldName.{FieldName}
+use Rattle.sip_message_form.specs.fields.declared.field.Field.{Field}
+use Rattle.sip_message_form.specs.fields.Values.{values_of, first_value}
 use Rattle.std.specs.Prelude.{map, option_map}
-use Rattle.sip_message_fields.specs.FieldName.{is_same_name}
-use Rattle.sip_message_fields.specs.Named.{first_named, all_named}
+use Rattle.sip_message_form.specs.fields.FieldName.{is_same_name}
+use Rattle.sip_message_form.specs.fields.Named.{first_named, all_named}
 
 abbrev pub first : List (List ℕ) → Option (List ℕ)
 first [] = None

@@ -1,8 +1,8 @@
 -- A field that may stand once, by its first value and their number.
 use Rattle.std.proofs.Common.{◌≡◌, ℕ, ◌<◌, ◌≤◌, List, [], ◌∷◌, length, Some, None, refl, ◌∙◌, arith}
-use Rattle.sip_message_fields.specs.declared.field.Field.{Field}
-use Rattle.sip_message_fields.specs.declared.field_name.FieldName.TheVariants as Name
-use Rattle.sip_message_fields.specs.Values.{values_of, first_value}
+use Rattle.sip_message_form.specs.fields.declared.field.Field.{Field}
+use Rattle.sip_message_form.specs.fields.declared.field_name.FieldName.TheVariants as Name
+use Rattle.sip_message_form.specs.fields.Values.{values_of, first_value}
 use Rattle.sip_text.specs.Words.{decimal_of}
 use Rattle.sip_header.specs.declared.expires.Expires.TheVariants as Expires
 use Rattle.sip_header.specs.declared.max_forwards.MaxForwards.TheVariants as MaxForwards

@@ -1,7 +1,7 @@
 -- A REGISTER for the worked examples.
 use Rattle.std.specs.Prelude.{ℕ, List, [], ◌∷◌, ◌++◌, codes, Some, None}
-use Rattle.sip_message_fields.specs.declared.field.Field.{Field}
-use Rattle.sip_message_fields.specs.declared.field_name.FieldName.TheVariants as Name
+use Rattle.sip_message_form.specs.fields.declared.field.Field.{Field}
+use Rattle.sip_message_form.specs.fields.declared.field_name.FieldName.TheVariants as Name
 use Rattle.sip_message_form.specs.declared.message.Start.TheVariants.{Request}
 use Rattle.sip_message_form.specs.declared.message.Message.{Message}
 use Rattle.sip_uri.specs.declared.scheme.Scheme.TheVariants as Scheme

@@ -2,14 +2,14 @@
 use Rattle.std.specs.Prelude.{ℕ, List, [], ◌∷◌, codes, Option, Some, None}
 use Rattle.std.specs.Option.{option_and_then}
 use Rattle.sip_text.specs.Words.{decimal_of}
-use Rattle.sip_message_fields.specs.declared.field.Field.{Field}
-use Rattle.sip_message_fields.specs.declared.field_name.FieldName.TheVariants as Name
+use Rattle.sip_message_form.specs.fields.declared.field.Field.{Field}
+use Rattle.sip_message_form.specs.fields.declared.field_name.FieldName.TheVariants as Name
 use Rattle.sip_header.specs.declared.parameters.HeaderParameter.{HeaderParameter}
 use Rattle.sip_header.specs.declared.contact_item.ContactItem.{ContactItem}
 use Rattle.sip_header.specs.declared.contact_item.ContactItem.TheVariants.{Star, Address}
 use Rattle.sip_header.specs.declared.expires.Expires.{Expires}
 use Rattle.sip_header.specs.declared.expires.Expires.TheVariants.{Absent, Seconds, Malformed}
-use Rattle.sip_message_fields.specs.Values.{values_of}
+use Rattle.sip_message_form.specs.fields.Values.{values_of}
 use Rattle.sip_header.specs.Parameters.{parameter_of}
 
 -- a number of seconds: all digits, below 2 ^ 64 (RFC 3261 25.1, delta-seconds; the limit is this project's profile)

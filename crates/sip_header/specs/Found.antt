@@ -1,8 +1,8 @@
 -- Of a field that stands once, its value is what it says (RFC 3261 8.1.1).
 use Rattle.std.specs.Prelude.{ℕ, List, [], ◌∷◌, Result, Ok, Err}
 use Rattle.std.specs.Option.{ok_or}
-use Rattle.sip_message_fields.specs.declared.field_name.FieldName.{FieldName}
-use Rattle.sip_message_fields.specs.declared.field_name.FieldName.TheVariants as Name
+use Rattle.sip_message_form.specs.fields.declared.field_name.FieldName.{FieldName}
+use Rattle.sip_message_form.specs.fields.declared.field_name.FieldName.TheVariants as Name
 use Rattle.sip_header.specs.declared.error.HeaderError.{HeaderError}
 use Rattle.sip_header.specs.declared.error.HeaderError.TheVariants.{Missing, Malformed}
 use Rattle.sip_header.specs.declared.core_values.Found.{Found}

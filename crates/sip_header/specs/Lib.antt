@@ -16,3 +16,4 @@ pub mod HeaderError
 pub mod AddressParts
 pub mod WrittenAddress
 pub mod FirstParameter
+pub use Rattle.sip_message_form.specs as forms

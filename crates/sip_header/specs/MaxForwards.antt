@@ -1,11 +1,11 @@
 -- Max-Forwards (RFC 3261 20.22).
 use Rattle.std.specs.Prelude.{ℕ, nat_le, if◌then◌else◌, List, [], ◌∷◌, Option, Some, None}
 use Rattle.sip_text.specs.Words.{decimal_of}
-use Rattle.sip_message_fields.specs.declared.field.Field.{Field}
-use Rattle.sip_message_fields.specs.declared.field_name.FieldName.TheVariants as Name
+use Rattle.sip_message_form.specs.fields.declared.field.Field.{Field}
+use Rattle.sip_message_form.specs.fields.declared.field_name.FieldName.TheVariants as Name
 use Rattle.sip_header.specs.declared.max_forwards.MaxForwards.{MaxForwards}
 use Rattle.sip_header.specs.declared.max_forwards.MaxForwards.TheVariants.{Absent, Hops, Malformed}
-use Rattle.sip_message_fields.specs.Values.{values_of}
+use Rattle.sip_message_form.specs.fields.Values.{values_of}
 
 -- a number of at most 255
 abbrev pub hops_from : Option ℕ → MaxForwards

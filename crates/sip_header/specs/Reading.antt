@@ -1,6 +1,6 @@
 -- What a reader of a field returns.
 use Rattle.std.specs.Prelude.{◌≡◌, ◌⊎◌, ℕ, Result, Ok, Err, Option, Some, None}
-use Rattle.sip_message_fields.specs.declared.field_name.FieldName.{FieldName}
+use Rattle.sip_message_form.specs.fields.declared.field_name.FieldName.{FieldName}
 use Rattle.sip_header.specs.declared.error.HeaderError.{HeaderError}
 use Rattle.sip_header.specs.declared.error.HeaderError.TheVariants.{NoMemory, Missing, Malformed}
 

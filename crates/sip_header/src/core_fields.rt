@@ -7,8 +7,8 @@ use crate::core_values::{Found, core_values};
 use crate::cseq::{CSeq, cseq_of};
 use crate::error::HeaderError;
 use crate::written_address::{WrittenAddress, written_address_of};
-use sip_message_fields::{FieldName, ViewFields};
 use sip_message_form::View;
+use sip_message_form::fields::{FieldName, ViewFields};
 use sip_text::Text;
 use std::alloc::Global;
 

@@ -1,10 +1,10 @@
 ghost use Rattle.std.specs.Prelude.{◌≡◌, if◌then◌else◌};
-ghost use Rattle.sip_message_fields.specs.FieldName.{is_same_name};
-ghost use Rattle.sip_message_fields.specs.declared.field_name.FieldName.TheVariants as Name;
-ghost use Rattle.sip_message_fields.specs.Values.{values_of};
+ghost use Rattle.sip_message_form.specs.fields.FieldName.{is_same_name};
+ghost use Rattle.sip_message_form.specs.fields.declared.field_name.FieldName.TheVariants as Name;
+ghost use Rattle.sip_message_form.specs.fields.Values.{values_of};
 ghost use Rattle.sip_header.specs.Found.{found_of, and_value};
 
-use sip_message_fields::{FieldName, ViewField};
+use sip_message_form::fields::{FieldName, ViewField};
 use sip_text::Text;
 
 /// The value of a field of which there should be one, as it was found.

@@ -1,7 +1,7 @@
 ghost use Rattle.std.specs.Prelude.{◌≡◌};
 ghost use Rattle.sip_header.specs.declared.error.HeaderError.TheVariants.{NoMemory};
 
-use sip_message_fields::FieldName;
+use sip_message_form::fields::FieldName;
 use std::alloc::{AllocError, AllocFailed};
 use std::error::Error;
 use std::fmt;

@@ -1,5 +1,5 @@
 ghost use Rattle.std.specs.Prelude.{◌≡◌, [], ◌∷◌, codes, Some, None, Ok, Err};
-ghost use Rattle.sip_message_fields.specs.declared.field_name.FieldName.TheVariants as Name;
+ghost use Rattle.sip_message_form.specs.fields.declared.field_name.FieldName.TheVariants as Name;
 ghost use Rattle.sip_header.specs.declared.error.HeaderError.TheVariants.{Missing, Malformed};
 ghost use Rattle.sip_header.specs.Parameters.{tag_of};
 ghost use Rattle.sip_header.specs.Via.{via_of};

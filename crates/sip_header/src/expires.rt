@@ -4,7 +4,7 @@ ghost use Rattle.sip_header.specs.Expires as Reading;
 
 use crate::contact_item::ContactItem;
 use crate::parameters::{Parameters, parameter_of};
-use sip_message_fields::{FieldName, ViewFields};
+use sip_message_form::fields::{FieldName, ViewFields};
 use sip_text::{Text, decimal};
 
 /// How long something is to last: what an Expires field, or the `expires` of a contact, says (RFC 3261 20.19, 20.10).

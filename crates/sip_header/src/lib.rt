@@ -42,3 +42,8 @@ pub use plain_address::bracketed_host_port;
 pub use route::route_of;
 pub use via::{Via, via_before_branch, via_of};
 pub use written_address::{WrittenAddress, written_address_of};
+
+/// Of `sip_message_form`.
+pub mod forms {
+    pub use sip_message_form::{View, ViewStart};
+}

@@ -2,7 +2,7 @@ ghost use Rattle.std.specs.Prelude.{◌≡◌};
 ghost use Rattle.sip_text.specs.Words.{decimal_of};
 ghost use Rattle.sip_header.specs.MaxForwards as Reading;
 
-use sip_message_fields::{FieldName, ViewFields};
+use sip_message_form::fields::{FieldName, ViewFields};
 use sip_text::decimal;
 
 /// What the Max-Forwards of a message says (RFC 3261 20.22).

@@ -9,7 +9,7 @@ ghost use Rattle.sip_header.specs.AddressParts.{parts_say};
 ghost use Rattle.sip_header.specs.Route.{route_of};
 
 use crate::parameters::{Parameters, parameters_from};
-use sip_message_fields::Value;
+use sip_message_form::fields::Value;
 use sip_text::{Text, first_part, is_quoted, split_outside, without_blanks};
 use sip_uri::{Uri, UriError, parse_uri, write_uri};
 use std::alloc::{AllocError, Global};

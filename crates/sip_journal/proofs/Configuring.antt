@@ -9,10 +9,10 @@ use Rattle.std.proofs.KnownBytes.{Appends-nil, Appends-trans}
 use Rattle.sip_replay_script.specs.Devices.{WritesFront}
 use Rattle.sip_replay_script.specs.Events.{ended}
 use Rattle.sip_replay_script.specs.Lines.{EndsAt, is_end}
-use Rattle.sip_segment_text.specs.Segments.{configuration_line, GivesText, SaysConfiguration}
+use Rattle.sip_journal.specs.Segments.{configuration_line, GivesText, SaysConfiguration}
 use Rattle.sip_replay_script.proofs.Fronts.{front_first, front_none, front_second}
 use Rattle.sip_replay_script.proofs.LineEnds.{ends_add}
-use Rattle.sip_segment_text.proofs.Segments.{gives_both, gives_nothing, gives_one, some_configuration, some_lines}
+use Rattle.sip_journal.proofs.Segments.{gives_both, gives_nothing, gives_one, some_configuration, some_lines}
 use Rattle.sip_journal.specs.Record.{GrewKnown, NotesConfiguration}
 use Rattle.sip_journal.specs.Recorder.{told, FrontOfConfiguration, FrontOfText, IsFirstPiece, WritesConfiguration, WritesText}
 use Rattle.sip_journal.proofs.Recording.{on_ok}

@@ -2,7 +2,7 @@
 use Rattle.std.proofs.Common.{ℕ, List, [], ◌∷◌, ◌++◌, Option, Some, None, refl, sym, ◌∙◌, ap, append_assoc, append-nil}
 use Rattle.sip_event.specs.declared.event.Event.{Event}
 use Rattle.sip_replay_script.specs.Recorded.{SaysRecord}
-use Rattle.sip_segment_text.specs.Segments.{SaysConfiguration, SaysSegments, Segment}
+use Rattle.sip_journal.specs.Segments.{SaysConfiguration, SaysSegments, Segment}
 use Rattle.sip_journal.specs.Record.{Grew, GrewKnown, Notes, NotesConfiguration, NotesSegments}
 
 known_nothing : (old : Option (List ℕ)) → GrewKnown (SaysRecord []) old old

@@ -1,3 +1,5 @@
+pub mod Configurations
+pub mod Segments
 pub mod Record
 pub mod RecordHead
 pub mod Recorder

@@ -2,7 +2,7 @@
 use Rattle.std.specs.Prelude.{◌≡◌, ⊤, ℕ, List, ◌++◌, Option, Some, None}
 use Rattle.sip_event.specs.declared.event.Event.{Event}
 use Rattle.sip_replay_script.specs.Recorded.{SaysRecord}
-use Rattle.sip_segment_text.specs.Segments.{SaysConfiguration, SaysSegments, Segment}
+use Rattle.sip_journal.specs.Segments.{SaysConfiguration, SaysSegments, Segment}
 
 -- the bytes of a record grew by a text that says something
 pub record GrewBy (Says : List ℕ → Type 0) (front all : List ℕ) : Type 0 where

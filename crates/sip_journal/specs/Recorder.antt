@@ -4,7 +4,7 @@ use Rattle.std.specs.Io.KnownBytes.{Appends}
 use Rattle.sip_event.specs.declared.event.Event.{Event}
 use Rattle.sip_replay_script.specs.Devices.{WritesFront}
 use Rattle.sip_replay_script.specs.Lines.{IsLine}
-use Rattle.sip_segment_text.specs.Segments.{piece_of, GivesText, SaysConfiguration}
+use Rattle.sip_journal.specs.Segments.{piece_of, GivesText, SaysConfiguration}
 use Rattle.sip_replay_script.specs.EventText.{event_text, is_sayable}
 use Rattle.sip_journal.specs.declared.journal.JournalFault.{JournalFault}
 use Rattle.sip_journal.specs.declared.on_fault.OnFault.{OnFault}

@@ -2,10 +2,10 @@ ghost use Rattle.std.specs.Prelude.{◌≡◌, ◌≢◌, ◌+◌, [], true, fal
 ghost use Rattle.sip_replay_script.specs.Devices.{GaveUp};
 ghost use Rattle.sip_journal.specs.Recorder.{FrontOfConfiguration, FrontOfText, IsFirstPiece, WritesConfiguration, WritesText};
 
+use crate::configuration::configuration_line;
 use crate::line_room::LineRoom;
 use crate::writing::write;
 use sip_replay_script::{TellingWriter, end_of_line, put};
-use sip_segment_text::configuration_line;
 
 /// The most bytes of a configuration that stand in one line: as many as a line has room for, and fewer than one that is read may have.
 const LONGEST_PIECE: usize = 131_072;

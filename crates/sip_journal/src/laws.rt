@@ -1,12 +1,12 @@
 ghost use Rattle.std.specs.Prelude.{◌≡◌, ℕ, List, [], ◌∷◌, ◌++◌, Option, Some};
 ghost use Rattle.sip_event.specs.declared.event.Event.{Event};
 ghost use Rattle.sip_replay_script.specs.Lines.{IsLine};
-ghost use Rattle.sip_segment_text.specs.Segments.{Segment};
+ghost use Rattle.sip_journal.specs.Segments.{Segment};
 ghost use Rattle.sip_journal.specs.Record.{Notes, NotesConfiguration, NotesSegments};
 ghost use Rattle.sip_journal.specs.RecordHead.{head_line, head_of, head_text, HasHeadTypes};
 
 use crate::record_head::RecordHead;
-use sip_segment_text::laws::segments_join;
+use crate::segment_laws::segments_join;
 
 /// What was noted of some events, and then of others, was noted of both; and where nothing was written, nothing was noted.
 pub fn notes_join()

@@ -12,10 +12,10 @@ use Rattle.sip_event.specs.declared.event.StepOut.{StepOut}
 use Rattle.sip_event.specs.declared.packet.Packet.{Packet}
 use Rattle.sip_audit.specs.declared.record.Record.{Record}
 use Rattle.sip_journal.specs.Record.{Notes}
-use Rattle.model_bounds.specs.state.declared.server.Server.{Server}
-use Rattle.model_order.specs.Order.{Standing, queue_from}
-use Rattle.model_bounds.specs.model.Run.{Link, IsRun}
-use Rattle.model_order.proofs.Along.{queue_behind}
+use Rattle.sip_model.specs.state.declared.server.Server.{Server}
+use Rattle.sip_model.specs.TimerOrder.{Standing, queue_from}
+use Rattle.sip_model.specs.Run.{Link, IsRun}
+use Rattle.sip_model.proofs.Along.{queue_behind}
 use Rattle.sip_loop.specs.Printing.{Prints}
 use Rattle.sip_loop.specs.Serving.{AreDrawn, AreInTurn, AreTold, AreAt, Asked, Asks, Cause, Clear, FallsAt, FallsDue, Fires, HasFailed, IsToldMore, Kept, Logs, MayCome}
 use Rattle.sip_loop.specs.Serving.{MayFallDue, Point, Reads, Sends, Stage, Stopped, Takes, Tells, Told, Turn, Unlogged, Untold}

@@ -6,12 +6,12 @@ use Rattle.sip_uri.specs.declared.addr.Addr.{Addr}
 use Rattle.sip_event.specs.declared.event.Event.TheVariants.{Datagram, Time}
 use Rattle.sip_event.specs.declared.event.StepOut.{StepOut}
 use Rattle.sip_event.specs.declared.packet.Ticket.{Ticket}
-use Rattle.model_bounds.specs.state.declared.server.Server.{Server}
-use Rattle.model_bounds.specs.state.declared.proxy_state.ProxyState.{ProxyState}
-use Rattle.model_bounds.specs.state.State.{first_state}
-use Rattle.model_bounds.specs.steps_model.Step.{Given as ForEvent, IsFault, IsStep, NoneAgainBy, NoneBy, moment_of}
-use Rattle.model_bounds.specs.model.Run.{Link, IsChain}
-use Rattle.model_bounds.specs.model.Order.{HasFired}
+use Rattle.sip_model.specs.state.declared.server.Server.{Server}
+use Rattle.sip_model.specs.state.declared.proxy_state.ProxyState.{ProxyState}
+use Rattle.sip_model.specs.state.State.{first_state}
+use Rattle.sip_model.specs.steps_model.Step.{Given as ForEvent, IsFault, IsStep, NoneAgainBy, NoneBy, moment_of}
+use Rattle.sip_model.specs.Run.{Link, IsChain}
+use Rattle.sip_model.specs.Order.{HasFired}
 use Rattle.sip_run.specs.Due.{NothingDueBy}
 
 -- ---- a fault

@@ -12,15 +12,15 @@ use Rattle.sip_event.specs.declared.packet.Packet.{Packet}
 use Rattle.sip_event.specs.declared.packet.Ticket.{Ticket}
 use Rattle.sip_audit.specs.declared.record.Record.{Record}
 use Rattle.sip_journal.specs.Record.{Notes}
-use Rattle.model_bounds.specs.state.declared.branch.Branch.{Branch}
-use Rattle.model_bounds.specs.state.declared.open_request.OpenRequest.{OpenRequest}
-use Rattle.model_bounds.specs.state.declared.proxy_state.ProxyState.{ProxyState}
-use Rattle.model_order.specs.Order.{IsQueueAfter, Standing}
-use Rattle.model_bounds.specs.state.declared.server.Server.{Server}
-use Rattle.model_bounds.specs.steps_model.Step.{Given as ForEvent, IsFault, IsStep, failed_branch, failed_request, fault_effect, is_failed, moment_of}
-use Rattle.model_bounds.specs.state.State.{first_state}
-use Rattle.model_bounds.specs.model.Ends.{sends_left}
-use Rattle.model_bounds.specs.model.Run.{Link, IsChain}
+use Rattle.sip_model.specs.state.declared.branch.Branch.{Branch}
+use Rattle.sip_model.specs.state.declared.open_request.OpenRequest.{OpenRequest}
+use Rattle.sip_model.specs.state.declared.proxy_state.ProxyState.{ProxyState}
+use Rattle.sip_model.specs.TimerOrder.{IsQueueAfter, Standing}
+use Rattle.sip_model.specs.state.declared.server.Server.{Server}
+use Rattle.sip_model.specs.steps_model.Step.{Given as ForEvent, IsFault, IsStep, failed_branch, failed_request, fault_effect, is_failed, moment_of}
+use Rattle.sip_model.specs.state.State.{first_state}
+use Rattle.sip_model.specs.Ends.{sends_left}
+use Rattle.sip_model.specs.Run.{Link, IsChain}
 use Rattle.sip_run.specs.Due.{NothingDueBy}
 use Rattle.sip_run.specs.engine.StepError.{refusal_at}
 use Rattle.sip_loop.specs.Printing.{Prints}

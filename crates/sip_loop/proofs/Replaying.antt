@@ -4,8 +4,8 @@ use Rattle.sip_event.specs.declared.event.Event.{Event}
 use Rattle.sip_journal.specs.Record.{Notes, NotesText}
 use Rattle.sip_replay_script.proofs.RecordTexts.{record_says}
 use Rattle.sip_replay_script.specs.Events.{SaysEvents}
-use Rattle.model_bounds.specs.state.declared.server.Server.{Server}
-use Rattle.model_order.specs.Order.{Standing}
+use Rattle.sip_model.specs.state.declared.server.Server.{Server}
+use Rattle.sip_model.specs.TimerOrder.{Standing}
 use Rattle.sip_loop.specs.Replays.{ReplaysTo}
 use Rattle.sip_loop.specs.Serving.{AreFaulted, Asked, Asks, Clear, Doing, Fires, IsPath, IsServed, IsUnserved, Logs, Point, Reads, Sends, Serves, Stage, Stopped, Takes}
 use Rattle.sip_loop.specs.Serving.{Tells, Told, Unlogged, Untold}

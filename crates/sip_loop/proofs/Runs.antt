@@ -4,13 +4,13 @@ use Rattle.std.proofs.lemmas.List.{reverse-append}
 use Rattle.std.specs.List.{AllByRecursion}
 use Rattle.sip_event.specs.declared.event.Event.{Event}
 use Rattle.sip_event.specs.declared.event.StepOut.{StepOut}
-use Rattle.model_bounds.specs.state.declared.server.Server.{Server}
-use Rattle.model_bounds.specs.state.declared.proxy_state.ProxyState.{ProxyState}
-use Rattle.model_bounds.specs.steps_model.Step.{Act, Given as ForEvent, Passing}
-use Rattle.model_bounds.specs.model.Run.{Link, IsChain, IsPaced, IsRun, IsUpTo, event_of, events_of, next_moment, steps_of, IsUnder}
+use Rattle.sip_model.specs.state.declared.server.Server.{Server}
+use Rattle.sip_model.specs.state.declared.proxy_state.ProxyState.{ProxyState}
+use Rattle.sip_model.specs.steps_model.Step.{Act, Given as ForEvent, Passing}
+use Rattle.sip_model.specs.Run.{Link, IsChain, IsPaced, IsRun, IsUpTo, event_of, events_of, next_moment, steps_of, IsUnder}
 use Rattle.model_transactions.specs.Queue.{Entry}
-use Rattle.model_order.specs.Order.{Standing, queue_from}
-use Rattle.model_order.proofs.Along.{queued_joined}
+use Rattle.sip_model.specs.TimerOrder.{Standing, queue_from}
+use Rattle.sip_model.proofs.Along.{queued_joined}
 use Rattle.sip_loop.specs.Serving.{AreInTurn, IsTurnOf}
 
 -- ---- histories

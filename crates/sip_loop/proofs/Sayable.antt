@@ -6,7 +6,7 @@ use Rattle.sip_event.specs.declared.event.Event.TheVariants.{Datagram}
 use Rattle.sip_transport.specs.Told.{IsWritable}
 use Rattle.sip_uri.specs.declared.addr.Addr.{Addr}
 use Rattle.sip_replay_script.specs.EventText.{is_moment, is_sayable}
-use Rattle.model_bounds.specs.state.declared.proxy_state.ProxyState.{ProxyState}
+use Rattle.sip_model.specs.state.declared.proxy_state.ProxyState.{ProxyState}
 use Rattle.sip_run.specs.engine.StepError.{is_too_large, refusal_at, refusal_of}
 use Rattle.sip_run.specs.engine.declared.error.StepError.{StepError}
 use Rattle.sip_run.specs.engine.declared.error.StepError.TheVariants.{MomentTooLarge, Worn}

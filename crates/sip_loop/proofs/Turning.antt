@@ -10,14 +10,14 @@ use Rattle.sip_event.specs.declared.event.StepOut.{StepOut}
 use Rattle.sip_uri.specs.declared.addr.Addr.{Addr}
 use Rattle.sip_audit.specs.declared.record.Record.{Record}
 use Rattle.sip_journal.specs.Record.{Notes}
-use Rattle.model_bounds.specs.state.declared.server.Server.{Server}
-use Rattle.model_bounds.specs.state.declared.proxy_state.ProxyState.{ProxyState}
-use Rattle.model_order.specs.Order.{IsQueueAfter, Standing}
-use Rattle.model_bounds.specs.state.State.{first_state}
-use Rattle.model_bounds.specs.model.Run.{Link, IsChain, event_moment}
-use Rattle.model_bounds.specs.model.Access.{Access}
-use Rattle.model_bounds.specs.Bounds.{IsBounded}
-use Rattle.model_bounds.specs.steps_model.Step.{Given as ForEvent, IsStep, moment_of}
+use Rattle.sip_model.specs.state.declared.server.Server.{Server}
+use Rattle.sip_model.specs.state.declared.proxy_state.ProxyState.{ProxyState}
+use Rattle.sip_model.specs.TimerOrder.{IsQueueAfter, Standing}
+use Rattle.sip_model.specs.state.State.{first_state}
+use Rattle.sip_model.specs.Run.{Link, IsChain, event_moment}
+use Rattle.sip_model.specs.Access.{Access}
+use Rattle.sip_model.specs.Bounds.{IsBounded}
+use Rattle.sip_model.specs.steps_model.Step.{Given as ForEvent, IsStep, moment_of}
 use Rattle.sip_run.specs.engine.declared.error.StepError.{StepError}
 use Rattle.sip_run.specs.engine.declared.error.StepError.TheVariants as steps
 use Rattle.sip_run.specs.engine.StepError.{refusal_at, refusal_of}

@@ -11,20 +11,20 @@ use Rattle.sip_event.specs.declared.event.Event.TheVariants.{Time}
 use Rattle.sip_event.specs.declared.event.StepOut.{StepOut}
 use Rattle.sip_event.specs.declared.packet.Packet.{Packet}
 use Rattle.sip_audit.specs.declared.record.Record.{Record}
-use Rattle.model_bounds.specs.state.declared.server.Server.{Server}
-use Rattle.model_bounds.specs.state.declared.proxy_state.ProxyState.{ProxyState}
-use Rattle.model_order.specs.Order.{IsFirstOf, IsQueueAfter, Standing}
-use Rattle.model_bounds.specs.state.State.{deadlines, first_state}
+use Rattle.sip_model.specs.state.declared.server.Server.{Server}
+use Rattle.sip_model.specs.state.declared.proxy_state.ProxyState.{ProxyState}
+use Rattle.sip_model.specs.TimerOrder.{IsFirstOf, IsQueueAfter, Standing}
+use Rattle.sip_model.specs.state.State.{deadlines, first_state}
 use Rattle.sip_run.specs.engine.context_model.Retransmission.{resends}
-use Rattle.model_bounds.specs.model.Ends.{steps_left}
-use Rattle.model_bounds.specs.model.Run.{Link, IsChain, events_of, steps_of}
-use Rattle.model_bounds.specs.steps_model.Step.{Act, Given as ForEvent, Passing, IsDeadline, IsResend, IsStep, IsTime, moment_of}
+use Rattle.sip_model.specs.Ends.{steps_left}
+use Rattle.sip_model.specs.Run.{Link, IsChain, events_of, steps_of}
+use Rattle.sip_model.specs.steps_model.Step.{Act, Given as ForEvent, Passing, IsDeadline, IsResend, IsStep, IsTime, moment_of}
 use Rattle.sip_run.specs.engine.declared.error.StepError.{StepError}
 use Rattle.sip_run.specs.engine.declared.error.StepError.TheVariants as steps
 use Rattle.sip_run.specs.engine.StepError.{refusal_at}
 use Rattle.model_transactions.specs.Queue.{Entry}
-use Rattle.model_order.proofs.Along.{queue_next}
-use Rattle.model_order.proofs.Settled.{stays_settled}
+use Rattle.sip_model.proofs.Along.{queue_next}
+use Rattle.sip_model.proofs.SettledTimers.{stays_settled}
 use Rattle.sip_run.specs.Due.{Fires, NothingDueBy}
 use Rattle.sip_run.specs.Refusals.{RefusesStep}
 use Rattle.sip_journal.specs.Record.{Notes}

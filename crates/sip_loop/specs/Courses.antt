@@ -11,12 +11,12 @@ use Rattle.sip_event.specs.declared.event.StepOut.{StepOut}
 use Rattle.sip_event.specs.declared.packet.Packet.{Packet}
 use Rattle.sip_event.specs.declared.packet.Ticket.{Ticket}
 use Rattle.sip_audit.specs.declared.record.Record.{Record}
-use Rattle.model_bounds.specs.state.declared.server.Server.{Server}
-use Rattle.model_bounds.specs.state.declared.proxy_state.ProxyState.{ProxyState}
-use Rattle.model_bounds.specs.model.Run.{Link, IsRun}
-use Rattle.model_bounds.specs.model.Ends.{sends_left, steps_left}
-use Rattle.model_bounds.specs.steps_model.Step.{Given as ForEvent, IsStep, moment_of}
-use Rattle.model_order.specs.Order.{IsFirstOf, IsQueueAfter, Standing, queue_from}
+use Rattle.sip_model.specs.state.declared.server.Server.{Server}
+use Rattle.sip_model.specs.state.declared.proxy_state.ProxyState.{ProxyState}
+use Rattle.sip_model.specs.Run.{Link, IsRun}
+use Rattle.sip_model.specs.Ends.{sends_left, steps_left}
+use Rattle.sip_model.specs.steps_model.Step.{Given as ForEvent, IsStep, moment_of}
+use Rattle.sip_model.specs.TimerOrder.{IsFirstOf, IsQueueAfter, Standing, queue_from}
 use Rattle.sip_run.specs.engine.StepError.{refusal_at}
 use Rattle.sip_run.specs.Refusals.{refusal_of_event}
 use Rattle.sip_run.specs.Runs.{IsInTurn}

@@ -2,9 +2,9 @@
 use Rattle.std.specs.Prelude.{◌≡◌, ℕ, List, ◌++◌, Option}
 use Rattle.sip_event.specs.declared.event.Event.{Event}
 use Rattle.sip_event.specs.declared.event.StepOut.{StepOut}
-use Rattle.model_bounds.specs.state.declared.server.Server.{Server}
-use Rattle.model_bounds.specs.model.Run.{Link, IsRun}
-use Rattle.model_order.specs.Order.{Standing, queue_from}
+use Rattle.sip_model.specs.state.declared.server.Server.{Server}
+use Rattle.sip_model.specs.Run.{Link, IsRun}
+use Rattle.sip_model.specs.TimerOrder.{Standing, queue_from}
 use Rattle.sip_replay_script.specs.Events.{SaysEvents}
 use Rattle.sip_loop.specs.Serving.{AreInTurn}
 

@@ -14,15 +14,15 @@ use Rattle.sip_event.specs.declared.packet.Packet.{Packet}
 use Rattle.sip_audit.specs.declared.record.Record.{Record}
 use Rattle.sip_replay_script.specs.EventText.{is_sayable}
 use Rattle.sip_journal.specs.Record.{Notes}
-use Rattle.model_bounds.specs.state.declared.server.Server.{Server}
-use Rattle.model_bounds.specs.state.declared.proxy_state.ProxyState.{ProxyState}
-use Rattle.model_bounds.specs.state.State.{first_state}
-use Rattle.model_bounds.specs.steps_model.Step.{Act, Given as ForEvent, Passing, moment_of}
-use Rattle.model_bounds.specs.model.Run.{Link, IsChain, IsRun, event_moment}
-use Rattle.model_bounds.specs.model.Access.{Access}
-use Rattle.model_bounds.specs.Bounds.{IsBounded}
+use Rattle.sip_model.specs.state.declared.server.Server.{Server}
+use Rattle.sip_model.specs.state.declared.proxy_state.ProxyState.{ProxyState}
+use Rattle.sip_model.specs.state.State.{first_state}
+use Rattle.sip_model.specs.steps_model.Step.{Act, Given as ForEvent, Passing, moment_of}
+use Rattle.sip_model.specs.Run.{Link, IsChain, IsRun, event_moment}
+use Rattle.sip_model.specs.Access.{Access}
+use Rattle.sip_model.specs.Bounds.{IsBounded}
 use Rattle.model_transactions.specs.Queue.{Entry}
-use Rattle.model_order.specs.Order.{AllQueued, IsFirstOf, Standing, queue_from}
+use Rattle.sip_model.specs.TimerOrder.{AllQueued, IsFirstOf, Standing, queue_from}
 use Rattle.sip_run.specs.Due.{NothingDueBy}
 use Rattle.sip_run.specs.engine.engine_time.Next.{IsNext}
 use Rattle.sip_run.specs.Refusals.{refusal_of_event}

@@ -1,9 +1,9 @@
 //! What is due by a reading of the clock: each moment at which something is, the first one first, is an event of its own. All that is
 //! due then happens, and the moment is taken and told to the journal, before anything of it is given to the link.
 ghost use Rattle.std.specs.Prelude.{◌≡◌, ◌≤◌, ℕ, List, Option, Some, max, [], IfOk, IfErr, IfSome, IfNone, OnOk, OnErr};
-ghost use Rattle.model_order.specs.Order.{Standing};
+ghost use Rattle.sip_model.specs.TimerOrder.{Standing};
 ghost use Rattle.sip_event.specs.declared.packet.Packet.{Packet};
-ghost use Rattle.model_bounds.specs.steps_model.Step.{moment_of};
+ghost use Rattle.sip_model.specs.steps_model.Step.{moment_of};
 ghost use Rattle.sip_run.specs.engine.StepError.{refusal_at};
 ghost use Rattle.sip_run.specs.engine.engine_time.Next.{IsNext};
 ghost use Rattle.sip_run.specs.Due.{NothingDueBy, standing_of};
@@ -13,10 +13,10 @@ ghost use Rattle.sip_loop.specs.declared.serve_error.ServeError.TheVariants as R
 
 use crate::handing::{hand_out, wait_for};
 use crate::serve_error::ServeError;
-use model_bounds::model::histories::{moment_rises, steps_stand_at_their_moments};
-use model_bounds::model::runs::what_is_due_ends;
 use sip_event::{Packet, StepOut};
 use sip_journal::Journal;
+use sip_model::histories::{moment_rises, steps_stand_at_their_moments};
+use sip_model::runs::what_is_due_ends;
 use sip_policy::Rules;
 use sip_run::engine::Engine;
 use sip_run::fire_next;

@@ -1,7 +1,7 @@
 //! Packets given to the link in their order. One that fails is a fault at once, whose own packets go behind those that wait.
 //! What waits here is of events that were told to the journal before.
 ghost use Rattle.std.specs.Prelude.{◌≡◌, ◌<◌, ◌≤◌, ◌+◌, ◌++◌, ℕ, Option, [], drop, length, IfOk, IfErr, OnOk, OnErr};
-ghost use Rattle.model_bounds.specs.model.Ends.{sends_left};
+ghost use Rattle.sip_model.specs.Ends.{sends_left};
 ghost use Rattle.sip_loop.specs.Courses.{Breaks, Course, IsNoFurther, Others, TakesFault, told_with, waiting_at};
 ghost use Rattle.sip_run.specs.Due.{NothingDueBy, standing_of};
 ghost use Rattle.sip_loop.specs.ServeErrors.{IsOfHanding};
@@ -9,12 +9,12 @@ ghost use Rattle.sip_loop.specs.Serving.{kept};
 ghost use Rattle.sip_loop.specs.declared.serve_error.ServeError.TheVariants.{NoMemory};
 
 use crate::serve_error::ServeError;
-use model_bounds::model::histories::steps_stand_at_their_moments;
-use model_bounds::model::order::no_deadline_passed;
-use model_bounds::model::runs::failed_sends_end;
-use model_ties::laws::fault_leaves_nothing_due;
 use sip_event::{Packet, StepOut, Ticket};
 use sip_journal::Journal;
+use sip_model::histories::steps_stand_at_their_moments;
+use sip_model::order::no_deadline_passed;
+use sip_model::runs::failed_sends_end;
+use sip_model::ties::fault_leaves_nothing_due;
 use sip_policy::Rules;
 use sip_run::engine::Engine;
 use sip_text::Items;

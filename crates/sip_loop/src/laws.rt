@@ -1,6 +1,6 @@
 ghost use Rattle.std.specs.Prelude.{◌≡◌, ℕ, List, None, Some};
-ghost use Rattle.model_order.specs.Order.{Standing};
-ghost use Rattle.model_bounds.specs.state.declared.server.Server.{Server};
+ghost use Rattle.sip_model.specs.TimerOrder.{Standing};
+ghost use Rattle.sip_model.specs.state.declared.server.Server.{Server};
 ghost use Rattle.sip_loop.specs.Replays.{ReplaysTo};
 ghost use Rattle.sip_loop.specs.Serving.{IsServed, IsUnserved, Told, ahead, gathered, steps_taken};
 ghost use Rattle.sip_loop.specs.declared.serve_error.ServeError.{ServeError};

@@ -7,3 +7,4 @@ pub mod Piece
 pub mod Slice
 pub mod KeptField
 pub mod Lines
+pub use Rattle.sip_text.specs as text

@@ -42,3 +42,8 @@ pub use value::Value;
 pub use view_field::ViewField;
 pub use view_fields::ViewFields;
 pub use view_name::ViewName;
+
+/// Of `sip_text`.
+pub mod text {
+    pub use sip_text::{Buffer, Bytes, Span, same_bytes, same_no_case};
+}

@@ -1,6 +1,6 @@
 -- Messages that stand in stores say the same where the stores are the same, and what names their parts.
 use Rattle.std.proofs.Common.{◌≡◌, ℕ, List, ap, ◌∙◌}
-use Rattle.sip_text.specs.declared.span.Span.{Span}
+use Rattle.sip_message_fields.specs.text.declared.span.Span.{Span}
 use Rattle.sip_message_fields.specs.declared.kept_field.KeptField.{KeptField}
 use Rattle.sip_message_form.specs.declared.kept_start.KeptStart.{KeptStart}
 use Rattle.sip_message_form.specs.Kept.{message_kept}

@@ -1,8 +1,8 @@
 -- A message put into one store: first line, body, fields.
 use Rattle.std.proofs.Common.{◌≡◌, ℕ, List, Option, Some, None, map, ap, ◌∙◌}
 use Rattle.std.specs.Option.{option_map_or}
-use Rattle.sip_text.specs.declared.span.Span.{Span}
-use Rattle.sip_text.specs.Span.{part}
+use Rattle.sip_message_fields.specs.text.declared.span.Span.{Span}
+use Rattle.sip_message_fields.specs.text.Span.{part}
 use Rattle.sip_message_fields.specs.declared.field.Field.{Field}
 use Rattle.sip_message_fields.specs.declared.kept_field.KeptField.{KeptField}
 use Rattle.sip_message_fields.specs.KeptField.{field_kept, Keeps, IsPut, AreFieldsPut}

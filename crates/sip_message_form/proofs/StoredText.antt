@@ -2,8 +2,8 @@
 use Rattle.std.proofs.Common.{◌≡◌, ℕ, List, [], ◌++◌, length, Some, None, map, sym, ap, subst, ◌∙◌, append_assoc}
 use Rattle.std.specs.Prelude.{codes, decimal}
 use Rattle.std.specs.List.{flat_map}
-use Rattle.sip_text.specs.declared.span.Span.{Span}
-use Rattle.sip_text.specs.Span.{part}
+use Rattle.sip_message_fields.specs.text.declared.span.Span.{Span}
+use Rattle.sip_message_fields.specs.text.Span.{part}
 use Rattle.sip_message_fields.specs.declared.field.Field.{Field}
 use Rattle.sip_message_fields.specs.declared.kept_field.KeptField.{KeptField}
 use Rattle.sip_message_fields.specs.KeptField.{field_kept, IsPut, AreFieldsPut}

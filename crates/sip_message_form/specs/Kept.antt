@@ -1,7 +1,7 @@
 -- A message whose bytes stand in one store.
 use Rattle.std.specs.Prelude.{◌≡◌, ℕ, List, All, map}
-use Rattle.sip_text.specs.declared.span.Span.{Span}
-use Rattle.sip_text.specs.Span.{part, IsWithin}
+use Rattle.sip_message_fields.specs.text.declared.span.Span.{Span}
+use Rattle.sip_message_fields.specs.text.Span.{part, IsWithin}
 use Rattle.sip_message_fields.specs.declared.kept_field.KeptField.{KeptField}
 use Rattle.sip_message_fields.specs.KeptField.{field_kept, IsStored}
 use Rattle.sip_message_form.specs.declared.message.Message.{Message}

@@ -1,7 +1,7 @@
 -- A first line whose bytes stand in a store.
 use Rattle.std.specs.Prelude.{◌≡◌, ℕ, List}
 use Rattle.std.specs.Option.{option_map_or}
-use Rattle.sip_text.specs.Span.{part, IsWithin}
+use Rattle.sip_message_fields.specs.text.Span.{part, IsWithin}
 use Rattle.sip_message_fields.specs.KeptField.{Keeps}
 use Rattle.sip_message_form.specs.declared.message.Start.{Start}
 use Rattle.sip_message_form.specs.declared.message.Start.TheVariants.{Request, Status}

@@ -4,3 +4,4 @@ pub mod ViewStart
 pub mod ViewRefusal
 pub mod KeptStart
 pub mod Kept
+pub use Rattle.sip_message_fields.specs as fields

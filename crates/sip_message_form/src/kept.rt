@@ -13,11 +13,11 @@ use crate::message_view::View;
 use crate::view_length::first_line_length;
 use crate::view_start::ViewStart;
 use crate::view_writing::put_lines;
+use sip_message_fields::text::{Buffer, Span, same_bytes};
 use sip_message_fields::{
     FieldName, KeptField, ViewField, ViewFields, fields_in, fields_in_with_first, lines_at,
     same_fields,
 };
-use sip_text::{Buffer, Span, same_bytes};
 use std::alloc::{AllocError, Global};
 use std::marker::Model;
 

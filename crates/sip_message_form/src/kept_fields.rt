@@ -9,8 +9,8 @@ ghost use Rattle.sip_message_fields.specs.Values.{with_first};
 ghost use Rattle.sip_message_form.specs.Text.{field_text};
 
 use crate::putting::put_line;
+use sip_message_fields::text::{Buffer, same_no_case};
 use sip_message_fields::{FieldName, KeptField, KnownName, Value, ViewField, ViewName};
-use sip_text::{Buffer, same_no_case};
 use std::alloc::AllocError;
 
 /// The spelling of the name of a field that is kept so in a store.

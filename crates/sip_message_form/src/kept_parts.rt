@@ -11,11 +11,11 @@ use crate::kept_fields::{field_in, first_in, put_kept, put_with_first};
 use crate::kept_start::{KeptStart, put_start, start_in};
 use crate::message_view::View;
 use crate::view_start::ViewStart;
+use sip_message_fields::text::{Buffer, Span, same_bytes};
 use sip_message_fields::{
     FieldName, KeptField, ViewField, ViewFields, fields_in, fields_in_with_first, put, put_fields,
     same_fields,
 };
-use sip_text::{Buffer, Span, same_bytes};
 use std::alloc::{AllocError, Global};
 use std::marker::Model;
 

@@ -4,8 +4,8 @@ ghost use Rattle.sip_message_form.specs.KeptStart.{start_kept, IsStartStored, Is
 
 use crate::message::Start;
 use crate::view_start::ViewStart;
+use sip_message_fields::text::{Buffer, Span};
 use sip_message_fields::{Value, put};
-use sip_text::{Buffer, Span};
 use std::alloc::AllocError;
 
 /// A first line whose bytes stand in a store. Of a status line there is a code, and the first span is its reason;

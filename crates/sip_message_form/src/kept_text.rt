@@ -8,7 +8,7 @@ ghost use Rattle.sip_message_form.specs.Kept.{IsBodyKept};
 use crate::kept_start::KeptStart;
 use crate::view_start::ViewStart;
 use sip_message_fields::put_marked;
-use sip_text::{Buffer, Span};
+use sip_message_fields::text::{Buffer, Span};
 use std::alloc::AllocError;
 
 /// Puts a request line with its CRLF into a store. In the server no request is kept so.

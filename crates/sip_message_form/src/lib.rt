@@ -38,3 +38,8 @@ pub use view_refusal::ViewRefusal;
 pub use view_start::ViewStart;
 pub use view_writing::{put_field, put_fields};
 pub use writing::{write, written_length};
+
+/// Of `sip_message_fields`.
+pub mod fields {
+    pub use sip_message_fields::{FieldName, Value, ViewField, ViewFields};
+}

@@ -1,5 +1,5 @@
 use sip_message_fields::Fields;
-use sip_text::Bytes;
+use sip_message_fields::text::Bytes;
 
 /// The first line of a message: a request line (RFC 3261 7.1) or a status line (7.2), of which the version is
 /// always SIP/2.0.

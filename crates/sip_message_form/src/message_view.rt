@@ -6,8 +6,8 @@ ghost use Rattle.sip_message_form.specs.ViewStart.{start_seen};
 
 use crate::message::Message;
 use crate::view_start::ViewStart;
+use sip_message_fields::text::Bytes;
 use sip_message_fields::{ViewField, ViewFields};
-use sip_text::Bytes;
 use std::alloc::{AllocError, Global};
 use std::marker::Model;
 

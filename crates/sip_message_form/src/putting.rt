@@ -2,7 +2,7 @@ ghost use Rattle.std.specs.Prelude.{◌≡◌, ◌++◌, length, codes, decimal,
 ghost use Rattle.sip_message_form.specs.declared.message.Start.TheVariants.{Request, Status};
 ghost use Rattle.sip_message_form.specs.Text.{start_text};
 
-use sip_text::Buffer;
+use sip_message_fields::text::Buffer;
 use std::alloc::AllocError;
 
 /// Puts a request line of these parts without its CRLF (RFC 3261 7.1). `AllocError` is the only refusal.

@@ -5,7 +5,7 @@ ghost use Rattle.sip_message_form.specs.ViewStart.{start_seen};
 
 use crate::message::Start;
 use sip_message_fields::Value;
-use sip_text::Bytes;
+use sip_message_fields::text::Bytes;
 use std::alloc::{AllocError, Global};
 
 /// The first line of a view. A version that was written in lower case has bytes of its own.

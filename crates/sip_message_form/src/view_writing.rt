@@ -4,7 +4,7 @@ ghost use Rattle.sip_message_form.specs.Text.{field_text, AreLinesOf};
 
 use crate::putting::put_line;
 use sip_message_fields::ViewField;
-use sip_text::Buffer;
+use sip_message_fields::text::Buffer;
 use std::alloc::AllocError;
 
 /// Puts a field with its CRLF (RFC 3261 7.3.1). `AllocError` is the only refusal.

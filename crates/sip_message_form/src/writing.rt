@@ -7,7 +7,7 @@ use crate::lengths::{line_length, request_length, status_length, whole_length};
 use crate::message::{Message, Start};
 use crate::putting::{put_body, put_line, put_request_line, put_status_line};
 use sip_message_fields::Field;
-use sip_text::{Buffer, Bytes};
+use sip_message_fields::text::{Buffer, Bytes};
 use std::alloc::{AllocError, Global};
 
 /// Puts a start line without its CRLF.

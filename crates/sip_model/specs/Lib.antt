@@ -8,6 +8,24 @@ pub mod Parts
 pub mod Lives
 pub mod Histories
 pub mod Listed
+pub mod TimerOrder
+pub mod TimerOrderExample
+pub mod Ties
+pub mod TieExample
+pub mod Invites
+pub mod Copies
+pub mod Endings
+pub mod FinalAnswers
+pub mod Sendings
+pub mod Cancels
+pub mod SecondCancel
+pub mod Bounds
+pub mod Nonces
+pub mod Known
+pub mod SameAhead
+pub mod GoingOn
+pub mod LeftOut
+pub mod SamenessExamples
 pub use Rattle.model_steps.specs.context_model
 pub use Rattle.model_steps.specs.state
 pub use Rattle.model_steps.specs as steps_model

@@ -7,3 +7,4 @@ pub use Rattle.sip_forwarding.specs as forwarding
 pub use Rattle.sip_fork.specs as fork
 pub use Rattle.sip_fork.specs.steps_model
 pub use Rattle.sip_forwarding.specs.transactions_model
+pub use Rattle.sip_verdict.specs as verdict

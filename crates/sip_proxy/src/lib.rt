@@ -2,7 +2,7 @@
 //! request is opened, and what comes with it for bindings and nonces (RFC 3261 10, 16). What a step does is drafted
 //! before, with all its memory, so that no step is refused half way.
 //!
-//! - Used: the two rooms of steps, `sip_engine_open` and `sip_engine_request`.
+//! - Used: the two rooms of steps, `sip_engine_request`.
 //! - Not here: which step a datagram takes (`sip_engine`).
 //! - Tried: `test_server` by its stored runs.
 #![tactic(auto)]
@@ -44,4 +44,9 @@ pub mod forwarding {
     pub use sip_forwarding::{
         Arrival, Drafted, Forwarded, copy_packets, forward_ack, forward_to, forward_within,
     };
+}
+
+/// Of `sip_verdict`.
+pub mod verdict {
+    pub use sip_verdict::{Judged, PolicyOutcome, is_ack, state};
 }

@@ -5,5 +5,13 @@ pub mod Refusing
 pub mod Replaying
 pub mod Running
 pub mod Stopping
-pub use Rattle.sip_resume.proofs.of_run
+pub mod Cut
+pub mod Fronts
+pub mod Joining
+pub mod OfEvents
+pub mod Recorded
+pub mod Replayed
+pub mod Unresumed
 pub use Rattle.sip_resume.proofs.UnderRuns as of_resume
+pub use Rattle.sip_resume.proofs.of_run
+pub use Rattle.sip_resume.proofs.of_standings

@@ -3,11 +3,11 @@ use Rattle.std.proofs.Common.{◌≡◌, inr, ℕ, List, Option, subst}
 use Rattle.sip_event.specs.declared.event.Event.{Event}
 use Rattle.sip_event.specs.declared.event.StepOut.{StepOut}
 use Rattle.sip_config_types.specs.declared.config.Config.{Config}
-use Rattle.model_bounds.specs.state.declared.server.Server.{Server}
-use Rattle.model_order.specs.Order.{Standing, first_standing}
-use Rattle.model_bounds.specs.model.Access.{Access}
-use Rattle.model_bounds.specs.Bounds.{IsBounded}
-use Rattle.sip_segment_text.specs.Segments.{Segment}
+use Rattle.sip_model.specs.state.declared.server.Server.{Server}
+use Rattle.sip_model.specs.TimerOrder.{Standing, first_standing}
+use Rattle.sip_model.specs.Access.{Access}
+use Rattle.sip_model.specs.Bounds.{IsBounded}
+use Rattle.sip_journal.specs.Segments.{Segment}
 use Rattle.sip_resume.specs.Whole.{IsRecordResumed, IsRecordUnresumed, TakesWhole}
 use Rattle.sip_resume.specs.declared.record_error.RecordError.{RecordError}
 use Rattle.sip_replay.specs.Replays.{server_with}

@@ -8,13 +8,13 @@ use Rattle.std.proofs.lemmas.Grind.{flat_map-append}
 use Rattle.sip_event.specs.declared.event.Event.{Event}
 use Rattle.sip_event.specs.declared.event.StepOut.{StepOut}
 use Rattle.sip_config_types.specs.declared.config.Config.{Config}
-use Rattle.model_bounds.specs.state.declared.server.Server.{Server}
-use Rattle.model_bounds.specs.state.declared.proxy_state.ProxyState.{ProxyState}
-use Rattle.model_order.specs.Order.{Standing, first_standing}
-use Rattle.model_bounds.specs.model.Access.{Access}
-use Rattle.model_bounds.specs.Bounds.{IsBounded}
-use Rattle.model_bounds.specs.model.Run.{first_moment}
-use Rattle.model_ties.proofs.Orderly.{orderly_joined}
+use Rattle.sip_model.specs.state.declared.server.Server.{Server}
+use Rattle.sip_model.specs.state.declared.proxy_state.ProxyState.{ProxyState}
+use Rattle.sip_model.specs.TimerOrder.{Standing, first_standing}
+use Rattle.sip_model.specs.Access.{Access}
+use Rattle.sip_model.specs.Bounds.{IsBounded}
+use Rattle.sip_model.specs.Run.{first_moment}
+use Rattle.sip_model.proofs.Orderly.{orderly_joined}
 use Rattle.sip_replay_print.specs.Print.{step_text, printed}
 use Rattle.sip_replay.specs.Errors.{error_at, unread_error, IsFaulted}
 use Rattle.sip_replay_script.specs.Devices.{WritesFront}

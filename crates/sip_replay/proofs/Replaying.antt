@@ -4,14 +4,14 @@ use Rattle.std.specs.Io.KnownBytes.{Consumes, Keeps, IsAtEnd, prepend_known}
 use Rattle.std.proofs.KnownBytes.{Consumes-nil, Consumes-trans}
 use Rattle.sip_event.specs.declared.event.Event.{Event}
 use Rattle.sip_config_types.specs.declared.config.Config.{Config}
-use Rattle.model_bounds.specs.state.declared.server.Server.{Server}
-use Rattle.model_bounds.specs.state.declared.proxy_state.ProxyState.{ProxyState}
-use Rattle.model_order.specs.Order.{Standing, first_standing}
+use Rattle.sip_model.specs.state.declared.server.Server.{Server}
+use Rattle.sip_model.specs.state.declared.proxy_state.ProxyState.{ProxyState}
+use Rattle.sip_model.specs.TimerOrder.{Standing, first_standing}
 use Rattle.sip_event.specs.declared.event.StepOut.{StepOut}
-use Rattle.model_bounds.specs.model.Access.{Access}
-use Rattle.model_bounds.specs.Bounds.{IsBounded}
-use Rattle.model_bounds.specs.model.Run.{Link, IsChain, IsRun}
-use Rattle.model_bounds.specs.state.State.{first_state}
+use Rattle.sip_model.specs.Access.{Access}
+use Rattle.sip_model.specs.Bounds.{IsBounded}
+use Rattle.sip_model.specs.Run.{Link, IsChain, IsRun}
+use Rattle.sip_model.specs.state.State.{first_state}
 use Rattle.sip_replay_print.specs.Print.{printed}
 use Rattle.std.specs.Prelude.{count_by, cond}
 use Rattle.sip_replay_script.specs.Lines.{Reading, is_end, pending, IsOver}

@@ -6,14 +6,14 @@ use Rattle.std.specs.Io.KnownBytes.{Appends}
 use Rattle.std.proofs.KnownBytes.{Appends-nil, Appends-trans}
 use Rattle.sip_event.specs.declared.event.Event.{Event}
 use Rattle.sip_event.specs.declared.event.StepOut.{StepOut}
-use Rattle.model_bounds.specs.state.declared.server.Server.{Server}
-use Rattle.model_order.specs.Order.{IsFirstOf, IsQueueAfter, Standing}
-use Rattle.model_bounds.specs.steps_model.Step.{Given, IsStep, Passing, moment_of}
-use Rattle.model_bounds.specs.model.Run.{event_moment, events_of, steps_of}
+use Rattle.sip_model.specs.state.declared.server.Server.{Server}
+use Rattle.sip_model.specs.TimerOrder.{IsFirstOf, IsQueueAfter, Standing}
+use Rattle.sip_model.specs.steps_model.Step.{Given, IsStep, Passing, moment_of}
+use Rattle.sip_model.specs.Run.{event_moment, events_of, steps_of}
 use Rattle.sip_replay_print.specs.Print.{step_text, printed}
 use Rattle.model_transactions.specs.Queue.{Entry}
-use Rattle.model_order.proofs.Along.{queue_behind, queue_next}
-use Rattle.model_ties.proofs.Orderly.{orderly_joined}
+use Rattle.sip_model.proofs.Along.{queue_behind, queue_next}
+use Rattle.sip_model.proofs.Orderly.{orderly_joined}
 use Rattle.sip_resume.specs.run.Due.{Fires, NothingDueBy}
 use Rattle.sip_resume.proofs.of_run.{run_on}
 use Rattle.sip_replay.specs.Replays.{Plays}

@@ -5,11 +5,11 @@ use Rattle.std.specs.Io.KnownBytes.{Appends}
 use Rattle.std.proofs.lemmas.List.{reverse-append}
 use Rattle.sip_event.specs.declared.event.Event.{Event}
 use Rattle.sip_event.specs.declared.event.StepOut.{StepOut}
-use Rattle.model_bounds.specs.state.declared.server.Server.{Server}
+use Rattle.sip_model.specs.state.declared.server.Server.{Server}
 use Rattle.model_transactions.specs.Queue.{Entry}
-use Rattle.model_order.specs.Order.{IsFirstOf, Standing}
-use Rattle.model_bounds.specs.steps_model.Step.{Given, IsStep, Passing, moment_of}
-use Rattle.model_bounds.specs.model.Run.{event_moment, events_of, steps_of}
+use Rattle.sip_model.specs.TimerOrder.{IsFirstOf, Standing}
+use Rattle.sip_model.specs.steps_model.Step.{Given, IsStep, Passing, moment_of}
+use Rattle.sip_model.specs.Run.{event_moment, events_of, steps_of}
 use Rattle.sip_resume.specs.run.engine.declared.error.StepError.{StepError}
 use Rattle.sip_resume.specs.run.engine.declared.error.StepError.TheVariants as step_errors
 use Rattle.sip_resume.specs.run.engine.StepError.{refusal_at}

@@ -2,10 +2,10 @@
 use Rattle.std.specs.Prelude.{◌≡◌, ◌⊎◌, ℕ, List, Option, None, Some}
 use Rattle.sip_event.specs.declared.event.StepOut.{StepOut}
 use Rattle.sip_config_types.specs.declared.config.Config.{Config}
-use Rattle.model_bounds.specs.state.declared.server.Server.{Server}
-use Rattle.model_order.specs.Order.{Standing, first_standing}
-use Rattle.model_bounds.specs.model.Access.{Access}
-use Rattle.model_bounds.specs.Bounds.{IsBounded}
+use Rattle.sip_model.specs.state.declared.server.Server.{Server}
+use Rattle.sip_model.specs.TimerOrder.{Standing, first_standing}
+use Rattle.sip_model.specs.Access.{Access}
+use Rattle.sip_model.specs.Bounds.{IsBounded}
 use Rattle.sip_resume.specs.Outputs.{Outputs, outputs_of}
 use Rattle.sip_resume.specs.Whole.{IsRecordResumed, IsRecordUnresumed}
 use Rattle.sip_resume.specs.declared.record_error.RecordError.{RecordError}

@@ -4,13 +4,13 @@ use Rattle.std.specs.Io.KnownBytes.{Appends}
 use Rattle.sip_event.specs.declared.event.Event.{Event}
 use Rattle.sip_event.specs.declared.event.StepOut.{StepOut}
 use Rattle.sip_config_types.specs.declared.config.Config.{Config}
-use Rattle.model_bounds.specs.state.declared.server.Server.{Server}
-use Rattle.model_bounds.specs.state.declared.proxy_state.ProxyState.{ProxyState}
-use Rattle.model_bounds.specs.model.Run.{Link, IsRun, event_moment}
-use Rattle.model_bounds.specs.model.Access.{Access}
-use Rattle.model_bounds.specs.Bounds.{IsBounded}
-use Rattle.model_order.specs.Order.{Standing, first_standing}
-use Rattle.model_ties.specs.Ties.{AreOrderly}
+use Rattle.sip_model.specs.state.declared.server.Server.{Server}
+use Rattle.sip_model.specs.state.declared.proxy_state.ProxyState.{ProxyState}
+use Rattle.sip_model.specs.Run.{Link, IsRun, event_moment}
+use Rattle.sip_model.specs.Access.{Access}
+use Rattle.sip_model.specs.Bounds.{IsBounded}
+use Rattle.sip_model.specs.TimerOrder.{Standing, first_standing}
+use Rattle.sip_model.specs.Ties.{AreOrderly}
 use Rattle.sip_resume.specs.run.engine.declared.error.StepError.{StepError}
 use Rattle.sip_resume.specs.run.engine.StepError.{refusal_at}
 use Rattle.sip_resume.specs.run.Refusals.{refusal_of_event}

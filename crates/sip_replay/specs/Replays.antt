@@ -4,14 +4,14 @@ use Rattle.std.specs.Io.KnownBytes.{Appends}
 use Rattle.sip_event.specs.declared.event.Event.{Event}
 use Rattle.sip_event.specs.declared.event.StepOut.{StepOut}
 use Rattle.sip_config_types.specs.declared.config.Config.{Config}
-use Rattle.model_bounds.specs.state.declared.server.Server.{Server}
-use Rattle.model_bounds.specs.state.declared.proxy_state.ProxyState.{ProxyState}
-use Rattle.model_bounds.specs.state.State.{first_state}
-use Rattle.model_bounds.specs.model.Run.{Link, IsRun}
-use Rattle.model_bounds.specs.model.Access.{Access}
-use Rattle.model_bounds.specs.Bounds.{IsBounded}
-use Rattle.model_order.specs.Order.{Standing, queue_from}
-use Rattle.model_ties.specs.Ties.{AreOrderly}
+use Rattle.sip_model.specs.state.declared.server.Server.{Server}
+use Rattle.sip_model.specs.state.declared.proxy_state.ProxyState.{ProxyState}
+use Rattle.sip_model.specs.state.State.{first_state}
+use Rattle.sip_model.specs.Run.{Link, IsRun}
+use Rattle.sip_model.specs.Access.{Access}
+use Rattle.sip_model.specs.Bounds.{IsBounded}
+use Rattle.sip_model.specs.TimerOrder.{Standing, queue_from}
+use Rattle.sip_model.specs.Ties.{AreOrderly}
 use Rattle.sip_replay_print.specs.Print.{printed}
 use Rattle.sip_replay_script.specs.Lines.{Reading}
 use Rattle.sip_replay_script.specs.Events.{SaysEvents, GivesEvent}

@@ -1,5 +1,5 @@
 ghost use Rattle.std.specs.Prelude.{◌≡◌, [], Some, IfErr, OnOk};
-ghost use Rattle.model_bounds.specs.steps_model.Step.{moment_of};
+ghost use Rattle.sip_model.specs.steps_model.Step.{moment_of};
 ghost use Rattle.sip_resume.specs.run.Due.{NothingDueBy, standing_of};
 ghost use Rattle.sip_replay_script.specs.Devices.{GaveUp};
 ghost use Rattle.sip_replay.specs.Refusals.{FiringStops};

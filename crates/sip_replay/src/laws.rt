@@ -2,15 +2,15 @@ ghost use Rattle.std.specs.Prelude.{◌≡◌, ◌++◌, ℕ, List, Option};
 ghost use Rattle.sip_event.specs.declared.event.Event.{Event};
 ghost use Rattle.sip_event.specs.declared.event.StepOut.{StepOut};
 ghost use Rattle.sip_config_types.specs.declared.config.Config.{Config};
-ghost use Rattle.model_bounds.specs.model.Access.{Access};
-ghost use Rattle.model_bounds.specs.Bounds.{IsBounded};
-ghost use Rattle.model_order.specs.Order.{first_standing};
+ghost use Rattle.sip_model.specs.Access.{Access};
+ghost use Rattle.sip_model.specs.Bounds.{IsBounded};
+ghost use Rattle.sip_model.specs.TimerOrder.{first_standing};
 ghost use Rattle.sip_replay.specs.Refusals.{ComesTo};
 ghost use Rattle.sip_replay.specs.Replays.{server_with, IsReplay};
 ghost use Rattle.sip_replay_script.specs.Events.{IsNoEvent, SaysEvents};
 
-use model_bounds::bounds::every_history_is_bounded;
-use model_bounds::model::laws::every_run_has_access;
+use sip_model::bounds::every_history_is_bounded;
+use sip_model::laws::every_run_has_access;
 use sip_replay_script::laws::{event_is_no_refusal, next_event_is_one};
 
 /// Over every replay, each step is lawful by its history: each valid new request outside a dialog is sent to

@@ -1,7 +1,10 @@
 //! A script or a record replayed: its events are handed to the engine, each at its moment, and the packets and records that the engine
 //! hands out are printed.
 //!
-//! - Used: `sipd_replay`; `sip_recorded` says what a replay prints.
+//! Of `recorded_laws`, `scripts`: what a record replays is what was served: what is served, gone on with and replayed of one text, with the
+//! configurations that it says came into force, are the same steps. The same of a script, which says events alone (`scripts`).
+//!
+//! - Used: `sipd_start`.
 //! - Not here: the program's words and streams.
 //! - Tried: `test_engine`, and each stored run of `test_server`.
 //!
@@ -15,6 +18,8 @@ mod error;
 pub mod laws;
 mod playback;
 mod record;
+pub mod recorded_laws;
+pub mod scripts;
 mod stop;
 
 pub use error::ReplayError;
@@ -33,5 +38,5 @@ pub mod run {
 
 /// Of `sip_resume`.
 pub mod resume {
-    pub use sip_resume::{RecordError, resume_record};
+    pub use sip_resume::{RecordError, Resumed, engine, resume_record};
 }

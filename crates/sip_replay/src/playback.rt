@@ -1,9 +1,9 @@
 //! The replay of a script: its events are taken one by one, each behind what is due by its moment, and all steps are printed.
 //! The replay of a record, in which the configuration may change, is in `record`.
 ghost use Rattle.std.specs.Prelude.{◌≡◌, ◌≤◌, ◌⊎◌, ℕ, List, [], ◌∷◌, true, false, None, Err, IfOk, IfErr, OnOk};
-ghost use Rattle.model_bounds.specs.model.Run.{event_moment};
-ghost use Rattle.model_bounds.specs.steps_model.Step.{Given, IsStep, moment_of};
-ghost use Rattle.model_order.specs.Order.{IsQueueAfter, first_standing};
+ghost use Rattle.sip_model.specs.Run.{event_moment};
+ghost use Rattle.sip_model.specs.steps_model.Step.{Given, IsStep, moment_of};
+ghost use Rattle.sip_model.specs.TimerOrder.{IsQueueAfter, first_standing};
 ghost use Rattle.sip_resume.specs.run.Due.{NothingDueBy, standing_of};
 ghost use Rattle.sip_resume.specs.run.Refusals.{RefusesStep, refusal_of_event};
 ghost use Rattle.sip_replay_script.specs.Devices.{later, GaveUp, IsAsked};
@@ -16,11 +16,11 @@ ghost use Rattle.sip_replay.specs.Replays.{server_with, IsLawfulReplay, IsReplay
 use crate::due_steps::fire_due;
 use crate::error::ReplayError;
 use crate::stop::Stop;
-use model_bounds::bounds::every_history_is_bounded;
-use model_bounds::model::laws::every_run_has_access;
-use model_bounds::model::runs::runs_join;
 use sip_config_types::Config;
 use sip_event::{Boot, StepOut};
+use sip_model::bounds::every_history_is_bounded;
+use sip_model::laws::every_run_has_access;
+use sip_model::runs::runs_join;
 use sip_policy::Rules;
 use sip_replay_print::{PrintRoom, print_step};
 use sip_replay_script::laws::cut_event_is_none;

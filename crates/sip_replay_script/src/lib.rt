@@ -3,9 +3,9 @@
 //!
 //! - Used: `sip_replay`, for each line of its script; `sip_journal` and `sip_resume`, for each event that is recorded and taken
 //!   again;
-//!   `sip_segment_text` and `sipd_report`, which read lines of their own through it; `sip_replay_print` and `sipd_start`, for what they
+//!   `sip_journal` and `sipd_report`, which read lines of their own through it; `sip_replay_print` and `sipd_start`, for what they
 //!   write to and read from.
-//! - Not here: the server; how its steps are printed (`sip_replay_print`); what a record says of its configurations (`sip_segment_text`).
+//! - Not here: the server; how its steps are printed (`sip_replay_print`); what a record says of its configurations (`sip_journal`).
 //! - Tried: worked examples in `src/examples.rt`, as contracts that compute; `test_engine`.
 #![tactic(auto)]
 

@@ -26,6 +26,7 @@ pub use request::{Request, RequestPlan, reserve};
 /// Of `model_transactions`.
 pub mod transactions_model {
     pub use model_transactions::{
-        TimerKeys, bounds, events, fitting_events, machines, openings, ties, timers,
+        TimerKeys, bounds, branches, events, fitting_events, machines, openings, queue, ties,
+        timers,
     };
 }

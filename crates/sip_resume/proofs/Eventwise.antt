@@ -6,13 +6,13 @@ use Rattle.std.proofs.KnownBytes.{Appends-nil, Consumes-nil, Consumes-trans}
 use Rattle.std.proofs.lemmas.List.Sums.{sum_by-append}
 use Rattle.sip_event.specs.declared.event.Event.{Event}
 use Rattle.sip_event.specs.declared.event.StepOut.{StepOut}
-use Rattle.model_bounds.specs.state.declared.server.Server.{Server}
-use Rattle.model_order.specs.Order.{Standing}
+use Rattle.sip_model.specs.state.declared.server.Server.{Server}
+use Rattle.sip_model.specs.TimerOrder.{Standing}
 use Rattle.sip_replay_script.specs.Lines.{Reading, is_end, left, pending}
 use Rattle.sip_replay_script.specs.Recorded.{IsDamagedRecord}
-use Rattle.sip_segment_text.specs.Configurations.{ComesNext, IsDamagedConfiguration}
-use Rattle.sip_segment_text.specs.declared.upcoming.Upcoming.{Upcoming}
-use Rattle.sip_segment_text.specs.declared.upcoming.Upcoming.TheVariants as upcoming
+use Rattle.sip_journal.specs.Configurations.{ComesNext, IsDamagedConfiguration}
+use Rattle.sip_journal.specs.declared.upcoming.Upcoming.{Upcoming}
+use Rattle.sip_journal.specs.declared.upcoming.Upcoming.TheVariants as upcoming
 use Rattle.sip_replay_script.proofs.RecordTexts.{record_all, record_one}
 use Rattle.sip_replay_script.proofs.Written.{keeps_consumes}
 use Rattle.sip_journal.specs.Record.{Notes}

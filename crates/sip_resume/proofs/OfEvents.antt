@@ -4,14 +4,14 @@ use Rattle.std.specs.Prelude.{IfSome, count_by}
 use Rattle.sip_event.specs.declared.event.Event.{Event}
 use Rattle.sip_event.specs.declared.event.StepOut.{StepOut}
 use Rattle.sip_config_types.specs.declared.config.Config.{Config}
-use Rattle.model_bounds.specs.state.declared.server.Server.{Server}
-use Rattle.model_bounds.specs.state.declared.proxy_state.ProxyState.{ProxyState}
-use Rattle.model_order.specs.Order.{Standing}
-use Rattle.model_bounds.specs.model.Run.{Link, IsRun, under}
-use Rattle.model_bounds.specs.model.Periods.{IsRunUnder, Period}
+use Rattle.sip_model.specs.state.declared.server.Server.{Server}
+use Rattle.sip_model.specs.state.declared.proxy_state.ProxyState.{ProxyState}
+use Rattle.sip_model.specs.TimerOrder.{Standing}
+use Rattle.sip_model.specs.Run.{Link, IsRun, under}
+use Rattle.sip_model.specs.Periods.{IsRunUnder, Period}
 use Rattle.sip_replay_script.specs.Lines.{is_end}
 use Rattle.sip_replay_script.specs.Recorded.{SaysRecord}
-use Rattle.sip_segment_text.specs.Segments.{Segment, SaysWhole}
+use Rattle.sip_journal.specs.Segments.{Segment, SaysWhole}
 use Rattle.sip_journal.specs.Record.{GrewKnown, Notes, NotesSegments}
 use Rattle.sip_resume.specs.Outputs.{Outputs}
 use Rattle.sip_resume.specs.Resumes.{EndsHere, IsResumed, Runs, newest_step}

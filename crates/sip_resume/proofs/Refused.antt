@@ -3,10 +3,10 @@ use Rattle.std.proofs.Common.{◌≡◌, inl, inr, ℕ, Bool, true, false, List,
 use Rattle.std.specs.Prelude.{IsSome, if◌then◌else◌}
 use Rattle.sip_event.specs.declared.event.Event.{Event}
 use Rattle.sip_event.specs.declared.event.Event.TheVariants.{Datagram, Time, Fault}
-use Rattle.model_bounds.specs.state.declared.server.Server.{Server}
-use Rattle.model_bounds.specs.state.declared.proxy_state.ProxyState.{ProxyState}
-use Rattle.model_order.specs.Order.{Standing}
-use Rattle.model_bounds.specs.model.Run.{event_moment}
+use Rattle.sip_model.specs.state.declared.server.Server.{Server}
+use Rattle.sip_model.specs.state.declared.proxy_state.ProxyState.{ProxyState}
+use Rattle.sip_model.specs.TimerOrder.{Standing}
+use Rattle.sip_model.specs.Run.{event_moment}
 use Rattle.sip_run.specs.engine.declared.error.StepError.{StepError}
 use Rattle.sip_run.specs.engine.declared.error.StepError.TheVariants as step_errors
 use Rattle.sip_run.specs.engine.StepError.{refusal_at, is_too_large}

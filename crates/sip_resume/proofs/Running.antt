@@ -7,15 +7,15 @@ use Rattle.std.specs.Io.KnownBytes.{Appends}
 use Rattle.sip_event.specs.declared.event.Event.{Event}
 use Rattle.sip_event.specs.declared.event.Event.TheVariants.{Datagram, Time, Fault}
 use Rattle.sip_event.specs.declared.event.StepOut.{StepOut}
-use Rattle.model_bounds.specs.state.declared.server.Server.{Server}
-use Rattle.model_bounds.specs.state.declared.proxy_state.ProxyState.{ProxyState}
-use Rattle.model_order.specs.Order.{IsFirstOf, IsQueueAfter, Standing}
-use Rattle.model_bounds.specs.steps_model.Step.{Given, IsStep, Passing, moment_of}
-use Rattle.model_bounds.specs.model.Run.{Link, IsRun, event_moment, events_of, steps_of, first_moment}
+use Rattle.sip_model.specs.state.declared.server.Server.{Server}
+use Rattle.sip_model.specs.state.declared.proxy_state.ProxyState.{ProxyState}
+use Rattle.sip_model.specs.TimerOrder.{IsFirstOf, IsQueueAfter, Standing}
+use Rattle.sip_model.specs.steps_model.Step.{Given, IsStep, Passing, moment_of}
+use Rattle.sip_model.specs.Run.{Link, IsRun, event_moment, events_of, steps_of, first_moment}
 use Rattle.model_transactions.specs.Queue.{Entry}
-use Rattle.model_order.proofs.Along.{queue_behind, queue_next}
-use Rattle.model_ties.specs.Ties.{IsPrompt}
-use Rattle.model_ties.proofs.Orderly.{orderly_joined}
+use Rattle.sip_model.proofs.Along.{queue_behind, queue_next}
+use Rattle.sip_model.specs.Ties.{IsPrompt}
+use Rattle.sip_model.proofs.Orderly.{orderly_joined}
 use Rattle.sip_run.specs.Due.{Fires, NothingDueBy}
 use Rattle.sip_run.proofs.RunOn.{run_on}
 use Rattle.sip_replay_print.specs.Print.{printed, step_text}

@@ -7,13 +7,13 @@ use Rattle.sip_event.specs.declared.event.StepOut.{StepOut}
 use Rattle.sip_config_types.specs.declared.config.Config.{Config}
 use Rattle.sip_run.specs.engine.Engine.{Engine}
 use Rattle.sip_run.specs.Due.{standing_of}
-use Rattle.model_bounds.specs.state.declared.server.Server.{Server}
-use Rattle.model_order.specs.Order.{Standing}
-use Rattle.model_bounds.specs.model.Run.{under}
+use Rattle.sip_model.specs.state.declared.server.Server.{Server}
+use Rattle.sip_model.specs.TimerOrder.{Standing}
+use Rattle.sip_model.specs.Run.{under}
 use Rattle.sip_replay_script.specs.Lines.{Reading, IsOver, left, pending}
 use Rattle.sip_replay_script.specs.Recorded.{IsDamagedRecord}
-use Rattle.sip_segment_text.specs.Segments.{Segment, SaysSegments}
-use Rattle.sip_segment_text.specs.Configurations.{IsCutConfiguration, IsDamagedConfiguration, GivesConfiguration, IsLongConfiguration}
+use Rattle.sip_journal.specs.Segments.{Segment, SaysSegments}
+use Rattle.sip_journal.specs.Configurations.{IsCutConfiguration, IsDamagedConfiguration, GivesConfiguration, IsLongConfiguration}
 use Rattle.sip_replay_script.proofs.Written.{keeps_consumes}
 use Rattle.sip_journal.specs.Record.{Notes, NotesConfiguration, NotesSegments, GrewKnown}
 use Rattle.sip_journal.proofs.Noting.{SegmentBegins as SegmentTextBegins}

@@ -4,15 +4,15 @@ use Rattle.std.specs.List.{AllByRecursion}
 use Rattle.sip_event.specs.declared.event.Event.{Event}
 use Rattle.sip_event.specs.declared.event.StepOut.{StepOut}
 use Rattle.sip_config_types.specs.declared.config.Config.{Config}
-use Rattle.model_bounds.specs.state.declared.server.Server.{Server}
-use Rattle.model_bounds.specs.state.declared.proxy_state.ProxyState.{ProxyState}
-use Rattle.model_order.specs.Order.{Standing}
-use Rattle.model_bounds.specs.model.Run.{Link, IsRun, under}
-use Rattle.model_bounds.specs.model.Periods.{IsNoStep, IsRunUnder, Period, until_of}
-use Rattle.model_order.proofs.Along.{queue_behind}
-use Rattle.model_ties.proofs.Orderly.{orderly_joined}
+use Rattle.sip_model.specs.state.declared.server.Server.{Server}
+use Rattle.sip_model.specs.state.declared.proxy_state.ProxyState.{ProxyState}
+use Rattle.sip_model.specs.TimerOrder.{Standing}
+use Rattle.sip_model.specs.Run.{Link, IsRun, under}
+use Rattle.sip_model.specs.Periods.{IsNoStep, IsRunUnder, Period, until_of}
+use Rattle.sip_model.proofs.Along.{queue_behind}
+use Rattle.sip_model.proofs.Orderly.{orderly_joined}
 use Rattle.sip_run.proofs.RunOn.{run_on}
-use Rattle.sip_segment_text.specs.Segments.{Segment}
+use Rattle.sip_journal.specs.Segments.{Segment}
 use Rattle.sip_resume.specs.Resumes.{Runs, newest_step}
 use Rattle.sip_resume.specs.Whole.{AreStated, KeepsFrame, RunsUnder, config_behind}
 use Rattle.sip_resume.specs.Parts.{newest_of}

@@ -10,15 +10,15 @@ use Rattle.sip_event.specs.declared.event.StepOut.{StepOut}
 use Rattle.sip_config_types.specs.declared.config.Config.{Config}
 use Rattle.sip_run.specs.engine.Engine.{Engine}
 use Rattle.sip_run.specs.Due.{standing_of}
-use Rattle.model_bounds.specs.state.declared.server.Server.{Server}
-use Rattle.model_order.specs.Order.{Standing}
-use Rattle.model_bounds.specs.model.Run.{under}
-use Rattle.model_bounds.specs.model.Periods.{Period}
-use Rattle.model_bounds.proofs.SendingLists.{all_joined}
+use Rattle.sip_model.specs.state.declared.server.Server.{Server}
+use Rattle.sip_model.specs.TimerOrder.{Standing}
+use Rattle.sip_model.specs.Run.{under}
+use Rattle.sip_model.specs.Periods.{Period}
+use Rattle.sip_model.proofs.SendingLists.{all_joined}
 use Rattle.sip_replay_script.specs.Lines.{Reading, is_end, pending}
 use Rattle.sip_replay_script.specs.Recorded.{IsDamagedRecord}
 use Rattle.sip_segment_config.specs.Last.{EndsCut}
-use Rattle.sip_segment_text.specs.Segments.{Segment, SaysSegments, SaysWhole}
+use Rattle.sip_journal.specs.Segments.{Segment, SaysSegments, SaysWhole}
 use Rattle.sip_journal.specs.Record.{NotesSegments}
 use Rattle.sip_resume.specs.Outputs.{Outputs, Shows}
 use Rattle.sip_resume.specs.Resumes.{newest_step}

@@ -4,14 +4,14 @@ use Rattle.std.specs.Io.KnownBytes.{Consumes, Keeps}
 use Rattle.std.specs.List.{AllByRecursion}
 use Rattle.sip_event.specs.declared.event.Event.{Event}
 use Rattle.sip_event.specs.declared.event.StepOut.{StepOut}
-use Rattle.model_bounds.specs.state.declared.server.Server.{Server}
-use Rattle.model_order.specs.Order.{Standing}
-use Rattle.model_bounds.specs.model.Run.{under}
-use Rattle.model_bounds.specs.model.Periods.{Period}
+use Rattle.sip_model.specs.state.declared.server.Server.{Server}
+use Rattle.sip_model.specs.TimerOrder.{Standing}
+use Rattle.sip_model.specs.Run.{under}
+use Rattle.sip_model.specs.Periods.{Period}
 use Rattle.sip_replay_script.specs.Lines.{Reading, is_end, left, pending}
 use Rattle.sip_replay_script.specs.Recorded.{SaysRecord, IsDamagedRecord}
-use Rattle.sip_segment_text.specs.Segments.{SaysSegments, Segment}
-use Rattle.sip_segment_text.specs.Configurations.{IsDamagedConfiguration, IsLongConfiguration}
+use Rattle.sip_journal.specs.Segments.{SaysSegments, Segment}
+use Rattle.sip_journal.specs.Configurations.{IsDamagedConfiguration, IsLongConfiguration}
 use Rattle.sip_journal.specs.Record.{Notes, NotesSegments}
 use Rattle.sip_config.specs.Stated.{StatesNone}
 use Rattle.sip_segment_config.specs.Last.{EndsCut}

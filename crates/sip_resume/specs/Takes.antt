@@ -4,7 +4,7 @@ use Rattle.sip_config_types.specs.declared.config.Config.{Config}
 use Rattle.sip_run.specs.engine.Engine.{Engine}
 use Rattle.sip_run.specs.engine.model.Run.{under}
 use Rattle.sip_replay_script.specs.Lines.{Reading}
-use Rattle.sip_segment_text.specs.Configurations.{GivesConfiguration}
+use Rattle.sip_journal.specs.Configurations.{GivesConfiguration}
 use Rattle.sip_config.specs.Stated.{States}
 
 -- it is under another configuration, to others the same server, and nothing else of it has changed

@@ -10,13 +10,12 @@ ghost use Rattle.sip_resume.specs.declared.error.ResumeError.TheVariants as Refu
 use crate::error::ResumeError;
 use crate::parts::{Reached, ResumedPart};
 use crate::resuming::resume_next;
-use model_bounds::model::runs::runs_join;
-use sip_journal::Journal;
+use sip_journal::{Journal, Upcoming, look_ahead};
+use sip_model::runs::runs_join;
 use sip_policy::Rules;
 use sip_replay_print::StepSink;
 use sip_replay_script::{ScriptLines, TellingReader};
 use sip_run::engine::Engine;
-use sip_segment_text::{Upcoming, look_ahead};
 use sip_timers::Timers;
 use std::alloc::Global;
 

@@ -1,24 +1,24 @@
 ghost use Rattle.std.specs.Prelude.{◌≡◌, ℕ, List, [], ◌∷◌, ◌++◌, None, Option};
 ghost use Rattle.sip_event.specs.declared.event.Event.{Event};
 ghost use Rattle.sip_event.specs.declared.event.StepOut.{StepOut};
-ghost use Rattle.model_bounds.specs.state.declared.proxy_state.ProxyState.{ProxyState};
-ghost use Rattle.model_bounds.specs.state.declared.server.Server.{Server};
-ghost use Rattle.model_bounds.specs.state.State.{first_state};
+ghost use Rattle.sip_model.specs.state.declared.proxy_state.ProxyState.{ProxyState};
+ghost use Rattle.sip_model.specs.state.declared.server.Server.{Server};
+ghost use Rattle.sip_model.specs.state.State.{first_state};
 ghost use Rattle.sip_config_types.specs.declared.config.Config.{Config};
-ghost use Rattle.model_bounds.specs.Bounds.{IsBounded};
-ghost use Rattle.model_bounds.specs.model.Access.{Access};
-ghost use Rattle.model_bounds.specs.model.Run.{IsRun, Link, under};
-ghost use Rattle.model_bounds.specs.model.Periods.{IsRunUnder, Period};
-ghost use Rattle.model_order.specs.Order.{Standing, first_standing};
-ghost use Rattle.sip_segment_text.specs.Segments.{Segment};
+ghost use Rattle.sip_model.specs.Bounds.{IsBounded};
+ghost use Rattle.sip_model.specs.Access.{Access};
+ghost use Rattle.sip_model.specs.Run.{IsRun, Link, under};
+ghost use Rattle.sip_model.specs.Periods.{IsRunUnder, Period};
+ghost use Rattle.sip_model.specs.TimerOrder.{Standing, first_standing};
+ghost use Rattle.sip_journal.specs.Segments.{Segment};
 ghost use Rattle.sip_resume.specs.Outputs.{Outputs};
 ghost use Rattle.sip_resume.specs.Resumes.{EndsHere, IsOneRun, IsResumed};
 ghost use Rattle.sip_resume.specs.Whole.{IsOneRunUnder, IsRecordResumed, TakesWhole};
 
-use model_bounds::bounds::every_history_is_bounded;
-use model_bounds::model::laws::every_run_has_access;
-use model_bounds::model::periods::{runs_under_are_one, under_one_is_a_run};
-use model_bounds::model::runs::runs_join;
+use sip_model::bounds::every_history_is_bounded;
+use sip_model::laws::every_run_has_access;
+use sip_model::periods::{runs_under_are_one, under_one_is_a_run};
+use sip_model::runs::runs_join;
 
 /// A run before a restart and the run behind it are one run over all events: a server that was brought to where a record leads
 /// (`resume_record`), and goes on from there (`serve`), did nothing that one which never ended couldn't have done. Each valid new request

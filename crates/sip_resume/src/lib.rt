@@ -1,7 +1,7 @@
 //! A server brought to where a record leads: the events that the record says are taken again, each under the configuration that was in
 //! force, so that a run goes on behind them. Nothing of it is sent; what was decided and sent then can be shown.
 //!
-//! - Used: `sipd_start`, where `serve` is to go on from a record; `sip_replay`, where a record is replayed. `sip_recorded` says what a
+//! - Used: `sipd_start`, where `serve` is to go on from a record; `sip_replay`, where a record is replayed. `sip_replay` says what a
 //!   resumed server has for its record.
 //! - Not here: what writes a record (`sip_journal`), what the text of a configuration states
 //!   (`sip_segment_config`), how steps are printed (`sip_replay_print`).

@@ -1,7 +1,7 @@
 //! One event of a record taken as it was served: what is due by its moment happens first, then the event is taken and told to the journal.
 //! Nothing of it is sent.
 ghost use Rattle.std.specs.Prelude.{◌≡◌, ◌≤◌, [], ◌∷◌, Some, None, true, IfOk, IfErr, IfNone, IfSome, OnOk, OnErr};
-ghost use Rattle.model_bounds.specs.steps_model.Step.{moment_of};
+ghost use Rattle.sip_model.specs.steps_model.Step.{moment_of};
 ghost use Rattle.sip_run.specs.Due.{NothingDueBy, standing_of};
 ghost use Rattle.sip_replay_script.specs.Devices.{later};
 ghost use Rattle.sip_replay_script.specs.Lines.{pending, IsSpent};

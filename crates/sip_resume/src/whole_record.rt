@@ -12,11 +12,11 @@ use crate::segments::take_segment;
 use sip_event::StepOut;
 use sip_journal::Journal;
 use sip_journal::laws::noted_segments_join;
+use sip_journal::segment_laws::segments_join;
 use sip_policy::Rules;
 use sip_replay_print::StepSink;
 use sip_replay_script::{ScriptLines, TellingReader};
 use sip_run::engine::Engine;
-use sip_segment_text::laws::segments_join;
 use sip_timers::Timers;
 use std::alloc::Global;
 

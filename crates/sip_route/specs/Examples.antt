@@ -1,8 +1,8 @@
 -- This server's places and requests for the worked examples.
 use Rattle.std.specs.Prelude.{ℕ, List, [], ◌∷◌, codes}
 use Rattle.sip_message_fields.specs.declared.field_name.FieldName.TheVariants as Name
-use Rattle.sip_message_form.specs.declared.message.Start.TheVariants.{Request}
-use Rattle.sip_message_form.specs.declared.message.Message.{Message}
+use Rattle.sip_header.specs.forms.declared.message.Start.TheVariants.{Request}
+use Rattle.sip_header.specs.forms.declared.message.Message.{Message}
 use Rattle.sip_uri.specs.Examples.{sample_domains}
 use Rattle.sip_header.specs.FieldExamples.{fields_of}
 use Rattle.sip_route.specs.declared.own.Own.{Own}

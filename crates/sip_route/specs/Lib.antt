@@ -3,3 +3,4 @@ pub mod Way
 pub mod Routes
 pub mod RoutesKept
 pub mod Examples
+pub use Rattle.sip_header.specs as header

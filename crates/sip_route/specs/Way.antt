@@ -8,9 +8,9 @@ use Rattle.sip_uri_equality.specs.Equality.{same, says_same_no_case}
 use Rattle.sip_uri.specs.Reading.{reading_of}
 use Rattle.sip_message_fields.specs.declared.field_name.FieldName.TheVariants as Name
 use Rattle.sip_message_fields.specs.declared.field.Field.{Field}
-use Rattle.sip_message_form.specs.declared.message.Start.{Start}
-use Rattle.sip_message_form.specs.declared.message.Start.TheVariants.{Request, Status}
-use Rattle.sip_message_form.specs.declared.message.Message.{Message}
+use Rattle.sip_header.specs.forms.declared.message.Start.{Start}
+use Rattle.sip_header.specs.forms.declared.message.Start.TheVariants.{Request, Status}
+use Rattle.sip_header.specs.forms.declared.message.Message.{Message}
 use Rattle.sip_header.specs.declared.name_addr.AnyUri.{AnyUri}
 use Rattle.sip_header.specs.declared.name_addr.AnyUri.TheVariants.{Sip, Other}
 use Rattle.sip_header.specs.declared.name_addr.NameAddr.{NameAddr}

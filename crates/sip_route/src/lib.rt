@@ -20,3 +20,11 @@ mod way;
 pub use own::{Own, is_address, loose_routing};
 pub use routes_kept::{RoutesKept, kept_routes};
 pub use way::{Way, has_lr, request_uri, uri_left, way_of};
+
+/// Of `sip_header`.
+pub mod header {
+    pub use sip_header::{
+        MaxForwards, Via, branch_of, cseq_of, max_forwards_of, one_before_rport, parameter_of,
+        via_before_branch, via_of,
+    };
+}

@@ -8,8 +8,8 @@ ghost use Rattle.sip_route.specs.RoutesKept as Kept;
 use crate::own::Own;
 use crate::routes::is_own_route;
 use crate::way::{request_uri, restored_of};
+use sip_header::forms::View;
 use sip_message_fields::{FieldName, ViewField};
-use sip_message_form::View;
 use std::alloc::{AllocError, Global};
 
 /// Which fields of a request are left once this server's own part of its way is taken off: of its Routes so many are

@@ -2,7 +2,7 @@
 //! The address behind that URI is looked up in `sip_hops`.
 ghost use Rattle.std.specs.Prelude.{◌≡◌, ◌&&◌, IfOk, MatchOption, [], Some, map, true, false, take, drop, length, codes};
 ghost use Rattle.sip_text.specs.Words.{is_same_text};
-ghost use Rattle.sip_message_form.specs.ViewStart.{start_seen};
+ghost use Rattle.sip_header.specs.forms.ViewStart.{start_seen};
 ghost use Rattle.sip_header.specs.NameAddr.{sip_uri};
 ghost use Rattle.sip_message_fields.specs.declared.field_name.FieldName.TheVariants as Name;
 ghost use Rattle.sip_message_fields.specs.Values.{values_of};
@@ -12,9 +12,9 @@ ghost use Rattle.sip_route.specs.Routes.{way_with, way_by};
 
 use crate::own::Own;
 use crate::routes::{last_route, others_left, routes_left};
+use sip_header::forms::{View, ViewStart};
 use sip_header::{AnyUri, NameAddr, route_of};
 use sip_message_fields::{FieldName, Value};
-use sip_message_form::{View, ViewStart};
 use sip_text::{Items, Text, same_no_case, split_once};
 use sip_uri::{Uri, UriError, parse_uri, uri_in};
 use sip_uri_equality::{same, says_same_no_case};

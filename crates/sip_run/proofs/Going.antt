@@ -9,7 +9,7 @@ use Rattle.sip_engine.specs.steps_model.Step.{Given, Passing, IsStep}
 use Rattle.sip_engine.specs.model.Run.{Link, IsRun, event_moment, events_of, steps_of, first_moment}
 use Rattle.sip_run.specs.Due.{Fires}
 use Rattle.model_transactions.specs.Queue.{Entry}
-use Rattle.sip_engine.specs.order.Order.{IsFirstOf, IsQueueAfter, Standing}
+use Rattle.sip_engine.specs.model.TimerOrder.{IsFirstOf, IsQueueAfter, Standing}
 use Rattle.sip_engine.proofs.of_order.{queue_behind, queue_next, queued_joined}
 use Rattle.sip_run.specs.Runs.{AreTurns, IsInTurn, IsTurn, Goes}
 use Rattle.sip_run.proofs.RunOn.{run_on}

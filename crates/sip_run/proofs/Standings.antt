@@ -4,7 +4,7 @@ use Rattle.sip_timers.specs.declared.timer.Timer.{Timer}
 use Rattle.sip_engine.specs.state.declared.proxy_state.ProxyState.{ProxyState}
 use Rattle.sip_engine.specs.Engine.{Engine}
 use Rattle.model_transactions.specs.Queue.{entry_of}
-use Rattle.sip_engine.specs.order.Order.{Standing}
+use Rattle.sip_engine.specs.model.TimerOrder.{Standing}
 use Rattle.sip_run.specs.Due.{standing_of}
 
 -- a state, with these timers

@@ -9,10 +9,10 @@ use Rattle.sip_engine.specs.state.State.{first_state}
 use Rattle.sip_engine.specs.steps_model.Step.{moment_of}
 use Rattle.sip_engine.specs.model.Run.{IsChain, Link, IsRun, event_moment, first_moment}
 use Rattle.sip_engine.specs.model.Access.{Access}
-use Rattle.model_bounds.specs.Bounds.{IsBounded}
+use Rattle.sip_engine.specs.model.Bounds.{IsBounded}
 use Rattle.sip_engine.specs.declared.error.StepError.{StepError}
 use Rattle.sip_engine.specs.declared.error.StepError.TheVariants.{NoMemory}
-use Rattle.sip_engine.specs.order.Order.{Standing, first_standing}
+use Rattle.sip_engine.specs.model.TimerOrder.{Standing, first_standing}
 use Rattle.sip_run.specs.Due.{NothingDueBy}
 use Rattle.sip_run.specs.Refusals.{RefusesStep, refusal_of_event}
 use Rattle.sip_run.specs.Runs.{IsRunOver, Goes, Halts, Stops}

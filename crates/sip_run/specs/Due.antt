@@ -10,7 +10,7 @@ use Rattle.sip_engine.specs.model.Ends.{steps_left}
 use Rattle.sip_engine.specs.Engine.{Engine}
 use Rattle.sip_engine.specs.StepError.{refusal_at}
 use Rattle.model_transactions.specs.Queue.{entry_of}
-use Rattle.sip_engine.specs.order.Order.{IsFirstOf, IsQueueAfter, Standing}
+use Rattle.sip_engine.specs.model.TimerOrder.{IsFirstOf, IsQueueAfter, Standing}
 
 -- nothing is due by a moment
 pub record NothingDueBy (moment : ℕ) (state : ProxyState) : Type 0 where

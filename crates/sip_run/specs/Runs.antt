@@ -9,12 +9,12 @@ use Rattle.sip_engine.specs.state.State.{first_state}
 use Rattle.sip_engine.specs.steps_model.Step.{Act, Given, Passing, moment_of}
 use Rattle.sip_engine.specs.model.Run.{Link, IsRun, event_moment, first_moment}
 use Rattle.sip_engine.specs.model.Access.{Access}
-use Rattle.model_bounds.specs.Bounds.{IsBounded}
+use Rattle.sip_engine.specs.model.Bounds.{IsBounded}
 use Rattle.sip_engine.specs.declared.error.StepError.{StepError}
 use Rattle.sip_engine.specs.declared.error.StepError.TheVariants.{NoMemory}
 use Rattle.sip_engine.specs.StepError.{refusal_at}
 use Rattle.model_transactions.specs.Queue.{Entry}
-use Rattle.sip_engine.specs.order.Order.{AllQueued, IsFirstOf, Standing, queue_from}
+use Rattle.sip_engine.specs.model.TimerOrder.{AllQueued, IsFirstOf, Standing, queue_from}
 use Rattle.sip_run.specs.Due.{IsDueBy, NothingDueBy}
 use Rattle.sip_run.specs.Refusals.{RefusesStep, refusal_of_event}
 

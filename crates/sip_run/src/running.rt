@@ -7,8 +7,8 @@ ghost use Rattle.sip_run.specs.Runs.{FiringHalts, Goes, Halts, IsRunOver, Stops,
 use crate::due_step::fire_next;
 use crate::outcome::Run;
 use crate::taking::{event_moment, take_event};
-use model_bounds::bounds::every_history_is_bounded;
 use sip_config_types::Config;
+use sip_engine::model::bounds::every_history_is_bounded;
 use sip_engine::model::laws::every_run_has_access;
 use sip_engine::model::runs::runs_join;
 use sip_engine::{Engine, StepError};

@@ -1,5 +1,5 @@
 ghost use Rattle.std.specs.Prelude.{◌≡◌, None, IsOk, IfOk, IfErr, OnOk, OnErr};
-ghost use Rattle.sip_engine.specs.order.Order.{IsQueueAfter};
+ghost use Rattle.sip_engine.specs.model.TimerOrder.{IsQueueAfter};
 ghost use Rattle.sip_engine.specs.model.Run.{event_moment};
 ghost use Rattle.sip_engine.specs.steps_model.Step.{Given, IsStep, moment_of};
 ghost use Rattle.sip_event.specs.declared.event.Event.TheVariants.{Datagram};

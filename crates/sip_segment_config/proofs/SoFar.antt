@@ -10,10 +10,10 @@ use Rattle.sip_replay_script.specs.Lines.{Reading, is_end, left, pending}
 use Rattle.sip_replay_script.specs.Recorded.{IsDamagedRecord, SaysRecord}
 use Rattle.sip_replay_script.proofs.RecordTexts.{record_all, record_one}
 use Rattle.sip_replay_script.proofs.Written.{keeps_consumes}
-use Rattle.sip_segment_text.specs.Configurations.{ComesNext, IsDamagedConfiguration, IsLongConfiguration}
-use Rattle.sip_segment_text.specs.Segments.{SaysConfiguration, SaysSegments, SaysWhole, Segment}
-use Rattle.sip_segment_text.specs.declared.upcoming.Upcoming.{Upcoming}
-use Rattle.sip_segment_text.specs.declared.upcoming.Upcoming.TheVariants as upcoming
+use Rattle.sip_journal.specs.Configurations.{ComesNext, IsDamagedConfiguration, IsLongConfiguration}
+use Rattle.sip_journal.specs.Segments.{SaysConfiguration, SaysSegments, SaysWhole, Segment}
+use Rattle.sip_journal.specs.declared.upcoming.Upcoming.{Upcoming}
+use Rattle.sip_journal.specs.declared.upcoming.Upcoming.TheVariants as upcoming
 use Rattle.sip_segment_config.specs.Last.{last_behind, GivesPart, HasLast, IsDamagedPart, IsLastOf, IsLastText, IsSoBehind}
 use Rattle.sip_segment_config.specs.Last.{LastStops, PartStops, ReadsText, SaysToEnd}
 use Rattle.sip_segment_config.specs.Stops.{TextStops}

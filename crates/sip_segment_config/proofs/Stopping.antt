@@ -3,7 +3,7 @@ use Rattle.std.proofs.Common.{◌≡◌, ℕ, ◌+◌, List, ◌++◌, Option, N
 use Rattle.std.specs.Prelude.{IfSome}
 use Rattle.std.specs.Io.KnownBytes.{Consumes}
 use Rattle.sip_replay_script.specs.Lines.{Reading, pending}
-use Rattle.sip_segment_text.specs.Configurations.{GivesConfiguration}
+use Rattle.sip_journal.specs.Configurations.{GivesConfiguration}
 use Rattle.sip_segment_config.specs.Stops.{IsNext, ReadStops, TextStops}
 use Rattle.sip_segment_config.specs.declared.stop.SegmentStop.{SegmentStop}
 use Rattle.sip_segment_config.specs.declared.stop.SegmentStop.TheVariants as stops

@@ -5,8 +5,8 @@ use Rattle.sip_config_types.specs.declared.config.Config.{Config}
 use Rattle.sip_event.specs.declared.event.Event.{Event}
 use Rattle.sip_replay_script.specs.Lines.{Reading, is_end}
 use Rattle.sip_replay_script.specs.Recorded.{GivesRecorded, IsCutRecord, IsDamagedRecord}
-use Rattle.sip_segment_text.specs.Configurations.{GivesConfiguration, IsCutConfiguration, IsDamagedConfiguration, IsLongConfiguration}
-use Rattle.sip_segment_text.specs.Segments.{SaysSegments, SaysWhole, Segment}
+use Rattle.sip_journal.specs.Configurations.{GivesConfiguration, IsCutConfiguration, IsDamagedConfiguration, IsLongConfiguration}
+use Rattle.sip_journal.specs.Segments.{SaysSegments, SaysWhole, Segment}
 use Rattle.sip_config.specs.Stated.{States, StatesNone}
 use Rattle.sip_segment_config.specs.declared.last_text.LastText.{LastText}
 use Rattle.sip_segment_config.specs.declared.last_text.RecordPart.{RecordPart}

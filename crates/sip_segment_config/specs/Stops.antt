@@ -1,10 +1,10 @@
 -- Why the next configuration of a record isn't read.
 use Rattle.std.specs.Prelude.{◌≡◌, ◌+◌, ⊤, ℕ, List, ◌++◌, Option, IfSome}
 use Rattle.sip_config.specs.Stated.{StatesNone}
-use Rattle.sip_segment_text.specs.declared.configuration_stop.ConfigurationStop.{ConfigurationStop}
-use Rattle.sip_segment_text.specs.declared.configuration_stop.ConfigurationStop.TheVariants as stops
-use Rattle.sip_segment_text.specs.Configurations.{IsCutConfiguration, IsDamagedConfiguration, IsLongConfiguration}
-use Rattle.sip_segment_text.specs.Segments.{SaysConfiguration}
+use Rattle.sip_journal.specs.declared.configuration_stop.ConfigurationStop.{ConfigurationStop}
+use Rattle.sip_journal.specs.declared.configuration_stop.ConfigurationStop.TheVariants as stops
+use Rattle.sip_journal.specs.Configurations.{IsCutConfiguration, IsDamagedConfiguration, IsLongConfiguration}
+use Rattle.sip_journal.specs.Segments.{SaysConfiguration}
 use Rattle.sip_segment_config.specs.declared.stop.SegmentStop.{SegmentStop}
 use Rattle.sip_segment_config.specs.declared.stop.SegmentStop.TheVariants.{NoMemory, Damaged, Cut, Read, TooLong, NoConfiguration, OtherFrame}
 

@@ -3,15 +3,15 @@ ghost use Rattle.std.specs.Prelude.{◌≡◌, ◌≤◌, ℕ, length, IfOk, IfE
 ghost use Rattle.sip_replay_script.specs.Devices.{later};
 ghost use Rattle.sip_replay_script.specs.Lines.{pending, IsSpent};
 ghost use Rattle.sip_replay_script.specs.Recorded.{IsDamagedRecord};
-ghost use Rattle.sip_segment_text.specs.Configurations.{IsDamagedConfiguration};
+ghost use Rattle.sip_journal.specs.Configurations.{IsDamagedConfiguration};
 ghost use Rattle.sip_segment_config.specs.Last.{last_behind, EndsCut, EndsWith, EndsWithNone, GivesPart, IsDamagedPart, IsLastOf};
 ghost use Rattle.sip_segment_config.specs.Last.{LastStops, PartStops, SaysToEnd};
 
 use crate::reading::{RecordedConfig, config_in};
 use crate::stop::SegmentStop;
+use sip_journal::segment_laws::segments_join;
+use sip_journal::{ConfigurationStop, Upcoming, look_ahead, next_configuration};
 use sip_replay_script::{ReadStop, ScriptLines, TellingReader, next_recorded};
-use sip_segment_text::laws::segments_join;
-use sip_segment_text::{ConfigurationStop, Upcoming, look_ahead, next_configuration};
 use sip_text::Buffer;
 use std::alloc::Global;
 

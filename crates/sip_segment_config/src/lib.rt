@@ -2,7 +2,7 @@
 //!
 //! - Used: `sip_resume`, for each that a server takes; `sipd_old_record`, for the one with which a record begins (`read_configuration`);
 //!   `sipd_tools`, for the last one (`last_configuration`).
-//! - Not here: how a record holds them (`sip_segment_text`), and what a text states (`sip_config`).
+//! - Not here: how a record holds them (`sip_journal`), and what a text states (`sip_config`).
 //! - Tried: `test_serve`, through `sip_resume`; over files by `tests/serve.py` and `tests/changes.py`.
 //!
 //! ```text

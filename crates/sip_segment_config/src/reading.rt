@@ -8,8 +8,8 @@ ghost use Rattle.sip_segment_config.specs.Reads.{GivesStated};
 use crate::stop::SegmentStop;
 use sip_config::{ConfigError, read_config_bytes};
 use sip_config_types::Config;
+use sip_journal::next_configuration;
 use sip_replay_script::{ScriptLines, TellingReader};
-use sip_segment_text::next_configuration;
 use sip_text::Buffer;
 use std::alloc::Global;
 

@@ -3,7 +3,7 @@ ghost use Rattle.sip_segment_config.specs.Stops;
 
 use sip_config::ConfigError;
 use sip_config_change::FrameKey;
-use sip_segment_text::ConfigurationStop;
+use sip_journal::ConfigurationStop;
 use std::error::Error;
 use std::fmt;
 

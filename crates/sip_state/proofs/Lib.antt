@@ -4,3 +4,4 @@ pub mod Received
 pub mod Told
 pub mod Tails
 pub mod Alike
+pub use Rattle.sip_edit.proofs as of_edits

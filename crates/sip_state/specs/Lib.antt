@@ -11,3 +11,4 @@ pub mod ReadOnce
 pub mod AnswerText
 pub use Rattle.sip_config_types.specs as config_types
 pub use Rattle.sip_transaction_table.specs as transaction_table
+pub use Rattle.sip_edit.specs as edits

@@ -49,7 +49,7 @@ use sip_uri::Addr;
 ///
 /// To the left of a `:` stands what happens, to the right what is done, a status that the branch counts as if it had
 /// answered with it, or what the state is called there. The branch of a CANCEL goes the same way, but ends with nothing.
-/// `model_transactions` proves that each state and each step is one of the machines of `sip_client`.
+/// `model_transactions` proves that each state and each step is one of the machines of `sip_transactions`.
 #[derive(Clone, Copy)]
 pub enum Phase {
     /// No response came: Calling, or Trying.

@@ -43,7 +43,7 @@ use sip_uri::Addr;
 ///                    +-------------+
 /// ```
 ///
-/// `model_transactions` proves that each state and each step is one of the machines of `sip_server`.
+/// `model_transactions` proves that each state and each step is one of the machines of `sip_transactions`.
 #[derive(Clone, Copy)]
 pub enum Side {
     /// It has no final answer yet: Trying, or Proceeding.

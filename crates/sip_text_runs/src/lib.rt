@@ -3,7 +3,7 @@
 //! and whether it begins with a text; and where a line ends. A value that isn't plainly one item may be one all the same, and a name may end at a
 //! mark further on than is looked: then it is looked at byte by byte.
 //!
-//! - Used: `sip_message` looks over the lines of a head, `sip_own_via` over the front of a Via.
+//! - Used: `sip_message` looks over the lines of a head, `sip_edit` over the front of a Via.
 //! - Not here: what a byte alone tells, and lists that are cut (`sip_text`).
 //! - Tried: `test_parts`, by the messages that it reads.
 //!

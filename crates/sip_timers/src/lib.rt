@@ -4,7 +4,7 @@
 //! clock is read here: each moment is handed in. `specs/Machine` says what a transaction machine is.
 //!
 //! - Used: `sip_request` sets and stops timers, `sip_fork` looks at the first.
-//! - Not here: what happens when a timer fires (`sip_engine_open`), and which intervals a phase has (`sip_context`).
+//! - Not here: what happens when a timer fires (`sip_engine_request`), and which intervals a phase has (`sip_context`).
 //! - Tried: worked examples in `src/examples.rt`, as contracts that compute; each kind of timers in `test_kinds`.
 #![tactic(auto)]
 

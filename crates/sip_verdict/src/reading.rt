@@ -4,8 +4,8 @@ ghost use Rattle.sip_verdict.specs.Incoming.{Is};
 use crate::incoming::Incoming;
 use crate::requesting::request_of;
 use crate::responding::response_of;
+use sip_edit::OwnVias;
 use sip_message_form::{View, ViewStart};
-use sip_own_via::OwnVias;
 use std::alloc::{AllocError, Global};
 
 /// What a message is that came in, of whose body fewer bytes may have come than its length says, to a server with these

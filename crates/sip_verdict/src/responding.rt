@@ -8,10 +8,10 @@ ghost use Rattle.sip_verdict.specs.Incoming.{Is};
 ghost use Rattle.model_verdict.specs.Verdict.{is_many};
 
 use crate::incoming::Incoming;
+use sip_edit::OwnVias;
 use sip_header::cseq_of;
 use sip_message_fields::FieldName;
 use sip_message_form::View;
-use sip_own_via::OwnVias;
 use std::alloc::{AllocError, Global};
 
 /// The method of the only CSeq of a response (RFC 3261 17.1.3, 20.16).

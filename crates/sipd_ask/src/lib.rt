@@ -1,7 +1,7 @@
 //! What is asked of a configuration without a server: who may call whom, and where the call goes; the table of a user who is
 //! to be added; what a file was understood to say, and what of that is seldom meant.
 //!
-//! - Used: `sipd_tools`, for `decide`, `user`, `check` and `check --show`; `sipd_expect` and `sipd_asked_again`, for the
+//! - Used: `sipd_tools`, for `decide`, `user`, `check` and `check --show`; `sipd_expect`, for the
 //!   decision of a question.
 //! - Not here: the decision of a running server (`sip_verdict`), which is the same definition; reading a file (`sip_config`), and
 //!   what is

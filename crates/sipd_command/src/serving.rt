@@ -21,7 +21,7 @@ use sip_uri::Addr;
 use sipd_arguments::ServeCall;
 use sipd_boot::secret;
 use sipd_exit::{DeviceFault, Exit, Stated, config_of_bytes, stated_in};
-use sipd_journal::WatchedJournal;
+use sipd_old_record::WatchedJournal;
 use sipd_progress::Watched;
 use sipd_reload::{PathFile, Watch, WatchedFile};
 use sipd_service::engine::Engine;

@@ -5,3 +5,8 @@ pub mod Telling
 pub mod Line
 pub mod File
 pub mod Examples
+pub mod Asking
+pub mod LogTelling
+pub mod Counts
+pub mod LogSteps
+pub mod LogExamples

@@ -7,10 +7,10 @@ use Rattle.sha2.specs.Sha256.{sha256}
 use Rattle.sip_config_types.specs.declared.config.Config.{Config}
 use Rattle.sip_replay_script.specs.Lines.{IsOver, Reading, is_end, left, pending}
 use Rattle.sip_replay_script.specs.Recorded.{IsDamagedRecord}
-use Rattle.sip_segment_text.specs.Configurations.{BeginsBy, ComesNext, HasFirst, IsCutConfiguration, IsDamagedConfiguration, IsLongConfiguration, begins_configuration}
-use Rattle.sip_segment_text.specs.Configurations.{begins_event}
-use Rattle.sip_segment_text.specs.declared.upcoming.Upcoming.{Upcoming}
-use Rattle.sip_segment_text.specs.declared.upcoming.Upcoming.TheVariants as upcoming
+use Rattle.sip_journal.specs.Configurations.{BeginsBy, ComesNext, HasFirst, IsCutConfiguration, IsDamagedConfiguration, IsLongConfiguration, begins_configuration}
+use Rattle.sip_journal.specs.Configurations.{begins_event}
+use Rattle.sip_journal.specs.declared.upcoming.Upcoming.{Upcoming}
+use Rattle.sip_journal.specs.declared.upcoming.Upcoming.TheVariants as upcoming
 use Rattle.sip_config.specs.Stated.{StatesNone}
 use Rattle.sip_segment_config.specs.Last.{IsDamagedPart}
 use Rattle.sip_segment_config.specs.Stops.{IsNext, NextIs, ReadStops}

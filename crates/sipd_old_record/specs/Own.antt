@@ -5,7 +5,7 @@ use Rattle.sha2.specs.Sha256.{sha256}
 use Rattle.sip_config_types.specs.declared.config.Config.{Config}
 use Rattle.sip_replay_script.specs.Lines.{Reading, pending}
 use Rattle.sip_replay_script.specs.Recorded.{IsDamagedRecord}
-use Rattle.sip_segment_text.specs.Configurations.{BeginsBy, IsDamagedConfiguration, begins_event}
+use Rattle.sip_journal.specs.Configurations.{BeginsBy, IsDamagedConfiguration, begins_event}
 use Rattle.sip_segment_config.specs.Last.{IsDamagedPart}
 use Rattle.sip_segment_config.specs.Reads.{GivesStated}
 use Rattle.sip_segment_config.specs.Stops.{NextIs, ReadStops}

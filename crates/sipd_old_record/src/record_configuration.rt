@@ -3,16 +3,15 @@ ghost use Rattle.std.specs.Io.KnownBytes.{Keeps};
 ghost use Rattle.sha2.specs.Sha256.{sha256};
 ghost use Rattle.sip_replay_script.specs.Devices.{later};
 ghost use Rattle.sip_replay_script.specs.Lines.{pending, IsOver, IsSpent};
-ghost use Rattle.sip_segment_text.specs.Configurations.{begins_event, BeginsBy};
+ghost use Rattle.sip_journal.specs.Configurations.{begins_event, BeginsBy};
 ghost use Rattle.sip_segment_config.specs.declared.stop.SegmentStop.TheVariants.{Damaged};
 ghost use Rattle.sipd_old_record.specs.Own.{HoldsNone, HoldsOwn, IsNoEvent, OwnStops};
 ghost use Rattle.sipd_reload.specs.File.{most_bytes};
 
 use sha2::{Digest, Sha256};
-use sip_journal::RecordHead;
+use sip_journal::{RecordHead, Upcoming, look_ahead, look_for_event};
 use sip_replay_script::{ScriptLines, TellingReader};
 use sip_segment_config::{RecordedConfig, SegmentStop, read_configuration};
-use sip_segment_text::{Upcoming, look_ahead, look_for_event};
 use sipd_reload::MOST_BYTES;
 use std::alloc::Global;
 

@@ -2,7 +2,7 @@
 //! taken: a file as a trait, with one of the system and one over memory, and a watch of it.
 //!
 //! - Used: `sipd_command` asks it once a turn, where a service is to take its configuration anew; `sipd_exit` reads each file of a
-//!   configuration by it; `sipd_old_record`, `sipd_start`, `sipd_tools` and `sipd_replay` read no longer configuration of a record.
+//!   configuration by it; `sipd_old_record`, `sipd_start` and `sipd_tools` read no longer configuration of a record.
 //! - Not here: what the bytes say, and what is done with them.
 //! - Tried: worked examples in `src/examples.rt`, as contracts that compute; `test_kinds`, on memory, with each allocation refused.
 //!

@@ -1,7 +1,7 @@
 //! What an audit says, for people and for programs: audit lines read back, those that are asked for as rows of a table or of
 //! CSV, and what is counted of them.
 //!
-//! - Used: `sipd_tools`, for `report`; `sipd_asked_again`, for the lines of a log and what each says; `sipd_matrix_forms`, for fields of
+//! - Used: `sipd_tools`, for `report`; `sipd_expect`, for the lines of a log and what each says; `sipd_matrix_forms`, for fields of
 //!   comma-separated values.
 //! - Not here: audit lines (`sip_audit`), and which words of a command line ask for a report.
 //! - Tried: worked examples in `src/examples.rt`, as contracts that compute.

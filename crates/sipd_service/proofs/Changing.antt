@@ -5,7 +5,7 @@ use Rattle.std.specs.Result.{is_err}
 use Rattle.sip_config_types.specs.declared.config.Config.{Config}
 use Rattle.sip_config_change.specs.declared.key.FrameKey.{FrameKey}
 use Rattle.sip_config_change.specs.Frame.{frame_key_of}
-use Rattle.model_bounds.specs.state.declared.server.Server.{Server}
+use Rattle.sip_model.specs.state.declared.server.Server.{Server}
 use Rattle.sip_journal.specs.Record.{Notes}
 use Rattle.sip_loop.specs.Serving.{Told}
 use Rattle.sip_transport.specs.declared.datagram.HeardDatagram.{HeardDatagram}

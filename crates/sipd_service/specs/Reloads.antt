@@ -2,7 +2,7 @@
 use Rattle.std.specs.Prelude.{◌≡◌, ◌⊎◌, ℕ, List, Option, Some, None, option_map}
 use Rattle.sip_config_types.specs.declared.config.Config.{Config}
 use Rattle.sip_config_change.specs.Frame.{frame_key_of}
-use Rattle.model_bounds.specs.state.declared.server.Server.{Server}
+use Rattle.sip_model.specs.state.declared.server.Server.{Server}
 use Rattle.sip_journal.specs.Record.{NotesConfiguration}
 use Rattle.sip_config.specs.Stated.{States}
 use Rattle.sip_guard.specs.Guard.{GuardState, hearing}

@@ -24,7 +24,7 @@ use sip_timers::Timers;
 use sip_transport::{Clock, Link};
 use sip_uri::Addr;
 use sipd_exit::{DeviceFault, Exit};
-use sipd_journal::{Unrecorded, WatchedJournal};
+use sipd_old_record::{Unrecorded, WatchedJournal};
 use sipd_reload::{Watch, WatchedFile};
 use std::alloc::Global;
 use std::io::Write;

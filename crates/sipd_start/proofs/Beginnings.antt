@@ -7,19 +7,19 @@ use Rattle.sip_config.specs.values.declared.error.ConfigError.{ConfigError}
 use Rattle.sip_config_types.specs.declared.config.Config.{Config}
 use Rattle.sip_event.specs.declared.event.Boot.{Boot}
 use Rattle.sip_event.specs.declared.event.StepOut.{StepOut}
-use Rattle.model_bounds.specs.state.declared.server.Server.{Server}
-use Rattle.model_order.specs.Order.{Standing, first_standing}
-use Rattle.model_bounds.specs.state.State.{first_state}
-use Rattle.sip_resume.specs.run.engine.Engine.{Engine}
-use Rattle.sip_resume.specs.run.engine.engine_time.proxy.Proxy.{Secrets, secrets_of}
-use Rattle.sip_resume.specs.run.Due.{standing_of}
-use Rattle.sip_resume.proofs.of_standings.{standing_is}
+use Rattle.sip_model.specs.state.declared.server.Server.{Server}
+use Rattle.sip_model.specs.TimerOrder.{Standing, first_standing}
+use Rattle.sip_model.specs.state.State.{first_state}
+use Rattle.sip_replay.specs.resume.run.engine.Engine.{Engine}
+use Rattle.sip_replay.specs.resume.run.engine.engine_time.proxy.Proxy.{Secrets, secrets_of}
+use Rattle.sip_replay.specs.resume.run.Due.{standing_of}
+use Rattle.sip_replay.proofs.of_standings.{standing_is}
 use Rattle.sip_journal.specs.Record.{NotesConfiguration}
 use Rattle.sip_journal.specs.declared.record_head.RecordHead.{RecordHead}
 use Rattle.sip_journal.specs.declared.record_mark.RecordMark.TheVariants.{Whole}
 use Rattle.sip_replay_script.specs.Lines.{Reading, pending}
-use Rattle.sip_resume.specs.Outputs.{Outputs}
-use Rattle.sip_resume.specs.Whole.{IsRecordResumed}
+use Rattle.sip_replay.specs.resume.Outputs.{Outputs}
+use Rattle.sip_replay.specs.resume.Whole.{IsRecordResumed}
 use Rattle.sipd_old_record.specs.OldRecord.{SaysHead}
 use Rattle.sipd_start.specs.Begins.{IsServerOf, StartsAnew, Written, TakesOld, LeadsTo, GoesOn, GoesOnFrom, IsFileNotResumed, IsLeftBehind, GoesOnFromFile, Begins}
 use Rattle.sipd_start.specs.Boots.{boot_again}

@@ -5,9 +5,9 @@ use Rattle.std.specs.List.{AllByRecursion}
 use Rattle.std.specs.declared.io.ErrorKind.{ErrorKind}
 use Rattle.std.specs.declared.io.ErrorKind.TheVariants.{OutOfMemory}
 use Rattle.std.proofs.lemmas.Option.{none-some}
-use Rattle.model_bounds.specs.model.Periods.{Period}
-use Rattle.model_bounds.specs.state.declared.server.Server.{Server}
-use Rattle.model_order.specs.Order.{Standing, first_standing}
+use Rattle.sip_model.specs.Periods.{Period}
+use Rattle.sip_model.specs.state.declared.server.Server.{Server}
+use Rattle.sip_model.specs.TimerOrder.{Standing, first_standing}
 use Rattle.rand_core.specs.Stream.{Stream}
 use Rattle.sip_config_change.specs.declared.key.FrameKey.{FrameKey}
 use Rattle.sip_config_change.specs.Frame.{frame_key_of}
@@ -22,10 +22,10 @@ use Rattle.sip_replay_script.specs.Lines.{IsSpent, Reading, is_end, pending}
 use Rattle.sip_segment_config.specs.Stops.{ReadStops}
 use Rattle.sip_segment_config.specs.declared.stop.SegmentStop.{SegmentStop}
 use Rattle.sip_segment_config.specs.declared.stop.SegmentStop.TheVariants as segments
-use Rattle.sip_resume.specs.Outputs.{Outputs}
-use Rattle.sip_resume.specs.Whole.{IsRecordResumed, IsRecordUnresumed, KeepsFrame, RecordStops, config_behind}
-use Rattle.sip_resume.specs.declared.record_error.RecordError.{RecordError}
-use Rattle.sip_resume.specs.declared.record_error.RecordError.TheVariants as resuming
+use Rattle.sip_replay.specs.resume.Outputs.{Outputs}
+use Rattle.sip_replay.specs.resume.Whole.{IsRecordResumed, IsRecordUnresumed, KeepsFrame, RecordStops, config_behind}
+use Rattle.sip_replay.specs.resume.declared.record_error.RecordError.{RecordError}
+use Rattle.sip_replay.specs.resume.declared.record_error.RecordError.TheVariants as resuming
 use Rattle.sipd_exit.specs.Exits.{exit_of_kind, fault_of}
 use Rattle.sip_config.specs.values.declared.error.ConfigError.{ConfigError}
 use Rattle.sip_config.specs.Stated.{States, StatesNone}

@@ -5,3 +5,5 @@ pub mod Places
 pub mod RecordNames
 pub mod StackLimit
 pub mod Stops
+pub mod ReplayExits
+pub mod Replays

@@ -1,10 +1,10 @@
 //! How a server that records begins: anew, or from where an older record leads; and what becomes of that record and of the new one.
 //! The files are made in `making`, the older record is taken in `taking`.
 ghost use Rattle.std.specs.Prelude.{◌≡◌, false, ℕ, List, Option, option_map, string_bytes, Err, IfErr, IfNone, IfOk, IfSome, None, Ok, OnErr, OnOk};
-ghost use Rattle.model_order.specs.Order.{first_standing};
-ghost use Rattle.sip_resume.specs.run.Due.{standing_of};
+ghost use Rattle.sip_model.specs.TimerOrder.{first_standing};
+ghost use Rattle.sip_replay.specs.resume.run.Due.{standing_of};
 ghost use Rattle.sip_replay_script.specs.Lines.{pending};
-ghost use Rattle.sip_resume.specs.run.engine.engine_time.proxy.Proxy.{secrets_of};
+ghost use Rattle.sip_replay.specs.resume.run.engine.engine_time.proxy.Proxy.{secrets_of};
 ghost use Rattle.sipd_boot.specs.Boots.{behind_boot, behind_secret, secret_from};
 ghost use Rattle.sipd_exit.specs.declared.exit.Exit.TheVariants.{PipedRecord};
 ghost use Rattle.sipd_exit.specs.declared.record_place.RecordFault.TheVariants.{GoOn};
@@ -26,16 +26,15 @@ use sip_config_types::Config;
 use sip_event::{Boot, StepOut};
 use sip_journal::{NoJournal, RecordHead, RecordMark, Recorder};
 use sip_policy::Rules;
+use sip_replay::resume::Resumed;
+use sip_replay::resume::engine::Engine;
 use sip_replay_script::TellingReader;
-use sip_resume::Resumed;
-use sip_resume::engine::Engine;
 use sip_text::same_bytes;
 use sip_timers::Timers;
 use sipd_boot::{new_boot, secret};
 use sipd_exit::{Exit, RecordFault, RecordPlace, Stated, config_of_bytes};
-use sipd_journal::{RecordFile, mark_file};
 use sipd_old_record::laws::asks_add_up;
-use sipd_old_record::{head_in, open_file};
+use sipd_old_record::{RecordFile, head_in, mark_file, open_file};
 use sipd_progress::{Watched, size_of_file};
 use std::fs;
 use std::io::{ErrorKind, Write};

@@ -9,7 +9,7 @@ ghost use Rattle.sipd_start.specs.Stops.{IsUnmade};
 use crate::record_folder::files_in;
 use sip_journal::{OnFault, RecordHead, Recorder, head_text};
 use sipd_exit::{Exit, RecordFault, RecordPlace, Stated};
-use sipd_journal::{RecordFile, new_file};
+use sipd_old_record::{RecordFile, new_file};
 use std::fs::OpenFile;
 use std::io::{ErrorKind, Write};
 use std::rt::{Clock, Files};

@@ -14,8 +14,8 @@ use Rattle.sipd_arguments.specs.declared.call.ExpectedDecision.{ExpectedDecision
 use Rattle.sipd_arguments.specs.declared.call.ExpectedDecision.TheVariants.{Allow, Deny, Challenge}
 use Rattle.sipd_exit.specs.declared.exit.Exit.{Exit}
 use Rattle.sipd_exit.specs.declared.exit.Exit.TheVariants.{OtherDecision}
-use Rattle.sipd_asked_again.specs.Steps.{AsksAgain, IsRefused}
-use Rattle.sipd_asked_again.specs.declared.counts.Counts.{Counts}
+use Rattle.sipd_expect.specs.LogSteps.{AsksAgain, IsRefused}
+use Rattle.sipd_expect.specs.declared.counts.Counts.{Counts}
 use Rattle.sipd_tools.specs.Against.{IsStated}
 use Rattle.sipd_report.specs.declared.error.ReportError.{ReportError}
 use Rattle.sipd_tools.specs.Ends.{IsUntold}

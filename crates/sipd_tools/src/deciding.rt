@@ -2,7 +2,7 @@
 //! decided otherwise.
 ghost use Rattle.std.specs.Prelude.{◌≡◌, ◌⊎◌, IfErr, IfOk, OnOk};
 ghost use Rattle.sip_replay_script.specs.Devices.{later, GaveUp};
-ghost use Rattle.sipd_asked_again.specs.Steps.{AsksAgain};
+ghost use Rattle.sipd_expect.specs.LogSteps.{AsksAgain};
 ghost use Rattle.sipd_exit.specs.declared.exit.Exit.TheVariants.{OtherDecision};
 ghost use Rattle.sipd_ask.specs.Question.{shown};
 ghost use Rattle.sipd_tools.specs.Deciding as Definitions;
@@ -16,8 +16,8 @@ use sip_policy::{Decision, minute_of};
 use sip_replay_script::{TellingReader, TellingWriter};
 use sipd_arguments::{DecideCall, ExpectedDecision, QuestionCall};
 use sipd_ask::{DecideQuestion, answer_to};
-use sipd_asked_again::{Counts, ask_again};
 use sipd_exit::{DeviceFault, Exit, config_of, print};
+use sipd_expect::{Counts, ask_again};
 use std::alloc::Global;
 use std::io::{Read, Write};
 use std::rt::{Clock, Files};

@@ -3,7 +3,7 @@
 //!
 //! - Used: `sipd_command`.
 //! - Not here: what is said (`sipd_config_faults`, `sipd_ask`, `sipd_matrix`, `sipd_changes`, `sipd_expect`, `sipd_report`,
-//!   `sipd_asked_again`), and what a record holds
+//!   `sipd_expect`), and what a record holds
 //!   (`sip_segment_config`).
 //! - Tried: `test_server`, `tests/mistakes.py`, `tests/changes.py`, `tests/expectations.py`, `tests/serve.py`, `tests/faults.py`.
 #![tactic(auto)]

@@ -1,8 +1,9 @@
 //! What a recorder writes of configurations, and of what is taken under them, read again.
 
-use sip_journal::{Journal, OnFault, Recorder};
+use sip_journal::{
+    ConfigurationStop, Journal, OnFault, Recorder, Upcoming, look_ahead, next_configuration,
+};
 use sip_replay_script::{ScriptLines, next_recorded};
-use sip_segment_text::{ConfigurationStop, Upcoming, look_ahead, next_configuration};
 use sip_text::Buffer;
 use std::alloc::{AllocError, Global};
 

@@ -1,5 +1,5 @@
 ghost use Rattle.std.specs.Prelude.{◌≡◌, [], ◌∷◌, codes, Some, None};
-ghost use Rattle.sip_message_fields.specs.declared.field_name.FieldName.TheVariants as Name;
+ghost use Rattle.sip_message_form.specs.fields.declared.field_name.FieldName.TheVariants as Name;
 ghost use Rattle.sip_header.specs.declared.contact_item.ContactItem.TheVariants.{Star};
 ghost use Rattle.sip_header.specs.declared.max_forwards.MaxForwards.TheVariants as MaxForwards;
 ghost use Rattle.sip_header.specs.declared.expires.Expires.TheVariants as Expires;

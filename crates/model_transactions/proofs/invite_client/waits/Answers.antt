@@ -1,7 +1,7 @@
 use Rattle.std.proofs.Common.{ℕ}
 use Rattle.sip_context_branches.specs.state.declared.resend.Resend.{Resend}
 use Rattle.sip_context_branches.specs.state.declared.branch.Phase.TheVariants.{Heard, Cancelled}
-use Rattle.sip_client.specs.declared.client_invite.ClientInvite.{ClientInvite}
+use Rattle.sip_transactions.specs.declared.client_invite.ClientInvite.{ClientInvite}
 use Rattle.model_transactions.specs.InviteClient.{RunsInviteClient, WhileHeard, WhileCancelled}
 use Rattle.model_transactions.proofs.invite_client.waits.Goals as goal
 

@@ -5,7 +5,7 @@ use Rattle.sip_message_fields.specs.declared.field_name.FieldName.TheVariants as
 use Rattle.sip_message_fields.specs.Named.{all_named, first_named, first_of}
 use Rattle.sip_message_form.specs.declared.message.Start.{Start}
 use Rattle.sip_message_form.specs.Text.{field_text}
-use Rattle.sip_header.specs.CSeq.{cseq_of}
+use Rattle.sip_route.specs.header.CSeq.{cseq_of}
 use Rattle.sip_route.specs.RoutesKept.{fields_kept}
 use Rattle.sip_route.specs.Way.{request_uri}
 use Rattle.sip_edit.specs.Onward.{with_uri}

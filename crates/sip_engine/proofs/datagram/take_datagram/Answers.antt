@@ -1,5 +1,5 @@
 use Rattle.std.proofs.Common.{◌∙◌, sym}
-use Rattle.sip_engine_open.specs.forwarding.Arrivals.{arrival_of}
+use Rattle.sip_engine_request.specs.forwarding.Arrivals.{arrival_of}
 use Rattle.sip_engine.proofs.Taken.{silent}
 use Rattle.sip_engine.proofs.datagram.take_datagram.Goals as goal
 

@@ -1,7 +1,7 @@
 use Rattle.std.proofs.Common.{refl, subst}
 use Rattle.sip_verdict.specs.Incoming.{Is}
 use Rattle.sip_verdict.specs.declared.incoming.Incoming.{Incoming}
-use Rattle.sip_engine_open.specs.forwarding.Arrivals.{arrival_of}
+use Rattle.sip_engine_request.specs.forwarding.Arrivals.{arrival_of}
 use Rattle.sip_verdict.specs.verdict_model.Verdict as Definition
 use Rattle.sip_engine.proofs.Taken.{dropped_as}
 use Rattle.sip_engine.proofs.datagram.take_message.Goals as goal

@@ -1,4 +1,4 @@
-use Rattle.sip_engine_open.specs.forwarding.Arrivals.{arrival_of}
+use Rattle.sip_engine_request.specs.forwarding.Arrivals.{arrival_of}
 use Rattle.sip_engine.proofs.Taken.{known}
 use Rattle.sip_engine.proofs.datagram.take_request.Goals as goal
 

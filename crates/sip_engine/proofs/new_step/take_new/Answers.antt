@@ -1,6 +1,6 @@
 use Rattle.std.proofs.Common.{IfOk, sym, subst}
 use Rattle.sip_verdict.specs.Verdict.{Is}
-use Rattle.sip_engine_open.specs.forwarding.Arrivals.{arrival_of}
+use Rattle.sip_engine_request.specs.forwarding.Arrivals.{arrival_of}
 use Rattle.sip_verdict.specs.state.declared.server.Server.{Server}
 use Rattle.sip_verdict.specs.verdict_model.Verdict as Definition
 use Rattle.sip_engine_request.specs.Steps.{Takes}

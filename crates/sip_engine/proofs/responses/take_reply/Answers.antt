@@ -1,6 +1,6 @@
 use Rattle.std.proofs.Common.{refl}
 use Rattle.sip_verdict.specs.context_model.FoundBranch.{found_branch}
-use Rattle.sip_engine_open.specs.forwarding.Arrivals.{arrival_of}
+use Rattle.sip_engine_request.specs.forwarding.Arrivals.{arrival_of}
 use Rattle.sip_engine.proofs.Taken.{replied, unfound}
 use Rattle.sip_engine.proofs.responses.take_reply.Goals as goal
 

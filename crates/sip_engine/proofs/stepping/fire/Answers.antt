@@ -2,7 +2,7 @@ use Rattle.std.proofs.Common.{◌≤◌, ◌⊎◌, ℕ, subst, sym}
 use Rattle.sip_model.specs.steps_model.Step.{Passing, IsDeadline, IsResend, IsStep, moment_of}
 use Rattle.sip_verdict.specs.state.declared.server.Server.{Server}
 use Rattle.sip_engine.proofs.Leading.{first_for, happens_for, passes_for}
-use Rattle.sip_engine_open.specs.Timers.{IsFiredFirst}
+use Rattle.sip_engine_request.specs.Timers.{IsFiredFirst}
 use Rattle.sip_engine.proofs.stepping.fire.Goals as goal
 
 pub fire-requires-clause-none_before : goal.fire-requires-clause-none_before

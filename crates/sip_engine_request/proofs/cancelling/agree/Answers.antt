@@ -1,6 +1,6 @@
 use Rattle.std.proofs.Common.{◌∙◌, ℕ, List, false, ap, refl}
-use Rattle.sip_verdict.specs.context_model.Opening.{closing}
-use Rattle.sip_verdict.specs.context_model.Sending.{answer_packet}
+use Rattle.sip_proxy.specs.verdict.context_model.Opening.{closing}
+use Rattle.sip_proxy.specs.verdict.context_model.Sending.{answer_packet}
 use Rattle.sip_message_fields.specs.declared.field.Field.{Field}
 use Rattle.sip_uas.specs.forwarding.Arrivals.{arrival_of}
 use Rattle.sip_engine_request.proofs.Cancels.{agreed_opens}

@@ -2,7 +2,7 @@ use Rattle.std.proofs.Common.{refl, sym}
 use Rattle.sip_proxy.specs.steps_model.Effect.{counted, effect_of}
 use Rattle.sip_uas.specs.forwarding.Arrivals.{arrival_of}
 use Rattle.sip_dialog_updates.specs.state.declared.proxy_state.ProxyState.{ProxyState}
-use Rattle.sip_verdict.specs.Verdict.{plan_of}
+use Rattle.sip_proxy.specs.verdict.Verdict.{plan_of}
 use Rattle.sip_uas.specs.Asking.{after_asking}
 use Rattle.sip_engine_request.proofs.Answering.{opened_in}
 use Rattle.sip_engine_request.proofs.Asking.{judged_done, judged_replies}

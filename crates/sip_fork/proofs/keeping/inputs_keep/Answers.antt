@@ -8,7 +8,7 @@ use Rattle.sip_context.specs.declared.input.Input.TheVariants.{Response, BranchD
 use Rattle.sip_context.specs.Inputs.{Outcome, outcome_of}
 use Rattle.sip_request.specs.transactions_model.Fits.{Fits}
 use Rattle.sip_request.specs.transactions_model.Matching.{AreBranched}
-use Rattle.model_branches.specs.Kept.{AreKept}
+use Rattle.sip_request.specs.transactions_model.Kept.{AreKept}
 use Rattle.sip_request.specs.transactions_model.Near.{IsBranchWithin, IsWithin}
 use Rattle.sip_fork.specs.Keeping.{IsKeptAs, IsOf}
 use Rattle.sip_fork.proofs.Same.{outcome_same}

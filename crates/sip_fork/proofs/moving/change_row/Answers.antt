@@ -5,7 +5,7 @@ use Rattle.sip_request.specs.declared.request.Request.{Request}
 use Rattle.sip_fork.specs.Contexts.{AreTied, IsFitting, IsKept}
 use Rattle.sip_fork.proofs.Tying.{changed, contexts, held_at, kept_at, kept_new, ready, seen_changed, timed_at}
 use Rattle.sip_request.specs.transactions_model.Matching.{AreBranched, AreMatched}
-use Rattle.model_branches.specs.Kept.{AreKept}
+use Rattle.sip_request.specs.transactions_model.Kept.{AreKept}
 use Rattle.sip_request.specs.Order.{keyed}
 use Rattle.sip_fork.specs.Firing.{KeepsOrder}
 use Rattle.sip_fork.proofs.Queueing.{changed_queue, keyed_all}

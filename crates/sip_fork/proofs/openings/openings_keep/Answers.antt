@@ -3,7 +3,7 @@ use Rattle.sip_dialog_updates.specs.state.declared.open_request.OpenRequest.{Ope
 use Rattle.sip_dialog_updates.specs.state.declared.server.Server.{Server}
 use Rattle.model_steps.specs.context_model.Opening.{arriving, branches_from, dialog_branch, forking, opening}
 use Rattle.sip_request.specs.transactions_model.Matching.{AreBranched}
-use Rattle.model_branches.specs.Kept.{AreKept}
+use Rattle.sip_request.specs.transactions_model.Kept.{AreKept}
 use Rattle.sip_fork.proofs.Same.{opening_same}
 use Rattle.sip_fork.proofs.openings.openings_keep.Goals as goal
 

@@ -1,6 +1,6 @@
 use Rattle.std.proofs.Common.{◌≡◌, take}
-use Rattle.sip_message_fields.specs.declared.field_name.FieldName.TheVariants as Name
-use Rattle.sip_message_fields.specs.Values.{values_of}
+use Rattle.sip_message_form.specs.fields.declared.field_name.FieldName.TheVariants as Name
+use Rattle.sip_message_form.specs.fields.Values.{values_of}
 use Rattle.sip_header.specs.Found.{found_of}
 use Rattle.sip_header.proofs.core_values.core_values.Given as goal
 

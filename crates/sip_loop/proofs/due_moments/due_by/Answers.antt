@@ -1,5 +1,5 @@
 use Rattle.std.proofs.Common.{◌≡◌, arith}
-use Rattle.model_bounds.specs.steps_model.Step.{moment_of}
+use Rattle.sip_model.specs.steps_model.Step.{moment_of}
 use Rattle.sip_run.proofs.Waiting.{not_yet, none_some}
 use Rattle.sip_loop.proofs.due_moments.due_by.Goals as goal
 

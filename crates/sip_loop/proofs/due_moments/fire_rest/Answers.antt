@@ -1,8 +1,8 @@
 use Rattle.std.proofs.Common.{◌≡◌, ◌∙◌, ◌≤◌, ◌+◌, arith, ap, refl, sym, subst, max}
 use Rattle.std.proofs.lemmas.Result.{err_from_is_err_and}
-use Rattle.model_bounds.specs.model.Ends.{steps_left}
-use Rattle.model_order.specs.Order.{Standing}
-use Rattle.model_bounds.specs.state.declared.server.Server.{Server}
+use Rattle.sip_model.specs.Ends.{steps_left}
+use Rattle.sip_model.specs.TimerOrder.{Standing}
+use Rattle.sip_model.specs.state.declared.server.Server.{Server}
 use Rattle.sip_run.specs.engine.Engine.{Engine}
 use Rattle.sip_run.specs.Due.{standing_of}
 use Rattle.sip_loop.specs.Courses.{FiresOne, HappensTo}

@@ -1,7 +1,7 @@
 use Rattle.std.proofs.Common.{◌≡◌, List}
 use Rattle.sip_event.specs.declared.packet.Packet.{Packet}
-use Rattle.model_bounds.specs.model.Ends.{steps_left}
-use Rattle.model_order.specs.Order.{Standing}
+use Rattle.sip_model.specs.Ends.{steps_left}
+use Rattle.sip_model.specs.TimerOrder.{Standing}
 use Rattle.sip_run.specs.Due.{standing_of}
 use Rattle.sip_loop.specs.Courses.{HappensAll, HappensTo, IsNoFurther}
 use Rattle.sip_loop.proofs.due_moments.fire_rest.Given as goal

@@ -1,7 +1,7 @@
 use Rattle.std.proofs.Common.{◌≡◌, ◌≤◌, ℕ, [], None, Some, max, subst, List, Option}
 use Rattle.std.proofs.lemmas.Result.{err_from_is_err_and, on_ok_weaker, IfErr-weaker}
 use Rattle.sip_event.specs.declared.packet.Packet.{Packet}
-use Rattle.model_bounds.specs.state.declared.server.Server.{Server}
+use Rattle.sip_model.specs.state.declared.server.Server.{Server}
 use Rattle.sip_run.specs.Due.{standing_of}
 use Rattle.sip_loop.specs.Courses.{Breaks, Course, Others, TakesDue, told_with, waiting_at}
 use Rattle.sip_loop.specs.Serving.{kept}

@@ -4,7 +4,7 @@ use Rattle.sip_run.specs.Due.{standing_of}
 use Rattle.sip_loop.specs.declared.serve_error.ServeError.TheVariants.{NoMemory}
 use Rattle.sip_event.specs.declared.packet.Packet.{Packet}
 use Rattle.sip_run.specs.engine.Engine.{Engine}
-use Rattle.model_order.specs.Order.{Standing}
+use Rattle.sip_model.specs.TimerOrder.{Standing}
 use Rattle.sip_loop.specs.Courses.{Breaks, Others, told_with, waiting_at}
 use Rattle.sip_loop.specs.Serving.{kept}
 use Rattle.sip_loop.proofs.Handed.{faulted, faulted_some, unfaulted, unsent, untold, went}

@@ -2,7 +2,7 @@ use Rattle.std.proofs.Common.{◌∙◌, ◌+◌, ◌≤◌, arith, List, [], dr
 use Rattle.std.proofs.lemmas.List.{drop_all}
 use Rattle.sip_event.specs.declared.packet.Packet.{Packet}
 use Rattle.std.proofs.lemmas.Result.{err_from_is_err_and}
-use Rattle.model_bounds.specs.state.declared.server.Server.{Server}
+use Rattle.sip_model.specs.state.declared.server.Server.{Server}
 use Rattle.sip_run.specs.Due.{standing_of}
 use Rattle.sip_loop.specs.Courses.{Breaks, Course, told_with, waiting_at}
 use Rattle.sip_loop.specs.Serving.{kept}

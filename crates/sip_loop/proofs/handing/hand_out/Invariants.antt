@@ -1,5 +1,5 @@
 use Rattle.std.proofs.Common.{◌≡◌, ◌+◌, ◌-◌, ◌≤◌, ℕ, [], Option, drop, length}
-use Rattle.model_bounds.specs.model.Ends.{sends_left}
+use Rattle.sip_model.specs.Ends.{sends_left}
 use Rattle.sip_run.specs.Due.{NothingDueBy, standing_of}
 use Rattle.sip_loop.specs.Courses.{Course, IsNoFurther, Others, told_with, waiting_at}
 use Rattle.sip_loop.specs.Serving.{kept}

@@ -1,4 +1,4 @@
-use Rattle.model_bounds.specs.steps_model.Step.{Given as ForEvent}
+use Rattle.sip_model.specs.steps_model.Step.{Given as ForEvent}
 use Rattle.sip_event.specs.declared.event.Event.TheVariants.{Fault}
 use Rattle.sip_run.specs.engine.StepError.{refusal_at}
 use Rattle.sip_run.specs.Due.{standing_of}

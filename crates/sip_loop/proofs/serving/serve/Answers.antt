@@ -1,6 +1,6 @@
 use Rattle.std.proofs.Common.{◌≡◌, ◌∙◌, ℕ, refl, subst, arith}
 use Rattle.std.proofs.lemmas.Result.{err_from_is_err_and}
-use Rattle.model_bounds.specs.state.declared.server.Server.{Server}
+use Rattle.sip_model.specs.state.declared.server.Server.{Server}
 use Rattle.sip_run.specs.Due.{standing_of}
 use Rattle.sip_loop.specs.Courses.{Breaks, Goes}
 use Rattle.sip_loop.specs.Serving.{IsServed, between_turns, kept, told_by}

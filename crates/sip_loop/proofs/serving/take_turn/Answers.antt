@@ -1,7 +1,7 @@
 use Rattle.std.proofs.Common.{[], ◌∷◌, ap, sym, subst, List, Option, None, ℕ}
 use Rattle.std.proofs.lemmas.Result.{err_from_is_err_and, on_ok_weaker, IfErr-weaker}
-use Rattle.model_bounds.specs.steps_model.Step.{Given as ForEvent}
-use Rattle.model_bounds.specs.state.declared.server.Server.{Server}
+use Rattle.sip_model.specs.steps_model.Step.{Given as ForEvent}
+use Rattle.sip_model.specs.state.declared.server.Server.{Server}
 use Rattle.sip_run.specs.engine.Engine.{Engine}
 use Rattle.sip_journal.specs.Record.{Notes}
 use Rattle.sip_run.specs.Due.{standing_of}

@@ -3,7 +3,7 @@ use Rattle.std.proofs.lemmas.Result.{err_from_is_err_and, on_ok_weaker, IfErr-we
 use Rattle.sip_run.specs.Due.{standing_of}
 use Rattle.sip_transport.specs.Told.{counted}
 use Rattle.sip_transport.specs.declared.datagram.HeardDatagram.{HeardDatagram}
-use Rattle.model_bounds.specs.state.declared.server.Server.{Server}
+use Rattle.sip_model.specs.state.declared.server.Server.{Server}
 use Rattle.sip_loop.specs.Courses.{Breaks, TurnBreaks, TurnGoes}
 use Rattle.sip_loop.specs.Serving.{between_turns, kept, told_by}
 use Rattle.sip_loop.proofs.Gathering.{told_reading}

@@ -1,5 +1,5 @@
 use Rattle.std.proofs.Common.{◌≡◌, [], Some}
-use Rattle.model_bounds.specs.model.Ends.{steps_left}
+use Rattle.sip_model.specs.Ends.{steps_left}
 use Rattle.sip_resume.specs.run.Due.{standing_of}
 use Rattle.sip_replay.specs.Replays.{Plays}
 use Rattle.sip_replay.proofs.due_steps.fire_due.Given as goal

@@ -1,7 +1,7 @@
 use Rattle.std.proofs.Common.{◌≡◌, ℕ, List, [], Option, ◌∙◌, ◌⊎◌, sym, ap, subst, refl, arith}
 use Rattle.std.proofs.lemmas.Result.{err_from_is_err_and}
-use Rattle.model_bounds.specs.state.State.{first_state}
-use Rattle.model_order.specs.Order.{first_standing}
+use Rattle.sip_model.specs.state.State.{first_state}
+use Rattle.sip_model.specs.TimerOrder.{first_standing}
 use Rattle.sip_resume.proofs.of_standings.{standing_is}
 use Rattle.sip_resume.specs.run.Due.{standing_of}
 use Rattle.sip_replay_script.specs.Devices.{later, GaveUp}

@@ -2,7 +2,7 @@ use Rattle.std.proofs.Common.{◌≡◌, ◌⊎◌}
 use Rattle.std.proofs.lemmas.Result.{on_ok_weaker, IfErr-weaker}
 use Rattle.sip_replay_script.specs.Devices.{later, GaveUp}
 use Rattle.sip_replay.specs.Errors.{IsFaulted}
-use Rattle.model_order.specs.Order.{first_standing}
+use Rattle.sip_model.specs.TimerOrder.{first_standing}
 use Rattle.sip_replay.specs.Refusals.{IsRefused, Refuses}
 use Rattle.sip_replay.specs.Replays.{server_with}
 use Rattle.sip_replay.proofs.Refusing.{faulted_still, refused_flushed, refused_unflushed}

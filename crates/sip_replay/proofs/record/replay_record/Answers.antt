@@ -1,6 +1,6 @@
 use Rattle.std.proofs.Common.{[]}
 use Rattle.std.proofs.lemmas.Result.{err_from_is_err_and}
-use Rattle.model_bounds.specs.state.State.{first_state}
+use Rattle.sip_model.specs.state.State.{first_state}
 use Rattle.sip_resume.proofs.of_standings.{standing_is}
 use Rattle.sip_resume.specs.run.Due.{standing_of}
 use Rattle.sip_replay_script.specs.Lines.{IsSpent, pending}

@@ -3,7 +3,7 @@ use Rattle.std.proofs.lemmas.Result.{err_from_is_err_and}
 use Rattle.sip_run.specs.Due.{standing_of}
 use Rattle.sip_replay_script.specs.Lines.{IsSpent}
 use Rattle.sip_resume.specs.Outputs.{outputs_of}
-use Rattle.sip_segment_text.specs.declared.upcoming.Upcoming.TheVariants.{Event}
+use Rattle.sip_journal.specs.declared.upcoming.Upcoming.TheVariants.{Event}
 use Rattle.sip_resume.proofs.Eventwise.{event_kept, event_none, stops_behind, taken_behind}
 use Rattle.sip_resume.proofs.events.take_next.Goals as goal
 

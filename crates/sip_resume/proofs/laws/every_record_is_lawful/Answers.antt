@@ -1,5 +1,5 @@
 use Rattle.std.proofs.Common.{None, ◌∷◌}
-use Rattle.model_bounds.specs.state.State.{first_state}
+use Rattle.sip_model.specs.state.State.{first_state}
 use Rattle.sip_resume.proofs.laws.every_record_is_lawful.Goals as goal
 
 pub returns : goal.returns

@@ -1,6 +1,6 @@
 use Rattle.std.proofs.Common.{◌++◌}
-use Rattle.model_bounds.specs.model.Run.{first_moment}
-use Rattle.model_bounds.specs.state.State.{first_state}
+use Rattle.sip_model.specs.Run.{first_moment}
+use Rattle.sip_model.specs.state.State.{first_state}
 use Rattle.sip_run.proofs.RunOn.{run_on}
 use Rattle.sip_resume.proofs.laws.restart_is_one_run.Goals as goal
 

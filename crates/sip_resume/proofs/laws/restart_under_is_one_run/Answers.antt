@@ -1,5 +1,5 @@
 use Rattle.std.proofs.Common.{[], ◌∷◌, ◌++◌}
-use Rattle.model_bounds.specs.state.State.{first_state}
+use Rattle.sip_model.specs.state.State.{first_state}
 use Rattle.sip_resume.proofs.UnderRuns.{run_both}
 use Rattle.sip_resume.proofs.laws.restart_under_is_one_run.Goals as goal
 

@@ -1,5 +1,5 @@
 use Rattle.std.proofs.Common.{◌≡◌, [], Some}
-use Rattle.model_bounds.specs.model.Ends.{steps_left}
+use Rattle.sip_model.specs.Ends.{steps_left}
 use Rattle.sip_run.specs.Due.{standing_of}
 use Rattle.sip_resume.specs.Resumes.{RunsShown}
 use Rattle.sip_resume.proofs.resuming.fire_due.Given as goal

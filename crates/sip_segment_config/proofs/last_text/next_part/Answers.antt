@@ -1,6 +1,6 @@
 use Rattle.std.proofs.Common.{◌≡◌, arith}
 use Rattle.sip_replay_script.specs.Lines.{IsSpent, pending}
-use Rattle.sip_segment_text.specs.declared.upcoming.Upcoming.TheVariants.{Configuration, Event}
+use Rattle.sip_journal.specs.declared.upcoming.Upcoming.TheVariants.{Configuration, Event}
 use Rattle.sip_segment_config.proofs.SoFar.{comes_configuration, comes_event, event_refused, given_behind}
 use Rattle.sip_segment_config.proofs.last_text.next_part.Goals as goal
 

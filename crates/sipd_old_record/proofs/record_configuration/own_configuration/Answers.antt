@@ -1,7 +1,7 @@
 use Rattle.std.proofs.Common.{◌≡◌, arith, inr}
 use Rattle.std.proofs.lemmas.Result.{err_from_is_err_and}
 use Rattle.sip_replay_script.specs.Lines.{IsSpent}
-use Rattle.sip_segment_text.specs.declared.upcoming.Upcoming.TheVariants.{Event, Over}
+use Rattle.sip_journal.specs.declared.upcoming.Upcoming.TheVariants.{Event, Over}
 use Rattle.sipd_old_record.proofs.Owned.{event_none, event_was, neither_stops, none_ahead, over_so, own_ahead, stops_ahead}
 use Rattle.sipd_old_record.proofs.record_configuration.own_configuration.Goals as goal
 

@@ -1,6 +1,6 @@
 use Rattle.std.proofs.Common.{◌≡◌, ◌∙◌, ℕ, List, sym, ap, subst}
 use Rattle.std.specs.Prelude.{option_map}
-use Rattle.model_bounds.specs.state.declared.server.Server.{Server}
+use Rattle.sip_model.specs.state.declared.server.Server.{Server}
 use Rattle.sip_guard.specs.Guard.{hearing}
 use Rattle.sipd_service.specs.Hops.{hop_addresses}
 use Rattle.sipd_service.proofs.Changing.{not_other}

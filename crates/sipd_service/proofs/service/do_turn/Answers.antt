@@ -2,7 +2,7 @@ use Rattle.std.proofs.Common.{◌≡◌, ◌∙◌, inl, inr, ℕ, List, Option,
 use Rattle.sip_transport.specs.Told.{GrewBy, and_counted}
 use Rattle.sip_loop.specs.run.engine.engine_time.Next.{IsNext}
 use Rattle.sip_loop.specs.run.engine.engine_time.fork.Due.{IsNothingDue}
-use Rattle.model_bounds.specs.state.declared.proxy_state.ProxyState.{ProxyState}
+use Rattle.sip_model.specs.state.declared.proxy_state.ProxyState.{ProxyState}
 use Rattle.sipd_exit.specs.declared.device_fault.DeviceFault.{DeviceFault}
 use Rattle.sipd_service.specs.Exits.{exit_of_serve}
 use Rattle.sip_guard.specs.Waits.{wait_before}

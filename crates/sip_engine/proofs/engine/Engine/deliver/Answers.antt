@@ -1,7 +1,7 @@
 use Rattle.std.proofs.Common.{OnOk, subst}
 use Rattle.sip_event.specs.declared.event.Event.TheVariants.{Datagram}
 use Rattle.sip_model.specs.steps_model.Step.{Given}
-use Rattle.sip_engine_open.specs.fork.Firing.{KeepsOrder}
+use Rattle.sip_engine_request.specs.fork.Firing.{KeepsOrder}
 use Rattle.sip_engine.specs.Engine.{Engine}
 use Rattle.sip_engine.proofs.FirstOf.{queued_if}
 use Rattle.sip_engine.proofs.Leading.{led_by}

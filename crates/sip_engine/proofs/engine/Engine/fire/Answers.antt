@@ -1,7 +1,7 @@
 use Rattle.std.proofs.Common.{◌≤◌, ◌⊎◌, ℕ, IfOk, OnOk, subst}
-use Rattle.sip_engine_open.specs.Next.{IsNext}
-use Rattle.sip_engine_open.specs.Timers.{IsFiredFirst}
-use Rattle.sip_engine_open.specs.fork.Firing.{KeepsOrder}
+use Rattle.sip_engine_request.specs.Next.{IsNext}
+use Rattle.sip_engine_request.specs.Timers.{IsFiredFirst}
+use Rattle.sip_engine_request.specs.fork.Firing.{KeepsOrder}
 use Rattle.sip_model.specs.steps_model.Step.{Passing, IsDeadline, IsResend, moment_of}
 use Rattle.sip_engine.specs.Engine.{Engine}
 use Rattle.sip_engine.proofs.FirstOf.{first_if, queued_if}

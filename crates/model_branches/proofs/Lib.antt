@@ -1,3 +1,0 @@
-pub mod Branched
-pub mod Events
-pub mod Apart

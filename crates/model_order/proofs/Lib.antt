@@ -1,3 +1,0 @@
-pub mod Along
-pub mod Branching
-pub mod Settled

@@ -1,2 +1,0 @@
-pub mod InviteTimers
-pub mod OtherTimers

@@ -1,3 +1,0 @@
-pub mod ClientAction
-pub mod ClientInvite
-pub mod ClientOther

@@ -1,5 +1,0 @@
-use Rattle.sip_recorded.proofs.OfEvents.{cut_prints}
-use Rattle.sip_recorded.proofs.scripts.cut_replay_prints_what_was_taken.Goals as goal
-
-pub returns : goal.returns
-returns c = cut_prints c.runs_are_one.ensures.events c.script_says_one_list.ensures.one c.next_event_is_one.ensures.one c.next_event_is_one.ensures.something

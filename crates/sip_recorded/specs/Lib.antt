@@ -1,3 +1,0 @@
-pub mod Recorded
-pub mod Scripts
-pub mod Unresumed

@@ -1,3 +1,0 @@
-pub mod Configurations
-pub mod FirstBytes
-pub mod Segments

@@ -1,2 +1,0 @@
-pub mod Configurations
-pub mod Segments

@@ -1,3 +1,0 @@
-pub mod InviteTimers
-pub mod OtherTimers
-pub mod SingleFinal

@@ -1,8 +1,0 @@
-use Rattle.sip_server.proofs.InviteTimers.{keeps, own}
-use Rattle.sip_server.proofs.laws.invite_timers.Goals as goal
-
-pub returns-clause-keeps : goal.returns-clause-keeps
-returns-clause-keeps c = keeps
-
-pub returns-clause-own : goal.returns-clause-own
-returns-clause-own c = own c.args.state c.args.letter

@@ -1,3 +1,0 @@
-pub mod ServerAction
-pub mod ServerInvite
-pub mod ServerOther

@@ -1,0 +1,5 @@
+pub mod ClientInviteTimers
+pub mod ClientOtherTimers
+pub mod ServerInviteTimers
+pub mod ServerOtherTimers
+pub mod SingleFinal

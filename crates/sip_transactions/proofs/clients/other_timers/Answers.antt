@@ -1,0 +1,8 @@
+use Rattle.sip_transactions.proofs.ClientOtherTimers.{keeps, own}
+use Rattle.sip_transactions.proofs.clients.other_timers.Goals as goal
+
+pub returns-clause-keeps : goal.returns-clause-keeps
+returns-clause-keeps c = keeps
+
+pub returns-clause-own : goal.returns-clause-own
+returns-clause-own c = own c.args.state c.args.letter

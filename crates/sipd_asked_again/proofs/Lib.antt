@@ -1,3 +1,0 @@
-pub mod Counting
-pub mod AskedAgain
-pub mod Refused

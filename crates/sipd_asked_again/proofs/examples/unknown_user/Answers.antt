@@ -1,7 +1,0 @@
-use Rattle.std.proofs.Common.{refl}
-use Rattle.std.specs.Fmt.{digits}
-use Rattle.sipd_asked_again.proofs.examples.unknown_user.Goals as goal
-
-pub returns : goal.returns
-unfolding digits
-returns c = refl

@@ -1,2 +1,0 @@
-pub mod Exits
-pub mod Replays

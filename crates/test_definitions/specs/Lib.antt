@@ -1,0 +1,10 @@
+pub mod Policy
+pub mod Nonces
+pub mod Dialogs
+pub mod Bindings
+pub mod Places
+pub mod Credentials
+pub mod Checks
+pub mod Edits
+pub mod Decisions
+pub mod Refusals

@@ -1,3 +1,0 @@
-pub mod Credentials
-pub mod Checks
-pub mod Edits

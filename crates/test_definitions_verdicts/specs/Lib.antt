@@ -1,2 +1,0 @@
-pub mod Decisions
-pub mod Refusals
