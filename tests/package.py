@@ -28,6 +28,9 @@ MAINTAINER = "Telephones <phones@company.net>"
 MADE_UP = "logic=proved functions=0 sum=made-up"
 # What a removal leaves by apt's, dpkg's, systemd's and passwd's own ways, and no file of the package's.
 NO_TRACE = r"/(var/(log|cache|lib/(apt|dpkg|systemd|dbus))|run|tmp|packages|etc/(passwd|group|shadow|gshadow|subuid|subgid)-|etc/machine-id|etc/\.pwd\.lock|root|dev)(/|$)"
+# Seconds until the unit's `--per-source 10` hears twenty datagrams of an address again: both phones stand at one, and a quick machine
+# brings them to send that many.
+ALLOWED_AGAIN = 2
 failures = []
 
 
@@ -380,6 +383,7 @@ def reloaded(inside, alice, bob):
         states = inside.shows("MainPID"), inside.shows("ActiveState"), inside.shows("SubState")
         say("and leaves the service as it was", states == (process, "active", "running"), states)
     write(path, good, 0o644)
+    time.sleep(ALLOWED_AGAIN)
     hung_up(alice, bob, dialog)
     hung_up(alice, bob, established(alice, bob))
     say("a call that stood meanwhile is hung up, and another one made")
@@ -392,6 +396,7 @@ def kept_back(inside, alice, bob):
     write(f"{inside.root}/etc/sipd.toml", good.replace("version = 2", "version = 9"), 0o644)
     told = inside.done("dpkg", "-i", "/packages/3.deb")
     say("an upgrade under a configuration that is refused says so, and restarts nothing", "not restarted" in told and inside.shows("MainPID") == process, told)
+    time.sleep(ALLOWED_AGAIN)
     hung_up(alice, bob, established(alice, bob))
     say("and calls go on")
     write(f"{inside.root}/etc/sipd.toml", good, 0o644)
