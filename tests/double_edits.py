@@ -152,8 +152,12 @@ def by_text(crate, functions, edited, room, kept):
         flags += ["--only", f"{crate}::{function}"]
     if crate == edited:
         return run(command("check", crate, USES[crate], {}, {}), room, flags)
-    named = dict.fromkeys([*USES[crate], *USES[edited]])
-    return run(command("check", crate, named, {}, {edited: room}), os.path.join(TOP, "crates", crate), flags)
+    # (a library that rests on the text that is turned can't be used beside it, so its text is read, too)
+    between = {name: os.path.join(TOP, "crates", name) for name in below(crate) if edited in below(name)}
+    sources = {edited: room, **between}
+    wanted = {*USES[crate], *(name for source in sources for name in USES[source])}
+    named = [*(name for name in below(crate) if name in wanted or name in sources), *sorted(wanted.difference(USES))]
+    return run(command("check", crate, named, {}, sources), os.path.join(TOP, "crates", crate), flags)
 
 
 def tried_by_pin(edit, room, kept):
