@@ -16,6 +16,7 @@ import time
 
 import phone
 import serve
+import served
 
 OFFICE = os.path.join(os.path.dirname(os.path.abspath(__file__)), "..", "examples", "office.toml")
 PROGRAM = os.path.abspath(sys.argv[1])
@@ -185,7 +186,7 @@ class Day:
         self.log = []
         self.reader = threading.Thread(target=self.drain, daemon=True)
         self.reader.start()
-        self.alice, self.bob = serve.phones(port)
+        self.alice, self.bob = served.phones(port)
         self.carol, self.dave = (phone.Phone(name, phone.md5(f"{name}:office:tea"), self.alice.server) for name in ("carol", "dave"))
         self.carol.again = self.dave.again = False
         self.phones = (self.alice, self.bob, self.carol, self.dave)
@@ -207,7 +208,7 @@ class Day:
 
     def under(self, before, now, words):
         """The file with a text in place of another one, once it is in force, which says in these words what changed."""
-        serve.rewritten(self.config, lambda text: changed(text, [(before, now)]))
+        served.rewritten(self.config, lambda text: changed(text, [(before, now)]))
         serve.comes_into_force(self.server, self.config, words)
 
     def expect(self, name, found, wanted):
@@ -219,7 +220,7 @@ class Day:
     def logs(self, name, wanted):
         """Whether this becomes the last line of the log, behind its moment and its number."""
         line = re.compile(rf"\d+ \d+ {re.escape(wanted)}\n")
-        self.expect(f"the log, {name}", serve.until(lambda: self.log and line.fullmatch(self.log[-1]), 5), True)
+        self.expect(f"the log, {name}", served.until(lambda: self.log and line.fullmatch(self.log[-1]), 5), True)
 
     def is_called(self, name, status, who=None):
         """What becomes of a call of alice's to who isn't reached, bob if it isn't said."""
@@ -231,7 +232,7 @@ class Day:
 
     def talk(self, caller, callee):
         """A call that is established and hung up."""
-        serve.hung_up(caller, callee, serve.established(caller, callee))
+        served.hung_up(caller, callee, served.established(caller, callee))
 
 
 def user_block(it):
@@ -244,7 +245,7 @@ def live_day(day):
     day.registers("at first", day.alice, True)
     day.registers("at first", day.bob, True)
     day.registers("unknown", day.carol, False)
-    stands = serve.established(day.alice, day.bob)
+    stands = served.established(day.alice, day.bob)
     carol_comes(day)
     password_changes(day)
     rule_turns_behind_its_challenge(day)
@@ -254,7 +255,7 @@ def live_day(day):
     gone_and_another_realm(day)
     day.under('name = "bob"', 'name = "bert"', "1 user more, 1 user fewer")
     day.is_called("who is gone", 404)
-    serve.hung_up(day.alice, day.bob, stands)
+    served.hung_up(day.alice, day.bob, stands)
 
 
 def carol_comes(day):
@@ -329,9 +330,9 @@ def half_written(day):
             if number == 4:
                 day.registers("while the file is half written", day.bob, True)
             if number == 7:
-                stands = serve.established(day.carol, day.alice)
+                stands = served.established(day.carol, day.alice)
             if number == 10:
-                serve.hung_up(day.carol, day.alice, stands)
+                served.hung_up(day.carol, day.alice, stands)
             time.sleep(0.2)
     day.expect("this machine writes a piece in time", slowest < APART, True)
     # this is all that it says of it
@@ -342,11 +343,11 @@ def dave_goes(day):
     """Who goes proves nothing any more and isn't called, and his standing call ends with his own BYE."""
     day.registers("known", day.dave, True)
     day.talk(day.bob, day.dave)
-    stands = serve.established(day.dave, day.alice)
+    stands = served.established(day.dave, day.alice)
     day.under(user_block(day.dave), "", "1 user fewer")
     day.registers("gone", day.dave, False)
     day.is_called("who is gone", 404, day.dave)
-    serve.hung_up(day.dave, day.alice, stands)
+    served.hung_up(day.dave, day.alice, stands)
 
 
 def changes_without_end(day):
@@ -356,33 +357,33 @@ def changes_without_end(day):
 
     def put(content):
         before = time.monotonic()
-        serve.rewritten(day.config, lambda _: content)
+        served.rewritten(day.config, lambda _: content)
         moments.append((before, time.monotonic()))
 
-    stands = serve.established(day.alice, day.bob)
+    stands = served.established(day.alice, day.bob)
     over = time.monotonic() + ENDLESS
     while time.monotonic() < over:
         following = time.monotonic() + APART
         put(f"{text}# {len(moments)}\n")
-        other = serve.established(day.carol, day.alice)
-        serve.hung_up(day.alice, day.bob, stands)
+        other = served.established(day.carol, day.alice)
+        served.hung_up(day.alice, day.bob, stands)
         while time.monotonic() < following - 0.1:
             day.talk(day.bob, day.carol)
             calls += 1
             time.sleep(0.15)
-        stands = serve.established(day.alice, day.bob)
-        serve.hung_up(day.carol, day.alice, other)
+        stands = served.established(day.alice, day.bob)
+        served.hung_up(day.carol, day.alice, other)
         calls += 2
         time.sleep(max(0, following - time.monotonic()))
     put(changed(text, [("offset = 60", "offset = 120")]))
-    *others, last = serve.says(day.server, " on (offset changed)\n").splitlines(keepends=True)
+    *others, last = served.says(day.server, " on (offset changed)\n").splitlines(keepends=True)
     # by a clock of milliseconds
     late = sum(behind - before > 0.998 for (before, _), (_, behind) in zip(moments, moments[1:]))
     nothing = serve.in_force(day.config, "nothing differs")
     day.expect("said of an endless change", (len(others) <= late, [line for line in others if not nothing.fullmatch(line)]), (True, []))
     day.expect("said of the last one", serve.in_force(day.config, "offset changed").fullmatch(last) is not None, True)
     day.expect("some files and calls of a minute", (len(moments) > ENDLESS / 2, calls > ENDLESS), (True, True))
-    serve.hung_up(day.alice, day.bob, stands)
+    served.hung_up(day.alice, day.bob, stands)
 
 
 def gone_and_another_realm(day):
@@ -397,7 +398,7 @@ def gone_and_another_realm(day):
         ),
     ):
         change()
-        day.expect(f"said {name}", serve.says(day.server, "\n"), f"sipd: {said}")
+        day.expect(f"said {name}", served.says(day.server, "\n"), f"sipd: {said}")
         day.registers(name, day.carol, True)
         day.talk(day.carol, day.bob)
     day.tally.written(day.config, text)
@@ -422,14 +423,14 @@ def try_day(tally):
     live_day(day)
     printed, complaints = day.killed()
     tally.expect("complaints of the day", complaints, "")
-    status, again, complaints = serve.replayed(day.record)
-    tally.expect("the day again", (status, complaints, serve.audit_of(again)), (0, "", printed.splitlines()))
+    status, again, complaints = served.replayed(day.record)
+    tally.expect("the day again", (status, complaints, served.audit_of(again)), (0, "", printed.splitlines()))
     packets = packets_of(again)
     heard = [(it.at, data.decode()) for it in day.phones for data in it.heard]
     tally.expect("heard and not replayed", [one for one in heard if one not in packets], [])
     server, _ = phone.started(PROGRAM, day.config, "--record", day.record + "_on", "--resume", day.record)
     day.talk(day.carol, day.alice)
-    _, complaints = serve.killed(server)
+    _, complaints = served.killed(server)
     tally.expect("the next start", re.fullmatch(f"sipd: goes on behind \\d+ lines of {day.record}\n", complaints) is not None, True)
 
 
@@ -451,10 +452,10 @@ def try_greatest(tally):
         office = file.read()
     tally.written(config, greatest(office, MOST_USERS - 1))
     server, port = phone.started(PROGRAM, config, "--reload")
-    alice, _ = serve.phones(port)
+    alice, _ = served.phones(port)
     tally.expect("one of the most users registers", alice.register(), [401, 200])
     slowest, statuses = 0, []
-    serve.rewritten(config, lambda _: greatest(office, MOST_USERS))
+    served.rewritten(config, lambda _: greatest(office, MOST_USERS))
     with concurrent.futures.ThreadPoolExecutor() as beside:
         taken = beside.submit(serve.comes_into_force, server, config, "1 user more")
         while not taken.done():
@@ -464,7 +465,7 @@ def try_greatest(tally):
             slowest = max(slowest, time.monotonic() - before)
             time.sleep(0.01)
         taken.result()
-    printed, complaints = serve.killed(server)
+    printed, complaints = served.killed(server)
     tally.expect("answered while the most users and rules are taken", set(statuses), {401})
     tally.expect("logged and complained of", (len(printed.splitlines()), complaints), (2 + len(statuses), ""))
     return slowest

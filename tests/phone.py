@@ -29,12 +29,12 @@ def office(folder, port):
     return path
 
 
-def started(program, config, *words, before=()):
+def started(program, config, *words, before=(), host="127.0.0.1"):
     """`sipd serve`, once it says where it serves, and the port."""
     it = subprocess.Popen([*before, program, "serve", "--config", config, *words], stdin=subprocess.DEVNULL, stdout=subprocess.PIPE, stderr=subprocess.PIPE)
     SERVERS.append(it)
     line = it.stdout.readline().decode()
-    found = re.fullmatch(r"sipd: serving 127\.0\.0\.1:(\d+)\n", line)
+    found = re.fullmatch(rf"sipd: serving {re.escape(host)}:(\d+)\n", line)
     if not found:
         it.kill()
     assert found, (line, it.stderr.read())

@@ -1,14 +1,16 @@
-"""The program under trial, for tests/faults.py: calls that end, and servers whose output stands in files."""
+"""The program under trial, for tests/faults.py and tests/soak.py: calls that end, servers whose output stands in files, and who phones these."""
 
 import contextlib
 import itertools
 import os
 import re
+import socket
 import subprocess
 import sys
 import time
 
 import phone
+from phone import Phone, md5
 
 PROGRAM = os.path.abspath(sys.argv[1] if len(sys.argv) > 1 else phone.PROGRAM)
 APART = "SIPD_APART"
@@ -212,3 +214,56 @@ def address(ip):
         yield
     finally:
         subprocess.run(["ip", "address", "del", ip + "/32", "dev", "lo"], check=True)
+
+
+def phones(port, timeout=3):
+    return [Phone(name, md5(f"{name}:office:{password}"), ("127.0.0.1", port), timeout=timeout) for name, password in phone.PASSWORDS.items()]
+
+
+def somebody(port, ip="127.0.0.1", timeout=3):
+    """Who has no password, at an address."""
+    it = Phone("x", "", ("127.0.0.1", port), timeout=timeout)
+    it.socket.close()
+    it.socket = socket.socket(socket.AF_INET, socket.SOCK_DGRAM)
+    it.socket.bind((ip, 0))
+    it.socket.settimeout(timeout)
+    it.at = "%s:%d" % it.socket.getsockname()
+    return it
+
+
+def packets(it):
+    """What comes until nothing comes any more."""
+    heard = []
+    with contextlib.suppress(OSError):
+        while True:
+            heard.append(it.socket.recv(65536))
+    return heard
+
+
+def messages(it):
+    return [phone.Message(packet) for packet in packets(it)]
+
+
+def next_status(it):
+    """The status of the next answer, or None where none comes."""
+    try:
+        return it.hear().status
+    except OSError:
+        return None
+
+
+def is_registered(it):
+    """Whether a phone registers now."""
+    try:
+        return it.register() == [401, 200]
+    except OSError:
+        return False
+
+
+def recorded(folder, config, port, times=1):
+    """A record of a server at which alice registered, and which was killed then."""
+    record = new(folder)
+    with serving(folder, config, "--record", record):
+        alice, _ = phones(port)
+        assert all(is_registered(alice) for _ in range(times)), "it doesn't serve"
+    return record

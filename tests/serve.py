@@ -14,11 +14,11 @@ import tempfile
 import time
 
 import phone
+import serve_records
 from phone import Phone, free_port, office, started, tag_of, uri_in
 from served import (
-    PROGRAM, Lateness, audit_of, drawn, ended, established, first_word, goes_again, hears, hung_up, is_of_event, killed, made_in, marked, phones,
-    replayed, rewritten, says, stopped, until, without_configurations, without_receiving,
-)
+    PROGRAM, audit_of, drawn, ended, established, goes_again, hears, hung_up, is_of_event, killed, phones, replayed, rewritten, says, stopped, without_receiving,
+)  # fmt: skip
 
 LONGEST = 60  # seconds that a trial may take
 
@@ -224,361 +224,6 @@ def closed_output(folder):
     assert (server.returncode, server.stderr) == (4, b"sipd: disk full\nsipd: device\n"), server
 
 
-OTHER = (3, "", "sipd: the record was made with another configuration\n")
-
-
-def record(folder):
-    """What was recorded is replayed without its file: the lines of the log byte for byte, and each packet that a phone heard. So it is with
-    the file; another one is refused. A record of before is replayed with its file alone."""
-    config, path = office(folder, free_port()), os.path.join(folder, "day")
-    server, port = started(PROGRAM, config, "--record", path)
-    alice, bob = phones(port)
-    heard = []
-    for it in (alice, bob):
-        it.heard = heard
-    assert alice.register() == [401, 200] and bob.register() == [401, 200]
-    hung_up(alice, bob, established(alice, bob))
-    alice.socket.sendto(b"", alice.server)
-    alice.socket.sendto(b"\r\n\r\n", alice.server)
-    number, _ = alice.invite("sip:carol@127.0.0.1")
-    refused = alice.hear()
-    assert refused.status >= 400, refused.start
-    time.sleep(0.6)
-    printed, complaints = killed(server)
-    assert complaints == "", complaints
-    assert os.stat(path).st_mode & 0o777 == 0o600
-    status, again, complaints = replayed(path)
-    assert (status, complaints) == (0, ""), (status, complaints)
-    assert audit_of(again) == printed.splitlines() != [], (audit_of(again), printed)
-    assert len(heard) > 10 and all(data.decode() in again for data in heard)
-    bare, other = without_configurations(folder, path), os.path.join(folder, "another.toml")
-    with open(config) as source, open(other, "w") as made:
-        made.write(source.read() + "\n# another\n")
-    assert replayed(path, config) == replayed(bare, config) == (0, again, "")
-    assert replayed(path, other) == replayed(bare, other) == OTHER
-    assert replayed(bare) == (3, "", "sipd: an older record: name its file with --config\nsipd: the record doesn't hold its configuration\n")
-
-
-def restart(folder):
-    """Killed and started again under a standing call, and again from a record whose last line is cut: nothing is lost."""
-    port = free_port()
-    config = office(folder, port)
-    first, second, third = (os.path.join(folder, name) for name in ("first", "second", "third"))
-    server, port = started(PROGRAM, config, "--record", first)
-    alice, bob = phones(port)
-    assert alice.register() == [401, 200] and bob.register() == [401, 200]
-    dialog = established(alice, bob)
-    before, _ = killed(server)
-    server, _ = started(PROGRAM, config, "--record", second, "--resume", first)
-    hung_up(alice, bob, dialog)
-    other = established(alice, bob)
-    printed, complaints = killed(server)
-    assert re.fullmatch(r"sipd: goes on behind \d+ lines of .*/first\n", complaints), complaints
-    last, following = int(before.splitlines()[-1].split(" ")[1]), int(printed.split(" ")[1])
-    assert following > last, (before, printed)
-    with open(second, "rb+") as whole:
-        whole.seek(0, os.SEEK_END)
-        whole.truncate(whole.tell() - 3)
-    server, _ = started(PROGRAM, config, "--record", third, "--resume", second)
-    hung_up(alice, bob, other)
-    _, complaints = killed(server)
-    assert complaints.startswith("sipd: goes on behind "), complaints
-    status, again, complaints = replayed(third)
-    assert (status, complaints) == (0, ""), complaints
-    assert audit_of(again)[: len((before + printed).splitlines())] == (before + printed).splitlines()
-
-
-def restart_with_another(folder):
-    """A restart under another configuration: a standing call is hung up, who is gone isn't reached, who is new registers; a record of before
-    is gone on from with its own file; and so is what either made."""
-    config = office(folder, free_port())
-    first, second, third, fourth = (os.path.join(folder, "with_" + name) for name in ("first", "second", "third", "fourth"))
-    server, port = started(PROGRAM, config, "--record", first)
-    alice, bob = phones(port)
-    carol = Phone("carol", phone.md5("carol:office:tea"), ("127.0.0.1", port))
-    assert alice.register() == [401, 200] and bob.register() == [401, 200]
-    dialog = established(alice, bob)
-    killed(server)
-    with open(config) as source:
-        before = source.read()
-    bare = without_configurations(folder, first)
-    bob_is = re.compile(r'\[\[user\]\]\nname = "bob"\na1 = "\w+"\n')
-    carol_is = f'[[user]]\nname = "carol"\na1 = "{phone.md5("carol:office:tea")}"\n'
-    rewritten(config, lambda text: bob_is.sub(carol_is, text))
-    server, _ = started(PROGRAM, config, "--record", second, "--resume", first)
-    assert carol.register() == [401, 200]
-    hung_up(alice, bob, dialog)
-    alice.invite(bob.address)
-    refused = alice.hear()
-    assert refused.status == 404, refused.start
-    _, complaints = killed(server)
-    assert complaints.startswith("sipd: goes on behind "), complaints
-    server, _ = started(PROGRAM, config, "--record", third, "--resume", second)
-    other = established(alice, carol)
-    hung_up(alice, carol, other)
-    _, complaints = killed(server)
-    assert complaints.startswith("sipd: goes on behind "), complaints
-    rewritten(config, lambda text: before)
-    server, _ = started(PROGRAM, config, "--record", fourth, "--resume", bare)
-    hung_up(alice, bob, dialog)
-    _, complaints = killed(server)
-    assert complaints.startswith("sipd: goes on behind "), complaints
-    with open(fourth) as made:
-        assert sum(line.startswith("configuration ") for line in made) == 2
-
-
-def standby(folder):
-    """A second server reads the record of the first one as it grows, and goes on where that ended, in the middle of a line; it serves within
-    a second (and what the machine was late) behind the end of what it reads."""
-    config = office(folder, free_port())
-    first, second = (os.path.join(folder, "standby_" + name) for name in ("first", "second"))
-    server, port = started(PROGRAM, config, "--record", first)
-    alice, bob = phones(port)
-
-    def has_come():
-        return os.path.exists(second + ".part") and os.stat(second + ".part").st_size > os.stat(first).st_size - 200
-
-    with subprocess.Popen(["tail", "-c", "+1", "-f", first], stdout=subprocess.PIPE) as tail:
-        try:
-            words = [PROGRAM, "serve", "--config", config, "--record", second, "--resume", "-"]
-            waiting = subprocess.Popen(words, stdin=tail.stdout, stdout=subprocess.PIPE, stderr=subprocess.PIPE)
-            phone.SERVERS.append(waiting)
-            tail.stdout.close()
-            assert alice.register() == [401, 200] and bob.register() == [401, 200]
-            dialog = established(alice, bob)
-            assert until(lambda: waiting.poll() is not None or has_come()) and waiting.poll() is None and not os.path.exists(second)
-            killed(server)
-            with open(first, "a") as cut:
-                cut.write("time 18")
-            time.sleep(1.5)
-            with Lateness(waiting) as late:
-                before = time.monotonic()
-                tail.kill()
-                line = waiting.stdout.readline().decode()
-                passed = time.monotonic() - before
-        finally:
-            tail.kill()
-    assert line == f"sipd: serving 127.0.0.1:{port}\n", line
-    assert passed < 1 + late.most, (passed, late.most)
-    hung_up(alice, bob, dialog)
-    _, complaints = killed(waiting)
-    assert re.fullmatch(r"sipd: goes on behind \d+ lines of standard input\n", complaints), complaints
-    assert first_word(first) == "record"
-
-
-def no_count_twice(folder):
-    """What proved a user before a restart proves nobody behind it."""
-    config = office(folder, free_port())
-    first, second = os.path.join(folder, "counts"), os.path.join(folder, "counts2")
-    server, port = started(PROGRAM, config, "--record", first)
-    alice, _ = phones(port)
-    uri, call_id = "sip:127.0.0.1", alice.mark()
-    alice.request("REGISTER", uri, alice.address, call_id, 1, [alice.contact()])
-    proof = alice.credential(alice.hear(), "REGISTER", uri)
-    alice.request("REGISTER", uri, alice.address, call_id, 2, [alice.contact(), proof])
-    assert alice.hear().status == 200
-    killed(server)
-    server, _ = started(PROGRAM, config, "--record", second, "--resume", first)
-    alice.request("REGISTER", uri, alice.address, call_id, 3, [alice.contact(), proof])
-    refused = alice.hear()
-    assert refused.status == 401, refused.start
-    killed(server)
-
-
-def not_resumed(folder):
-    """A record of another configuration, none, one that is damaged and one that isn't there: a line says so, and the server starts anew."""
-    config = office(folder, free_port())
-    good = os.path.join(folder, "good")
-    server, port = started(PROGRAM, config, "--record", good)
-    alice, _ = phones(port)
-    assert alice.register() == [401, 200]
-    killed(server)
-    with open(good) as source:
-        lines = source.readlines()
-    other, home, damaged, turned, missing = (os.path.join(folder, name) for name in ("other.toml", "home.toml", "damaged", "turned", "nowhere"))
-    with open(config) as source:
-        text = source.read()
-    with open(other, "w") as made:
-        made.write(text + "\n# another\n")
-    with open(home, "w") as made:
-        made.write(text.replace('realm = "office"', 'realm = "home"'))
-    bare = without_configurations(folder, good)
-    first = 1 + next(place for place, line in enumerate(lines) if line.startswith("configuration "))
-    with open(damaged, "w") as made:
-        made.writelines([*lines[: first + 1], "hello\n", *lines[first + 1 :]])
-    with open(turned, "w") as made:
-        made.writelines([lines[0], lines[1].replace("= ", "= #", 1), *lines[2:]])
-    broken, left = (marked(folder, good, word) for word in (b"broken ", b"left   "))
-    for number, (by, old, why) in enumerate((
-        (other, bare, "it was made with another configuration"),
-        (home, good, "its configuration at line 2 has another realm"),
-        (config, config, "it is no record"),
-        (config, damaged, f"its line {first + 2} begins no event and no configuration"),
-        (config, turned, "its line 2 begins no event and no configuration"),
-        (config, missing, None),
-        (config, folder, None),
-        (config, os.devnull, "it is no record"),
-        (config, broken, "its writing failed: it lacks events"),
-        (config, left, "another start went on from it"),
-    )):
-        server, _ = started(PROGRAM, by, "--record", os.path.join(folder, f"anew{number}"), "--resume", old)
-        _, complaints = killed(server)
-        wanted = f"sipd: {old} isn't resumed: {why}; bindings, dialogs, open calls and nonces are lost: phones are found again when they register\n"
-        if not why:
-            wanted = f"sipd: starts anew, since {old} isn't there or can't be read; what it holds, if anything, is lost: phones are found when they register\n"
-        assert complaints == wanted, complaints
-    _, whole, _ = replayed(good)
-    assert replayed(left) == (0, whole, "")
-    assert replayed(broken) == (0, whole, f"sipd: the writing of {broken} failed: it lacks what came behind\n")
-    there = ended("serve", "--config", config, "--record", good)
-    assert there == (4, "", "sipd: the record can't be made: its file is there already, or its folder isn't, or may not be written, or has no hard links\n"), there
-    assert replayed(config) == (3, "", "sipd: no record\n")
-    for record, line in ((damaged, first + 2), (turned, 2)):
-        status, printed, complaints = replayed(record)
-        assert (status, complaints) == (3, f"sipd: script line {line}\n") and whole.startswith(printed), (status, complaints)
-
-
-def full_device(folder):
-    """A record that can't be written any more: said once, and the server goes on; or it ends, by a word of the option, and is gone on from."""
-    config = office(folder, free_port())
-    room = 1100 + os.stat(config).st_size + 2 * open(config).read().count("\n")
-    limited = ["env", "--ignore-signal=XFSZ", "prlimit", f"--fsize={room}", "--"]
-    small, other = os.path.join(folder, "small"), os.path.join(folder, "small2")
-    server, port = started(PROGRAM, config, "--record", small, before=limited)
-    alice, bob = phones(port)
-    assert alice.register() == [401, 200] and bob.register() == [401, 200]
-    _, complaints = killed(server)
-    assert complaints == "sipd: the record can't be written; nothing more is recorded\n", complaints
-    assert first_word(small) == "broken"
-    status, _, complaints = replayed(small)
-    assert (status, complaints) == (0, f"sipd: the writing of {small} failed: it lacks what came behind\n"), (status, complaints)
-    server, _ = started(PROGRAM, config, "--record", other, "--record-fault", "end", before=limited)
-    for _ in range(3):
-        alice.request("REGISTER", "sip:127.0.0.1", alice.address, alice.mark(), 1, [alice.contact()])
-    assert server.wait(10) == 4
-    assert server.stderr.read() == b"sipd: the record can't be written\n"
-    assert first_word(other) == "record"
-    server, _ = started(PROGRAM, config, "--record", os.path.join(folder, "behind"), "--resume", other)
-    _, complaints = killed(server)
-    assert complaints.startswith("sipd: goes on behind "), complaints
-    assert first_word(other) == "left"
-
-
-def full_start(folder):
-    """A disk that is full at the start: by the word of the option it ends, with nothing made and the older record as it was, or goes on without a record."""
-    config = office(folder, free_port())
-    old, new, anew = (os.path.join(folder, name) for name in ("full_old", "full_new", "full_anew"))
-    server, port = started(PROGRAM, config, "--record", old)
-    alice, bob = phones(port)
-    assert alice.register() == [401, 200] and bob.register() == [401, 200]
-    killed(server)
-    unwritten = "sipd: the record can't be written; nothing is recorded\n"
-    for size in (20, 1000):
-        limited = ["env", "--ignore-signal=XFSZ", "prlimit", f"--fsize={size}", "--", PROGRAM]
-        done = subprocess.run([*limited, "serve", "--config", config, "--record", new, "--resume", old, "--record-fault", "end"], stdin=subprocess.DEVNULL, capture_output=True, timeout=10)
-        assert (done.returncode, done.stdout, done.stderr) == (4, b"", b"sipd: the record can't be written\n"), done
-        assert first_word(old) == "record" and not os.path.exists(new) and not os.path.exists(new + ".part")
-    limited = limited[:-1]
-    server, port = started(PROGRAM, config, "--record", new, "--resume", old, before=limited)
-    alice.invite(bob.address)
-    assert bob.hear().method == "INVITE"
-    _, complaints = killed(server)
-    assert re.fullmatch(r"sipd: goes on behind \d+ lines of .*/full_old\n" + unwritten, complaints), complaints
-    assert first_word(old) == "left" and not os.path.exists(new) and not os.path.exists(new + ".part")
-    server, _ = started(PROGRAM, config, "--record", anew, before=["env", "--ignore-signal=XFSZ", "prlimit", "--fsize=20", "--"])
-    _, complaints = killed(server)
-    assert complaints == unwritten and not os.path.exists(anew), complaints
-
-
-def lost_record(folder):
-    """A record whose file is taken away, changed for another or cut under the server is a fault of the record, and said."""
-    config = office(folder, free_port())
-    lost = "sipd: the record's file was taken away or cut"
-
-    def cut(path):
-        os.truncate(path, 0)
-
-    def moved(path):
-        os.rename(path, path + ".moved")
-
-    for number, harm in enumerate((os.remove, moved, cut)):
-        path = os.path.join(folder, f"lost{number}")
-        server, port = started(PROGRAM, config, "--record", path)
-        time.sleep(2.5)
-        harm(path)
-        time.sleep(2.5)
-        assert server.poll() is None
-        _, complaints = killed(server)
-        assert complaints == lost + "; nothing more is recorded\n", complaints
-        if harm == moved:
-            assert first_word(path + ".moved") == "broken"
-        path += "end"
-        server, port = started(PROGRAM, config, "--record", path, "--record-fault", "end")
-        harm(path)
-        assert server.wait(10) == 4
-        assert server.stderr.read().decode() == f"{lost}\nsipd: the record can't be written\n"
-
-
-def folder_of_records(folder):
-    """Each start has a file of its own in the folder, beside its configuration, and goes on from the newest one where it can."""
-    config, records = office(folder, free_port()), os.path.join(folder, "records")
-    assert ended("serve", "--config", config, "--records", records) == (4, "", "sipd: the record can't be made: its file is there already, or its folder isn't, or may not be written, or has no hard links\n")
-    os.mkdir(records)
-    with open(os.path.join(records, "9999999999999.record.old"), "w"):
-        pass
-    server, port = started(PROGRAM, config, "--records", records)
-    alice, bob = phones(port)
-    assert alice.register() == [401, 200] and bob.register() == [401, 200]
-    dialog = established(alice, bob)
-    _, complaints = killed(server)
-    (first,), (copy,) = made_in(records, "record"), made_in(records, "toml")
-    assert sorted(os.listdir(records)) == sorted([first, copy, "9999999999999.record.old"])
-    yet = f"sipd: starts anew, since no record stands beside {os.path.join(records, first)} yet; phones are found when they register\n"
-    assert complaints == yet, complaints
-    assert re.fullmatch(r"\d{13}\.record", first) and copy == first.replace("record", "toml"), (first, copy)
-    assert abs(int(first.split(".")[0]) - time.time() * 1000) < 60000
-    with open(config, "rb") as one, open(os.path.join(records, copy), "rb") as other:
-        assert one.read() == other.read()
-    assert all(os.stat(os.path.join(records, name)).st_mode & 0o777 == 0o600 for name in (first, copy))
-    # a record of tomorrow: the next one is newer, whatever the clock says
-    later = os.path.join(records, "1%013d.record" % 0)
-    os.rename(os.path.join(records, first), later)
-    server, _ = started(PROGRAM, config, "--records", records)
-    hung_up(alice, bob, dialog)
-    _, complaints = killed(server)
-    assert re.fullmatch(f"sipd: goes on behind \\d+ lines of {later}\n", complaints), complaints
-    newest = os.path.join(records, "1%013d.record" % 1)
-    assert first_word(later) == "left" and first_word(newest) == "record"
-    # an older record isn't gone on from, where the newest one can't be
-    os.remove(newest)
-    server, _ = started(PROGRAM, config, "--records", records)
-    _, complaints = killed(server)
-    assert complaints.startswith(f"sipd: {later} isn't resumed: another start went on from it;"), complaints
-
-
-def clock_behind(folder):
-    """A record whose last moment is ahead of the clock: the server says by how much, goes on from that moment, and time passes."""
-    config = office(folder, free_port())
-    path, ahead = os.path.join(folder, "clock"), os.path.join(folder, "ahead")
-    server, port = started(PROGRAM, config, "--record", path)
-    alice, bob = phones(port)
-    assert alice.register() == [401, 200] and bob.register() == [401, 200]
-    killed(server)
-    day = 86_400_000
-    with open(path) as source, open(ahead, "w") as made:
-        for line in source:
-            words = line.rstrip("\n").split(" ")
-            if words[0] != "record" and len(words) > 1 and words[1].isdigit():
-                words[1] = str(int(words[1]) + day)
-            made.write(" ".join(words) + "\n")
-    server, _ = started(PROGRAM, config, "--record", os.path.join(folder, "behind_clock"), "--resume", ahead)
-    assert any(goes_again(server, alice, bob) for _ in range(10))
-    printed, complaints = killed(server)
-    found = re.fullmatch(r"sipd: goes on behind \d+ lines of .*/ahead\nsipd: the clock is (\d+) ms behind the record; moments go on from the record's last one\n", complaints)
-    assert found and day - 60_000 < int(found[1]) <= day, complaints
-    assert int(printed.splitlines()[-1].split(" ")[0]) > time.time() * 1000 + day - 60_000, printed
-
-
 def small_stack(folder):
     """A stack that is too small is said at the start."""
     config = office(folder, free_port())
@@ -714,7 +359,7 @@ def changed_record(folder):
     assert (status, complaints) == (0, ""), (status, complaints)
     assert audit_of(again) == printed.splitlines() and len(audit_of(again)) == 4, (audit_of(again), printed)
     assert all(data.decode() in again for data in (*alice.heard, *carol.heard))
-    assert replayed(path, old) == (0, again, "") and replayed(path, config) == OTHER
+    assert replayed(path, old) == (0, again, "") and replayed(path, config) == serve_records.OTHER
     with open(path, "rb") as made:
         whole = made.read()
     with open(copy, "wb") as made:
@@ -738,7 +383,7 @@ def changed_record(folder):
         assert re.fullmatch(f"sipd: goes on behind \\d+ lines of {record}\n", complaints), complaints
         status, on, complaints = replayed(by + ".record", old)
         assert (status, complaints) == (0, "") and on.startswith(again), (status, complaints, on)
-        assert replayed(by + ".record", config) == OTHER
+        assert replayed(by + ".record", config) == serve_records.OTHER
 
 
 def told_against(folder):
@@ -784,8 +429,8 @@ def told_against(folder):
 
 
 TRIALS = (
-    call, another_address, turns, timer_a, guarded_timer, failed_send, failed_receive, drawn_anew, stop_and_continue, bad_starts, closed_output, record, restart, restart_with_another, standby,
-    no_count_twice, not_resumed, full_device, full_start, lost_record, folder_of_records, clock_behind, small_stack, guard, decided_now, changed, not_taken, changed_record, told_against,
+    call, another_address, turns, timer_a, guarded_timer, failed_send, failed_receive, drawn_anew, stop_and_continue, bad_starts, closed_output, *serve_records.TRIALS,
+    small_stack, guard, decided_now, changed, not_taken, changed_record, told_against,
 )
 
 
