@@ -180,8 +180,9 @@ def configuration_damaged_or_cut(folder, expect):
             if place == start:
                 continue
             status, printed, complaints = ended("replay", "--record", write(new(folder), good[:place]))
+            said = re.sub(r"sipd: .* holds no digests: a change of it isn't told\n", "", complaints)
             wanted = (0, "") if first > 1 else (3, "sipd: script line 2\n")
-            expect((status, complaints) == wanted and whole.startswith(printed), f"cut at byte {place}: {status} {complaints}")
+            expect((status, said) == wanted and whole.startswith(printed), f"cut at byte {place}: {status} {complaints}")
 
 
 def starts_anew(folder, config, old, why):
@@ -225,8 +226,8 @@ def pipe_to_go_on_from(folder, expect):
 
 
 def kept(data):
-    """What nothing may change: all of a record but its first word, all of another file."""
-    return data[7:] if re.match(rb"(record|broken|left  ) [0-9a-f]{16} ", data) else data
+    """What nothing may change: all of a record but its first word, and a digest behind it, all of another file."""
+    return re.sub(rb"\nsealed [0-9a-f]{64}\n\Z", b"\n", data)[7:] if re.match(rb"(record|broken|left  ) [0-9a-f]{16} ", data) else data
 
 
 def records_folder(folder, expect):

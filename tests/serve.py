@@ -370,7 +370,7 @@ def changed_record(folder):
             text = source.read()
         firsts.append(len(wanted))
         wanted += [b"= " + line for line in text.splitlines()] + [b"configuration " + hashlib.sha256(text).hexdigest().encode()]
-    lines = whole.split(b"\n")
+    lines = [line for line in whole.split(b"\n") if not line.startswith(b"sealed ")]
     held = [line for line in lines if line.startswith((b"= ", b"+ ", b"configuration "))]
     assert held == wanted and lines[1] == held[0] and lines[1 + firsts[1]].startswith((b"text ", b"time ")), held
     for by, record, who in ((config, path, 2), (old, copy, 1)):

@@ -1,5 +1,6 @@
 """Trials of tests/serve.py: what is recorded, replayed and gone on from."""
 
+import hashlib
 import os
 import re
 import subprocess
@@ -13,6 +14,7 @@ from served import (
 )  # fmt: skip
 
 OTHER = (3, "", "sipd: the record was made with another configuration\n")
+NO_DIGESTS = "sipd: {} holds no digests: a change of it isn't told\n"
 
 
 def record(folder):
@@ -42,7 +44,7 @@ def record(folder):
     bare, other = without_configurations(folder, path), os.path.join(folder, "another.toml")
     with open(config) as source, open(other, "w") as made:
         made.write(source.read() + "\n# another\n")
-    assert replayed(path, config) == replayed(bare, config) == (0, again, "")
+    assert replayed(path, config) == (0, again, "") and replayed(bare, config) == (0, again, NO_DIGESTS.format(bare))
     assert replayed(path, other) == replayed(bare, other) == OTHER
     assert replayed(bare) == (3, "", "sipd: an older record: name its file with --config\nsipd: the record doesn't hold its configuration\n")
 
@@ -367,6 +369,69 @@ def clock_behind(folder):
     assert int(printed.splitlines()[-1].split(" ")[0]) > time.time() * 1000 + day - 60_000, printed
 
 
+def changed_bytes(folder):
+    """A byte of a record that was changed in front of one of its digests: the record is neither replayed nor gone on from, and the line of that digest
+    is told. A start closes the record that it goes on from with one."""
+    config, first, second, turned = office(folder, free_port()), *(os.path.join(folder, "sealed_" + name) for name in ("first", "second", "turned"))
+    server, port = started(PROGRAM, config, "--record", first)
+    alice, _ = phones(port)
+    assert alice.register() == [401, 200]
+    killed(server)
+    server, _ = started(PROGRAM, config, "--record", second, "--resume", first)
+    killed(server)
+    for path in (first, second):
+        with open(path, "rb") as source:
+            held = source.read()
+        for found in re.finditer(rb"^sealed (\w{64})\n", held, re.M):
+            assert found[1].decode() == hashlib.sha256(b"record " + held[7 : found.start()]).hexdigest(), path
+        assert held.startswith(b"left   ") == (path == first) and held.splitlines()[-1].startswith(b"sealed "), held[-200:]
+    with open(first, "rb") as source:
+        held = bytearray(b"record " + source.read()[7:])
+    assert [replayed(path)[::2] for path in (first, second)] == [(0, "")] * 2, "a record with digests isn't replayed"
+    place = held.rindex(b"Call-ID: ") + len("Call-ID: ")
+    held[place] = ord("x") if held[place] != ord("x") else ord("y")
+    with open(turned, "wb") as made:
+        made.write(held)
+    line = held.count(b"\n")
+    status, _, complaints = replayed(turned)
+    assert (status, complaints) == (3, f"sipd: the record was changed: its line {line} has the digest of other bytes\n"), (status, complaints)
+    server, _ = started(PROGRAM, config, "--record", turned + "_on", "--resume", turned)
+    _, complaints = killed(server)
+    assert complaints.startswith(f"sipd: {turned} isn't resumed: it was changed, its line {line} has the digest of other bytes;"), complaints
+
+
+def made_shorter(folder):
+    """What no longer matters of a record isn't in that of the next start: of who registered again two hours later the last time alone, and who calls
+    them reaches them."""
+    config, day, hour, new = office(folder, free_port()), *(os.path.join(folder, "shorter_" + name) for name in ("day", "hour", "new"))
+    server, port = started(PROGRAM, config, "--record", day)
+    alice, bob = phones(port)
+    for _ in range(3):
+        assert alice.register() == [401, 200]
+    assert bob.register() == [401, 200]
+    killed(server)
+    count = 0
+    with open(day) as source, open(hour, "w") as made:
+        for line in source:
+            words = line.split(" ")
+            count += words[0] == "text"
+            if words[0] in ("text", "time") and count <= 4:
+                words[1] = str(int(words[1]) - 7_200_000) + "\n" * words[1].endswith("\n")
+            made.write(" ".join(words))
+    server, _ = started(PROGRAM, config, "--record", new, "--resume", hour)
+    hung_up(bob, alice, established(bob, alice))
+    _, complaints = killed(server)
+    assert re.fullmatch(r"sipd: goes on behind \d+ lines of .*/shorter_hour\n", complaints), complaints
+    with open(new) as made:
+        lines = made.read().splitlines()
+    first, omitted = int(lines[0].split(" ")[2]), sum(int(line.split(" ")[1]) for line in lines if line.startswith("omitted "))
+    before = next(place for place, line in enumerate(lines) if line.startswith("sealed "))
+    kept = sum(line.startswith("text ") for line in lines[:before])
+    assert first + omitted + kept == count + 1 and kept < count, (first, omitted, kept, count)
+    assert os.stat(new).st_size > 0 and replayed(new)[::2] == (0, ""), replayed(new)
+
+
 TRIALS = (
-    record, restart, restart_with_another, standby, no_count_twice, not_resumed, full_device, full_start, lost_record, folder_of_records, clock_behind,
+    record, restart, restart_with_another, standby, no_count_twice, not_resumed, full_device, full_start, lost_record, folder_of_records, clock_behind, changed_bytes,
+    made_shorter,
 )  # fmt: skip

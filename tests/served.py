@@ -168,11 +168,11 @@ def replayed(record, config=None):
 
 
 def is_of_event(line):
-    return not line.startswith(("= ", "+ ", "configuration "))
+    return not line.startswith(("= ", "+ ", "configuration ", "sealed "))
 
 
 def without_configurations(folder, record):
-    """A copy of a record without the lines of its configurations, as a server of before wrote it."""
+    """A copy of a record without the lines of its configurations and digests, as a server of before wrote it."""
     bare = os.path.join(folder, os.path.basename(record) + "_bare")
     with open(record) as source, open(bare, "w") as made:
         made.writelines(line for line in source if is_of_event(line))

@@ -10,7 +10,8 @@ three datagrams below can bring about: no folded line, no dialog, no credential,
 
 A record is the two REGISTERs of Mufasa, of which the second answers the challenge of the first: with no configuration, as an older record, in
 lines `hex`; or in lines `text`, with the one of `check_sample.toml`, behind them a datagram of bytes that have escapes there, or with that and,
-between them, one in which Mufasa has another key. Others change a rule: that which stands first
+between them, one in which Mufasa has another key, or with a line that stands for three datagrams between them, and, behind that, one that is
+none, or with the digests of what stands in front of them, or of something else. Others change a rule: that which stands first
 for help, the one that allowed the challenge of a REGISTER, or the one by which a call went to a hop, which goes with it. Lines are those of
 docs/SCRIPTS.md, credentials RFC 2617's; which rule decides stands beside each datagram, as docs/SCRIPTS.md lists the rules, and what goes on
 to the hop is made by the words of docs/SPECIFICATION.md on a request that is sent on.
@@ -26,6 +27,7 @@ WORD = f"{1:032x}"
 SOURCE = ("127.0.0.1", 5070)
 APART = 40_000  # more than any request of these stays open
 COPIES = [500, 1500] + list(range(3500, 32_000, 4000))  # when a 300 to 699 to an INVITE goes again, in ms
+OMITTED, NO_LINE = "omitted 3\n", "no line\n"  # of a record that was made shorter
 MARKS = [0, 13, 10, ord(","), ord('"')]
 
 
@@ -513,6 +515,11 @@ def of_a_gone_hop(sample, key):
     return record, output + answered(4, following, 404, None, "Mufasa 911@host.com send 6 answer 404", 6000)
 
 
+def sealed(text):
+    """What was written of a record, and the digest of that behind it."""
+    return text + f"sealed {sha256(text)}\n"
+
+
 def of_records():
     """The runs of records, by the names of their files."""
     with open(os.path.join(DATA, "check_sample.toml"), encoding="ascii") as file:
@@ -527,10 +534,16 @@ def of_records():
     dropped = recorded(3, b"\0\tcaf\xc3\xa9 \\ \x7f\xff\r\n")
     head, refused, taken = first_line(sha256(sample)), challenged(1, REGISTER), registered(2, datagrams[1])
     named = "replay --config check_sample.toml --record"
+    closed = sealed(sealed(head + held(sample)) + first + second)
+    otherwise = sealed(head + held(sample)) + sealed("another" + first)[len("another") :]
     for name, call, record, output in (
         ("replay_of_a_record", named, head + older, refused + taken),
         ("replay_of_another_configuration", named, first_line("0" * 64) + older, None),
         ("replay_of_a_whole_record", "replay --record", head + held(sample) + first + second + dropped, refused + taken),
+        ("replay_of_a_shorter_record", "replay --record", head + held(sample) + first + OMITTED + recorded(5, datagrams[1]), refused + registered(5, datagrams[1])),
+        ("replay_of_a_damaged_shorter_record", "replay --record", head + held(sample) + first + OMITTED + NO_LINE + second, refused),
+        ("replay_of_a_sealed_record", "replay --record", closed, refused + taken),
+        ("replay_of_an_otherwise_sealed_record", "replay --record", otherwise + second, refused),
         # by the other key the credential proves nobody
         ("replay_of_a_changed_record", "replay --record", head + held(sample) + first + held(other) + second, refused + challenged(2, datagrams[1])),
         *(
@@ -546,6 +559,12 @@ def of_records():
         yield f"{name}.record", record
         if output is not None:
             yield f"{name}.out", output
+            if name not in ("replay_of_a_damaged_shorter_record", "replay_of_a_sealed_record", "replay_of_an_otherwise_sealed_record"):
+                yield f"{name}.err", f"sipd: {name}.record holds no digests: a change of it isn't told\n"
+    yield "replay_of_an_otherwise_sealed_record.err", f"sipd: the record was changed: its line {otherwise.count(chr(10))} has the digest of other bytes\n"
+    yield "replay_of_an_otherwise_sealed_record.status", "3\n"
+    yield "replay_of_a_damaged_shorter_record.err", f"sipd: script line {(head + held(sample) + first + OMITTED + NO_LINE).count(chr(10))}\n"
+    yield "replay_of_a_damaged_shorter_record.status", "3\n"
     yield "check_against_a_record.args", "check\n--config\ncheck_sample.toml\n--against\nreplay_of_a_changed_record.record\n"
     yield "check_against_a_record.out", "user Mufasa has another a1\na server that runs can take it\n"
 

@@ -1,5 +1,5 @@
 -- What a verdict on a message says of that message, where it changes what is known of dialogs.
-use Rattle.std.proofs.Common.{◌≡◌, ℕ, Bool, true, false, cond, ◌&&◌, ◌||◌, List, [], ◌∷◌, codes, find, Option, Some, None, option_and_then, is_some, refl, ap}
+use Rattle.std.proofs.Common.{◌≡◌, ℕ, Bool, true, false, cond, ◌&&◌, ◌||◌, List, [], codes, find, Option, Some, None, option_and_then, is_some, refl, ap}
 use Rattle.std.proofs.Common.{subst, ◌∙◌, bytes_eq}
 use Rattle.std.specs.Result.{result_ok}
 use Rattle.sip_message_fields.specs.Values.{values_of}

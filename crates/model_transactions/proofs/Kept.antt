@@ -46,11 +46,6 @@ module _ (now : ℕ) where
   pub call_at : now + 32000 + 153000 ≤ now + 185000
   call_at = omega arith
 
-  -- of two near moments, whichever
-  either_near : (t : Bool) (a b : ℕ) → IsNear now a → IsNear now b → IsNear now (cond t a b)
-  either_near true a b e f = e
-  either_near false a b e f = f
-
   -- ---- a request, part by part
 
   -- a change of each branch

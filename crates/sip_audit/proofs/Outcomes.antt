@@ -101,12 +101,6 @@ rule_no_dash rule minute lt e same =
 
 -- ---- the outcome behind the rule
 
-abbrev behind_rule : AuditOutcome → List ℕ
-behind_rule (Challenge status) = codes "challenge " ++ decimal status
-behind_rule (Deny rule) = codes "deny"
-behind_rule (Sent rule targets) = codes "sent " ++ decimal targets
-behind_rule (Answer rule status) = codes "answer " ++ decimal status
-
 record IsDecided (rule : ℕ) (text : List ℕ) (o : AuditOutcome) : Type 0 where
   pub written : (minute : Option ℕ) → rule_text rule minute ++ 32 ∷ text ≡ outcome_text minute o
   pub by_rule : rule_of o ≡ rule

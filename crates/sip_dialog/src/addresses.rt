@@ -1,3 +1,4 @@
+//! The addresses that a dialog holds (RFC 3261 12.1.1, 12.2.1.2: its remote targets and route sets), in room of their own.
 ghost use Rattle.std.specs.Prelude.{◌≡◌, ◌≤◌, true, []};
 ghost use Rattle.std.specs.List.{list_any};
 ghost use Rattle.sip_dialog.specs.Addresses.{is_same_addr, with_address, with_addresses};

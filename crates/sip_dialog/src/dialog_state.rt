@@ -1,3 +1,4 @@
+//! What is known of a dialog beside its name, until when it is known, and what an answer, a request and an end change of that.
 ghost use Rattle.std.specs.Prelude.{◌≡◌, ◌≤◌, ◌+◌, ◌&&◌, true, false};
 ghost use Rattle.std.specs.List.{list_any};
 ghost use Rattle.sip_dialog.specs.declared.dialog.DialogId.{DialogId};

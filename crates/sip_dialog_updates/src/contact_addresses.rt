@@ -9,7 +9,7 @@ ghost use Rattle.sip_hops.specs.HostAddress.{address_of};
 ghost use Rattle.sip_dialog.specs.Addresses as Given;
 
 use sip_dialog::item_in;
-use sip_header::{AnyUri, bracketed_host_port};
+use sip_header::{AnyUri, placed_host_port};
 use sip_hops::Hops;
 use sip_message_fields::{FieldName, KeptField, KnownName, Value, ViewField, ViewName};
 use sip_message_form::{Kept, View};
@@ -60,7 +60,7 @@ fn address_in(alloc: Global, hops: &Hops, field: &ViewField<'_>) -> Result<Optio
     if !gives_address(field) {
         return Ok(None);
     }
-    if let Some((host, port)) = bracketed_host_port(field.value().as_slice()) {
+    if let Some((host, port)) = placed_host_port(field.value().as_slice()) {
         return Ok(hops.address_at(host, port.unwrap_or(5060)));
     }
     parsed_address(alloc, hops, field)

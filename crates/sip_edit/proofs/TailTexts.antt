@@ -58,20 +58,20 @@ no_credentials name e = ap (λ (w : List ℕ). bytes_eq w (without_case (codes "
 no_hops : (name : FieldName) → is_same_name name Name.Via ≡ true → is_same_name name Name.MaxForwards ≡ false
 no_hops name e = ap (λ (w : List ℕ). bytes_eq w (without_case (codes "Max-Forwards"))) (via_is name e)
 
-stays_there : (routes : RoutesKept) (top : Field) → is_same_name top.name Name.Route ≡ false → stays routes top ≡ true
+pub stays_there : (routes : RoutesKept) (top : Field) → is_same_name top.name Name.Route ≡ false → stays routes top ≡ true
 stays_there routes top differs = ap (λ (t : Bool). cond t (routes.skipped == 0 && nat_lt 0 routes.kept) true) differs
 
-routes_behind : (routes : RoutesKept) (top : Field) → is_same_name top.name Name.Route ≡ false → Routes.behind routes top ≡ routes
+pub routes_behind : (routes : RoutesKept) (top : Field) → is_same_name top.name Name.Route ≡ false → Routes.behind routes top ≡ routes
 routes_behind routes top differs = ap (λ (t : Bool). cond t (behind_route routes) routes) differs
 
-for_no_realm : (realm : List ℕ) (top : Field) → is_same_name top.name Name.ProxyAuthorization ≡ false → is_for_realm realm top ≡ false
+pub for_no_realm : (realm : List ℕ) (top : Field) → is_same_name top.name Name.ProxyAuthorization ≡ false → is_for_realm realm top ≡ false
 for_no_realm realm top differs = ap (λ (t : Bool). t && option_map_or (λ c. is_realm realm c.realm) (credentials_of top.value) false) differs
 
-not_lowered : (hops : Option ℕ) (top : Field) → is_same_name top.name Name.MaxForwards ≡ false → lowered_field hops top ≡ top
+pub not_lowered : (hops : Option ℕ) (top : Field) → is_same_name top.name Name.MaxForwards ≡ false → lowered_field hops top ≡ top
 not_lowered None top differs = refl
 not_lowered (Some n) top differs = ap (λ (t : Bool). cond t (record top { value = decimal n }) top) differs
 
-hops_stay : (hops : Option ℕ) (top : Field) → is_same_name top.name Name.MaxForwards ≡ false → hops_behind hops top ≡ hops
+pub hops_stay : (hops : Option ℕ) (top : Field) → is_same_name top.name Name.MaxForwards ≡ false → hops_behind hops top ≡ hops
 hops_stay None top differs = refl
 hops_stay (Some n) top differs = ap (λ (t : Bool). cond t None (Some n)) differs
 

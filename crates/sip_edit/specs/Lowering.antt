@@ -1,5 +1,5 @@
 -- The fields of a request that goes on, field by field.
-use Rattle.std.specs.Prelude.{ℕ, ◌-◌, if◌then◌else◌, List, [], ◌∷◌, ◌++◌, decimal, Option, Some, None}
+use Rattle.std.specs.Prelude.{ℕ, ◌-◌, Bool, not, ◌||◌, if◌then◌else◌, List, [], ◌∷◌, ◌++◌, decimal, Option, Some, None}
 use Rattle.sip_message_fields.specs.declared.field_name.FieldName.TheVariants as Name
 use Rattle.sip_message_fields.specs.declared.field.Field.{Field}
 use Rattle.sip_message_fields.specs.FieldName.{is_same_name}
@@ -45,3 +45,8 @@ fields_on hops routes realm fields = with_hops hops (without_credentials realm (
 -- the fields of a request as they go on, if these Routes are left
 abbrev pub fields_by : RoutesKept → List ℕ → List Field → List Field
 fields_by routes realm fields = fields_on (hops_left (max_forwards_of fields)) routes realm fields ++ default_hops (max_forwards_of fields)
+
+-- a field that goes on as it is, whatever is to be edited
+abbrev pub goes_as_it_is : Field → Bool
+goes_as_it_is field =
+    not (is_same_name field.name Name.Route || is_same_name field.name Name.ProxyAuthorization || is_same_name field.name Name.MaxForwards)

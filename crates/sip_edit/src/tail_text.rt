@@ -1,7 +1,7 @@
 //! The tail of a request that goes on (RFC 3261 16.4, 16.6): all behind this server's own fields, written once for all its targets.
 //! What stands in front of it is written in `tail`.
-ghost use Rattle.std.specs.Prelude.{◌≡◌, ◌++◌, decimal, IfOk, OnOk};
-ghost use Rattle.std.specs.List.{flat_map};
+ghost use Rattle.std.specs.Prelude.{◌≡◌, ◌≤◌, ◌++◌, decimal, drop, length, true, IfOk, OnOk};
+ghost use Rattle.std.specs.List.{flat_map, list_all};
 ghost use Rattle.sip_message_fields.specs.declared.field_name.FieldName.TheVariants as Name;
 ghost use Rattle.sip_message_fields.specs.Values.{with_first};
 ghost use Rattle.sip_message_form.specs.Text.{field_text};
@@ -12,15 +12,14 @@ ghost use Rattle.sip_edit.specs.Tail as Tails;
 use crate::onward::{hops_left, is_for_realm};
 use crate::received_request::with_top_via;
 use sip_message_fields::{FieldName, KnownName, Value, ViewField, ViewFields, ViewName};
-use sip_message_form::{View, put_body, put_field, put_line};
+use sip_message_form::{View, ViewStart, put_body, put_field, put_line};
 use sip_route::RoutesKept;
 use sip_route::header::{MaxForwards, max_forwards_of};
 use sip_text::{Buffer, Bytes};
 use std::alloc::{AllocError, Global};
 
-/// The most bytes of a tail beside its fields and its body: the line that tells the body's length, in at most five digits, with
-/// the empty line behind it.
-const REST_OF_TAIL: usize = 25;
+/// How many bytes credentials for a proxy have beside their value: the name in full, what stands behind it, and the CRLF.
+const BESIDE_CREDENTIALS: usize = 23;
 
 /// As many bytes of the room for a tail may stay unused.
 const MOST_UNUSED: usize = 47;
@@ -112,7 +111,54 @@ fn put_top(out: &mut Buffer, top: &ViewField<'_>, via: &[u8]) -> Result<(), Allo
     put_line(out, top.name().spelling(), via)
 }
 
-/// Adds what of a request stands behind some of its first fields: these other fields as they go on, if these Routes are left
+/// Whether a field goes on as it is, whatever is to be edited.
+fn goes_as_it_is(field: &ViewField<'_>) -> bool
+    ensures { result ≡ Lowering.goes_as_it_is field.now }
+{
+    let name = field.name();
+    if !name.may_be_known() {
+        return true;
+    }
+    !(name.is_same(&FieldName::Route)
+        || name.is_same(&FieldName::ProxyAuthorization)
+        || name.is_same(&FieldName::MaxForwards))
+}
+
+/// How many fields there are up to the last that may go on in another way than it is: those behind it are copied at once.
+#[tactic(auto, using(crate::proofs::AsTheyAre::none_behind, crate::proofs::AsTheyAre::one_more))]
+fn edited_front(fields: &[ViewField<'_>]) -> usize
+    ensures within { result ≤ length fields.now }
+    ensures others { list_all Lowering.goes_as_it_is (drop result fields.now) ≡ true }
+{
+    let mut front = fields.len();
+    while 0 < front && goes_as_it_is(&fields[front - 1]) {
+        front -= 1;
+    }
+    front
+}
+
+/// Adds the fields of a request behind some first ones as they go on, if these Routes are left of them.
+#[tactic(auto, using(crate::proofs::AsTheyAre::cut_behind))]
+fn put_onward_behind(
+    alloc: Global,
+    out: &mut Buffer,
+    realm: &[u8],
+    routes: RoutesKept,
+    hops: Option<u8>,
+    request: &View<'_>,
+    skipped: usize,
+) -> Result<(), AllocError>
+    requires { skipped ≤ length request.now.fields }
+    ensures { OnOk result (out.new ≡ out.old ++ flat_map field_text (Lowering.fields_on hops routes realm.now (drop skipped request.now.fields))) }
+{
+    let whole = request.fields().as_slice();
+    let (_, fields) = whole.split_at(skipped);
+    let (edited, others) = fields.split_at(edited_front(fields));
+    put_onward(alloc, out, realm, routes, hops, edited)?;
+    request.put_fields_behind(out, whole.len() - others.len())
+}
+
+/// Adds what of a request stands behind some of its first fields: its other fields as they go on, if these Routes are left
 /// of them, a Max-Forwards where it has none, and its body.
 fn put_behind(
     alloc: Global,
@@ -120,28 +166,46 @@ fn put_behind(
     realm: &[u8],
     routes: RoutesKept,
     request: &View<'_>,
-    fields: &[ViewField<'_>],
+    skipped: usize,
 ) -> Result<(), AllocError>
-    ensures { OnOk result (out.new ≡ out.old ++ Tails.others_behind routes realm.now request.now fields.now) }
+    requires { skipped ≤ length request.now.fields }
+    ensures { OnOk result (out.new ≡ out.old ++ Tails.others_behind routes realm.now request.now (drop skipped request.now.fields)) }
 {
     let hops = max_forwards_of(request.fields());
-    put_onward(alloc, out, realm, routes, hops_left(hops), fields)?;
+    put_onward_behind(alloc, out, realm, routes, hops_left(hops), request, skipped)?;
     put_default(out, hops)?;
     put_body(out, request.body())
 }
 
-/// How many bytes some fields have with their CRLFs, without credentials for a proxy, which mostly are for this one.
-fn room_of(fields: &[ViewField<'_>]) -> usize {
+/// How many bytes credentials for a proxy among some fields have with their CRLFs: mostly they are for this one.
+fn credentials_room(fields: &[ViewField<'_>]) -> usize {
+    let name = FieldName::ProxyAuthorization;
     let mut room: usize = 0;
     for field in fields {
-        if field.name().is_same(&FieldName::ProxyAuthorization) {
-            continue;
+        if field.name().is_same(&name) {
+            let value = field.value().as_slice().len();
+            room = room
+                .saturating_add(BESIDE_CREDENTIALS)
+                .saturating_add(value);
         }
-        let name = field.name().spelling().len().saturating_add(4);
-        let value = field.value().as_slice().len();
-        room = room.saturating_add(name).saturating_add(value);
     }
     room
+}
+
+/// How many bytes a request line has with its CRLF.
+fn first_line_room(start: &ViewStart<'_>) -> usize {
+    match start {
+        ViewStart::Request {
+            method,
+            uri,
+            version,
+        } => method
+            .len()
+            .saturating_add(uri.len())
+            .saturating_add(version.as_slice().len())
+            .saturating_add(4),
+        ViewStart::Status { code: _, reason: _ } => 0,
+    }
 }
 
 /// How many bytes the first Via among some fields has as its value.
@@ -152,14 +216,16 @@ fn top_room(fields: &ViewFields<'_>) -> usize {
     }
 }
 
-/// How much room the tail of a request takes mostly whose top Via gets this value.
+/// How much room the tail of a request takes mostly whose top Via gets this value: that of its written form, which is known at once
+/// where its lines are, without what isn't in its tail.
 pub(crate) fn tail_room(request: &View<'_>, via: &[u8]) -> usize {
     let fields = request.fields();
-    room_of(fields.as_slice())
+    request
+        .written_length()
+        .saturating_sub(first_line_room(request.start()))
+        .saturating_sub(credentials_room(fields.as_slice()))
         .saturating_sub(top_room(fields))
         .saturating_add(via.len())
-        .saturating_add(request.body().len())
-        .saturating_add(REST_OF_TAIL)
 }
 
 /// A text for which there was so much room, in no more memory than it needs: it is copied where much was taken off, or where
@@ -187,14 +253,7 @@ fn put_tail(
 ) -> Result<(), AllocError>
     ensures { OnOk result (out.new ≡ out.old ++ Tails.tail_of routes realm.now request.now) }
 {
-    put_behind(
-        alloc,
-        out,
-        realm,
-        routes,
-        request,
-        request.fields().as_slice(),
-    )
+    put_behind(alloc, out, realm, routes, request, 0)
 }
 
 /// The same of a request whose top Via gets this value, by an edited view of the request.
@@ -225,14 +284,14 @@ pub(crate) fn put_received_tail(
     ensures { OnOk result (out.new ≡ out.old ++ Tails.tail_of routes realm.now
         (record request.now { fields = with_first Name.Via via.now request.now.fields })) }
 {
-    let Some((top, others)) = request.fields().as_slice().split_first() else {
+    let Some((top, _others)) = request.fields().as_slice().split_first() else {
         return put_viewed_tail(alloc, out, realm, routes, request, via);
     };
     if !top.name().is_same(&FieldName::Via) {
         return put_viewed_tail(alloc, out, realm, routes, request, via);
     }
     put_top(out, top, via)?;
-    put_behind(alloc, out, realm, routes, request, others)
+    put_behind(alloc, out, realm, routes, request, 1)
 }
 
 /// The tail of a request that goes on, which is the same for each of its targets, and whose top Via gets this value (RFC 3261

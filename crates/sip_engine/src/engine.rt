@@ -159,11 +159,22 @@ impl<T: Timers, R: Rules> Engine<T, R> {
         sip_engine_request::next_due(&self.proxy)
     }
 
-    /// Only where another server of the same configuration and word goes on as this one does: whatever comes, the same is sent
-    /// and recorded (`runs_same` of `sip_model`). What one of them may hold and the other not is never asked for again: dead
-    /// nonces, expired bindings, dialogs that aren't known, the order of the known ones, and which INVITE began those with a
-    /// 2xx. Takes no memory, and costs by what stands in both.
+    /// Only where another server has the same word, and goes on as this one does under the same configuration: whatever comes,
+    /// the same is sent and recorded (`runs_same` of `sip_model`). What one of them may hold and the other not is never asked for
+    /// again: dead nonces, expired bindings, dialogs that aren't known, the order of the known ones, and which INVITE began those
+    /// with a 2xx. Takes no memory, and costs by what stands in both.
     pub fn is_same(&self, other: &Engine<T, R>) -> bool
+        ensures word { result ≡ true → self.now.server.word ≡ other.now.server.word }
+        ensures ahead { result ≡ true → SameAhead self.now.state other.now.state }
+    {
+        if self.judge.server().word != other.judge.server().word {
+            return false;
+        }
+        self.is_same_ahead(other)
+    }
+
+    /// Only where another server's state is the same ahead.
+    fn is_same_ahead(&self, other: &Engine<T, R>) -> bool
         ensures { result ≡ true → SameAhead self.now.state other.now.state }
     {
         let _judge = &self.judge;

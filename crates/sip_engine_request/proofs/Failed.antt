@@ -1,5 +1,5 @@
 -- The branch that a ticket names, and what its fault does.
-use Rattle.std.proofs.Common.{◌≡◌, ◌∙◌, ℕ, Bool, ◌<◌, List, [], ◌∷◌, find, slice_get, position, Contains, Option, Result, Some, None, Ok, Err, IfOk}
+use Rattle.std.proofs.Common.{◌≡◌, ◌∙◌, ℕ, Bool, List, [], find, slice_get, position, Contains, Option, Result, Some, None, Ok, Err, IfOk}
 use Rattle.std.proofs.Common.{IsSome, is_some, refl, sym, ap, subst, true≢false}
 use Rattle.std.specs.Prelude.{option_map, ◌==◌}
 use Rattle.std.specs.Option.{option_and_then, unwrap_or}

@@ -1,5 +1,5 @@
 -- A datagram that takes its number.
-use Rattle.std.proofs.Common.{◌≡◌, ◌∙◌, ℕ, ◌+◌, List, subst}
+use Rattle.std.proofs.Common.{◌≡◌, List, subst}
 use Rattle.sip_proxy.specs.Proxy.{Becomes, IsCounted}
 use Rattle.sip_dialog_updates.specs.declared.dialog_update.DialogUpdate.{DialogUpdate}
 use Rattle.sip_proxy.specs.steps_model.Effect.{counted}

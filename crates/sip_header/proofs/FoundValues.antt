@@ -40,3 +40,9 @@ field_next name fields i field found next lt is so_far here =
     let items : take (i + 1) fields ≡ take i fields ++ field ∷ [] = take_more fields i field lt ∙ ap (λ (w : Field). take i fields ++ w ∷ []) (sym is) in
     here ∙ ap (λ (w : Found). cond (is_same_name field.name name) (and_value w field.value) w) so_far
     ∙ sym (and_field name (take i fields) field) ∙ ap (λ (w : List Field). found_of (values_of name w)) (sym items)
+
+-- a field of another name
+pub other_next : (name : FieldName) (fields : List Field) (i : ℕ) (field : Field) (found : Found) → i < length fields → field ≡ get_or fields i field
+    → is_same_name field.name name ≡ false → found ≡ found_of (values_of name (take i fields)) → found ≡ found_of (values_of name (take (i + 1) fields))
+other_next name fields i field found lt is differs so_far =
+    field_next name fields i field found found lt is so_far (sym (ap (λ (t : Bool). cond t (and_value found field.value) found) differs))

@@ -12,4 +12,5 @@ pub mod Unread
 pub mod PlainVias
 pub mod PlainAddresses
 pub mod WrittenAddresses
+pub mod Placed
 pub mod FirstParameters

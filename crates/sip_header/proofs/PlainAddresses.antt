@@ -27,7 +27,7 @@ in_brackets value rest inner host port p opens closes =
     ap (name_addr_by value) (sym opens) ∙ ap bracketed_by (sym closes) ∙ ap (with_parameters (Some [])) read
 
 -- what has a `<` isn't `*`
-not_star : (value rest : List ℕ) → Some ([], rest) ≡ split_outside 60 value → (t : Bool) → bytes_eq value (codes "*") ≡ t → bytes_eq value (codes "*") ≡ false
+pub not_star : (value rest : List ℕ) → Some ([], rest) ≡ split_outside 60 value → (t : Bool) → bytes_eq value (codes "*") ≡ t → bytes_eq value (codes "*") ≡ false
 not_star value rest opens false e = e
 not_star value rest opens true e = let star : value ≡ codes "*" = (bytes_eq-Decides value (codes "*")).0 e in
     let never : ◌≡◌ {A = Option (List ℕ × List ℕ)} (Some ([], rest)) None = opens ∙ ap (split_outside 60) star in absurd cc

@@ -66,6 +66,9 @@ pub(crate) fn core_values<'v>(fields: &'v [ViewField<'_>]) -> CoreValues<'v>
     let (from, to) = (FieldName::From, FieldName::To);
     let (call_id, cseq) = (FieldName::CallId, FieldName::CSeq);
     for field in fields {
+        if !field.name().may_be_known() {
+            continue;
+        }
         values.from.see(field, &from);
         values.to.see(field, &to);
         values.call_id.see(field, &call_id);

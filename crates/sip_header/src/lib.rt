@@ -38,7 +38,7 @@ pub use name_addr::{AnyUri, NameAddr, name_addr_of, parameters_behind_bracket};
 pub use parameters::{
     HeaderParameter, Parameters, branch_of, one_before_rport, parameter_of, tag_of, value_of,
 };
-pub use plain_address::bracketed_host_port;
+pub use plain_address::{bracketed_host_port, placed_host_port};
 pub use route::route_of;
 pub use via::{Via, via_before_branch, via_of};
 pub use written_address::{WrittenAddress, written_address_of};

@@ -4,14 +4,14 @@ use Rattle.std.proofs.Common.{Option, Some, None, refl, sym, ap, subst, ◌∙�
 use Rattle.std.specs.Prelude.{filter, nat_lt, option_to_list}
 use Rattle.std.specs.List.{AllByRecursion}
 use Rattle.std.specs.Map.{lookup}
-use Rattle.std.proofs.lemmas.List.{append-nil, take_all, take_more}
+use Rattle.std.proofs.lemmas.List.{append-nil, take_more}
 use Rattle.std.proofs.lemmas.List.Elements.{filter-append}
 use Rattle.sip_uri.specs.declared.aor.Aor.{Aor}
 use Rattle.sip_uri.specs.declared.uri.Uri.{Uri}
 use Rattle.sip_uri.specs.Aor.{is_same_aor}
 use Rattle.sip_location.specs.declared.binding.Binding.{Binding}
 use Rattle.sip_location.specs.declared.aor_bindings.AorBindings.{AorBindings}
-use Rattle.sip_location.specs.Binding.{is_live, is_of, live}
+use Rattle.sip_location.specs.Binding.{is_live, live}
 use Rattle.sip_location.specs.KeptBinding.{KeptBinding, binding_of}
 use Rattle.sip_location.specs.Code.{code_of}
 use Rattle.sip_location.specs.Locations.{of_aor}

@@ -1,3 +1,4 @@
+//! A binding as it is kept (RFC 3261 10.3): its URI and its Call-ID in one block of memory, and how it is compared with others.
 ghost use Rattle.std.specs.Prelude.{◌≡◌, ◌≤◌, ◌++◌, true, length, take, IfOk};
 ghost use Rattle.std.specs.Box.{boxed_slice_items};
 ghost use Rattle.sip_uri.specs.Uri.{text_of, IsValid};

@@ -1,3 +1,4 @@
+//! Laws on the table of a policy: that its cells are all of it, each question has one, and what a cell says is what is decided.
 ghost use Rattle.std.specs.Prelude.{◌≡◌, ℕ, ◌<◌, true, false, nat_eq, List, ◌∷◌, Option, Some, None, count_by};
 ghost use Rattle.sip_uri.specs.declared.aor.Aor.{Aor};
 ghost use Rattle.sip_policy.specs.declared.operation.Operation.{Operation};

@@ -74,7 +74,18 @@ fn put_items<'a>(
     Ok(())
 }
 
-/// Whether a field is kept as one field: a list is seen at once to be of one item.
+/// Whether a list is seen at once to be of one item. It stands apart, so that other fields are taken in registers.
+#[inline(never)]
+fn is_one_in_list(value: &[u8]) -> bool
+    ensures { result ≡ true → cut value.now ≡ Some (value.now ∷ []) }
+{
+    if is_one_value(value) {
+        return true;
+    }
+    is_one_item(value)
+}
+
+/// Whether a field is kept as one field.
 #[inline(always)]
 fn is_one_field(name: &ViewName<'_>, value: &[u8]) -> bool
     ensures one { result ≡ true → is_list name.now ≡ true → cut value.now ≡ Some (value.now ∷ []) }
@@ -83,10 +94,7 @@ fn is_one_field(name: &ViewName<'_>, value: &[u8]) -> bool
     if !name.is_list() {
         return true;
     }
-    if is_one_value(value) {
-        return true;
-    }
-    is_one_item(value)
+    is_one_in_list(value)
 }
 
 impl<'a> Filling<'a> {

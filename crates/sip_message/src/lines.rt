@@ -1,6 +1,7 @@
 //! The lines of a head: cut at their CRLF, empty ones at the front passed over (RFC 3261 7.5), and joined with their folds (7.3.1).
 //! What a line says is read in `entries`.
-ghost use Rattle.std.specs.Prelude.{◌≡◌, ◌+◌, ◌<◌, ◌∷◌, ◌++◌, [], length, IfOk, IfSome, MatchOption, option_map, true, false, Some};
+ghost use Rattle.std.specs.Prelude.{◌≡◌, ◌+◌, ◌<◌, ◌∷◌, ◌++◌, [], length, IfOk, IfSome, MatchOption, option_map, take, slice_index, true, false, Some};
+ghost use Rattle.sip_text.specs.Words.{is_token_byte};
 ghost use Rattle.sip_message_fields.specs.Slice.{IsCutFrom};
 ghost use Rattle.std.specs.List.{list_all};
 ghost use Rattle.sip_text_runs.specs.TextRun.{is_text};
@@ -11,7 +12,7 @@ ghost use Rattle.sip_message.specs.Lines.{after_blanks, line_at, is_fold, head_a
 use crate::line::WholeLine;
 use sip_message_fields::{slice_before, slice_from};
 use sip_text::is_space_or_tab;
-use sip_text_runs::{find_crlf, name_end, text_length};
+use sip_text_runs::{find_crlf, name_end, name_length, text_length};
 use std::alloc::{AllocError, Global};
 
 /// A slice with its place: of a variable that is a reference, an invariant sees what it points to, and not where
@@ -78,7 +79,7 @@ pub(crate) fn first_line(bytes: &[u8]) -> Option<(&[u8], &[u8])>
 
 /// The first line, and what follows its CRLF, where each byte of it may stand in a value and none is a tab, as of most
 /// lines. None says nothing.
-#[inline]
+#[inline(always)]
 fn text_line(bytes: &[u8]) -> Option<(&[u8], &[u8])>
     ensures line { IfSome result (λ x. Some (x.0.now, x.1.now) ≡ line_at bytes.now) }
     ensures text { IfSome result (λ x. list_all is_text x.0.now ≡ true) }
@@ -97,6 +98,40 @@ fn text_line(bytes: &[u8]) -> Option<(&[u8], &[u8])>
     Some((slice_before(bytes, end), slice_from(bytes, end + 2)))
 }
 
+/// Where a `:` stands right behind a name at the front that is longer than most, or has other bytes than letters and dashes. It stands
+/// apart, so that it takes no register where most names are read.
+#[inline(never)]
+fn longer_name_end(bytes: &[u8]) -> Option<usize>
+    ensures within { IfSome result (λ at. (0 < at) × (at < length bytes.now)) }
+    ensures token { IfSome result (λ at. list_all is_token_byte (take at bytes.now) ≡ true) }
+    ensures mark { IfSome result (λ at. slice_index bytes.now at ≡ 58) }
+{
+    let at = name_length(bytes);
+    if at == 0 {
+        return None;
+    }
+    if at >= bytes.len() {
+        return None;
+    }
+    if bytes[at] != b':' {
+        return None;
+    }
+    Some(at)
+}
+
+/// Where a `:` stands right behind a name at the front.
+#[inline(always)]
+fn field_name_end(bytes: &[u8]) -> Option<usize>
+    ensures within { IfSome result (λ at. (0 < at) × (at < length bytes.now)) }
+    ensures token { IfSome result (λ at. list_all is_token_byte (take at bytes.now) ≡ true) }
+    ensures mark { IfSome result (λ at. slice_index bytes.now at ≡ 58) }
+{
+    match name_end(bytes, b':') {
+        Some(at) => Some(at),
+        None => longer_name_end(bytes),
+    }
+}
+
 /// The first line of a head where it has a name, and each byte of it may stand in a value, as of most. None says nothing.
 #[inline(always)]
 #[tactic(auto, using(crate::proofs::NamedLines::named_line))]
@@ -106,7 +141,7 @@ pub(crate) fn named_line(bytes: &[u8]) -> Option<NamedLine<'_>>
     ensures text { IfSome result (λ x. list_all is_text x.value.now ≡ true) }
     ensures whole { IfSome result (λ x. x.text.now ≡ x.line.now ++ 13 ∷ 10 ∷ []) }
 {
-    let at = name_end(bytes, b':')?;
+    let at = field_name_end(bytes)?;
     let (value, after) = text_line(slice_from(bytes, at + 1))?;
     Some(NamedLine {
         line: slice_before(bytes, at + 1 + value.len()),

@@ -44,9 +44,6 @@ keeps_again a b c first second = record {
   bytes = λ span w. second.bytes span (first.within span w) ∙ first.bytes span w;
 }
 
-pub nothing_put : (old more : List ℕ) (span : Span) → more ≡ [] → span.start ≡ length old → span.end ≡ length old → IsPut old more old span
-nothing_put old more span none begins ends = put_is old more old span (sym (ap (λ (w : List ℕ). old ++ w) none ∙ append-nil old)) begins ends
-
 -- with what marks their end behind them
 pub marked_is : (old more mark middle new : List ℕ) (span : Span) → middle ≡ old ++ more → new ≡ middle ++ mark → span.start ≡ length old → span.end ≡ length middle
     → IsPut old more new span
@@ -64,7 +61,7 @@ made known written value = record { name = name_seen known written; value = valu
 abbrev whole : FieldName → List ℕ → Field
 whole name value = record { name = name; value = value }
 
-pub field_put : (old written middle new : List ℕ) (field : Field) (kept : KeptField) → name_seen kept.known written ≡ field.name → IsPut old written middle kept.spelling
+field_put : (old written middle new : List ℕ) (field : Field) (kept : KeptField) → name_seen kept.known written ≡ field.name → IsPut old written middle kept.spelling
     → IsPut middle field.value new kept.value → IsFieldPut old field new kept
 field_put old written middle new field kept name spelling value = record {
   same = ap (λ w. made kept.known w (part new kept.value)) (value.keeps.bytes kept.spelling spelling.within ∙ spelling.bytes)
@@ -96,10 +93,7 @@ none_kept old more list none = subst (λ (w : List KeptField). AreFieldsPut old 
   keeps = keeps_more old more;
 })
 
-pub none_put : (store : List ℕ) (list : List KeptField) → list ≡ [] → AreFieldsPut store [] store list
-none_put store list none = subst (λ (w : List ℕ). AreFieldsPut store [] w list) (append-nil store) (none_kept store [] list none)
-
-pub field_next : (start old new : List ℕ) (fields : List Field) (i : ℕ) (field : Field) (list more : List KeptField) (kept : KeptField) → i < length fields
+field_next : (start old new : List ℕ) (fields : List Field) (i : ℕ) (field : Field) (list more : List KeptField) (kept : KeptField) → i < length fields
     → field ≡ get_or fields i field → more ≡ list ++ kept ∷ []
     → AreFieldsPut start (take i fields) old list → IsFieldPut old field new kept → AreFieldsPut start (take (i + 1) fields) new more
 field_next start old new fields i field list more kept lt is n so_far here =

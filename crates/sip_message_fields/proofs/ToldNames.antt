@@ -119,3 +119,12 @@ told_apart left name None (Some r) written told is so none seen some same =
     let other : name_of written ≡ Other written = subst (λ (t : Bool). IsTold t None written) so is in
     sym (ap (λ (n : FieldName). is_same_name n name) (sym seen) ∙ told_of written r name other same)
 told_apart left name (Some k) right written told is so none seen some same = absurd cc
+
+-- nor is it any of these
+pub never_known : (left : FieldName) (known : Option KnownName) (written : List ℕ) (told : Bool) → IsTold told known written → told ≡ true → known ≡ None
+    → name_seen known written ≡ left → (k : KnownName) → is_same_name left (field_name_of k) ≡ false
+never_known left known written told is so none seen k =
+    let other : name_of written ≡ Other written =
+    subst (λ (t : Bool). IsTold t None written) so (subst (λ (o : Option KnownName). IsTold told o written) none is) in
+    let here : left ≡ Other written = sym seen ∙ ap (λ (o : Option KnownName). name_seen o written) none in
+    ap (λ (n : FieldName). is_same_name n (field_name_of k)) here ∙ told_of written k (field_name_of k) other refl

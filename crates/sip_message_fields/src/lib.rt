@@ -37,7 +37,7 @@ pub use known_names::KnownName;
 pub use lines::{FieldLines, lines_at, put_marked};
 pub use piece::ViewPiece;
 pub use slices::{slice_before, slice_from, slice_of};
-pub use store::{fields_in, fields_in_with_first, put, put_fields};
+pub use store::{fields_in, fields_in_with_first, put};
 pub use value::Value;
 pub use view_field::ViewField;
 pub use view_fields::ViewFields;

@@ -1,4 +1,4 @@
-ghost use Rattle.std.specs.Prelude.{◌≡◌, ◌++◌, IfOk, IfSome, OnOk};
+ghost use Rattle.std.specs.Prelude.{◌≡◌, ◌∷◌, ◌++◌, [], IfOk, IfSome, OnOk};
 ghost use Rattle.sip_message_fields.specs.KeptField.{IsPut};
 ghost use Rattle.sip_message_fields.specs.Lines.{IsLineAt, AreLinesAt};
 
@@ -58,6 +58,18 @@ pub struct FieldLines {
     pub end: usize,
 }
 
+/// Adds a field behind the others, for which mostly there is room.
+#[inline(always)]
+fn push(list: &mut Vec<KeptField>, kept: KeptField) -> Result<(), AllocError>
+    ensures { OnOk result (list.new.items ≡ list.old.items ++ kept ∷ []) }
+{
+    if list.len() == list.capacity() {
+        list.reserve(1)?;
+    }
+    list.push_reserved(kept);
+    Ok(())
+}
+
 /// Where the lines of fields stand in a text in which the first of them begins at a byte (RFC 3261 7.3.1). `AllocError` is
 /// the only refusal.
 pub fn lines_at(
@@ -73,7 +85,7 @@ pub fn lines_at(
         let Some(line) = line_at(field, end) else {
             return Err(AllocError);
         };
-        list.push(line.kept)?;
+        push(&mut list, line.kept)?;
         end = line.end;
     }
     Ok(FieldLines { list, end })

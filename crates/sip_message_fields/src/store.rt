@@ -1,7 +1,8 @@
-//! Fields put into one store and viewed there again: the bytes of a message that is kept stand once (`sip_message_form`).
+//! Bytes put into one store, and fields viewed there whose lines stand in it (`lines`): a message that is kept stands once
+//! (`sip_message_form`).
 ghost use Rattle.std.specs.Prelude.{◌≡◌, IfOk, All, map};
 ghost use Rattle.sip_message_fields.specs.Values;
-ghost use Rattle.sip_message_fields.specs.KeptField.{field_kept, IsStored, IsPut, IsFieldPut, AreFieldsPut};
+ghost use Rattle.sip_message_fields.specs.KeptField.{field_kept, IsStored, IsPut};
 
 use crate::kept_field::KeptField;
 use crate::value::Value;
@@ -20,48 +21,6 @@ pub fn put(store: &mut Buffer, more: &[u8]) -> Result<Span, AllocError>
     store.extend(more)?;
     let end = store.as_slice().len();
     Ok(Span { start, end })
-}
-
-/// Puts the spelling of a name at the end of a store; of a name that this project knows there is none.
-#[tactic(auto, using(crate::proofs::Keeping::nothing_put))]
-fn put_spelling(store: &mut Buffer, written: &[u8]) -> Result<Span, AllocError>
-    ensures { IfOk result (λ span. IsPut store.old written.now store.new span) }
-{
-    if !written.is_empty() {
-        return put(store, written);
-    }
-    let end = store.as_slice().len();
-    Ok(Span { start: end, end })
-}
-
-/// Puts a field at the end of a store.
-fn put_field(store: &mut Buffer, field: &ViewField<'_>) -> Result<KeptField, AllocError>
-    ensures { IfOk result (λ kept. IsFieldPut store.old field.now store.new kept) }
-{
-    let (known, written) = field.name().known_or_written();
-    let spelling = put_spelling(store, written)?;
-    let value = put(store, field.value().as_slice())?;
-    Ok(KeptField {
-        known,
-        spelling,
-        value,
-    })
-}
-
-/// Puts fields at the end of a store. What stood in it stays where it is.
-pub fn put_fields(
-    alloc: Global,
-    store: &mut Buffer,
-    fields: &[ViewField<'_>],
-) -> Result<Vec<KeptField>, AllocError>
-    ensures { IfOk result (λ list. AreFieldsPut store.old fields.now store.new list.items) }
-{
-    let mut list = Vec::with_capacity(alloc, fields.len())?;
-    for field in fields {
-        let kept = put_field(store, field)?;
-        list.push(kept)?;
-    }
-    Ok(list)
 }
 
 /// The name that is kept so in a store.

@@ -1,8 +1,9 @@
 //! Names of fields that are lent: read from what was written, and told from others without case (RFC 3261 7.3.1, 7.3.3).
-ghost use Rattle.std.specs.Prelude.{◌≡◌, IfOk};
+ghost use Rattle.std.specs.Prelude.{◌≡◌, false, IfOk};
 ghost use Rattle.std.specs.Str.{bytes_eq};
 ghost use Rattle.sip_message_fields.specs.declared.field_name.FieldName.TheVariants.{Other};
 ghost use Rattle.sip_message_fields.specs.FieldName.{spelling, name_of, is_length, is_list, is_same_name};
+ghost use Rattle.sip_message_fields.specs.declared.known_names.KnownName.{KnownName};
 ghost use Rattle.sip_message_fields.specs.KnownName.{field_name_of, name_seen};
 
 use crate::full_spelling::spelled_in_full;
@@ -155,17 +156,6 @@ impl<'a> ViewName<'a> {
         })
     }
 
-    /// The name if this project knows it, and otherwise what was written.
-    #[inline]
-    pub(crate) fn known_or_written(&self) -> (Option<KnownName>, &[u8])
-        ensures { name_seen result.0 result.1.now ≡ self.now }
-    {
-        match self.known {
-            Some(known) => (Some(known), b""),
-            None => (None, self.spelling),
-        }
-    }
-
     /// Which name it is, if this project knows it.
     #[inline]
     pub(crate) fn known(&self) -> Option<KnownName>
@@ -195,6 +185,18 @@ impl<'a> ViewName<'a> {
                 let spelling = Bytes::copy(alloc, self.spelling)?;
                 Ok(FieldName::Other(spelling))
             }
+        }
+    }
+
+    /// Whether it may be a name that this project knows: not where it was told when it was read that it is none.
+    #[inline(always)]
+    #[tactic(auto, using(crate::proofs::ToldNames::never_known))]
+    pub fn may_be_known(&self) -> bool
+        ensures { (known : KnownName) → result ≡ false → is_same_name self.now (field_name_of known) ≡ false }
+    {
+        match self.known {
+            Some(_) => true,
+            None => !self.is_told,
         }
     }
 

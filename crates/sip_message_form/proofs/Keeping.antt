@@ -1,11 +1,13 @@
--- A message put into one store: first line, body, fields.
-use Rattle.std.proofs.Common.{◌≡◌, ℕ, List, Option, Some, None, map, ap, ◌∙◌}
+-- A message put into one store: first line, body, the lines of its fields.
+use Rattle.std.proofs.Common.{◌≡◌, ℕ, List, [], ◌++◌, length, Option, Some, None, map, append-nil, sym, ap, subst, ◌∙◌}
+use Rattle.std.specs.List.{flat_map}
 use Rattle.std.specs.Option.{option_map_or}
 use Rattle.sip_message_fields.specs.text.declared.span.Span.{Span}
 use Rattle.sip_message_fields.specs.text.Span.{part}
 use Rattle.sip_message_fields.specs.declared.field.Field.{Field}
 use Rattle.sip_message_fields.specs.declared.kept_field.KeptField.{KeptField}
 use Rattle.sip_message_fields.specs.KeptField.{field_kept, Keeps, IsPut, AreFieldsPut}
+use Rattle.sip_message_fields.specs.Lines.{line_of, AreLinesAt}
 use Rattle.sip_message_form.specs.declared.message.Start.{Start}
 use Rattle.sip_message_form.specs.declared.message.Start.TheVariants.{Request, Status}
 use Rattle.sip_message_form.specs.declared.message.Message.{Message}
@@ -47,6 +49,12 @@ pub start_stays : (old new : List ℕ) (kept : KeptStart) → Keeps old new → 
 start_stays old new kept keeps is =
     same_parts kept.code (part new kept.first) (part new kept.uri) (part new kept.version) (part old kept.first) (part old kept.uri) (part old kept.version)
     (keeps.bytes kept.first is.first) (keeps.bytes kept.uri is.uri) (keeps.bytes kept.version is.version)
+
+-- the lines of fields behind what stood in a store
+pub lines_put : (before new : List ℕ) (fields : List Field) (list : List KeptField) (start end : ℕ) → start ≡ length before → AreLinesAt start fields list end
+    → new ≡ before ++ flat_map line_of fields → AreFieldsPut before fields new list
+lines_put before new fields list start end begins lines grown =
+    subst (λ (w : List ℕ). AreFieldsPut before fields w list) (append-nil (before ++ flat_map line_of fields) ∙ sym grown) (lines.put before [] (sym begins))
 
 abbrev pub whole : Start → List Field → List ℕ → Message
 whole start fields body = record { start = start; fields = fields; body = body }

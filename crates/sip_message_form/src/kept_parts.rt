@@ -11,16 +11,17 @@ use crate::kept_fields::{field_in, first_in, put_kept, put_with_first};
 use crate::kept_start::{KeptStart, put_start, start_in};
 use crate::message_view::View;
 use crate::view_start::ViewStart;
+use crate::view_writing::put_lines;
 use sip_message_fields::text::{Buffer, Span, same_bytes};
 use sip_message_fields::{
-    FieldName, KeptField, ViewField, ViewFields, fields_in, fields_in_with_first, put, put_fields,
+    FieldName, KeptField, ViewField, ViewFields, fields_in, fields_in_with_first, lines_at, put,
     same_fields,
 };
 use std::alloc::{AllocError, Global};
 use std::marker::Model;
 
-/// A message that is kept in as few bytes as can be, seen as that message: no name that this project knows is spelled. Its
-/// parts stand once, in one store, and spans name its first line, its fields and its body.
+/// A message that is kept by its parts alone, seen as that message. They stand once, in one store, the lines of its fields one
+/// behind the other, which are copied as a whole where they came so, and spans name its first line, its fields and its body.
 #[derive(Drop)]
 pub struct KeptParts {
     store: Buffer,
@@ -49,11 +50,13 @@ impl KeptParts {
         let mut store = Buffer::with_room(alloc, view.written_length())?;
         let start = put_start(&mut store, view.start())?;
         let body = put(&mut store, view.body())?;
-        let list = put_fields(alloc, &mut store, view.fields().as_slice())?;
+        let fields = view.fields().as_slice();
+        let lines = lines_at(alloc, fields, store.as_slice().len())?;
+        put_lines(&mut store, fields, view.lines())?;
         Ok(KeptParts {
             store,
             start,
-            list,
+            list: lines.list,
             body,
         })
     }

@@ -1,3 +1,4 @@
+//! The first line of a message as it is kept: a status code and spans of a store.
 ghost use Rattle.std.specs.Prelude.{◌≡◌, true, IfOk};
 ghost use Rattle.sip_message_form.specs.ViewStart.{start_seen};
 ghost use Rattle.sip_message_form.specs.KeptStart.{start_kept, IsStartStored, IsStartPut};

@@ -1,12 +1,14 @@
 //! The form in which messages are read and edited: views, lent by a datagram, by a message that was made, or by another view.
-ghost use Rattle.std.specs.Prelude.{◌≡◌, ◌∷◌, IfOk, List, drop};
+ghost use Rattle.std.specs.Prelude.{◌≡◌, ◌≤◌, ◌∷◌, ◌++◌, IfOk, OnOk, List, drop, length};
+ghost use Rattle.std.specs.List.{flat_map};
 ghost use Rattle.sip_message_fields.specs.declared.field.Field.{Field};
-ghost use Rattle.sip_message_form.specs.Text.{AreLinesOf};
+ghost use Rattle.sip_message_form.specs.Text.{field_text, AreLinesOf};
 ghost use Rattle.sip_message_form.specs.ViewStart.{start_seen};
 
 use crate::message::Message;
 use crate::view_start::ViewStart;
-use sip_message_fields::text::Bytes;
+use crate::view_writing::put_lines;
+use sip_message_fields::text::{Buffer, Bytes};
 use sip_message_fields::{ViewField, ViewFields};
 use std::alloc::{AllocError, Global};
 use std::marker::Model;
@@ -54,6 +56,17 @@ fn lines_behind<'a>(first: &ViewField<'_>, lines: Option<&'a [u8]>) -> Option<&'
         return None;
     }
     Some(&lines[line.len()..])
+}
+
+/// The lines of the fields behind some first ones, where those of all are known.
+fn lines_behind_all<'a>(skipped: &[ViewField<'_>], lines: Option<&'a [u8]>) -> Option<&'a [u8]>
+    ensures { (others : List Field) → AreLinesOf lines.entry (skipped.now ++ others) → AreLinesOf result others }
+{
+    let mut lines = lines;
+    for field in skipped {
+        lines = lines_behind(field, lines);
+    }
+    lines
 }
 
 impl<'a> View<'a> {
@@ -118,6 +131,17 @@ impl<'a> View<'a> {
             Some((first, _others)) => lines_behind(first, self.lines),
             None => None,
         }
+    }
+
+    /// Puts each field behind some first ones with its CRLF, all at once where their lines stand one behind the other. `AllocError` is
+    /// the only refusal.
+    pub fn put_fields_behind(&self, out: &mut Buffer, skipped: usize) -> Result<(), AllocError>
+        requires { skipped ≤ length self.now.fields }
+        ensures { OnOk result (out.new ≡ out.old ++ flat_map field_text (drop skipped self.now.fields)) }
+    {
+        let (first, others) = self.fields.as_slice().split_at(skipped);
+        let lines = lines_behind_all(first, self.lines);
+        put_lines(out, others, lines)
     }
 
     /// Its body.

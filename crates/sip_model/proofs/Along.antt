@@ -48,10 +48,3 @@ queued_weaker Is Holds Follows each queue (link ∷ history) is h = (
   each (queue_from queue history) link is.0 h.0,
   queued_weaker Is Holds Follows each queue history is.1 h.1,
 )
-
--- also where it speaks of the steps alone
-pub queued_alone : (Holds : List Entry → Link → Type 0) (Follows : Link → Type 0) → ((queue : List Entry) (link : Link) → Holds queue link → Follows link)
-    → (queue : List Entry) (history : List Link)
-    → AllQueued Holds queue history → AllByRecursion Follows history
-queued_alone Holds Follows each queue [] h = tt
-queued_alone Holds Follows each queue (link ∷ history) h = (each (queue_from queue history) link h.0, queued_alone Holds Follows each queue history h.1)

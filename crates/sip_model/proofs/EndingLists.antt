@@ -1,7 +1,7 @@
 -- What holds of each element of a list that is made from others, and of each open request when one of them changes.
 use Rattle.std.proofs.Common.{Bool, true, false, cond, ◌==◌, List, [], ◌∷◌, ◌++◌, map, filter_map, flat_map, option_to_list, Contains, Option, Some, None, IfSome}
 use Rattle.std.specs.List.{AllByRecursion, cons_option}
-use Rattle.std.proofs.lemmas.List.Elements.{All-from_recursion, recursion_from_All, All-contains, All-contains_itself}
+use Rattle.std.proofs.lemmas.List.Elements.{recursion_from_All, All-contains_itself}
 use Rattle.model_steps.specs.state.declared.open_request.OpenRequest.{OpenRequest}
 use Rattle.model_steps.specs.state.State.{has_left}
 use Rattle.model_steps.specs.Effect.{replaced}

@@ -1,5 +1,5 @@
 -- What an effect sends for the first time is marked so, and so is what goes again: each effect is what some step does.
-use Rattle.std.proofs.Common.{◌≡◌, ◌∙◌, ℕ, ◌+◌, ◌==◌, true, false, ◌&&◌, cond, List, [], ◌∷◌, ◌++◌, find, flat_map, bytes_eq, codes, Option, Some, None, refl}
+use Rattle.std.proofs.Common.{ℕ, ◌+◌, ◌==◌, true, false, ◌&&◌, cond, List, [], ◌∷◌, ◌++◌, find, flat_map, bytes_eq, codes, Option, Some, None, refl}
 use Rattle.std.specs.Option.{option_map_or}
 use Rattle.sip_message_form.specs.declared.message.Message.{Message}
 use Rattle.sip_targets.specs.declared.targets.Targets.{Targets}

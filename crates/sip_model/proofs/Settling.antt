@@ -1,10 +1,9 @@
 -- What settling makes of an open request, after every event of it.
-use Rattle.std.proofs.Common.{◌≡◌, ℕ, ◌+◌, ◌≤◌, Bool, true, false, not, ◌&&◌, cond, List, [], ◌∷◌, ◌++◌, map, Option, Some, None, refl, sym, ap, subst, ◌∙◌, arith}
+use Rattle.std.proofs.Common.{◌≡◌, ℕ, ◌+◌, ◌≤◌, Bool, true, false, not, ◌&&◌, cond, List, [], ◌∷◌, ◌++◌, Option, Some, None, refl, sym, ap, subst, ◌∙◌, arith}
 use Rattle.std.specs.List.{AllByRecursion}
 use Rattle.sip_event.specs.declared.packet.Packet.{Packet}
 use Rattle.model_steps.specs.state.declared.server.Server.{Server}
 use Rattle.model_steps.specs.state.declared.open_request.Side.{Side}
-use Rattle.model_steps.specs.state.declared.branch.Branch.{Branch}
 use Rattle.model_steps.specs.state.declared.open_request.OpenRequest.{OpenRequest}
 use Rattle.model_steps.specs.state.declared.open_request.Side.TheVariants.{Closing}
 use Rattle.model_steps.specs.state.State.{is_answering, phase_deadline, side_deadline, is_provisional}
@@ -67,11 +66,6 @@ upward_due floor now (Some u) r low h = record {
 pub all_append : {X : Type 0} (P : X → Type 0) (xs ys : List X) → AllByRecursion P xs → AllByRecursion P ys → AllByRecursion P (xs ++ ys)
 all_append P [] ys first second = second
 all_append P (x ∷ xs) ys first second = (first.0, all_append P xs ys first.1 second)
-
--- what holds of each image
-each_map : (P : Branch → Type 0) (f : Branch → Branch) (xs : List Branch) → ((x : Branch) → P (f x)) → AllByRecursion P (map f xs)
-each_map P f [] each = tt
-each_map P f (x ∷ xs) each = (each x, each_map P f xs each)
 
 -- CANCELs arm nothing before
 cancels_due : (floor now : ℕ) (r : OpenRequest) → floor ≤ now + 1 → IsDue floor r → IsDue floor (with_cancels now r)

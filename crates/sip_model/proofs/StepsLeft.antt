@@ -1,7 +1,7 @@
 -- Each step of what is due leaves fewer of them, and each packet that the fault of another hands out leaves one deadline fewer.
 use Rattle.std.proofs.Common.{max, ◌≡◌, ◌⊎◌, inl, inr, ℕ, suc, ◌+◌, ◌-◌, ◌*◌, ◌≤◌, ◌<◌, Bool, true, false, not, cond, ◌==◌, List, [], ◌∷◌, ◌++◌, map, length}
 use Rattle.std.proofs.Common.{length-append, Option, Some, None, refl, sym, ap, subst, ◌∙◌, arith, sum_by, count_by, flat_map, filter}
-use Rattle.std.specs.Prelude.{find, nat_le, nat_lt, ◌&&◌}
+use Rattle.std.specs.Prelude.{find, nat_le, nat_lt}
 use Rattle.std.proofs.lemmas.Bool.Decides.{nat_tests}
 use Rattle.std.proofs.lemmas.Nat.{mul-le}
 use Rattle.std.proofs.Math.Nat.{mul-suc, suc-mul}

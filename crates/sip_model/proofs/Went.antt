@@ -79,11 +79,6 @@ pub all_mapped : {X Y : Type 0} (P : Y → Type 0) (f : X → Y) (xs : List X) �
 all_mapped P f [] h = tt
 all_mapped P f (x ∷ xs) h = (h.0, all_mapped P f xs h.1)
 
--- what holds of all that a function makes holds of what it makes of each
-all_flat_mapped : {X Y : Type 0} (P : Y → Type 0) (f : X → List Y) (xs : List X) → AllByRecursion P (flat_map f xs) → AllByRecursion (λ x. AllByRecursion P (f x)) xs
-all_flat_mapped P f [] h = tt
-all_flat_mapped P f (x ∷ xs) h = (all_left P (f x) (flat_map f xs) h, all_flat_mapped P f xs (all_right P (f x) (flat_map f xs) h))
-
 module _ (server : Server) (sent : List Packet) where
   -- a packet was sent
   abbrev pub WasSent : Packet → Type 0

@@ -186,10 +186,6 @@ pub record AreJoined (was : OpenRequest) (was_keys : List TimerKeys) (place : �
   pub further : AllByRecursion (λ b. IsFurther was was_keys place (owner_of b)) left
   pub sets : SetsInOrder ts (branches_timers was was.branches was_keys) us done
 
-all-branches : (P Q : Branch → Type 0) (bs : List Branch) → ((b : Branch) → P b → Q b) → AllByRecursion P bs → AllByRecursion Q bs
-all-branches P Q [] each a = tt
-all-branches P Q (b ∷ bs) each a = (each b a.0, all-branches P Q bs each a.1)
-
 all-both : (P Q R : Branch → Type 0) (bs : List Branch) → ((b : Branch) → P b → Q b → R b) → AllByRecursion P bs → AllByRecursion Q bs → AllByRecursion R bs
 all-both P Q R [] each a b = tt
 all-both P Q R (x ∷ bs) each a b = (each x a.0 b.0, all-both P Q R bs each a.1 b.1)

@@ -1,18 +1,17 @@
--- Where addresses lead that are a URI in brackets and nothing else.
+-- Where addresses lead that are a URI in brackets.
 use Rattle.std.proofs.Common.{◌≡◌, ◌⊎◌, ℕ, Bool, true, false, List, [], ◌∷◌, Option, Some, None, refl, sym, ap, ◌∙◌, inl, inr}
 use Rattle.std.specs.Prelude.{◌||◌, option_map, if◌then◌else◌}
 use Rattle.std.specs.Option.{option_and_then, unwrap_or}
 use Rattle.sip_uri.specs.Port.{port_value, port_number}
 use Rattle.sip_uri.specs.declared.uri.Uri.{Uri}
 use Rattle.sip_uri.specs.declared.scheme.Scheme.TheVariants as Scheme
-use Rattle.sip_uri.specs.PlainPlace.{loose_routing}
 use Rattle.sip_message_fields.specs.declared.field.Field.{Field}
 use Rattle.sip_message_fields.specs.declared.field_name.FieldName.TheVariants as Name
 use Rattle.sip_message_fields.specs.FieldName.{is_same_name}
 use Rattle.sip_header.specs.declared.name_addr.NameAddr.{NameAddr}
 use Rattle.sip_header.specs.NameAddr.{name_addr_of}
 use Rattle.sip_header.specs.Route.{route_of}
-use Rattle.sip_header.specs.PlainAddress.{IsBracketedHostPort}
+use Rattle.sip_header.specs.PlainAddress.{IsBracketedHostPort, AreOfPlace, IsPlaced}
 use Rattle.sip_hops.specs.HostAddress.{is_by_udp, port_or_default}
 use Rattle.sip_dialog.specs.Addresses.{item_in}
 use Rattle.sip_route_facts.specs.ContactHostPorts as Given
@@ -36,11 +35,12 @@ first_is value host port is =
     sym (first ∙ there ∙ ap (λ (h : List ℕ). Some (record { host = h; port = unwrap_or (port_number is.uri.port) 5060 })) is.has_host
     ∙ ap (λ (p : Option ℕ). Some (record { host = host; port = unwrap_or p 5060 })) (number_is is.uri.port port is.has_port))
 
-by_udp : (uri : Uri) → uri.scheme ≡ Scheme.Sip → (uri.parameters ≡ []) ⊎ (uri.parameters ≡ loose_routing) → is_by_udp uri ≡ true
+by_udp : (uri : Uri) → uri.scheme ≡ Scheme.Sip → AreOfPlace uri.parameters → is_by_udp uri ≡ true
 by_udp uri sip (inl none) = rw (sip, none) refl
-by_udp uri sip (inr loose) = rw (sip, loose) refl
+by_udp uri sip (inr (inl loose)) = rw (sip, loose) refl
+by_udp uri sip (inr (inr udp)) = rw (sip, udp) refl
 
-there_is : (value host : List ℕ) (port : Option ℕ) (is : IsBracketedHostPort value host port)
+there_is : (value host : List ℕ) (port : Option ℕ) (is : IsPlaced value host port)
     → Given.host_port_by is.address.uri ≡ Some (record { host = host; port = unwrap_or port 5060 })
 there_is value host port is =
     let udp : is_by_udp is.uri ≡ true = by_udp is.uri is.is_sip is.parameters in
@@ -55,7 +55,7 @@ one_of false true o p address e first second = second
 one_of false false o p address e first second = absurd cc
 
 pub host_port_is : (field : Field) (host : List ℕ) (port : Option ℕ) → (is_same_name field.name Name.Contact || is_same_name field.name Name.RecordRoute) ≡ true
-    → IsBracketedHostPort field.value host port
+    → IsPlaced field.value host port
     → Some (record { host = host; port = unwrap_or port 5060 }) ≡ Given.host_port_in field
 host_port_is field host port named is =
     let item : item_in field ≡ Some is.address = one_of (is_same_name field.name Name.Contact) (is_same_name field.name Name.RecordRoute) (name_addr_of field.value)

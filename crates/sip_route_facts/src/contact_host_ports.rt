@@ -5,7 +5,7 @@ ghost use Rattle.sip_route_facts.specs.ContactHostPorts as Spec;
 
 use crate::route_facts::HostPort;
 use sip_dialog::item_in;
-use sip_header::{AnyUri, bracketed_host_port};
+use sip_header::{AnyUri, placed_host_port};
 use sip_hops::{is_by_udp, port_or_default};
 use sip_message_fields::{FieldName, ViewField};
 use sip_text::{Bytes, Items};
@@ -65,7 +65,7 @@ fn host_port_in(alloc: Global, field: &ViewField<'_>) -> Result<Option<HostPort>
     if !gives_host_port(field) {
         return Ok(None);
     }
-    if let Some((host, port)) = bracketed_host_port(field.value().as_slice()) {
+    if let Some((host, port)) = placed_host_port(field.value().as_slice()) {
         return Ok(Some(HostPort {
             host: Bytes::copy(alloc, host)?,
             port: port.unwrap_or(5060),

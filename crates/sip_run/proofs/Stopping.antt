@@ -6,15 +6,13 @@ use Rattle.sip_event.specs.declared.event.StepOut.{StepOut}
 use Rattle.sip_engine.specs.state.declared.server.Server.{Server}
 use Rattle.sip_engine.specs.state.declared.proxy_state.ProxyState.{ProxyState}
 use Rattle.sip_engine.specs.state.State.{first_state}
-use Rattle.sip_engine.specs.steps_model.Step.{moment_of}
 use Rattle.sip_engine.specs.model.Run.{IsChain, Link, IsRun, event_moment, first_moment}
 use Rattle.sip_engine.specs.model.Access.{Access}
 use Rattle.sip_engine.specs.model.Bounds.{IsBounded}
 use Rattle.sip_engine.specs.declared.error.StepError.{StepError}
 use Rattle.sip_engine.specs.declared.error.StepError.TheVariants.{NoMemory}
 use Rattle.sip_engine.specs.model.TimerOrder.{Standing, first_standing}
-use Rattle.sip_run.specs.Due.{NothingDueBy}
-use Rattle.sip_run.specs.Refusals.{RefusesStep, refusal_of_event}
+use Rattle.sip_run.specs.Refusals.{RefusesStep}
 use Rattle.sip_run.specs.Runs.{IsRunOver, Goes, Halts, Stops}
 use Rattle.sip_run.proofs.Going.{RunsJoin, goes_on}
 
@@ -23,16 +21,6 @@ use Rattle.sip_run.proofs.Going.{RunsJoin, goes_on}
 -- want of memory, where the server refuses nothing
 no_memory : (refusal : Option StepError) (e : StepError) → refusal ≡ None → e ≡ NoMemory → RefusesStep refusal e
 no_memory refusal e none is = subst (λ r. RefusesStep r e) (sym none) is
-
--- the event's own step is refused
-pub halts_taking : (server : Server) (old mid : Standing) (at : ℕ) (event : Event) (a b : List StepOut) (e : StepError) → at ≡ event_moment event
-    → Goes server old mid [] (Some at) a b
-    → NothingDueBy (moment_of mid.state (event_moment event)) mid.state → RefusesStep (refusal_of_event mid.state event) e → Halts server old event a b e
-halts_taking server old mid at event a b e is h none refused = record {
-  last = mid;
-  goes = subst (λ (m : ℕ). Goes server old mid [] (Some m) a b) is h;
-  refused = inr (none, refused);
-}
 
 -- ---- behind events that were taken
 

@@ -1,3 +1,4 @@
+//! A branch of an open request (RFC 3261 16.6, 17.1): where its request went, how far it is, and what of it goes again.
 ghost use Rattle.std.specs.Prelude.{◌≡◌, true};
 
 use crate::resend::Resend;

@@ -1,15 +1,18 @@
 -- Targets for contacts, by the texts of their URIs.
-use Rattle.std.proofs.Common.{◌≡◌, ℕ, Bool, true, false, cond, List, [], ◌∷◌, Option, Some, None, Ok, refl, sym, ap, ◌∙◌}
-use Rattle.std.specs.Prelude.{◌||◌, not, filter, option_map}
+use Rattle.std.proofs.Common.{◌≡◌, ◌⊎◌, ℕ, Bool, true, false, cond, List, [], ◌∷◌, ◌++◌, Option, Some, None, Ok, refl, sym, ap, ◌∙◌, append-nil, inl, inr}
+use Rattle.std.specs.Prelude.{◌||◌, not, filter, option_map, codes}
 use Rattle.std.specs.Option.{option_and_then, unwrap_or}
 use Rattle.std.specs.List.{list_all, list_any}
 use Rattle.sip_text.specs.Words.{is_same_text}
 use Rattle.sip_uri.specs.declared.addr.Addr.{Addr}
 use Rattle.sip_uri.specs.declared.parameters.UriParameter.{UriParameter}
 use Rattle.sip_uri.specs.declared.uri.Uri.{Uri}
+use Rattle.sip_uri.specs.declared.scheme.Scheme.TheVariants as Scheme
+use Rattle.sip_uri.specs.declared.user.UserInfo.{UserInfo}
+use Rattle.sip_uri.specs.PlainPlace.{udp_transport}
 use Rattle.sip_uri.specs.Port.{port_value, port_number}
 use Rattle.sip_uri.specs.Reading.{reading_of}
-use Rattle.sip_uri_ref.specs.PlainUri.{bare_uri, IsBare}
+use Rattle.sip_uri_ref.specs.PlainUri.{bare_uri, IsBare, IsRefAt}
 use Rattle.sip_uri.specs.Uri.{text_of, is_parameter, names_differ, IsValid}
 use Rattle.sip_uri.proofs.Tests.{and_both, and_is, not_is}
 use Rattle.sip_uri.proofs.ReadingLaws.{valid_again}
@@ -97,13 +100,44 @@ bare_address rows u host port bare same number =
     ap (λ (h : List ℕ). address_at rows h (unwrap_or port 5060)) same ∙ ap (λ (p : Option ℕ). address_at rows u.host (unwrap_or p 5060)) number ∙ sym place
     ∙ sym (ap (address_of rows) bare.is)
 
-pub plain_target : (rows : List HostAddress) (text copy : List ℕ) (u kept : Uri) (address : Option Addr) → reading_of text ≡ Ok u → IsBare u → copy ≡ text
-    → kept ≡ uri_in copy
-    → address ≡ address_of rows u → record { uri = kept; address = address } ≡ target_for rows (uri_in text)
-plain_target rows text copy u kept address reads bare same has there =
-    let v : Uri = bare_uri bare.user u.host u.port in
-    let says : uri_in text ≡ v = ap uri_or_nowhere reads ∙ bare.is in
+-- a contact of which no more is written than its place, and perhaps that it is reached by UDP
+
+abbrev placed : Option UserInfo → List ℕ → Option (List ℕ) → List UriParameter → Uri
+placed info host digits parameters =
+    record { scheme = Scheme.Sip; userinfo = info; host = host; port = digits; parameters = parameters; headers = [] }
+
+bare_there : (rows : List HostAddress) (info : Option UserInfo) (host : List ℕ) (digits : Option (List ℕ)) (port : Option ℕ)
+    → option_map port_value digits ≡ option_map (λ n. Some n) port
+    → record { uri = placed info host digits []; address = address_at rows host (unwrap_or port 5060) } ≡ target_for rows (placed info host digits [])
+bare_there rows info host digits port numbered =
+    let there : address_of rows (placed info host digits []) ≡ address_at rows host (unwrap_or port 5060) =
+    ap (option_and_then (address_at rows host)) (default_is digits port numbered) in rw there refl
+
+udp_there : (rows : List HostAddress) (info : Option UserInfo) (host : List ℕ) (digits : Option (List ℕ)) (port : Option ℕ)
+    → option_map port_value digits ≡ option_map (λ n. Some n) port
+    → record { uri = placed info host digits udp_transport; address = address_at rows host (unwrap_or port 5060) } ≡ target_for rows (placed info host digits udp_transport)
+udp_there rows info host digits port numbered =
+    let there : address_of rows (placed info host digits udp_transport) ≡ address_at rows host (unwrap_or port 5060) =
+    ap (option_and_then (address_at rows host)) (default_is digits port numbered) in rw there refl
+
+target_of : (rows : List HostAddress) (text copy host : List ℕ) (v kept : Uri) (port : Option ℕ) (address : Option Addr) → reading_of text ≡ Ok v → copy ≡ text
+    → kept ≡ uri_in copy → address ≡ address_at rows host (unwrap_or port 5060)
+    → record { uri = v; address = address_at rows host (unwrap_or port 5060) } ≡ target_for rows v
+    → record { uri = kept; address = address } ≡ target_for rows (uri_in text)
+target_of rows text copy host v kept port address reads same has there is =
+    let says : uri_in text ≡ v = ap uri_or_nowhere reads in
     let uri : kept ≡ v = has ∙ ap uri_in same ∙ says in
-    let place : address ≡ address_of rows v = there ∙ ap (address_of rows) bare.is in
-    let whole : record { uri = kept; address = address } ≡ target_for rows v = rw (uri, place) refl in
-    whole ∙ ap (target_for rows) (sym says)
+    ap (λ (u : Uri). record { uri = u; address = address }) uri ∙ ap (λ (a : Option Addr). record { uri = v; address = a }) there ∙ is ∙ ap (target_for rows) (sym says)
+
+pub placed_target : (rows : List HostAddress) (text copy end : List ℕ) (u kept : Uri) (address : Option Addr) → IsRefAt text u end
+    → (end ≡ []) ⊎ (end ≡ codes ";transport=udp") → copy ≡ text → kept ≡ uri_in copy
+    → address ≡ address_at rows u.host (unwrap_or (port_number u.port) 5060)
+    → record { uri = kept; address = address } ≡ target_for rows (uri_in text)
+placed_target rows text copy end u kept address r (inl none) same has there =
+    let front : text ≡ r.at.front = r.at.whole ∙ ap (λ (w : List ℕ). r.at.front ++ w) none ∙ append-nil r.at.front in
+    target_of rows text copy u.host (placed r.at.info u.host r.at.digits []) kept (port_number u.port) address (ap reading_of front ∙ r.at.alone) same has there
+    (bare_there rows r.at.info u.host r.at.digits (port_number u.port) r.at.numbered)
+placed_target rows text copy end u kept address r (inr udp) same has there =
+    let front : text ≡ r.at.front ++ codes ";transport=udp" = r.at.whole ∙ ap (λ (w : List ℕ). r.at.front ++ w) udp in
+    target_of rows text copy u.host (placed r.at.info u.host r.at.digits udp_transport) kept (port_number u.port) address (ap reading_of front ∙ r.at.by_udp) same has there
+    (udp_there rows r.at.info u.host r.at.digits (port_number u.port) r.at.numbered)

@@ -1,13 +1,12 @@
 //! One target of a request (RFC 3261 16.5): the Request-URI that a contact becomes, and the address at which it is.
 //! Which targets a request has is said in `target_set`.
-ghost use Rattle.std.specs.Prelude.{◌≡◌, not, filter, IfOk, OnOk};
+ghost use Rattle.std.specs.Prelude.{◌≡◌, ◌⊎◌, [], codes, true, not, filter, IfOk, OnOk};
 ghost use Rattle.sip_uri.specs.Uri.{IsValid};
 ghost use Rattle.sip_location.specs.KeptBinding.{uri_in, IsUriText};
 ghost use Rattle.sip_targets.specs.Target as Definitions;
 ghost use Rattle.sip_targets.specs.Target.{target_for};
 
 use crate::target_uri::TargetUri;
-use crate::uri_address::address_in;
 use sip_hops::Hops;
 use sip_text::{Bytes, Items};
 use sip_uri::{Addr, Uri, UriError, UriParameter, parse_uri, write_uri};
@@ -89,9 +88,19 @@ fn target_read(alloc: Global, contact: &[u8], hops: &Hops) -> Result<Target, All
     Ok(Target { uri, address })
 }
 
+/// Whether what follows a plain URI is nothing, or `transport=udp` alone.
+fn ends_place(end: &[u8]) -> bool
+    ensures { result ≡ true → (end.now ≡ []) ⊎ (end.now ≡ codes ";transport=udp") }
+{
+    match end.split_first() {
+        None => true,
+        Some(_) => end == b";transport=udp".as_slice(),
+    }
+}
+
 impl Target {
     /// The target for the contact of a text, at the address of its URI if it has one. `AllocError` is the only refusal.
-    #[tactic(auto, using(crate::proofs::Contacts::plain_target))]
+    #[tactic(auto, using(crate::proofs::Contacts::placed_target))]
     pub(crate) fn for_contact(
         alloc: Global,
         contact: &[u8],
@@ -100,10 +109,13 @@ impl Target {
         requires { IsUriText contact.now }
         ensures { IfOk result (λ target. target ≡ target_for hops.now.addresses (uri_in contact.now)) }
     {
-        let Some(uri) = UriRef::plain_of(contact) else {
+        let Some((uri, end)) = UriRef::plain_at(contact) else {
             return target_read(alloc, contact, hops);
         };
-        let address = address_in(&uri, hops);
+        if !ends_place(end) {
+            return target_read(alloc, contact, hops);
+        }
+        let address = hops.address_at(uri.host(), uri.port().unwrap_or(5060));
         let uri = TargetUri::of(alloc, Bytes::copy(alloc, contact)?)?;
         Ok(Target { uri, address })
     }

@@ -10,11 +10,6 @@ use Rattle.sip_text.specs.Lists.{is_blank, trimmed, end_trimmed}
 abbrev pub Blanks : List ℕ → Type 0
 Blanks bs = AllByRecursion (λ b. is_blank b ≡ true) bs
 
--- nothing, or what begins and ends with no blank
-abbrev pub begins_full : List ℕ → Type 0
-begins_full [] = ⊥
-begins_full (c ∷ cs) = is_blank c ≡ false
-
 abbrev pub ends_full : List ℕ → Type 0
 ends_full [] = ⊥
 ends_full (c ∷ []) = is_blank c ≡ false

@@ -1,3 +1,4 @@
+//! Quoted text (RFC 3261 25.1, `quoted-string`): where it ends, what it says, and whether a text is one.
 ghost use Rattle.std.specs.Prelude.{◌≡◌, ◌<◌, [], ◌∷◌, ◌++◌, true, length, is_some, Some, IfSome, MatchOption};
 ghost use Rattle.sip_text.specs.Escapes.{unquoted, inside_quotes, with_front, at_end, plain_front};
 ghost use Rattle.sip_text.specs.Reading.{Reads};

@@ -1,6 +1,6 @@
 -- Lists of timers by the slots in which those of a moment stand.
 use Rattle.std.proofs.Common.{◌≡◌, ◌≢◌, ℕ, zero, suc, ◌+◌, ◌≤◌, ◌<◌, List, [], ◌∷◌, ◌++◌, length, eqb, cond, Bool, true, false, refl, ap, ◌∙◌, arith, set}
-use Rattle.std.specs.Prelude.{not, ◌&&◌, filter, count_by}
+use Rattle.std.specs.Prelude.{not, filter, count_by}
 use Rattle.std.proofs.lemmas.Bool.Decides.{nat_tests}
 use Rattle.std.proofs.lemmas.List.{append-nil, get_or-set_same, get_or-set_other}
 use Rattle.std.proofs.lemmas.List.Elements.{filter-append}

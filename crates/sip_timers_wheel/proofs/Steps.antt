@@ -1,7 +1,7 @@
 -- What each call of a wheel leaves.
 use Rattle.std.proofs.Common.{◌≡◌, ◌≢◌, ℕ, ◌+◌, ◌*◌, ◌/◌, ◌%◌, ◌≤◌, ◌<◌, List, [], ◌∷◌, ◌++◌, length, eqb, leb, cond, true, false, refl, ap, sym, ◌∙◌, arith, subst, set}
 use Rattle.std.proofs.Common.{drop, ltb, Option, Some, None, ◌⊎◌, inl, inr}
-use Rattle.std.specs.Prelude.{not, ◌&&◌, count_by, IfNone, IfSome, MatchOption}
+use Rattle.std.specs.Prelude.{not, ◌&&◌, count_by, IfNone, MatchOption}
 use Rattle.std.proofs.lemmas.Bool.{cases_lt}
 use Rattle.std.proofs.lemmas.Bool.Decides.{nat_tests}
 use Rattle.std.proofs.lemmas.List.{length-set, length-append, get_or_past}
@@ -18,7 +18,7 @@ use Rattle.sip_timers_wheel.proofs.Moments.{before_end, behind_level, behind_slo
 use Rattle.sip_timers_wheel.proofs.Lists.{without-none}
 use Rattle.sip_timers_wheel.proofs.Changes.{by_same, seen, pushed-in_place, pushed-pending, key-here, gone-in_place, gone-pending}
 use Rattle.sip_timers_wheel.proofs.Moves.{by_moment, near_by_slot, moved-more, new-slot}
-use Rattle.sip_timers_wheel.proofs.First.{least-before, none-least, head-late, head-first, none-pending, some-is}
+use Rattle.sip_timers_wheel.proofs.First.{least-before, none-least, head-first, none-pending, some-is}
 use Rattle.sip_timers_wheel.proofs.Dues.{least_rising}
 use Rattle.sip_timers.proofs.Counting.{count-cons}
 
@@ -194,10 +194,6 @@ module _ (stays : StaysOrdered) (b : ℕ) (lists : List (List Timer)) (wheel : I
 
 -- what is late, as it is asked for
 module _ (stays : StaysOrdered) (b : ℕ) (lists : List (List Timer)) (wheel : IsWheel b lists) where
-  pub late-first : (result : Option Timer) → result ≡ least (list_at lists 320) → IfSome result (λ first. pending_in lists ≡ first ∷ drop 1 (pending_in lists))
-  late-first None e = tt
-  late-first (Some l) e = head-late stays b lists wheel l (sym e)
-
   pub none-late : (result : Option Timer) → result ≡ least (list_at lists 320) → IfNone result ((due : ℕ) → first_due (pending_in lists) ≡ Some due → b < due)
   none-late None e = first-later stays b lists wheel (sym e)
   none-late (Some l) e = tt

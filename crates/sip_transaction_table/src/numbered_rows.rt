@@ -1,5 +1,5 @@
-//! The rows of open requests in rising order of their numbers: found by number by bisection, or passed over one by one for a key.
-//! `table` finds them by key.
+//! The rows of open requests in rising order of their numbers: found by number, at either end at once and else by bisection, or
+//! passed over one by one for a key. `table` finds them by key.
 ghost use Rattle.std.specs.Prelude.{◌≡◌, ◌<◌, ◌≤◌, ◌++◌, ◌∷◌, ◌==◌, [], length, position, remove, slice_get, slice_set, Some, IfOk};
 ghost use Rattle.std.specs.List.{All, AllPairs};
 ghost use Rattle.sip_transaction_table.specs.Key.{same_key, is_cancelled_by};
@@ -58,8 +58,23 @@ impl<R: TransactionRow> NumberedRows<R> {
         self.rows[place].get()
     }
 
-    /// The place of the row with a number, by bisection.
+    /// The place of the row with a number: mostly that of the newest or of the oldest, and else it is found by bisection.
     pub(crate) fn find(&self, number: u64) -> Option<usize>
+        ensures { result ≡ position (λ r. R.number r == number) self.now }
+    {
+        if let Some(newest) = self.len().checked_sub(1) {
+            if self.get(newest).number() == number {
+                return Some(newest);
+            }
+            if self.get(0).number() == number {
+                return Some(0);
+            }
+        }
+        self.bisect(number)
+    }
+
+    /// The place of the row with a number, by bisection.
+    fn bisect(&self, number: u64) -> Option<usize>
         ensures { result ≡ position (λ r. R.number r == number) self.now }
     {
         self.rows

@@ -1,3 +1,4 @@
+//! A final answer that is made here, as a draft (RFC 3261 8.2.6, 17.2): what it sends, records and keeps open.
 ghost use Rattle.std.specs.Prelude.{◌≡◌, ◌+◌, ◌<◌, ◌^◌, if◌then◌else◌, [], ◌∷◌, Some, None, IfOk, IfSome};
 ghost use Rattle.sip_forwarding.specs.Arrivals.{arrival_of};
 ghost use Rattle.sip_forwarding.specs.steps_model.Effect as Effects;

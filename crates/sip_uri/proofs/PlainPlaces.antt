@@ -10,7 +10,7 @@ use Rattle.sip_uri.specs.Port.{port_value}
 use Rattle.sip_uri.specs.declared.scheme.Scheme.TheVariants as Scheme
 use Rattle.sip_uri.specs.declared.user.UserInfo.{UserInfo}
 use Rattle.sip_uri.specs.Reading.{user_of, user_from, rest_of, reading_of, is_of_place, AreTexts, HasPlace}
-use Rattle.sip_uri.specs.PlainPlace.{HasUser, IsPlain, loose_routing, is_plain_byte, IsUriAt}
+use Rattle.sip_uri.specs.PlainPlace.{HasUser, IsPlain, loose_routing, udp_transport, is_plain_byte, IsUriAt}
 use Rattle.sip_text.specs.Escapes.{unescaped}
 use Rattle.sip_uri.proofs.Tests.{and_both, all_join, others, never_split}
 use Rattle.sip_uri.proofs.Users.{user_there}
@@ -26,6 +26,12 @@ pub with_lr : (text rest host : List ℕ) (info : Option UserInfo) (port : Optio
     → rest_of Scheme.Sip text ≡ Ok (record { scheme = Scheme.Sip; userinfo = info; host = host; port = port; parameters = loose_routing; headers = [] })
 unfolding rest_of
 with_lr text rest host info port user at = rw (user, ← at.place, ← at.of_parameters, ← at.of_headers) refl
+
+pub with_udp : (text rest host : List ℕ) (info : Option UserInfo) (port : Option (List ℕ)) → user_of text ≡ Ok (info, rest)
+    → HasPlace rest host port (Some (codes "transport=udp")) None
+    → rest_of Scheme.Sip text ≡ Ok (record { scheme = Scheme.Sip; userinfo = info; host = host; port = port; parameters = udp_transport; headers = [] })
+unfolding rest_of
+with_udp text rest host info port user at = rw (user, ← at.place, ← at.of_parameters, ← at.of_headers) refl
 
 pub plain_is : (text behind rest host : List ℕ) (port parameters headers : Option (List ℕ)) (number : Option ℕ) → text ≡ codes "sip:" ++ behind → HasUser behind rest
     → HasPlace rest host port parameters headers → headers ≡ None
@@ -108,6 +114,13 @@ at_lr front host digits plain is =
     has_place (front ++ codes ";lr") host (codes ";lr") digits digits (Some (codes "lr")) None at
     (λ f all. parameters_next f (codes ";lr") (codes "lr") (codes "lr") None 59 refl refl refl refl all) refl
 
+pub at_udp : (front host : List ℕ) (digits : Option (List ℕ)) → list_all is_place_byte front ≡ true → place_of front ≡ Some (host, digits)
+    → HasPlace (front ++ codes ";transport=udp") host digits (Some (codes "transport=udp")) None
+at_udp front host digits plain is =
+    let at : IsPlaceAt (front ++ codes ";transport=udp") host digits (codes ";transport=udp") = record { front = front; whole = refl; plain = plain; is_place = is } in
+    has_place (front ++ codes ";transport=udp") host (codes ";transport=udp") digits digits (Some (codes "transport=udp")) None at
+    (λ f all. parameters_next f (codes ";transport=udp") (codes "transport=udp") (codes "transport=udp") None 59 refl refl refl refl all) refl
+
 -- a user with its `@`, or nothing, and a place
 unfoldable pub uri_at : (text user place rest host : List ℕ) (info : Option UserInfo) (digits : Option (List ℕ)) (number : Option ℕ)
     → text ≡ codes "sip:" ++ (user ++ (place ++ rest)) → list_all is_plain_byte user ≡ true → list_all is_place_byte place ≡ true
@@ -126,6 +139,10 @@ uri_at text user place rest host info digits number whole of_user of_place is na
       loose =
           behind_sip ((user ++ place) ++ codes ";lr") ∙ ap (rest_of Scheme.Sip) (append_assoc user place (codes ";lr"))
           ∙ with_lr (user ++ (place ++ codes ";lr")) (place ++ codes ";lr") host info digits (named (codes ";lr") refl) (at_lr place host digits of_place is);
+      by_udp =
+          behind_sip ((user ++ place) ++ codes ";transport=udp") ∙ ap (rest_of Scheme.Sip) (append_assoc user place (codes ";transport=udp"))
+          ∙ with_udp (user ++ (place ++ codes ";transport=udp")) (place ++ codes ";transport=udp") host info digits (named (codes ";transport=udp") refl)
+          (at_udp place host digits of_place is);
     }
 
 pub no_user : (place after : List ℕ) → list_all is_place_byte place ≡ true → list_all (is_not 64) after ≡ true → user_of (place ++ after) ≡ Ok (None, place ++ after)

@@ -19,6 +19,10 @@ pub record HasUser (text rest : List ℕ) : Type 0 where
 abbrev pub loose_routing : List UriParameter
 loose_routing = record { name = codes "lr"; value = None } ∷ []
 
+-- the parameter `transport=udp`, alone (RFC 3261 19.1.1)
+abbrev pub udp_transport : List UriParameter
+udp_transport = record { name = codes "transport"; value = Some (codes "udp") } ∷ []
+
 -- A text is a `sip` URI with this host and this number of a port, if it has one, whose parameters are none, or `lr` alone (RFC 3261 19.1.1).
 pub record IsPlain (text host : List ℕ) (port : Option ℕ) : Type 0 where
   pub uri : Uri
@@ -33,7 +37,7 @@ abbrev pub is_plain_byte : ℕ → Bool
 is_plain_byte b = is_place_byte b || b == byte "@"
 
 -- A text begins with a `sip` URI that has this host and this number of a port, if it has one, and this follows it. Alone it has no parameters,
--- and with `;lr` behind it that one (RFC 3261 19.1.1).
+-- and with `;lr` or `;transport=udp` behind it that one (RFC 3261 19.1.1).
 pub record IsUriAt (text host : List ℕ) (port : Option ℕ) (rest : List ℕ) : Type 0 where
   pub front : List ℕ
   pub whole : text ≡ front ++ rest
@@ -48,6 +52,14 @@ pub record IsUriAt (text host : List ℕ) (port : Option ℕ) (rest : List ℕ) 
     host = host;
     port = digits;
     parameters = loose_routing;
+    headers = [];
+  })
+  pub by_udp : reading_of (front ++ codes ";transport=udp") ≡ Ok (record {
+    scheme = Scheme.Sip;
+    userinfo = info;
+    host = host;
+    port = digits;
+    parameters = udp_transport;
     headers = [];
   })
 

@@ -1,3 +1,4 @@
+//! Headers of two URIs compared (RFC 3261 19.1.4): put in order by name and value, on the stack where they are few.
 ghost use Rattle.std.specs.Prelude.{◌≡◌, ◌≤◌, ◌<◌, length, IfOk};
 ghost use Rattle.std.specs.Cmp.Lexicographic.{pointwise};
 ghost use Rattle.std.specs.List.Sorted.{IsPermutation};

@@ -71,6 +71,7 @@ ref_at text user host rest uri behind port of cut left =
       numbered = of.at.numbered ∙ ap (λ (o : Option ℕ). option_map (λ n. Some n) o) (sym (number_is of.at.digits port of.at.numbered));
       alone = of.at.alone;
       loose = of.at.loose;
+      by_udp = of.at.by_udp;
     } in
     subst (λ (u : Uri). IsRefAt text u behind) (sym said) (record { at = at; is = reads })
 

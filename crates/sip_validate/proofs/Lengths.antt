@@ -1,8 +1,7 @@
 -- The text of a Contact's URI isn't longer than the value that it is read from.
-use Rattle.std.proofs.Common.{◌≡◌, ◌≤◌, ◌-◌, ℕ, true, false, not, ◌==◌, List, [], ◌∷◌, length, take, Some, None, refl, sym, ap, ◌∙◌, arith, length-append, inl, inr}
+use Rattle.std.proofs.Common.{◌≡◌, ◌≤◌, ◌-◌, ℕ, true, false, not, List, [], ◌∷◌, length, take, Some, None, refl, sym, ap, ◌∙◌, arith, length-append, inl, inr}
 use Rattle.std.specs.Prelude.{◌&&◌, Option, is_some, option_map, codes, reverse, take_while, nat_lt}
 use Rattle.std.specs.Str.{bytes_eq}
-use Rattle.std.specs.Char.{to_ascii_lowercase}
 use Rattle.std.specs.List.{join_with_byte}
 use Rattle.std.proofs.lemmas.Bool.Decides.{nat_tests}
 use Rattle.std.proofs.lemmas.List.{length-drop, length-take}
@@ -18,7 +17,7 @@ use Rattle.sip_header.specs.NameAddr.{IsAnyUri, IsNameAddr, name_addr_of}
 use Rattle.sip_header.specs.ContactItem.{contact_of}
 use Rattle.sip_header.specs.Route.{route_of}
 use Rattle.sip_header.proofs.NameAddrLaws.{written_contact}
-use Rattle.sip_header.specs.PlainAddress.{IsBracketedHostPort}
+use Rattle.sip_header.specs.PlainAddress.{IsBracketedHostPort, IsPlaced}
 use Rattle.sip_validate.specs.Faults.{is_sip, may_be_bound, is_bindable}
 use Rattle.sip_route.proofs.Front.{same_length}
 
@@ -108,3 +107,11 @@ none_binds value star named = sym (ap (λ item. is_some item && is_bindable item
 
 pub plain_route : (value host : List ℕ) (port : Option ℕ) → IsBracketedHostPort value host port → true ≡ is_some (route_of value)
 plain_route value host port place = sym (ap is_some place.is_route)
+
+pub placed_is : (value host : List ℕ) (port : Option ℕ) → IsPlaced value host port → true ≡ is_some (contact_of value)
+placed_is value host port place = sym (ap is_some place.is_contact)
+
+pub placed_binds : (value host : List ℕ) (port : Option ℕ) → IsPlaced value host port → length value ≤ 512
+    → true ≡ (is_some (contact_of value) && is_bindable (contact_of value))
+placed_binds value host port place le =
+    sym (ap (λ item. is_some item && is_bindable item) place.is_contact ∙ short_bound value place.address place.is_contact le ∙ ap is_sip place.has_uri)

@@ -16,7 +16,7 @@ ghost use Rattle.sip_validate.specs.Refusal.{has_own_via};
 use crate::unchecked_request::UncheckedRequest;
 use sip_header::{
     AnyUri, ContactItem, MaxForwards, Via, WrittenAddress, bracketed_host_port, contact_of,
-    route_of, via_of, written_address_of,
+    placed_host_port, route_of, via_of, written_address_of,
 };
 use sip_message_fields::{FieldName, ViewField};
 use sip_route::Own;
@@ -71,10 +71,13 @@ fn is_route(alloc: Global, value: &[u8]) -> Result<bool, AllocError>
 }
 
 /// Whether a value is an item of Contact.
-#[tactic(auto, using(crate::proofs::Lengths::star_is, crate::proofs::Lengths::address_is))]
+#[tactic(auto, using(crate::proofs::Lengths::placed_is, crate::proofs::Lengths::star_is, crate::proofs::Lengths::address_is))]
 fn is_contact(alloc: Global, value: &[u8]) -> Result<bool, AllocError>
     ensures { IfOk result (λ is_contact. is_contact ≡ is_some (Contacts.contact_of value.now)) }
 {
+    if placed_host_port(value).is_some() {
+        return Ok(true);
+    }
     if same_bytes(value, b"*") {
         return Ok(true);
     }
@@ -211,12 +214,15 @@ fn is_long_bindable(alloc: Global, value: &[u8]) -> Result<bool, AllocError>
 }
 
 /// Whether a value is an item of Contact that is `*` or may be bound. A URI isn't longer than the value that it stands in.
-#[tactic(auto, using(crate::proofs::Lengths::star_binds, crate::proofs::Lengths::short_binds, crate::proofs::Lengths::none_binds))]
+#[tactic(auto, using(crate::proofs::Lengths::placed_binds, crate::proofs::Lengths::star_binds, crate::proofs::Lengths::short_binds, crate::proofs::Lengths::none_binds))]
 fn is_bindable(alloc: Global, value: &[u8]) -> Result<bool, AllocError>
     ensures { IfOk result (λ may. may ≡ (is_some (Contacts.contact_of value.now) && Definition.is_bindable (Contacts.contact_of value.now))) }
 {
     if LONGEST_CONTACT < value.len() {
         return is_long_bindable(alloc, value);
+    }
+    if placed_host_port(value).is_some() {
+        return Ok(true);
     }
     if same_bytes(value, b"*") {
         return Ok(true);

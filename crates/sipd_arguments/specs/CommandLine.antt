@@ -18,6 +18,7 @@ use Rattle.sipd_arguments.specs.declared.call.ProgramCall.TheVariants as calls
 use Rattle.sipd_arguments.specs.declared.call.CheckCall.{CheckCall}
 use Rattle.sipd_arguments.specs.declared.call.ReplayCall.{ReplayCall}
 use Rattle.sipd_arguments.specs.declared.call.ReplayCall.TheVariants.{Script, Record}
+use Rattle.sipd_arguments.specs.declared.call.CompactCall.{CompactCall}
 use Rattle.sipd_arguments.specs.declared.call.ServeCall.{ServeCall}
 use Rattle.sipd_arguments.specs.declared.call.DecideCall.{DecideCall}
 use Rattle.sipd_arguments.specs.declared.call.DecideCall.TheVariants.{Question, Log}
@@ -73,6 +74,9 @@ check_command = command (codes "check") (needed (option (codes "config")) ∷ fl
 
 abbrev pub replay_command : Shape
 replay_command = command (codes "replay") (option (codes "config") ∷ option (codes "record") ∷ [])
+
+abbrev pub compact_command : Shape
+compact_command = command (codes "compact") (needed (option (codes "config")) ∷ word (codes "OLD") 1 ∷ word (codes "NEW") 2 ∷ [])
 
 abbrev pub serve_command : Shape
 serve_command = command (codes "serve")
@@ -131,7 +135,8 @@ no_commands = record (new_app (codes "sipd")) { top = record (new_app (codes "si
 abbrev pub program : App
 program = record {
   top = record no_commands.top { is_leaf = false };
-  subs = check_command ∷ replay_command ∷ serve_command ∷ decide_command ∷ matrix_command ∷ report_command ∷ user_command ∷ [];
+  subs =
+      check_command ∷ replay_command ∷ compact_command ∷ serve_command ∷ decide_command ∷ matrix_command ∷ report_command ∷ user_command ∷ [];
 }
 
 -- ---- what is said of an option
@@ -175,6 +180,12 @@ pub record IsCheck (rows : List Row) (call : CheckCall) : Type 0 where
 abbrev pub IsReplay : List Row → ReplayCall → Type 0
 IsReplay rows (Script config) = (text_at (codes "record") rows ≡ None) × (option_map string_bytes config ≡ text_at (codes "config") rows)
 IsReplay rows (Record config path) = (text_at (codes "record") rows ≡ Some (string_bytes path)) × (option_map string_bytes config ≡ text_at (codes "config") rows)
+
+-- `compact`
+pub record IsCompact (rows : List Row) (call : CompactCall) : Type 0 where
+  pub config : string_bytes call.config ≡ needed_text (codes "config") rows
+  pub old : string_bytes call.old ≡ needed_text (codes "OLD") rows
+  pub new : string_bytes call.new ≡ needed_text (codes "NEW") rows
 
 -- where a server is to record: in a new file of a folder, or in a file, going on from another one where that is named
 abbrev pub IsPlace : Option Text → Option Text → Option Text → Option RecordPlace → Type 0
@@ -251,6 +262,7 @@ pub record IsUser (rows : List Row) (call : UserCall) : Type 0 where
 abbrev pub IsCall : Text → List Row → ProgramCall → Type 0
 IsCall name rows (calls.Check call) = (name ≡ codes "check") × IsCheck rows call
 IsCall name rows (calls.Replay call) = (name ≡ codes "replay") × IsReplay rows call
+IsCall name rows (calls.Compact call) = (name ≡ codes "compact") × IsCompact rows call
 IsCall name rows (calls.Serve call) = (name ≡ codes "serve") × IsServe rows call
 IsCall name rows (calls.Decide call) = (name ≡ codes "decide") × IsDecide rows call
 IsCall name rows (calls.Matrix call) = (name ≡ codes "matrix") × IsMatrix rows call
@@ -317,7 +329,7 @@ matrix_misuse rows =
 
 -- the commands whose options all stand together
 abbrev pub is_free : Text → Bool
-is_free name = list_any (bytes_eq name) (codes "check" ∷ codes "replay" ∷ codes "report" ∷ [])
+is_free name = list_any (bytes_eq name) (codes "check" ∷ codes "replay" ∷ codes "compact" ∷ codes "report" ∷ [])
 
 abbrev pub misuse_in : Text → List Row → Option Misuse
 misuse_in name rows =

@@ -7,6 +7,7 @@ use sipd_exit::{RecordFault, RecordPlace};
 pub enum ProgramCall {
     Check(CheckCall),
     Replay(ReplayCall),
+    Compact(CompactCall),
     Serve(ServeCall),
     Decide(DecideCall),
     Matrix(MatrixCall),
@@ -39,6 +40,17 @@ pub enum ReplayCall {
         config: Option<String>,
         path: String,
     },
+}
+
+/// `compact`: a shorter record is made that leads where another one does.
+#[derive(Drop)]
+pub struct CompactCall {
+    /// The file of the configuration, which is that of the same server to others as those of the record.
+    pub config: String,
+    /// The record.
+    pub old: String,
+    /// The file of the new one.
+    pub new: String,
 }
 
 /// `serve`: phones are served.

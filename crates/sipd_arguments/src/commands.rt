@@ -119,6 +119,16 @@ fn replay_command<'a>(alloc: Global) -> Result<Command<'a>, AllocError>
         .arg(old_record_argument(alloc))
 }
 
+fn compact_command<'a>(alloc: Global) -> Result<Command<'a>, AllocError>
+    ensures { IfOk result (IsCommand Definitions.compact_command) }
+{
+    Command::new(alloc, "compact")
+        .about("Makes a shorter record that leads where another one does")
+        .arg(config_argument(alloc).required(true))?
+        .arg(word(alloc, "OLD", 1, "The record"))?
+        .arg(word(alloc, "NEW", 2, "The file of the shorter one"))
+}
+
 /// `--turns N`.
 fn turns_argument<'a>(alloc: Global) -> Arg<'a>
     ensures rule { rule_of result ≡ Definitions.number_from 0 4294967295 (Definitions.option (codes "turns")) }
@@ -313,6 +323,7 @@ fn commands<'a>(alloc: Global) -> Result<Command<'a>, AllocError>
     program(alloc)
         .subcommand(ended(check_command(alloc)?, endings::CHECK))?
         .subcommand(ended(replay_command(alloc)?, endings::REPLAY))?
+        .subcommand(ended(compact_command(alloc)?, endings::COMPACT))?
         .subcommand(ended(serve_command(alloc)?, endings::SERVE))?
         .subcommand(ended(decide_command(alloc)?, endings::DECIDE))?
         .subcommand(ended(matrix_command(alloc)?, endings::MATRIX))?

@@ -14,6 +14,11 @@ Example: sipd replay --record /var/lib/sipd/records/1795638404213.record
 Ends with 0 done, 1 usage, 2 configuration, 3 the line from which on it is damaged, or no record, 4 device, 5 memory.
 More: docs/SCRIPTS.md";
 
+pub(crate) const COMPACT: &str = "\
+Example: sipd compact --config office.toml old.record new.record
+Ends with 0 done, 1 usage, 2 configuration, 3 OLD can't be gone on from, or isn't made shorter, 4 device, 5 memory.
+More: docs/OPERATING.md";
+
 pub(crate) const SERVE: &str = "\
 Example: sipd serve --config office.toml --reload --records /var/lib/sipd/records
 Ends by a signal, or with 0 behind its turns, 1 usage, 2 configuration, 4 device, 5 memory or stack.

@@ -15,8 +15,8 @@ mod misuse;
 mod summary;
 
 pub use call::{
-    CheckCall, DecideCall, ExpectedDecision, MatrixCall, ProgramCall, QuestionCall, ReplayCall,
-    ReportCall, ServeCall, UserCall,
+    CheckCall, CompactCall, DecideCall, ExpectedDecision, MatrixCall, ProgramCall, QuestionCall,
+    ReplayCall, ReportCall, ServeCall, UserCall,
 };
 pub use commands::{Parsed, parse};
 pub use summary::summary_of;

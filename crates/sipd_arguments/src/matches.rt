@@ -6,8 +6,8 @@ ghost use Rattle.sipd_arguments.specs.CommandLine.{IsCall, IsCallOf, IsPlace};
 ghost use Rattle.sipd_arguments.specs.Commands.{IsWhy};
 
 use crate::call::{
-    CheckCall, DecideCall, ExpectedDecision, MatrixCall, ProgramCall, QuestionCall, ReplayCall,
-    ReportCall, ServeCall, UserCall,
+    CheckCall, CompactCall, DecideCall, ExpectedDecision, MatrixCall, ProgramCall, QuestionCall,
+    ReplayCall, ReportCall, ServeCall, UserCall,
 };
 use crate::misuse::Misuse;
 use clap::ArgMatches;
@@ -106,6 +106,16 @@ fn replay_call(alloc: Global, matches: &ArgMatches<'_>) -> Result<ReplayCall, Al
     Ok(match text_of(alloc, matches, "record")? {
         Some(path) => ReplayCall::Record { config, path },
         None => ReplayCall::Script { config },
+    })
+}
+
+fn compact_call(alloc: Global, matches: &ArgMatches<'_>) -> Result<CompactCall, AllocError>
+    ensures { IfOk result (Definitions.IsCompact (rows_of (found_of matches.now))) }
+{
+    Ok(CompactCall {
+        config: needed_text(alloc, matches, "config")?,
+        old: needed_text(alloc, matches, "OLD")?,
+        new: needed_text(alloc, matches, "NEW")?,
     })
 }
 
@@ -359,6 +369,7 @@ fn call_named(alloc: Global, name: &str, matches: &ArgMatches<'_>) -> Result<Pro
     match name {
         "check" => Ok(ProgramCall::Check(check_call(alloc, matches)?)),
         "replay" => Ok(ProgramCall::Replay(replay_call(alloc, matches)?)),
+        "compact" => Ok(ProgramCall::Compact(compact_call(alloc, matches)?)),
         "serve" => Ok(ProgramCall::Serve(serve_call(alloc, matches)?)),
         "decide" => Ok(ProgramCall::Decide(decide_call(alloc, matches)?)),
         "matrix" => Ok(ProgramCall::Matrix(matrix_call(alloc, matches)?)),

@@ -1,5 +1,6 @@
 ghost use Rattle.std.specs.Prelude.{◌≤◌};
 
+use crate::compacting::compact_file;
 use crate::serving::serve_file;
 use sip_policy::Rules;
 use sip_timers::Timers;
@@ -63,6 +64,7 @@ fn carry_out<
         ProgramCall::Replay(call) => replay_call::<T, P, R, I, W, C>(
             rt, call, seen, input, output, complaints,
         ),
+        ProgramCall::Compact(call) => compact_file::<T, P, R, C>(rt, call, seen, complaints),
         ProgramCall::Serve(call) => {
             let mut printer = LinePrinter::new(rt.alloc(), output);
             serve_file::<T, P, R, I, _, C>(rt, call, seen, input, &mut printer, complaints)

@@ -14,6 +14,9 @@ use sip_event::StepOut;
 use sip_guard::Guard;
 use sip_journal::NoJournal;
 use sip_policy::Rules;
+use sip_record_omitted::Expanding;
+use sip_record_sealed::Unsealing;
+use sip_replay_script::TellingReader;
 use sip_text::Bytes;
 use sip_timers::Timers;
 use sip_transport::{Clock, Link, SteadyClock, UdpLink};
@@ -195,7 +198,9 @@ fn serve_with<
     };
     let aside = SteadyClock::new(rt);
     let mut service = service_of(alloc, start, engine, journal, aside, clock, watch)?;
-    serve_turns(alloc, &mut service, &serving, printer, complaints)
+    let served = serve_turns(alloc, &mut service, &serving, printer, complaints);
+    service.journal.close();
+    served
 }
 
 /// What the last step of an older record decided, where there is one.
@@ -271,7 +276,7 @@ fn serve_recorded<
     T: Timers,
     P: Rules,
     R: Files + Net + rt::Clock + Eprint + AllocGlobal,
-    I: Read,
+    I: TellingReader,
     F: WatchedFile,
     W: Write + Drop,
     M: Write,
@@ -368,7 +373,9 @@ pub fn serve_file<
         );
     };
     let beginning = Beginning::new(rt, &stated, place, call.record_fault, seen)?;
-    let mut record = Watched::new(rt, input, "the record that comes", None, seen);
+    let unsealing = Unsealing::new(alloc, input)?;
+    let watched = Watched::new(rt, unsealing, "the record that comes", None, seen);
+    let mut record = Expanding::new(alloc, watched)?;
     serve_recorded::<T, P, R, _, _, _, M>(
         rt,
         call,

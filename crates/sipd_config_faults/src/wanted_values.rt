@@ -1,3 +1,4 @@
+//! What would do where a configuration is refused, in words: what a key may hold, how long its list may be, and which keys a table may have.
 use sip_config_values::{ConfigKey, KeyPlace, TableKind};
 
 /// What a key may hold, in words.

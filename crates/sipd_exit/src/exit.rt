@@ -34,12 +34,16 @@ pub enum Exit {
     OtherConfiguration,
     /// A record doesn't hold its configuration.
     BareRecord,
+    /// This line of a record's file has the digest of other bytes than stand before it.
+    Changed(u64),
     /// A server that runs can't take a configuration in the place of another.
     OtherFrame,
     /// What is named as the record to go on from is a named pipe.
     PipedRecord,
     /// The file of a new record can't be made.
     NewRecord,
+    /// No shorter record leads where a record does.
+    NoShorter,
     /// A record couldn't be written, and the server was to end then.
     Recording,
     /// A policy isn't as it is expected to be.
@@ -62,7 +66,9 @@ impl Exit {
             | Exit::NoRecord
             | Exit::OtherConfiguration
             | Exit::BareRecord
-            | Exit::OtherFrame => 3,
+            | Exit::Changed(_)
+            | Exit::OtherFrame
+            | Exit::NoShorter => 3,
             Exit::Device(_) | Exit::PipedRecord | Exit::NewRecord | Exit::Recording => 4,
             Exit::Memory | Exit::Stack { .. } => 5,
             Exit::OtherDecision => 6,
@@ -93,6 +99,10 @@ impl fmt::Display for Exit {
                 write!(f, "sipd: the record was made with another configuration")
             }
             Exit::BareRecord => write!(f, "sipd: the record doesn't hold its configuration"),
+            Exit::Changed(line) => write!(
+                f,
+                "sipd: the record was changed: its line {line} has the digest of other bytes"
+            ),
             Exit::OtherFrame => write!(f, "sipd: a server that runs can't take it"),
             Exit::PipedRecord => write!(
                 f,
@@ -102,6 +112,7 @@ impl fmt::Display for Exit {
                 f,
                 "sipd: the record can't be made: its file is there already, or its folder isn't, or may not be written, or has no hard links"
             ),
+            Exit::NoShorter => write!(f, "sipd: no shorter record leads where it does"),
             Exit::Recording => write!(f, "sipd: the record can't be written"),
             Exit::Unexpected => write!(f, "sipd: the policy isn't as expected"),
             Exit::OtherPolicy => write!(f, "sipd: the policy changes"),

@@ -1,5 +1,5 @@
 -- The first line of what a reader has, read byte by byte.
-use Rattle.std.proofs.Common.{◌≡◌, inr, ℕ, List, [], ◌∷◌, length, Option, Some, None, count_by, ◌∙◌}
+use Rattle.std.proofs.Common.{◌≡◌, inr, ℕ, List, [], ◌∷◌, length, Option, Some, None, count_by}
 use Rattle.std.specs.declared.io.ErrorKind.{ErrorKind}
 use Rattle.std.specs.declared.io.ErrorKind.TheVariants.{OutOfMemory}
 use Rattle.std.specs.Io.KnownBytes.{Consumes, Keeps}

@@ -8,7 +8,7 @@ use Rattle.sip_journal.specs.RecordHead.{head_of}
 use Rattle.sip_journal.specs.declared.record_head.RecordHead.{RecordHead}
 use Rattle.sipd_exit.specs.Exits.{exit_of_kind}
 use Rattle.sipd_exit.specs.declared.exit.Exit.{Exit}
-use Rattle.sipd_exit.specs.declared.exit.Exit.TheVariants.{Memory, NoRecord}
+use Rattle.sipd_exit.specs.declared.exit.Exit.TheVariants.{Memory, NoRecord, Script}
 use Rattle.sipd_old_record.specs.Readers.{HasStopped, most_asks}
 
 -- a byte was read, or a reader is at its end and stays so
@@ -58,6 +58,12 @@ IsRefused old new has_failed before now exit =
 -- what some reader had began with a line that says this head
 abbrev pub WasSaid : RecordHead → Type 0
 WasSaid head = (old : Option (List ℕ)) × (new : Option (List ℕ)) × SaysHead old new head
+
+-- How the program ends at a line of a file, where the line is said of a text in which so many lines more stand in front of that one, and so many
+-- fewer, since those hold digests.
+abbrev pub at_line_of_file : ℕ → ℕ → Exit → Exit
+at_line_of_file more fewer (Script line) = Script (min (line - more + fewer) (2 ^ 64 - 1))
+at_line_of_file more fewer exit = exit
 
 -- the line of a record's file that is this one behind its first line
 abbrev pub line_of_file : ℕ → ℕ

@@ -17,7 +17,10 @@ mod record_configuration;
 mod record_file;
 mod watched_journal;
 
-pub use old_record::{OldRecord, head_in, is_made_with, line_of_file, open_any_record, open_file};
+pub use old_record::{
+    OldRecord, at_line_of_file, exit_in_file, head_in, is_made_with, line_of_file, open_any_record,
+    open_file,
+};
 pub use record_configuration::own_configuration;
-pub use record_file::{RecordFile, mark_file, new_file};
+pub use record_file::{RecordFile, mark_file, new_file, seal_file};
 pub use watched_journal::{Unrecorded, WatchedJournal};

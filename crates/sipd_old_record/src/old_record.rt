@@ -4,10 +4,12 @@ ghost use Rattle.std.specs.Io.KnownBytes.{Keeps};
 ghost use Rattle.std.specs.IoError.{error_kind};
 ghost use Rattle.sip_replay_script.specs.Devices.{later, IsFault};
 ghost use Rattle.sipd_exit.specs.declared.exit.Exit.TheVariants.{Memory};
-ghost use Rattle.sipd_old_record.specs.OldRecord.{line_of_file, IsFirstLine, IsReaderFault, IsRefused, IsSystemFault, ReadsByte, SaysHead, WasSaid};
+ghost use Rattle.sipd_old_record.specs.OldRecord.{at_line_of_file, line_of_file, IsFirstLine, IsReaderFault, IsRefused};
+ghost use Rattle.sipd_old_record.specs.OldRecord.{IsSystemFault, ReadsByte, SaysHead, WasSaid};
 ghost use Rattle.sipd_old_record.specs.Readers.{most_asks, HasStopped, WasAsked};
 
 use sip_journal::{RecordHead, read_head};
+use sip_record_sealed::Unsealing;
 use sip_replay_script::TellingReader;
 use sipd_exit::Exit;
 use std::alloc::Global;
@@ -104,13 +106,18 @@ pub fn is_made_with(head: &RecordHead, digest: &[u8; 32]) -> bool
     head.digest == *digest
 }
 
-/// A file, to be read.
+/// The file of a record, to be read, without the lines that hold digests.
 #[tactic(auto, using(crate::proofs::FirstLines::system_fault, crate::proofs::FirstLines::no_memory))]
-pub fn open_file<R: Files>(rt: &R, alloc: Global, path: &str) -> Result<BufReader<R::File>, Exit>
+pub fn open_file<R: Files>(
+    rt: &R,
+    alloc: Global,
+    path: &str,
+) -> Result<Unsealing<BufReader<R::File>>, Exit>
     ensures { IfErr result IsSystemFault }
 {
     let file = fs::File::open(rt, path)?;
-    Ok(BufReader::new(alloc, file)?)
+    let reader = BufReader::new(alloc, file)?;
+    Ok(Unsealing::new(alloc, reader)?)
 }
 
 /// The record in a file, whatever became of it, and with whatever configuration it was made. What a file holds no clause can say: whatever
@@ -119,12 +126,31 @@ pub fn open_any_record<R: Files>(
     rt: &R,
     alloc: Global,
     path: &str,
-) -> Result<OldRecord<BufReader<R::File>>, Exit>
+) -> Result<OldRecord<Unsealing<BufReader<R::File>>>, Exit>
     ensures { IfOk result (λ old. WasSaid old.head) }
 {
     let mut events = open_file(rt, alloc, path)?;
     let head = head_in(alloc, &mut events)?;
     Ok(OldRecord { head, events })
+}
+
+/// How the program ends at a line of a record's file, where the line is said of the text that the file stands for, in which so many lines more
+/// stand in front of that one, and so many fewer, since those hold digests.
+pub fn at_line_of_file(exit: Exit, more: u64, fewer: u64) -> Exit
+    ensures { result ≡ at_line_of_file more fewer exit }
+{
+    match exit {
+        Exit::Script(line) => Exit::Script(line.saturating_sub(more).saturating_add(fewer)),
+        exit => exit,
+    }
+}
+
+/// How the program ends where what reads a record's file stopped, which gave so many lines more than stand in the file.
+pub fn exit_in_file<I>(exit: Exit, file: &Unsealing<I>, more: u64) -> Exit {
+    match file.changed() {
+        Some(line) => Exit::Changed(line),
+        None => at_line_of_file(exit, more, file.seals()),
+    }
 }
 
 /// The line of a record's file that is this one behind its first line.

@@ -1,14 +1,20 @@
 //! The file of a record as the system has it: made for its owner alone, marked in its first word, and looked at whether it is still there.
 //! What is written into it is in `sip_journal`.
 use sip_journal::RecordMark;
+use sip_record_sealed::{Digesting, Unsealing, seal_line};
+use std::alloc::Global;
 use std::fs::{OpenFile, OpenOptions};
-use std::io::{ErrorKind, Seek, SeekFrom, Write};
+use std::io::{BufReader, ErrorKind, Read, Seek, SeekFrom, Write};
 use std::os::unix::fs::OpenOptionsExt;
-use std::rt::Files;
+use std::rt::{Clock, Files};
+use std::time::Instant;
 use std::{fs, io};
 
 /// The permissions of a record: its owner's alone, since it holds messages and what phones prove their users with.
 const OWNERS: u32 = 0o600;
+
+/// For how many milliseconds at least what was written stands there without a digest.
+const HALF_MINUTE: u128 = 30_000;
 
 /// The file of a record, into which events are written behind what it holds.
 #[derive(Drop)]
@@ -22,6 +28,14 @@ pub struct RecordFile<'a, R: Files> {
     marks: R::File,
     /// How many bytes were written.
     written: u64,
+    /// How many of them stand in front of the end of the last line with a digest.
+    sealed: u64,
+    /// When that was written.
+    sealed_at: Option<Instant>,
+    /// What was written, as it is digested.
+    digesting: Digesting,
+    /// Whether that ends a line.
+    ends_line: bool,
     /// Whether it was seen that its name doesn't find them.
     lost: bool,
 }
@@ -69,6 +83,10 @@ impl<'a, R: Files> RecordFile<'a, R> {
             file,
             marks,
             written: 0,
+            sealed: 0,
+            sealed_at: None,
+            digesting: Digesting::new(),
+            ends_line: false,
             lost: false,
         };
         made.write_all(line)?;
@@ -84,6 +102,17 @@ impl<'a, R: Files> RecordFile<'a, R> {
     pub fn sync(&mut self) -> io::Result<()> {
         self.file.flush()?;
         self.file.sync_all()
+    }
+
+    /// Writes the digest of all that was written, unless that stands there already, or a line isn't whole.
+    pub fn seal(&mut self) -> io::Result<()> {
+        if self.written == self.sealed || !self.ends_line {
+            return Ok(());
+        }
+        let line = seal_line(&self.digesting.digest()?);
+        self.write_all(&line)?;
+        self.sealed = self.written;
+        self.file.flush()
     }
 
     /// Looks whether what its name finds is as long as what was written: a file that was taken away, changed for another or cut isn't.
@@ -110,10 +139,76 @@ impl<'a, R: Files> Write for RecordFile<'a, R> {
     fn write(&mut self, bytes: &[u8]) -> io::Result<usize> {
         let taken = self.file.write(bytes)?;
         self.written = self.written.saturating_add(taken as u64);
+        if let Some(part) = bytes.get(..taken) {
+            self.note(part);
+        }
         Ok(taken)
     }
 
     fn flush(&mut self) -> io::Result<()> {
         self.file.flush()
     }
+}
+
+impl<'a, R: Files> RecordFile<'a, R> {
+    /// Bytes that were written.
+    fn note(&mut self, bytes: &[u8]) {
+        self.digesting.take(bytes);
+        if let Some(last) = bytes.last() {
+            self.ends_line = *last == b'\n';
+        }
+    }
+}
+
+impl<'a, R: Files + Clock> RecordFile<'a, R> {
+    /// Whether the last digest was written so lately that no other one is needed.
+    fn is_sealed_lately(&self) -> bool {
+        let Some(at) = self.sealed_at else {
+            return false;
+        };
+        match at.elapsed(self.rt) {
+            Ok(passed) => passed.as_millis() < HALF_MINUTE,
+            Err(_) => false,
+        }
+    }
+
+    /// Writes a digest, where something was written since the last one, and that one isn't of the last half minute.
+    pub fn seal_if_due(&mut self) -> io::Result<()> {
+        if self.written == self.sealed || self.is_sealed_lately() {
+            return Ok(());
+        }
+        self.seal()?;
+        self.sealed_at = Instant::now(self.rt).ok();
+        Ok(())
+    }
+}
+
+/// Reads a file up to its end.
+fn read_out<I: Read>(reader: &mut I) -> io::Result<()> {
+    let mut part = [0u8; 4096];
+    for _ in 0..u64::MAX {
+        if reader.read(&mut part)? == 0 {
+            return Ok(());
+        }
+    }
+    Ok(())
+}
+
+/// Writes behind what a record's file holds the digest of that, unless it ends with one, or in the front of a line, or disagrees with one before.
+/// What is no regular file isn't opened: `Unsupported`.
+pub fn seal_file<R: Files>(rt: &R, alloc: Global, path: &str) -> io::Result<()> {
+    if !fs::metadata(rt, path)?.is_file() {
+        return Err(io::Error::from(ErrorKind::Unsupported));
+    }
+    let reader = BufReader::new(alloc, fs::File::open(rt, path)?)?;
+    let mut file = Unsealing::new(alloc, reader)?;
+    read_out(&mut file)?;
+    if !file.wants_seal() {
+        return Ok(());
+    }
+    let line = seal_line(&file.digest()?);
+    let mut end = OpenOptions::new().append(true).open(rt, path)?;
+    end.write_all(&line)?;
+    end.flush()?;
+    end.sync_all()
 }

@@ -3,7 +3,7 @@ ghost use Rattle.sip_journal.specs.Record.{Notes};
 
 use crate::record_file::RecordFile;
 use sip_journal::{Journal, NoJournal, OnFault, RecordMark, Recorder};
-use std::rt::Files;
+use std::rt::{Clock, Files};
 
 /// Why nothing more is recorded.
 #[derive(Clone, Copy, PartialEq, Eq)]
@@ -16,9 +16,13 @@ pub enum Unrecorded {
 
 /// A journal that says whether it has failed.
 pub trait WatchedJournal: Journal {
-    /// Looks whether what was written stands where it belongs. Where it doesn't, nothing is recorded from then on. One call of the
-    /// system.
+    /// Looks whether what was written stands where it belongs, and has its digest be written where that is due. Where it doesn't, or that can't
+    /// be, nothing is recorded from then on. One or two calls of the system.
     fn look(&mut self)
+        ensures { Notes (Self.written self.old) (Self.written self.new) [] };
+
+    /// Has the digest be written of all that was written, at its end.
+    fn close(&mut self)
         ensures { Notes (Self.written self.old) (Self.written self.new) [] };
 
     /// Why nothing more is recorded; none where it goes on.
@@ -36,6 +40,8 @@ pub trait WatchedJournal: Journal {
 impl WatchedJournal for NoJournal {
     fn look(&mut self) {}
 
+    fn close(&mut self) {}
+
     fn why_failed(&self) -> Option<Unrecorded> {
         None
     }
@@ -49,10 +55,19 @@ impl WatchedJournal for NoJournal {
     }
 }
 
-impl<'a, R: Files> WatchedJournal for Recorder<RecordFile<'a, R>> {
+impl<'a, R: Files + Clock> WatchedJournal for Recorder<RecordFile<'a, R>> {
     fn look(&mut self) {
-        if !self.has_failed && self.writer.is_lost() {
+        if self.has_failed {
+            return;
+        }
+        if self.writer.is_lost() || self.writer.seal_if_due().is_err() {
             self.has_failed = true;
+        }
+    }
+
+    fn close(&mut self) {
+        if !self.has_failed {
+            let _ = self.writer.seal();
         }
     }
 

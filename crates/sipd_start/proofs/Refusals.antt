@@ -8,7 +8,6 @@ use Rattle.std.proofs.lemmas.Option.{none-some}
 use Rattle.sip_model.specs.Periods.{Period}
 use Rattle.sip_model.specs.state.declared.server.Server.{Server}
 use Rattle.sip_model.specs.TimerOrder.{Standing, first_standing}
-use Rattle.rand_core.specs.Stream.{Stream}
 use Rattle.sip_config_change.specs.declared.key.FrameKey.{FrameKey}
 use Rattle.sip_config_change.specs.Frame.{frame_key_of}
 use Rattle.sip_config_types.specs.declared.config.Config.{Config}
@@ -256,16 +255,16 @@ under_exits first bytes F server server_then old new events rest number lines ou
 
 -- ---- it isn't gone on from a record
 
-not_gone_on : (first bytes digest : List ℕ) (F : Type 0) (before middle now : Option ℕ) (head : RecordHead) (words : Stream) (boot : Boot)
+not_gone_on : (first bytes digest : List ℕ) (F : Type 0) (before middle now : Option ℕ) (head : RecordHead) (keys : ℕ) (boot : Boot)
     (events : Option (List ℕ)) (reading : Reading) (rest : Option (List ℕ)) (config : Config) (server : Server) (old : Standing) (stop : StartStop)
-    → FurtherLaw → boot ≡ boot_again head words → States first config → server ≡ server_with config boot.word → old ≡ first_standing boot.first
+    → FurtherLaw → boot ≡ boot_again head keys → States first config → server ≡ server_with config boot.word → old ≡ first_standing boot.first
     → IsBegunBy bytes digest head events reading rest first → HaveFrameOf bytes config
     → later reading.asks middle ≡ later most_asks before
     → StopsAt first bytes (HasStopped F reading.asks middle now) server old reading.number (pending reading rest) stop
     → IsNotGoneOn bytes digest (HasStopped F most_asks before now) head events stop
-not_gone_on first bytes digest F before middle now head words boot events reading rest config server old (Exits exit) further is states opened fresh by frame asked h =
+not_gone_on first bytes digest F before middle now head keys boot events reading rest config server old (Exits exit) further is states opened fresh by frame asked h =
     inl (h (subst (λ (c : Config). HaveFrameOf bytes c) (sym (ap (λ (s : Server). s.config) opened)) frame))
-not_gone_on first bytes digest F before middle now head words boot events reading rest config server old (NotResumed reason) further is states opened fresh by frame asked
+not_gone_on first bytes digest F before middle now head keys boot events reading rest config server old (NotResumed reason) further is states opened fresh by frame asked
     h =
     let stops : EventsStop first (HasStopped F most_asks before now) server old reading.number (pending reading rest) (NotResumed reason) =
     events_stop_as first (HasStopped F reading.asks middle now) (HasStopped F most_asks before now) server old reading.number (pending reading rest) (NotResumed reason)
@@ -276,22 +275,22 @@ not_gone_on first bytes digest F before middle now head words boot events readin
       first = first;
       begun_by = by;
       server = server;
-      is_server = is_begun first config head words boot server is states opened;
+      is_server = is_begun first config head keys boot server is states opened;
       stops = subst (λ s. EventsStop first (HasStopped F most_asks before now) server s reading.number (pending reading rest) (NotResumed reason))
-          (is_at_first head words boot old is fresh) stops;
+          (is_at_first head keys boot old is fresh) stops;
     })
 
 pub not_gone_on_so : {A : Type 0} (result : Result A StartStop) (first bytes digest : List ℕ) (F : Type 0) (before middle now : Option ℕ)
-    (head : RecordHead) (words : Stream) (boot : Boot) (events : Option (List ℕ)) (reading : Reading) (rest : Option (List ℕ)) (config : Config)
+    (head : RecordHead) (keys : ℕ) (boot : Boot) (events : Option (List ℕ)) (reading : Reading) (rest : Option (List ℕ)) (config : Config)
     (server : Server) (old : Standing)
-    → FurtherLaw → boot ≡ boot_again head words → States first config → server ≡ server_with config boot.word → old ≡ first_standing boot.first
+    → FurtherLaw → boot ≡ boot_again head keys → States first config → server ≡ server_with config boot.word → old ≡ first_standing boot.first
     → IsBegunBy bytes digest head events reading rest first → HaveFrameOf bytes config
     → later reading.asks middle ≡ later most_asks before
     → IfErr result (StopsAt first bytes (HasStopped F reading.asks middle now) server old reading.number (pending reading rest))
     → IfErr result (IsNotGoneOn bytes digest (HasStopped F most_asks before now) head events)
-not_gone_on_so (Ok a) first bytes digest F before middle now head words boot events reading rest config server old further is states opened fresh by frame asked h = tt
-not_gone_on_so (Err stop) first bytes digest F before middle now head words boot events reading rest config server old further is states opened fresh by frame asked h =
-    not_gone_on first bytes digest F before middle now head words boot events reading rest config server old stop further is states opened fresh by frame asked h
+not_gone_on_so (Ok a) first bytes digest F before middle now head keys boot events reading rest config server old further is states opened fresh by frame asked h = tt
+not_gone_on_so (Err stop) first bytes digest F before middle now head keys boot events reading rest config server old further is states opened fresh by frame asked h =
+    not_gone_on first bytes digest F before middle now head keys boot events reading rest config server old stop further is states opened fresh by frame asked h
 
 -- nothing was taken of it
 unbegun_on : (bytes digest : List ℕ) (F : Type 0) (head : RecordHead) (events : Option (List ℕ)) (stop : StartStop)

@@ -3,6 +3,7 @@ pub mod Boots
 pub mod OldRecords
 pub mod Places
 pub mod RecordNames
+pub mod Shorter
 pub mod StackLimit
 pub mod Stops
 pub mod ReplayExits

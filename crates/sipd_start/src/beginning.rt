@@ -1,28 +1,28 @@
 //! How a server that records begins: anew, or from where an older record leads; and what becomes of that record and of the new one.
 //! The files are made in `making`, the older record is taken in `taking`.
-ghost use Rattle.std.specs.Prelude.{◌≡◌, false, ℕ, List, Option, option_map, string_bytes, Err, IfErr, IfNone, IfOk, IfSome, None, Ok, OnErr, OnOk};
-ghost use Rattle.sip_model.specs.TimerOrder.{first_standing};
+ghost use Rattle.std.specs.Prelude.{◌≡◌, false, ℕ, List, Option, option_map, string_bytes, Err, IfErr, IfNone, IfOk, IfSome, None, Ok, OnErr};
 ghost use Rattle.sip_replay.specs.resume.run.Due.{standing_of};
 ghost use Rattle.sip_replay_script.specs.Lines.{pending};
 ghost use Rattle.sip_replay.specs.resume.run.engine.engine_time.proxy.Proxy.{secrets_of};
-ghost use Rattle.sipd_boot.specs.Boots.{behind_boot, behind_secret, secret_from};
+ghost use Rattle.sipd_boot.specs.Boots.{behind_boot};
 ghost use Rattle.sipd_exit.specs.declared.exit.Exit.TheVariants.{PipedRecord};
 ghost use Rattle.sipd_exit.specs.declared.record_place.RecordFault.TheVariants.{GoOn};
 ghost use Rattle.sipd_start.specs.Begins.{Begins, GoesOn, GoesOnFrom, GoesOnFromFile, IsFileNotResumed, IsLeftBehind, IsNotGoneOn};
+ghost use Rattle.sipd_start.specs.Shorter.{GoesOnAlike};
 ghost use Rattle.sipd_start.specs.Begins.{IsNotResumed, IsOpened, LeadsTo, StartsAnew, StopsAt};
-ghost use Rattle.sipd_start.specs.Boots.{boot_again};
 ghost use Rattle.sipd_start.specs.Places;
 ghost use Rattle.sipd_start.specs.Places.{IsPlaceOf};
 ghost use Rattle.sipd_old_record.specs.Readers.{HasStopped, most_asks};
 ghost use Rattle.sipd_start.specs.Stops.{EndsStart, IsUnmade};
 ghost use Rattle.sipd_start.specs.declared.not_resumed.StartStop.TheVariants as Ended;
 
+use crate::compacting::{Led, Shorter, make_shorter};
 use crate::making::{RecordFiles, check_free, make_part, name_part, place_of, remove_part};
 use crate::not_resumed::{NotResumed, StartStop, unread};
 use crate::old_lines::{OldBeginning, OldLines};
+use crate::opening::{InFile, boot_again, open_old, read_old};
 use crate::taking::{old_beginning, take_old, tell};
 use rand_core::Rng;
-use sip_config_types::Config;
 use sip_event::{Boot, StepOut};
 use sip_journal::{NoJournal, RecordHead, RecordMark, Recorder};
 use sip_policy::Rules;
@@ -34,8 +34,7 @@ use sip_timers::Timers;
 use sipd_boot::{new_boot, secret};
 use sipd_exit::{Exit, RecordFault, RecordPlace, Stated, config_of_bytes};
 use sipd_old_record::laws::asks_add_up;
-use sipd_old_record::{RecordFile, head_in, mark_file, open_file};
-use sipd_progress::{Watched, size_of_file};
+use sipd_old_record::{RecordFile, head_in, mark_file, seal_file};
 use std::fs;
 use std::io::{ErrorKind, Write};
 use std::os::unix::fs::FileTypeExt;
@@ -132,18 +131,6 @@ pub struct Begun<'a, T: Timers, P: Rules, R: Files> {
 struct GoneOn<'a, T: Timers, P: Rules, R: Files> {
     begun: Begun<'a, T, P, R>,
     lines: u64,
-}
-
-/// What a server that goes on starts with: what the first line of its record says, and a new secret of its tables.
-fn boot_again<W: Rng>(head: &RecordHead, words: &mut W) -> Boot
-    ensures boot { result ≡ boot_again head.now (W.stream words.old) }
-    ensures left { W.stream words.new ≡ behind_secret (W.stream words.old) }
-{
-    Boot {
-        word: head.word,
-        first: head.first,
-        keys: secret(words),
-    }
 }
 
 /// A server that has just started, with the configuration that is stated.
@@ -342,41 +329,25 @@ fn go_on_recorded<'a, T: Timers, P: Rules, R: Files + AllocGlobal, I: TellingRea
     }
 }
 
-/// A server that has just started, with the configuration with which a record begins.
-#[tactic(auto, using(crate::proofs::Beginnings::opened_standing))]
-fn open_old<T: Timers, P: Rules, R: AllocGlobal>(
-    rt: &R,
-    boot: Boot,
-    config: Config,
-) -> Result<Engine<T, P>, Exit>
-    ensures server { IfOk result (λ engine. engine.server ≡ record { config = config; word = boot.word }) }
-    ensures standing { IfOk result (λ engine. standing_of engine ≡ first_standing boot.first) }
-    ensures refused { IfErr result IsUnmade }
-    ensures secrets { IfOk result (λ engine. engine.secrets ≡ secrets_of boot.keys) }
-{
-    Ok(Engine::open(rt.alloc(), config, boot)?)
-}
-
 /// A server that goes on from a record whose first line says this head, and whose events stand behind it. The new record's first line has
 /// the same digest, since both begin with the configuration of that.
 #[tactic(auto, using(crate::proofs::Refusals::exits_on, crate::proofs::Refusals::unbegun_so))]
-fn go_on<'a, T: Timers, P: Rules, R: Files + AllocGlobal, I: TellingReader, W: Rng>(
+fn go_on<'a, T: Timers, P: Rules, R: Files + AllocGlobal, I: TellingReader>(
     beginning: &Beginning<'a, R>,
     head: &RecordHead,
     reader: &mut I,
-    words: &mut W,
+    keys: u128,
 ) -> Result<GoneOn<'a, T, P, R>, StartStop>
     ensures goes_on { IfOk result (λ gone_on. GoesOn beginning.now.stated.now.bytes beginning.now.stated.now.digest head.now
         (I.remaining reader.old) gone_on.begun.engine.server (standing_of gone_on.begun.engine) gone_on.lines gone_on.begun.last) }
-    ensures left { W.stream words.new ≡ behind_secret (W.stream words.old) }
     ensures whole { IfOk result (λ gone_on. IfSome gone_on.begun.recorder (λ r. r.has_failed ≡ false)) }
     ensures unrecorded { IfOk result (λ gone_on. IfNone gone_on.begun.recorder (beginning.now.fault ≡ GoOn)) }
     ensures stopped { IfErr result (IsNotGoneOn beginning.now.stated.now.bytes beginning.now.stated.now.digest
         (HasStopped (I.has_failed reader.new) most_asks (I.asked reader.old) (I.asked reader.new)) head.now (I.remaining reader.old)) }
-    ensures secrets { IfOk result (λ gone_on. gone_on.begun.engine.secrets ≡ secrets_of (secret_from (W.stream words.old))) }
+    ensures secrets { IfOk result (λ gone_on. gone_on.begun.engine.secrets ≡ secrets_of keys) }
 {
     asks_add_up();
-    let boot = boot_again(head, words);
+    let boot = boot_again(head, keys);
     let alloc = beginning.rt.alloc();
     let old = old_beginning(alloc, beginning.stated, head, reader)?;
     let OldBeginning { lines, config } = old;
@@ -390,20 +361,18 @@ fn go_on<'a, T: Timers, P: Rules, R: Files + AllocGlobal, I: TellingReader, W: R
 /// A server that goes on from where a record leads that some reader gives, if that is whole, and one of this configuration or one that
 /// holds its own.
 #[tactic(auto, using(crate::proofs::Beginnings::goes_on_from, crate::proofs::Refusals::marked_off, crate::proofs::Refusals::stopped_behind_so))]
-fn begin_from<'a, T: Timers, P: Rules, R: Files + AllocGlobal, I: TellingReader, W: Rng>(
+fn begin_from<'a, T: Timers, P: Rules, R: Files + AllocGlobal, I: TellingReader>(
     beginning: &Beginning<'a, R>,
     reader: &mut I,
-    words: &mut W,
+    keys: u128,
 ) -> Result<GoneOn<'a, T, P, R>, StartStop>
     ensures goes_on { IfOk result (λ gone_on. GoesOnFrom beginning.now.stated.now.bytes beginning.now.stated.now.digest
         (I.remaining reader.old) gone_on.begun.engine.server (standing_of gone_on.begun.engine) gone_on.lines gone_on.begun.last) }
-    ensures left { OnOk result (W.stream words.new ≡ behind_secret (W.stream words.old)) }
-    ensures left_behind { OnErr result (IsLeftBehind (W.stream words.old) (W.stream words.new)) }
     ensures whole { IfOk result (λ gone_on. IfSome gone_on.begun.recorder (λ r. r.has_failed ≡ false)) }
     ensures unrecorded { IfOk result (λ gone_on. IfNone gone_on.begun.recorder (beginning.now.fault ≡ GoOn)) }
     ensures refused { IfErr result (IsNotResumed beginning.now.stated.now.bytes beginning.now.stated.now.digest
         (I.has_failed reader.new) (I.asked reader.old) (I.asked reader.new) (I.remaining reader.old)) }
-    ensures secrets { IfOk result (λ gone_on. gone_on.begun.engine.secrets ≡ secrets_of (secret_from (W.stream words.old))) }
+    ensures secrets { IfOk result (λ gone_on. gone_on.begun.engine.secrets ≡ secrets_of keys) }
 {
     asks_add_up();
     let head = match head_in(beginning.rt.alloc(), reader) {
@@ -411,14 +380,82 @@ fn begin_from<'a, T: Timers, P: Rules, R: Files + AllocGlobal, I: TellingReader,
         Err(exit) => return Err(unread(exit)),
     };
     match head.mark {
-        RecordMark::Whole => go_on(beginning, &head, reader, words),
+        RecordMark::Whole => go_on(beginning, &head, reader, keys),
         RecordMark::Broken => Err(StartStop::NotResumed(NotResumed::Broken)),
         RecordMark::Left => Err(StartStop::NotResumed(NotResumed::Left)),
     }
 }
 
-/// A server that goes on from where the record of a file leads, or of the input, where it can. What the file holds no clause can say.
-#[tactic(auto, using(crate::proofs::Beginnings::goes_on_from_input, crate::proofs::Beginnings::goes_on_from_file, crate::proofs::Refusals::input_not_resumed, crate::proofs::Refusals::file_not_resumed, crate::proofs::Refusals::unopened))]
+/// A server that goes on from a shorter record than that of a file, which is the new record; it has its name then.
+#[tactic(auto, using(crate::proofs::Beginnings::goes_alike))]
+fn begin_shorter<'a, T: Timers, P: Rules, R: Files + Clock + Eprint + AllocGlobal>(
+    beginning: &Beginning<'a, R>,
+    old: &str,
+    keys: u128,
+    file: &mut InFile,
+) -> Result<GoneOn<'a, T, P, R>, StartStop>
+    ensures goes_on { IfOk result (λ gone_on. GoesOnAlike beginning.now.stated.now.bytes beginning.now.stated.now.digest
+        gone_on.begun.engine.server (standing_of gone_on.begun.engine) gone_on.begun.last) }
+    ensures whole { IfOk result (λ gone_on. IfSome gone_on.begun.recorder (λ r. r.has_failed ≡ false)) }
+    ensures unrecorded { IfOk result (λ gone_on. IfNone gone_on.begun.recorder (beginning.now.fault ≡ GoOn)) }
+    ensures secrets { IfOk result (λ gone_on. gone_on.begun.engine.secrets ≡ secrets_of keys) }
+{
+    let shorter = make_shorter::<T, P, R>(
+        beginning.rt,
+        beginning.stated,
+        old,
+        &beginning.place,
+        beginning.fault,
+        keys,
+        beginning.seen,
+        file,
+    )?;
+    let Shorter {
+        led,
+        recorder,
+        lines,
+    } = shorter;
+    let Led { engine, last, .. } = led;
+    let begun = Begun {
+        engine,
+        recorder: Some(name(beginning, recorder)?),
+        last,
+    };
+    Ok(GoneOn { begun, lines })
+}
+
+/// The same, if it can be; nothing is left of one that wasn't made. Where no shorter record leads where the whole one does, that is said; any
+/// other reason is told where it is gone on from whole.
+fn try_shorter<'a, T: Timers, P: Rules, R: Files + Clock + Eprint + AllocGlobal, C: Write>(
+    beginning: &Beginning<'a, R>,
+    old: &str,
+    keys: u128,
+    file: &mut InFile,
+    complaints: &mut C,
+) -> Option<GoneOn<'a, T, P, R>>
+    ensures goes_on { IfSome result (λ gone_on. GoesOnAlike beginning.now.stated.now.bytes beginning.now.stated.now.digest
+        gone_on.begun.engine.server (standing_of gone_on.begun.engine) gone_on.begun.last) }
+    ensures whole { IfSome result (λ gone_on. IfSome gone_on.begun.recorder (λ r. r.has_failed ≡ false)) }
+    ensures unrecorded { IfSome result (λ gone_on. IfNone gone_on.begun.recorder (beginning.now.fault ≡ GoOn)) }
+    ensures secrets { IfSome result (λ gone_on. gone_on.begun.engine.secrets ≡ secrets_of keys) }
+{
+    let stop = match begin_shorter(beginning, old, keys, file) {
+        Ok(gone_on) => return Some(gone_on),
+        Err(stop) => stop,
+    };
+    remove_part(beginning.rt, &beginning.place);
+    if let StartStop::Exits(Exit::NoShorter) = stop {
+        let _ = writeln!(
+            complaints,
+            "sipd: {old} couldn't be made shorter: all that it holds is kept"
+        );
+    }
+    None
+}
+
+/// A server that goes on from where the record of a file leads, or of the input, where it can. That of a file is made shorter, where that can
+/// be. What the file holds no clause can say.
+#[tactic(auto, using(crate::proofs::Beginnings::goes_on_from_input, crate::proofs::Beginnings::goes_on_from_file, crate::proofs::Beginnings::goes_on_alike, crate::proofs::Refusals::input_not_resumed, crate::proofs::Refusals::file_not_resumed, crate::proofs::Refusals::unopened))]
 fn begin_again<
     'a,
     T: Timers,
@@ -426,11 +463,14 @@ fn begin_again<
     R: Files + Clock + Eprint + AllocGlobal,
     I: TellingReader,
     W: Rng,
+    C: Write,
 >(
     beginning: &Beginning<'a, R>,
     old: &str,
     input: &mut I,
     words: &mut W,
+    file: &mut InFile,
+    complaints: &mut C,
 ) -> Result<GoneOn<'a, T, P, R>, StartStop>
     ensures goes_on { IfOk result (λ gone_on. GoesOnFromFile (Places.is_input old.now) (I.remaining input.old) beginning.now.stated.now.bytes
         beginning.now.stated.now.digest (W.stream words.old) gone_on.begun.engine.server (standing_of gone_on.begun.engine)
@@ -441,25 +481,31 @@ fn begin_again<
     ensures refused { IfErr result (IsFileNotResumed (Places.is_input old.now) (I.remaining input.old) (I.has_failed input.new)
         (I.asked input.old) (I.asked input.new) beginning.now.stated.now.bytes beginning.now.stated.now.digest) }
 {
+    let keys = secret(words);
     if is_input(old) {
-        return begin_from(beginning, input, words);
+        return begin_from(beginning, input, keys);
     }
-    let rt = beginning.rt;
-    match open_file(rt, rt.alloc(), old) {
-        Ok(file) => {
-            let mut reader = Watched::new(rt, file, old, size_of_file(rt, old), beginning.seen);
-            begin_from(beginning, &mut reader, words)
+    if let Some(gone_on) = try_shorter(beginning, old, keys, file, complaints) {
+        return Ok(gone_on);
+    }
+    match read_old(beginning.rt, old, beginning.seen) {
+        Ok(mut reader) => {
+            let begun = begin_from(beginning, &mut reader, keys);
+            *file = InFile::of(&reader);
+            begun
         }
         Err(exit) => Err(unread(exit)),
     }
 }
 
-/// Says that a record is gone on from, in its first line, so that no other start does. Where it came through the input, its file is somebody
+/// Closes a record that is gone on from: its last line holds the digest of the others, and its first one says it, so that no other start goes on
+/// from it. Where it came through the input, its file is somebody
 /// else's; where it is no regular file, as a named pipe, nothing stands there any more.
-fn leave<R: Files, C: Write>(rt: &R, old: &str, complaints: &mut C) {
+fn leave<R: Files + AllocGlobal, C: Write>(rt: &R, old: &str, complaints: &mut C) {
     if is_input(old) {
         return;
     }
+    let _ = seal_file(rt, rt.alloc(), old);
     if mark_file(rt, old, RecordMark::Left).is_err() {
         let _ = writeln!(
             complaints,
@@ -473,10 +519,30 @@ fn name_of_old(old: &str) -> &str {
     if is_input(old) { "standard input" } else { old }
 }
 
+/// Says behind how many lines of a record it goes on, and whether a change of that would have been told.
+fn say_gone_on<C: Write>(old: &str, lines: u64, file: &InFile, complaints: &mut C) {
+    let name = name_of_old(old);
+    let lines = file.line(lines);
+    let _ = writeln!(complaints, "sipd: goes on behind {lines} lines of {name}");
+    if file.is_unsealed {
+        let _ = writeln!(
+            complaints,
+            "sipd: {name} holds no digests: a change of it isn't told"
+        );
+    }
+}
+
 /// Says why a record isn't gone on from, what is lost with it, and until when. Where it can't be read nothing may be lost: so it is at a
 /// first start.
-fn say_lost<C: Write>(old: &str, why: NotResumed, complaints: &mut C) {
+fn say_lost<C: Write>(old: &str, why: NotResumed, file: &InFile, complaints: &mut C) {
     let old = name_of_old(old);
+    if let Some(line) = file.changed {
+        let _ = writeln!(
+            complaints,
+            "sipd: {old} isn't resumed: it was changed, its line {line} has the digest of other bytes; bindings, dialogs, open calls and nonces are lost: phones are found again when they register"
+        );
+        return;
+    }
     if why.is_unreadable() {
         let _ = writeln!(
             complaints,
@@ -486,7 +552,8 @@ fn say_lost<C: Write>(old: &str, why: NotResumed, complaints: &mut C) {
     }
     let _ = writeln!(
         complaints,
-        "sipd: {old} isn't resumed: {why}; bindings, dialogs, open calls and nonces are lost: phones are found again when they register"
+        "sipd: {old} isn't resumed: {}; bindings, dialogs, open calls and nonces are lost: phones are found again when they register",
+        why.in_file(file)
     );
 }
 
@@ -563,15 +630,15 @@ pub fn begin<
         return begin_anew(beginning, words);
     };
     let old = old.as_str();
-    match begin_again(beginning, old, input, words) {
+    let mut file = InFile::unknown();
+    match begin_again(beginning, old, input, words, &mut file, complaints) {
         Ok(GoneOn { begun, lines }) => {
             leave(beginning.rt, old, complaints);
-            let name = name_of_old(old);
-            let _ = writeln!(complaints, "sipd: goes on behind {lines} lines of {name}");
+            say_gone_on(old, lines, &file, complaints);
             Ok(begun)
         }
         Err(StartStop::NotResumed(why)) => {
-            say_lost(old, why, complaints);
+            say_lost(old, why, &file, complaints);
             pass_rest(old, why, input);
             begin_anew(beginning, words)
         }

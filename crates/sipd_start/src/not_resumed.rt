@@ -3,6 +3,7 @@ ghost use Rattle.std.specs.Prelude.{◌≡◌};
 ghost use Rattle.sipd_start.specs.Stops;
 ghost use Rattle.sipd_start.specs.declared.not_resumed.StartStop.TheVariants.{Exits};
 
+use crate::opening::InFile;
 use sip_config::ConfigError;
 use sip_config_change::FrameKey;
 use sip_replay::resume::RecordError;
@@ -39,6 +40,21 @@ impl NotResumed {
         ensures { result ≡ Stops.is_unreadable self }
     {
         matches!(self, NotResumed::Unreadable)
+    }
+}
+
+impl NotResumed {
+    /// The same by the lines of a file, where what is said is said by those of the text that it stands for.
+    pub fn in_file(self, file: &InFile) -> NotResumed {
+        match self {
+            NotResumed::Damaged(line) => NotResumed::Damaged(file.line(line)),
+            NotResumed::TooLong(line) => NotResumed::TooLong(file.line(line)),
+            NotResumed::NoConfiguration(line, e) => {
+                NotResumed::NoConfiguration(file.line(line), e)
+            }
+            NotResumed::OtherFrame(line, key) => NotResumed::OtherFrame(file.line(line), key),
+            why => why,
+        }
     }
 }
 

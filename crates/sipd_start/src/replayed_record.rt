@@ -10,13 +10,16 @@ use sip_config_types::Config;
 use sip_event::Boot;
 use sip_journal::{RecordHead, RecordMark};
 use sip_policy::Rules;
+use sip_record_omitted::Expanding;
 use sip_replay::resume::RecordError;
 use sip_replay_print::Printer;
 use sip_replay_script::{PrintStop, ScriptLines, TellingReader, TellingWriter, hand_on};
 use sip_segment_config::SegmentStop;
 use sip_timers::Timers;
 use sipd_exit::{DeviceFault, Exit, Stated, config_of_bytes, stated_in};
-use sipd_old_record::{OldRecord, is_made_with, line_of_file, open_any_record, own_configuration};
+use sipd_old_record::{
+    OldRecord, exit_in_file, is_made_with, line_of_file, open_any_record, own_configuration,
+};
 use sipd_progress::{Watched, size_of_file};
 use sipd_reload::MOST_BYTES;
 use std::alloc::Global;
@@ -218,7 +221,8 @@ pub fn replay_record<
     let alloc = rt.alloc();
     let named = named_file(rt, config)?;
     let OldRecord { head, events } = open_any_record(rt, alloc, path)?;
-    let mut events = Watched::new(rt, events, path, size_of_file(rt, path), seen);
+    let events = Watched::new(rt, events, path, size_of_file(rt, path), seen);
+    let mut events = Expanding::new(alloc, events)?;
     if head.mark == RecordMark::Broken {
         let _ = writeln!(
             complaints,
@@ -239,5 +243,15 @@ pub fn replay_record<
             "sipd: an older record: name its file with --config"
         );
     }
-    replayed
+    let file = &events.inner.reader;
+    if replayed.is_ok() && file.seals() == 0 {
+        let _ = writeln!(
+            complaints,
+            "sipd: {path} holds no digests: a change of it isn't told"
+        );
+    }
+    match replayed {
+        Ok(()) => Ok(()),
+        Err(exit) => Err(exit_in_file(exit, file, events.added())),
+    }
 }

@@ -7,14 +7,16 @@ ghost use Rattle.sipd_tools.specs.Against.{Begins, IsBefore, IsFirstUnread, IsLa
 
 use sip_config_types::Config;
 use sip_journal::RecordHead;
+use sip_record_omitted::Expanding;
+use sip_record_sealed::Unsealing;
 use sip_replay_script::{ScriptLines, TellingReader};
 use sip_segment_config::{SegmentStop, last_configuration};
 use sipd_exit::{DeviceFault, Exit, config_of};
-use sipd_old_record::{line_of_file, open_any_record, own_configuration};
+use sipd_old_record::{OldRecord, exit_in_file, line_of_file, open_any_record, own_configuration};
 use sipd_reload::MOST_BYTES;
 use std::alloc::Global;
 use std::fs;
-use std::io::Write;
+use std::io::{Read, Write};
 use std::rt::Files;
 
 /// How the program ends where the last configuration of a record isn't read; one that is refused is as that of a file is.
@@ -89,6 +91,18 @@ fn last_of<I: TellingReader>(
     last_behind(alloc, first, &mut lines, events)
 }
 
+/// The last configuration of a record, in which lines may stand for datagrams that were left out.
+fn last_in<I: Read + Drop>(alloc: Global, record: OldRecord<Unsealing<I>>) -> Result<Config, Exit>
+    ensures { IfOk result IsStated }
+{
+    let OldRecord { head, events } = record;
+    let mut events = Expanding::new(alloc, events)?;
+    match last_of(alloc, &head, &mut events) {
+        Ok(config) => Ok(config),
+        Err(exit) => Err(exit_in_file(exit, &events.inner, events.added())),
+    }
+}
+
 /// Whether a path finds a file that can be read twice, as a pipe can't.
 fn is_file<R: Files>(rt: &R, path: &str) -> bool {
     match fs::metadata(rt, path) {
@@ -105,7 +119,7 @@ fn config_at<R: Files + AllocGlobal>(rt: &R, path: &str) -> Result<Config, Exit>
         return config_of(rt, Some(path));
     }
     match open_any_record(rt, rt.alloc(), path) {
-        Ok(mut record) => last_of(rt.alloc(), &record.head, &mut record.events),
+        Ok(record) => last_in(rt.alloc(), record),
         Err(Exit::NoRecord) => config_of(rt, Some(path)),
         Err(exit) => Err(exit),
     }

@@ -1,6 +1,6 @@
 //! Calls of an engine with the sample configuration.
 
-use crate::driving::{PHONE, begins, hear};
+use crate::driving::{begins, hear};
 use crate::kinds::{TestServer, opened};
 use crate::refusals::aor_of;
 use crate::registers::{Datagram, REGISTER};

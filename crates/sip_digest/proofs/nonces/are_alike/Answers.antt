@@ -1,4 +1,4 @@
-use Rattle.std.proofs.Common.{◌≡◌, ◌<◌, ◌≤◌, ◌∙◌, refl, sym, ap, drop, length, arith}
+use Rattle.std.proofs.Common.{◌<◌, ◌≤◌, ◌∙◌, refl, sym, ap, drop, length, arith}
 use Rattle.sip_digest.specs.Rows.{nonces_in}
 use Rattle.sip_digest.proofs.Lasting.{alike_all, alike_at, alike_more, many_from}
 use Rattle.sip_digest.proofs.nonces.are_alike.Goals as goal

@@ -10,6 +10,5 @@ pub loop-field-preserved : goal.loop-field-preserved
 loop-field-preserved c =
     let field : Field = c.field-item.result in
     let is : field ≡ get_or c.args.fields.now c.loop-field.field-index field = c.field-item.is in
-    let n : c.push.new.self.items ≡ c.loop-field.list.items ++ c.in-Some.line.kept ∷ [] = search rules in
-    line_next c.args.start c.loop-field.end c.in-Some.line.end c.args.fields.now c.loop-field.field-index field c.loop-field.list.items c.push.new.self.items
-    c.in-Some.line.kept c.loop-field-test.true is n c.loop-field.invariant c.in-Some.ensures
+    line_next c.args.start c.loop-field.end c.in-Some.line.end c.args.fields.now c.loop-field.field-index field c.loop-field.list.items c.push.new.list.items
+    c.in-Some.line.kept c.loop-field-test.true is c.in_ok-push.ensures c.loop-field.invariant c.in-Some.ensures

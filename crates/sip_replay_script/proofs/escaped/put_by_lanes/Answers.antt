@@ -1,4 +1,4 @@
-use Rattle.std.proofs.Common.{◌≡◌, ◌+◌, drop, ap, ◌∙◌, refl, arith, append-nil}
+use Rattle.std.proofs.Common.{◌≡◌, ◌+◌, drop, ap, ◌∙◌, refl, arith}
 use Rattle.sip_replay_script.specs.Escaped.{text_with}
 use Rattle.sip_replay_script.proofs.escaped.put_by_lanes.Goals as goal
 

@@ -4,7 +4,8 @@ use Rattle.sipd_arguments.proofs.commands.commands.Goals as goal
 
 pub returns : goal.returns
 returns c =
-    IfOk-weaker c.subcommand-7.result _ _ (λ r h. placed _ _ _ _ r
+    IfOk-weaker c.subcommand-8.result _ _ (λ r h. placed _ _ _ _ r
+    (placed _ _ _ _ _
     (placed _ _ _ _ _
     (placed _ _ _ _ _
     (placed _ _ _ _ _
@@ -14,8 +15,9 @@ returns c =
     c.program.ensures
     (c.ended.ensures _ c.in_ok-check_command.ensures) c.in_ok-subcommand.ensures)
     (c.ended-2.ensures _ c.in_ok-replay_command.ensures) c.in_ok-subcommand-2.ensures)
-    (c.ended-3.ensures _ c.in_ok-serve_command.ensures) c.in_ok-subcommand-3.ensures)
-    (c.ended-4.ensures _ c.in_ok-decide_command.ensures) c.in_ok-subcommand-4.ensures)
-    (c.ended-5.ensures _ c.in_ok-matrix_command.ensures) c.in_ok-subcommand-5.ensures)
-    (c.ended-6.ensures _ c.in_ok-report_command.ensures) c.in_ok-subcommand-6.ensures)
-    (c.ended-7.ensures _ c.in_ok-user_command.ensures) h) c.subcommand-7.ensures
+    (c.ended-3.ensures _ c.in_ok-compact_command.ensures) c.in_ok-subcommand-3.ensures)
+    (c.ended-4.ensures _ c.in_ok-serve_command.ensures) c.in_ok-subcommand-4.ensures)
+    (c.ended-5.ensures _ c.in_ok-decide_command.ensures) c.in_ok-subcommand-5.ensures)
+    (c.ended-6.ensures _ c.in_ok-matrix_command.ensures) c.in_ok-subcommand-6.ensures)
+    (c.ended-7.ensures _ c.in_ok-report_command.ensures) c.in_ok-subcommand-7.ensures)
+    (c.ended-8.ensures _ c.in_ok-user_command.ensures) h) c.subcommand-8.ensures

@@ -1,4 +1,4 @@
-use Rattle.std.proofs.Common.{ℕ, List, nat_eq, refl, subst}
+use Rattle.std.proofs.Common.{List, nat_eq, refl, subst}
 use Rattle.std.specs.List.{AllByRecursion}
 use Rattle.sip_location.specs.declared.aor_bindings.AorBindings.{AorBindings}
 use Rattle.sip_location.specs.Alive.{LivesAlike}

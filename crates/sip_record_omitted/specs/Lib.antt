@@ -1,0 +1,3 @@
+pub mod Omitted
+pub mod Holding
+pub mod Fronts

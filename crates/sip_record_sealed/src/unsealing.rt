@@ -1,0 +1,211 @@
+//! A reader of a record's file that takes out the lines with digests, and fails where one disagrees.
+ghost use Rattle.std.specs.Prelude.{◌≡◌, ◌≤◌, length};
+
+use crate::digesting::Digesting;
+use crate::seal::{Front, SIZE, front_of, seal_line};
+use crate::window::Window;
+use std::alloc::{AllocError, Global};
+use std::io;
+use std::io::{ErrorKind, Read};
+
+/// A reader that gives what another one gives of a record's file, line by line, without the lines that hold digests. It fails with
+/// `InvalidData` at the first one that isn't the digest of what stands before it, and gives nothing more. A file that ends in such a line that
+/// was cut ends in front of that. It takes memory where it is made, and none later.
+#[derive(Drop)]
+pub struct Unsealing<R> {
+    pub inner: R,
+    window: Window,
+    /// Whether the front of a line was given, or stands at the file's end.
+    is_inside: bool,
+    digesting: Digesting,
+    /// How many lines were passed.
+    lines: u64,
+    /// How many of them held digests.
+    seals: u64,
+    /// Whether the last line that was passed held one.
+    ends_sealed: bool,
+    /// Whether one disagreed, which is the line behind those.
+    has_changed: bool,
+}
+
+/// How many bytes of a line there are room for, up to its LF; whether that is one of them.
+fn part_of_line(bytes: &[u8], room: usize) -> (usize, bool)
+    ensures { (result.0 ≤ length bytes.now) × (result.0 ≤ room) }
+{
+    let most = bytes.len().min(room);
+    for at in 0..most {
+        if bytes[at] == b'\n' {
+            return (at + 1, true);
+        }
+    }
+    (most, false)
+}
+
+/// That a digest disagrees.
+fn disagrees() -> io::Error {
+    io::Error::from(ErrorKind::InvalidData)
+}
+
+/// Puts bytes at the front of a room.
+fn put_front(room: &mut [u8], bytes: &[u8])
+    requires { length bytes.now ≤ length room.old }
+    ensures { length room.new ≡ length room.old }
+{
+    room[..bytes.len()].copy_from_slice(bytes);
+}
+
+impl<R> Unsealing<R> {
+    /// What a reader has, from the front of a file. `AllocError` is the only refusal.
+    pub fn new(alloc: Global, inner: R) -> Result<Self, AllocError>
+    where
+        R: Drop,
+    {
+        let window = Window::new(alloc)?;
+        Ok(Unsealing {
+            inner,
+            window,
+            is_inside: false,
+            digesting: Digesting::new(),
+            lines: 0,
+            seals: 0,
+            ends_sealed: false,
+            has_changed: false,
+        })
+    }
+
+    /// How many lines that hold digests were passed: a line that is given stands so many lines further on in the file.
+    pub fn seals(&self) -> u64 {
+        self.seals
+    }
+
+    /// The line of the file from which on it disagrees with its digests, counted from 1, where one was read that does.
+    pub fn changed(&self) -> Option<u64> {
+        if self.has_changed {
+            Some(self.lines.saturating_add(1))
+        } else {
+            None
+        }
+    }
+
+    /// The digest of what was passed, which is that of the file where it was read to its end. `AllocError` is the only
+    /// refusal.
+    pub fn digest(&self) -> Result<[u8; 32], AllocError> {
+        self.digesting.digest()
+    }
+
+    /// Whether something was passed behind the last line that holds a digest, and ends a line.
+    pub fn wants_seal(&self) -> bool {
+        !self.is_inside && !self.ends_sealed && self.lines > 0
+    }
+
+    /// Passes so many bytes, which are a line or a part of one.
+    fn pass(&mut self, count: usize, ends: bool) {
+        let unread = self.window.unread();
+        let part = match unread.get(..count) {
+            Some(part) => part,
+            None => unread,
+        };
+        self.digesting.take(part);
+        self.window.pass(count);
+        if ends {
+            self.lines = self.lines.saturating_add(1);
+        }
+    }
+
+    /// Passes a line that holds a digest, if it is that of what stands before it; whether it is.
+    fn pass_seal(&mut self) -> Result<bool, AllocError> {
+        let line = seal_line(&self.digesting.digest()?);
+        if !self.window.unread().starts_with(&line) {
+            self.has_changed = true;
+            return Ok(false);
+        }
+        self.pass(SIZE, true);
+        self.seals = self.seals.saturating_add(1);
+        self.ends_sealed = true;
+        Ok(true)
+    }
+
+    /// At the end of the file, where too few bytes stand there: the front of a line that holds a digest isn't given. Whether it is one: a whole
+    /// line that begins so disagrees.
+    fn finish(&mut self) -> bool {
+        if self.is_inside {
+            return true;
+        }
+        if self.window.unread().iter().any(|byte| *byte == b'\n') {
+            self.has_changed = true;
+            return false;
+        }
+        self.is_inside = !self.window.unread().is_empty();
+        self.window.pass(SIZE);
+        true
+    }
+
+    /// What stands at the front of what was read.
+    fn front(&self) -> Front {
+        let unread = self.window.unread();
+        if !self.is_inside {
+            return front_of(unread);
+        }
+        if unread.is_empty() {
+            Front::Short
+        } else {
+            Front::Other
+        }
+    }
+
+    /// Gives of what was read as much as there is room for, up to the end of a line; how many bytes.
+    fn give(&mut self, room: &mut [u8]) -> usize
+        ensures { result ≤ length room.new }
+    {
+        let unread = self.window.unread();
+        let (count, ends) = part_of_line(unread, room.len());
+        put_front(room, &unread[..count]);
+        self.is_inside = !ends && (self.is_inside || count > 0);
+        self.pass(count, ends);
+        if count > 0 {
+            self.ends_sealed = false;
+        }
+        count
+    }
+}
+
+impl<R: Read> Unsealing<R> {
+    /// Ends what is given.
+    fn end(&mut self) -> io::Result<()> {
+        if self.finish() {
+            Ok(())
+        } else {
+            Err(disagrees())
+        }
+    }
+
+    /// Reads until what can be given stands there, or nothing is left.
+    fn settle(&mut self) -> io::Result<()> {
+        for _ in 0..u64::MAX {
+            match self.front() {
+                Front::Other => return Ok(()),
+                Front::Seal => {
+                    if !self.pass_seal()? {
+                        return Err(disagrees());
+                    }
+                }
+                Front::Short => {
+                    if self.window.fill(&mut self.inner)? == 0 {
+                        return self.end();
+                    }
+                }
+            }
+        }
+        Ok(())
+    }
+}
+
+impl<R: Read> Read for Unsealing<R> {
+    fn read(&mut self, buffer: &mut [u8]) -> io::Result<usize> {
+        if self.has_changed {
+            return Err(disagrees());
+        }
+        self.settle()?;
+        Ok(self.give(buffer))
+    }
+}

@@ -1,0 +1,345 @@
+//! A record made shorter. Of its events those are written again that still matter, with how many datagrams are left out between them; and the
+//! new record is used only where it leads to a server that goes on as the one to which the old record leads.
+ghost use Rattle.std.specs.Prelude.{◌≡◌, IfOk, OnOk};
+ghost use Rattle.sip_journal.specs.declared.record_mark.RecordMark.TheVariants as Marks;
+ghost use Rattle.sip_model.specs.SameAhead.{SameAhead};
+ghost use Rattle.sip_replay.specs.resume.run.Due.{standing_of};
+ghost use Rattle.sip_replay.specs.resume.run.engine.engine_time.proxy.Proxy.{secrets_of};
+ghost use Rattle.sipd_start.specs.Begins.{GoesOn, GoesOnFrom, IsServerOf};
+ghost use Rattle.sipd_start.specs.Shorter.{IsLedByFile, LeadsAlike};
+
+use crate::choosing::{Choice, Choosing};
+use crate::keeping::Keeping;
+use crate::making::{RecordFiles, check_free, make_part, name_part, place_of, remove_part};
+use crate::not_resumed::{NotResumed, StartStop};
+use crate::old_lines::{OldBeginning, OldLines};
+use crate::opening::{InFile, boot_again, open_old, read_old};
+use crate::taking::{old_beginning, take_old, tell};
+use crate::telling::tell_rest;
+use rand_core::Rng;
+use sip_event::StepOut;
+use sip_journal::{Journal, NoJournal, RecordHead, RecordMark, Recorder};
+use sip_policy::Rules;
+use sip_replay::resume::Resumed;
+use sip_replay::resume::engine::Engine;
+use sip_replay_script::TellingReader;
+use sip_timers::Timers;
+use sipd_boot::secret;
+use sipd_exit::{Exit, RecordFault, RecordPlace, Stated};
+use sipd_old_record::{RecordFile, head_in};
+use std::io::Write;
+use std::rt::{Clock, Files};
+
+/// A server to which a record leads.
+#[derive(Drop)]
+pub(crate) struct Led<T: Timers, P: Rules> {
+    pub(crate) engine: Engine<T, P>,
+    /// The word that its first line says.
+    pub(crate) word: u64,
+    /// How many of its lines were taken.
+    pub(crate) lines: u64,
+    /// The last step of it.
+    pub(crate) last: Option<StepOut>,
+}
+
+/// A record that may be made shorter: what its first line says, the server to which it leads, and what the shorter one has.
+#[derive(Drop)]
+struct Whole<T: Timers, P: Rules> {
+    head: RecordHead,
+    led: Led<T, P>,
+    choice: Choice,
+}
+
+/// A shorter record, which hasn't its name yet, and the server to which it leads.
+#[derive(Drop)]
+pub(crate) struct Shorter<'a, T: Timers, P: Rules, R: Files> {
+    pub(crate) led: Led<T, P>,
+    pub(crate) recorder: Recorder<RecordFile<'a, R>>,
+    /// How many lines of the whole record were taken.
+    pub(crate) lines: u64,
+}
+
+/// That a record is whole, and that no start went on from it.
+fn check_mark(head: &RecordHead) -> Result<(), StartStop>
+    ensures { OnOk result (head.now.mark ≡ Marks.Whole) }
+{
+    match head.mark {
+        RecordMark::Whole => Ok(()),
+        RecordMark::Broken => Err(StartStop::NotResumed(NotResumed::Broken)),
+        RecordMark::Left => Err(StartStop::NotResumed(NotResumed::Left)),
+    }
+}
+
+/// The server to which a record leads whose first line says this head, under the configuration of a file; a journal is told each event and
+/// configuration.
+#[tactic(auto, using(crate::proofs::Beginnings::goes_on_after, crate::proofs::Beginnings::under_head))]
+fn lead<T: Timers, P: Rules, R: AllocGlobal, I: TellingReader, J: Journal>(
+    rt: &R,
+    stated: &Stated,
+    head: &RecordHead,
+    keys: u128,
+    reader: &mut I,
+    journal: &mut J,
+) -> Result<Led<T, P>, StartStop>
+    ensures goes_on { IfOk result (λ led. GoesOn stated.now.bytes stated.now.digest head.now (I.remaining reader.old) led.engine.server
+        (standing_of led.engine) led.lines led.last) }
+    ensures server { IfOk result (λ led. IsServerOf stated.now.bytes led.word led.engine.server) }
+    ensures secrets { IfOk result (λ led. led.engine.secrets ≡ secrets_of keys) }
+{
+    let boot = boot_again(head, keys);
+    let alloc = rt.alloc();
+    let old = old_beginning(alloc, stated, head, reader)?;
+    let OldBeginning { lines, config } = old;
+    let mut engine = open_old(rt, boot, config)?;
+    let resumed = take_old(alloc, stated, &mut engine, lines, reader, journal)?;
+    let Resumed { lines, last } = resumed;
+    Ok(Led {
+        engine,
+        word: head.word,
+        lines,
+        last,
+    })
+}
+
+/// The server to which a record leads, while its events are told to what chooses of them. `Memory`, where that ran out there.
+fn lead_choosing<T: Timers, P: Rules, R: AllocGlobal, I: TellingReader>(
+    rt: &R,
+    stated: &Stated,
+    head: &RecordHead,
+    keys: u128,
+    reader: &mut I,
+    choosing: &mut Choosing,
+) -> Result<Led<T, P>, StartStop>
+    ensures goes_on { IfOk result (λ led. GoesOn stated.now.bytes stated.now.digest head.now (I.remaining reader.old) led.engine.server
+        (standing_of led.engine) led.lines led.last) }
+    ensures server { IfOk result (λ led. IsServerOf stated.now.bytes led.word led.engine.server) }
+{
+    let led = lead(rt, stated, head, keys, reader, choosing);
+    if choosing.has_failed {
+        return Err(StartStop::Exits(Exit::Memory));
+    }
+    led
+}
+
+/// What a record holds that still matters, as it leads to a server.
+#[tactic(auto, using(crate::proofs::Beginnings::goes_on_from))]
+fn choose<T: Timers, P: Rules, R: AllocGlobal, I: TellingReader>(
+    rt: &R,
+    stated: &Stated,
+    keys: u128,
+    reader: &mut I,
+) -> Result<Whole<T, P>, StartStop>
+    ensures goes_on { IfOk result (λ whole. GoesOnFrom stated.now.bytes stated.now.digest (I.remaining reader.old) whole.led.engine.server
+        (standing_of whole.led.engine) whole.led.lines whole.led.last) }
+    ensures server { IfOk result (λ whole. IsServerOf stated.now.bytes whole.led.word whole.led.engine.server) }
+{
+    let alloc = rt.alloc();
+    let head = head_in(alloc, reader)?;
+    check_mark(&head)?;
+    let mut choosing = Choosing::new(alloc, head.first, keys);
+    let led = lead_choosing::<T, P, _, _>(rt, stated, &head, keys, reader, &mut choosing)?;
+    let choice = choosing.choice(led.engine.moment())?;
+    Ok(Whole { head, led, choice })
+}
+
+/// Writes what was chosen of a record, which is read once more.
+fn write_chosen<'a, R: Files + AllocGlobal, I: TellingReader>(
+    rt: &'a R,
+    stated: &Stated,
+    reader: &mut I,
+    keeping: &mut Keeping<RecordFile<'a, R>>,
+) -> Result<(), StartStop> {
+    let alloc = rt.alloc();
+    let head = head_in(alloc, reader)?;
+    let old = old_beginning(alloc, stated, &head, reader)?;
+    let OldBeginning {
+        lines: left,
+        config: _,
+    } = old;
+    let OldLines { mut lines, first } = left;
+    tell(first.as_slice(), keeping)?;
+    tell_rest(alloc, &mut lines, reader, keeping)?;
+    tell(stated.bytes.as_slice(), keeping)?;
+    keeping.finish()?;
+    Ok(())
+}
+
+/// The same of the record of a file, and what is known of that. `Changed`, where it disagrees with a digest in it.
+#[tactic(auto, using(crate::proofs::Beginnings::led_by_file))]
+fn choose_in<T: Timers, P: Rules, R: Files + Clock + Eprint + AllocGlobal>(
+    rt: &R,
+    stated: &Stated,
+    keys: u128,
+    old: &str,
+    seen: bool,
+    file: &mut InFile,
+) -> Result<Whole<T, P>, StartStop>
+    ensures goes_on { IfOk result (λ whole. IsLedByFile stated.now.bytes stated.now.digest whole.led.engine.server (standing_of whole.led.engine)
+        whole.led.lines whole.led.last) }
+    ensures server { IfOk result (λ whole. IsServerOf stated.now.bytes whole.led.word whole.led.engine.server) }
+{
+    let mut reader = read_old(rt, old, seen)?;
+    let chosen = choose::<T, P, _, _>(rt, stated, keys, &mut reader);
+    let known = InFile::of(&reader);
+    *file = known;
+    if let Some(line) = known.changed {
+        return Err(StartStop::Exits(Exit::Changed(line)));
+    }
+    match chosen {
+        Ok(whole) => Ok(whole),
+        Err(StartStop::NotResumed(why)) => Err(StartStop::NotResumed(why.in_file(&known))),
+        Err(stop) => Err(stop),
+    }
+}
+
+/// The shorter record, which hasn't its name yet, of that of a file.
+fn rewrite<'a, R: Files + Clock + Eprint + AllocGlobal>(
+    rt: &'a R,
+    stated: &Stated,
+    old: &str,
+    files: &RecordFiles,
+    fault: RecordFault,
+    head: &RecordHead,
+    choice: Choice,
+) -> Result<Recorder<RecordFile<'a, R>>, StartStop> {
+    let Choice { chosen, digest } = choice;
+    let shorter = RecordHead {
+        mark: RecordMark::Whole,
+        word: head.word,
+        first: chosen.first,
+        digest,
+    };
+    let recorder = make_part(rt, files, &shorter, stated, fault)?;
+    let mut keeping = Keeping::new(rt.alloc(), recorder, chosen.choices);
+    let mut reader = read_old(rt, old, false)?;
+    write_chosen(rt, stated, &mut reader, &mut keeping)?;
+    let mut recorder = keeping.into_recorder();
+    match recorder.writer.seal() {
+        Ok(()) => Ok(recorder),
+        Err(_) => Err(StartStop::Exits(Exit::Recording)),
+    }
+}
+
+/// That a server goes on as another one. `NoShorter` is the only refusal.
+fn check_same<T: Timers, P: Rules>(new: &Led<T, P>, old: &Led<T, P>) -> Result<(), StartStop>
+    ensures same { OnOk result (SameAhead new.now.engine.state old.now.engine.state) }
+    ensures word { OnOk result (new.now.word ≡ old.now.word) }
+{
+    if new.word != old.word {
+        return Err(StartStop::Exits(Exit::NoShorter));
+    }
+    if new.engine.is_same(&old.engine) {
+        return Ok(());
+    }
+    Err(StartStop::Exits(Exit::NoShorter))
+}
+
+/// The server to which the shorter record leads, which is read as a start reads it.
+#[tactic(auto, using(crate::proofs::Beginnings::goes_on_from))]
+fn lead_again<T: Timers, P: Rules, R: AllocGlobal, I: TellingReader>(
+    rt: &R,
+    stated: &Stated,
+    keys: u128,
+    reader: &mut I,
+) -> Result<Led<T, P>, StartStop>
+    ensures goes_on { IfOk result (λ led. GoesOnFrom stated.now.bytes stated.now.digest (I.remaining reader.old) led.engine.server
+        (standing_of led.engine) led.lines led.last) }
+    ensures server { IfOk result (λ led. IsServerOf stated.now.bytes led.word led.engine.server) }
+    ensures secrets { IfOk result (λ led. led.engine.secrets ≡ secrets_of keys) }
+{
+    let head = head_in(rt.alloc(), reader)?;
+    check_mark(&head)?;
+    let led = lead(rt, stated, &head, keys, reader, &mut NoJournal)?;
+    Ok(led)
+}
+
+/// Makes the shorter record of that of a file, which hasn't its name then; and what is known of that file. `NoShorter` where what is chosen leads elsewhere.
+#[tactic(auto, using(crate::proofs::Beginnings::alike))]
+pub(crate) fn make_shorter<'a, T: Timers, P: Rules, R: Files + Clock + Eprint + AllocGlobal>(
+    rt: &'a R,
+    stated: &Stated,
+    old: &str,
+    files: &RecordFiles,
+    fault: RecordFault,
+    keys: u128,
+    seen: bool,
+    file: &mut InFile,
+) -> Result<Shorter<'a, T, P, R>, StartStop>
+    ensures leads { IfOk result (λ shorter. LeadsAlike stated.now.bytes stated.now.digest shorter.led.engine.server
+        (standing_of shorter.led.engine) shorter.led.lines shorter.led.last) }
+    ensures secrets { IfOk result (λ shorter. shorter.led.engine.secrets ≡ secrets_of keys) }
+{
+    let whole = choose_in::<T, P, R>(rt, stated, keys, old, seen, file)?;
+    let Whole { head, led, choice } = whole;
+    let recorder = rewrite(rt, stated, old, files, fault, &head, choice)?;
+    let mut shorter = read_old(rt, files.record.part.as_str(), false)?;
+    let new = lead_again::<T, P, _, _>(rt, stated, keys, &mut shorter)?;
+    check_same(&new, &led)?;
+    Ok(Shorter {
+        led: new,
+        recorder,
+        lines: led.lines,
+    })
+}
+
+/// Makes a shorter record, and gives it its name.
+fn make_named<T: Timers, P: Rules, R: Files + Clock + Eprint + AllocGlobal>(
+    rt: &R,
+    stated: &Stated,
+    old: &str,
+    files: &RecordFiles,
+    keys: u128,
+    seen: bool,
+) -> Result<(), StartStop> {
+    let mut file = InFile::unknown();
+    let shorter = make_shorter::<T, P, R>(
+        rt,
+        stated,
+        old,
+        files,
+        RecordFault::End,
+        keys,
+        seen,
+        &mut file,
+    )?;
+    let Shorter {
+        led: _,
+        mut recorder,
+        lines: _,
+    } = shorter;
+    name_part(rt, files, &mut recorder.writer)?;
+    Ok(())
+}
+
+/// Makes a shorter record of that of a file, with the configuration of another file, which is that of the same server to others; it has its
+/// name only where it leads to a server that goes on as the one to which the whole record leads. `NoShorter` where that can't be gone on from, or
+/// what is chosen leads elsewhere.
+///
+/// `seen`: whether somebody looks at standard error, where it is said then how far the record is read.
+pub fn compact<T: Timers, P: Rules, R: Files + Clock + Eprint + AllocGlobal, W: Rng, C: Write>(
+    rt: &R,
+    stated: &Stated,
+    old: &str,
+    new: &str,
+    seen: bool,
+    words: &mut W,
+    complaints: &mut C,
+) -> Result<(), Exit> {
+    let wanted = RecordPlace::File {
+        path: String::from_str(rt.alloc(), new)?,
+        resume: None,
+    };
+    let files = place_of(rt, &wanted)?;
+    check_free(rt, &files)?;
+    let keys = secret(words);
+    let made = make_named::<T, P, R>(rt, stated, old, &files, keys, seen);
+    remove_part(rt, &files);
+    match made {
+        Ok(()) => Ok(()),
+        Err(StartStop::Exits(exit)) => Err(exit),
+        Err(StartStop::NotResumed(why)) => {
+            let _ = writeln!(complaints, "sipd: {old} can't be gone on from: {why}");
+            Err(Exit::NoShorter)
+        }
+    }
+}

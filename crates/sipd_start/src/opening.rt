@@ -1,0 +1,105 @@
+//! How the record of a file is opened that is gone on from, and a server as its first line says.
+ghost use Rattle.std.specs.Prelude.{◌≡◌, IfErr, IfOk};
+ghost use Rattle.sip_model.specs.TimerOrder.{first_standing};
+ghost use Rattle.sip_replay.specs.resume.run.Due.{standing_of};
+ghost use Rattle.sip_replay.specs.resume.run.engine.engine_time.proxy.Proxy.{secrets_of};
+ghost use Rattle.sipd_old_record.specs.OldRecord.{IsSystemFault};
+ghost use Rattle.sipd_start.specs.Boots.{boot_again};
+ghost use Rattle.sipd_start.specs.Stops.{IsUnmade};
+
+use sip_config_types::Config;
+use sip_event::Boot;
+use sip_journal::RecordHead;
+use sip_policy::Rules;
+use sip_record_omitted::Expanding;
+use sip_record_sealed::Unsealing;
+use sip_replay::resume::engine::Engine;
+use sip_timers::Timers;
+use sipd_exit::Exit;
+use sipd_old_record::open_file;
+use sipd_progress::{Watched, size_of_file};
+use std::io::BufReader;
+use std::rt::{Clock, Files};
+
+/// What a server that goes on starts with: what the first line of its record says, and a new secret of its tables.
+pub(crate) fn boot_again(head: &RecordHead, keys: u128) -> Boot
+    ensures boot { result ≡ boot_again head.now keys }
+{
+    Boot {
+        word: head.word,
+        first: head.first,
+        keys,
+    }
+}
+
+/// A server that has just started, with the configuration with which a record begins.
+#[tactic(auto, using(crate::proofs::Beginnings::opened_standing))]
+pub(crate) fn open_old<T: Timers, P: Rules, R: AllocGlobal>(
+    rt: &R,
+    boot: Boot,
+    config: Config,
+) -> Result<Engine<T, P>, Exit>
+    ensures server { IfOk result (λ engine. engine.server ≡ record { config = config; word = boot.word }) }
+    ensures standing { IfOk result (λ engine. standing_of engine ≡ first_standing boot.first) }
+    ensures refused { IfErr result IsUnmade }
+    ensures secrets { IfOk result (λ engine. engine.secrets ≡ secrets_of boot.keys) }
+{
+    Ok(Engine::open(rt.alloc(), config, boot)?)
+}
+
+/// What is known of a record's file, where it was read up to a line of the text that it stands for.
+#[derive(Clone, Copy)]
+pub(crate) struct InFile {
+    /// How many lines more stand in the text in front of that than in the file, and how many fewer.
+    pub(crate) more: u64,
+    pub(crate) fewer: u64,
+    /// The line of the file that has the digest of other bytes, if one was read that has.
+    pub(crate) changed: Option<u64>,
+    /// Whether none was read that holds a digest.
+    pub(crate) is_unsealed: bool,
+}
+
+impl InFile {
+    /// Of what is no file: each line is the line that it is.
+    pub(crate) fn unknown() -> InFile {
+        InFile {
+            more: 0,
+            fewer: 0,
+            changed: None,
+            is_unsealed: false,
+        }
+    }
+
+    /// What is known by a reader.
+    pub(crate) fn of<R: Files + Clock + Eprint + AllocGlobal>(
+        reader: &Expanding<Watched<'_, R, Unsealing<BufReader<R::File>>>>,
+    ) -> InFile {
+        let file = &reader.inner.reader;
+        InFile {
+            more: reader.added(),
+            fewer: file.seals(),
+            changed: file.changed(),
+            is_unsealed: file.seals() == 0,
+        }
+    }
+
+    /// The line of the file that is this one of the text.
+    pub(crate) fn line(&self, line: u64) -> u64 {
+        line.saturating_sub(self.more).saturating_add(self.fewer)
+    }
+}
+
+/// The record of a file, in which lines may stand for datagrams that were left out, read with a look at how far it is.
+#[tactic(auto, using(sipd_old_record::proofs::FirstLines::no_memory))]
+pub(crate) fn read_old<'r, R: Files + Clock + Eprint + AllocGlobal>(
+    rt: &'r R,
+    old: &'r str,
+    seen: bool,
+) -> Result<Expanding<Watched<'r, R, Unsealing<BufReader<R::File>>>>, Exit>
+    ensures { IfErr result IsSystemFault }
+{
+    let alloc = rt.alloc();
+    let file = open_file(rt, alloc, old)?;
+    let watched = Watched::new(rt, file, old, size_of_file(rt, old), seen);
+    Ok(Expanding::new(alloc, watched)?)
+}
