@@ -33,7 +33,7 @@ def key_of(user):
 
 
 def configuration(users):
-    text = [f'version = 1\nrealm = "{REALM}"\nhost = "{HOST}"\nport = {PORT}\naddress = "10.20.255.1:{PORT}"\ndomains = ["{DOMAIN}"]\n']
+    text = [f'version = 1\nrealm = "{REALM}"\nhost = "{HOST}"\nport = {PORT}\naddress = "127.0.0.1:{PORT}"\ndomains = ["{DOMAIN}"]\n']
     text += [f'[[user]]\nname = "{user}"\na1 = "{key_of(user)}"\n' for user in users]
     for place, (op, target) in enumerate((("register", "self"), ("list", "self"), ("send *", f"@{DOMAIN}"))):
         text.append(f'[[rule]]\nid = {place + 1}\nwho = "proven"\nop = "{op}"\ntarget = "{target}"\nverdict = "allow"\n')

@@ -86,6 +86,7 @@ def tried_commands():
 def tried_values():
     for words, wanted in {
         ("serve", "--record-fault", ""): ["go-on", "end"],
+        ("serve", "--sync", ""): ["each", "second", "never"],
         ("help", "ma"): ["matrix"],
         ("decide", "--expect", "a"): ["allow"],
         ("report", "--config", OFFICE, "--user", "b"): ["bob"],

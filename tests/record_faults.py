@@ -181,7 +181,7 @@ def configuration_damaged_or_cut(folder, expect):
                 continue
             status, printed, complaints = ended("replay", "--record", write(new(folder), good[:place]))
             said = re.sub(r"sipd: .* holds no digests: a change of it isn't told\n", "", complaints)
-            wanted = (0, "") if first > 1 else (3, "sipd: script line 2\n")
+            wanted = (0, "") if first > firsts[0] else (3, f"sipd: script line {first + 1}\n")
             expect((status, said) == wanted and whole.startswith(printed), f"cut at byte {place}: {status} {complaints}")
 
 

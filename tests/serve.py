@@ -201,9 +201,9 @@ def bad_starts(folder):
     with open(broken, "w") as made:
         made.write("version = ")
     assert ended("serve", "--config", broken) == (2, "", "sipd: configuration refused 2\n")
-    alone = (["--resume", "a"], ["--record-fault", "end"])
+    alone = (["--resume", "a"], ["--record-fault", "end"], ["--keep", "30"], ["--sync", "each"], ["--record", "a", "--keep", "30"], ["--record", "a", "--sync", "minute"])
     both = (["--record", "a", "--records", "b"], ["--records", "b", "--resume", "a"], ["--record", "a", "--resume", "c", "--records", "b"])
-    counts = (["--turns", "x"], ["--turns", "4294967296"], ["--turns=-1"], ["--turns", "1.5"], ["--turns", ""], ["--turns"], ["3"])
+    counts = (["--records", "b", "--keep", "36501"], ["--turns", "x"], ["--turns", "4294967296"], ["--turns=-1"], ["--turns", "1.5"], ["--turns", ""], ["--turns"], ["3"])
     for bad in (*counts, *alone, *both):
         status, printed, complaints = ended("serve", "--config", config, *bad)
         assert (status, printed) == (1, "") and complaints.startswith("error: "), (bad, status, printed, complaints)

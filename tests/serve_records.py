@@ -3,6 +3,7 @@
 import hashlib
 import os
 import re
+import shutil
 import subprocess
 import time
 
@@ -10,7 +11,7 @@ import phone
 from phone import Phone, free_port, office, started
 from served import (
     PROGRAM, Lateness, audit_of, ended, established, first_word, goes_again, hung_up, killed, made_in, marked, phones, replayed, rewritten,
-    until, without_configurations,
+    until, without_configurations, without_putting,
 )  # fmt: skip
 
 OTHER = (3, "", "sipd: the record was made with another configuration\n")
@@ -385,6 +386,8 @@ def changed_bytes(folder):
         for found in re.finditer(rb"^sealed (\w{64})\n", held, re.M):
             assert found[1].decode() == hashlib.sha256(b"record " + held[7 : found.start()]).hexdigest(), path
         assert held.startswith(b"left   ") == (path == first) and held.splitlines()[-1].startswith(b"sealed "), held[-200:]
+    with open(second) as source:
+        assert source.readlines()[1] == f"follows sealed_first {sealed_as(first)}\n"
     with open(first, "rb") as source:
         held = bytearray(b"record " + source.read()[7:])
     assert [replayed(path)[::2] for path in (first, second)] == [(0, "")] * 2, "a record with digests isn't replayed"
@@ -431,7 +434,130 @@ def made_shorter(folder):
     assert os.stat(new).st_size > 0 and replayed(new)[::2] == (0, ""), replayed(new)
 
 
+def kept_days(folder):
+    """With --keep a start removes the records of its folder all of whose events are older than so many days, with the copies of their configurations; none
+    that holds a younger event, and nothing else. What can't be removed is said."""
+    config, records = office(folder, free_port()), os.path.join(folder, "kept")
+    os.mkdir(records)
+    day, now = 86_400_000, int(time.time() * 1000)
+    numbers = {age: now - age * day for age in (50, 40, 31, 29)}
+    for name in (*(f"{numbers[age]}.{kind}" for age in (40, 31, 29) for kind in ("record", "toml")), f"{numbers[50]}.toml", "a.record", f"{numbers[50]}.record.old"):
+        with open(os.path.join(records, name), "w"):
+            pass
+    before = sorted(os.listdir(records))
+    for days, gone in (("0", ()), ("60", ()), ("30", (40, 50))):
+        server, _ = started(PROGRAM, config, "--records", records, "--keep", days)
+        _, complaints = killed(server)
+        assert "removed" not in complaints, complaints
+        wanted = [name for name in before if not name.endswith((".record", ".toml")) or int("0" + re.sub(r"\D", "", name)) not in [numbers[age] for age in gone]]
+        made = [name for name in sorted(os.listdir(records)) if name not in before]
+        assert sorted(set(os.listdir(records)) - set(made)) == wanted, (days, os.listdir(records), wanted)
+        assert len(made) == {"0": 2, "60": 4, "30": 6}[days], made
+    os.makedirs(os.path.join(records, "1.record", "held"))
+    server, port = started(PROGRAM, config, "--records", records, "--keep", "30")
+    alice, _ = phones(port)
+    assert alice.register() == [401, 200]
+    _, complaints = killed(server)
+    assert complaints.endswith(f"sipd: records of {records} that are older than 30 days can't be removed\n"), complaints
+
+
+def put_on_disk(folder):
+    """With --sync each and --sync second what is recorded is put on the disk: where the system refuses that, it is a fault of the record. With --sync
+    never the system isn't asked."""
+    for word in ("each", "second", "never", None):
+        path, port = os.path.join(folder, f"put_{word}"), free_port()
+        words = [PROGRAM, "serve", "--config", office(folder, port), "--record", path, "--record-fault", "end", *(["--sync", word] if word else [])]
+        try:
+            server = subprocess.Popen(words, stdin=subprocess.DEVNULL, stdout=subprocess.PIPE, stderr=subprocess.PIPE, preexec_fn=without_putting)
+        except subprocess.SubprocessError as fault:
+            raise AssertionError("no system call may be refused to a process here (seccomp), so that a fault of the disk can't be tried") from fault
+        phone.SERVERS.append(server)
+        if word in ("each", "second"):
+            _, complaints = server.communicate(timeout=10)
+            assert server.returncode == 4 and complaints.endswith(b"sipd: the record can't be written\n"), (word, server.returncode, complaints)
+        else:
+            assert server.stdout.readline().startswith(b"sipd: serving ")
+            alice, _ = phones(port)
+            assert alice.register() == [401, 200]
+            time.sleep(1.5)
+            assert server.poll() is None, server.communicate()
+            killed(server)
+    server, port = started(PROGRAM, office(folder, free_port()), "--record", os.path.join(folder, "put_all"), "--sync", "each")
+    alice, bob = phones(port)
+    assert alice.register() == [401, 200] and bob.register() == [401, 200]
+    hung_up(alice, bob, established(alice, bob))
+    assert killed(server)[1] == ""
+
+
+def sealed_as(path):
+    """The digest in the last line of a record."""
+    with open(path) as held:
+        found = re.fullmatch(r"sealed (\w{64})\n", held.readlines()[-1])
+    return found and found[1]
+
+
+def followed(folder):
+    """A folder of records replayed is each of them replayed, one behind the other. Each says which one it follows, and with which digest: one that was
+    changed, is missing or has another name is told, behind all that is printed; the oldest may be away."""
+    config, whole = office(folder, free_port()), os.path.join(folder, "followed")
+    os.mkdir(whole)
+    dialog = alice = bob = None
+    for start in range(4):
+        server, port = started(PROGRAM, config, "--records", whole)
+        if start == 0:
+            alice, bob = phones(port)
+            assert alice.register() == [401, 200] and bob.register() == [401, 200]
+            dialog = established(alice, bob)
+        if start == 2:
+            hung_up(alice, bob, dialog)
+        killed(server)
+    names = made_in(whole, "record")
+    paths = [os.path.join(whole, name) for name in names]
+    for place, path in enumerate(paths):
+        with open(path) as held:
+            second = held.readlines()[1]
+        follows = re.fullmatch(r"follows (\S+) (\w{64})\n", second)
+        assert (follows and follows.groups()) == (None if place == 0 else (names[place - 1], sealed_as(paths[place - 1]))), second
+    each = [replayed(path) for path in paths]
+    assert all(one[0] == 0 and one[2] == "" for one in each), each
+    assert replayed(whole) == (0, "".join(one[1] for one in each), "")
+    ends = "sipd: a record is missing, or was changed\n"
+
+    def tried(name, change):
+        other = os.path.join(folder, "followed_" + name)
+        shutil.copytree(whole, other)
+        change(other)
+        status, printed, complaints = replayed(other)
+        return status, printed, complaints.replace(f"sipd: {other}: ", "")
+
+    def turned(other):
+        with open(os.path.join(other, names[1]), "rb+") as held:
+            text = held.read()
+            held.seek(text.index(b"Call-ID: ") + len("Call-ID: "))
+            held.write(b"x" if text[held.tell() : held.tell() + 1] != b"x" else b"y")
+
+    def added(other):
+        with open(os.path.join(other, names[1]), "a") as held:
+            held.write(f"time {int(time.time() * 1000)}\n")
+
+    def renamed(other):
+        os.rename(os.path.join(other, names[1]), os.path.join(other, "9999999999999.record"))
+
+    def removed(place):
+        return lambda other: os.remove(os.path.join(other, names[place]))
+
+    status, _, complaints = tried("turned", turned)
+    assert status == 3 and re.fullmatch(rf"{names[1]} was changed: its line \d+ has the digest of other bytes\n{names[2]} follows {names[1]}, which was changed\n{ends}", complaints), complaints
+    status, _, complaints = tried("added", added)
+    assert (status, complaints) == (3, f"{names[2]} follows {names[1]}, which was changed\n{ends}"), complaints
+    status, printed, complaints = tried("removed", removed(1))
+    assert (status, printed, complaints) == (3, "".join(each[place][1] for place in (0, 2, 3)), f"{names[2]} follows {names[1]}, which isn't there\n{ends}"), complaints
+    status, _, complaints = tried("renamed", renamed)
+    assert (status, complaints) == (3, f"{names[2]} follows {names[1]}, which isn't there\n9999999999999.record follows {names[0]}, which doesn't stand next to it\n{ends}"), complaints
+    assert tried("oldest", removed(0)) == (0, "".join(one[1] for one in each[1:]), "")
+
+
 TRIALS = (
     record, restart, restart_with_another, standby, no_count_twice, not_resumed, full_device, full_start, lost_record, folder_of_records, clock_behind, changed_bytes,
-    made_shorter,
+    made_shorter, kept_days, put_on_disk, followed,
 )  # fmt: skip

@@ -59,8 +59,17 @@ def ended(*words):
 
 
 def without_receiving():
-    """Lets the kernel refuse each `recvfrom` of this process and of what it becomes, by a filter of system calls (seccomp)."""
-    number = {"x86_64": 45, "aarch64": 207}[os.uname().machine]
+    """Lets the kernel refuse each `recvfrom` of this process and of what it becomes."""
+    refusing({"x86_64": 45, "aarch64": 207}[os.uname().machine])
+
+
+def without_putting():
+    """The same of `fdatasync`."""
+    refusing({"x86_64": 75, "aarch64": 83}[os.uname().machine])
+
+
+def refusing(number):
+    """Lets the kernel refuse each system call of this number, by a filter of system calls (seccomp)."""
     steps = ((0x20, 0, 0, 0), (0x15, 0, 1, number), (0x06, 0, 0, 0x50000 | errno.EIO), (0x06, 0, 0, 0x7FFF0000))
     filtered = ctypes.create_string_buffer(b"".join(struct.pack("HBBI", *step) for step in steps))
     program = ctypes.create_string_buffer(struct.pack("HP", len(steps), ctypes.addressof(filtered)))
@@ -168,7 +177,7 @@ def replayed(record, config=None):
 
 
 def is_of_event(line):
-    return not line.startswith(("= ", "+ ", "configuration ", "sealed "))
+    return not line.startswith(("= ", "+ ", "configuration ", "sealed ", "follows "))
 
 
 def without_configurations(folder, record):

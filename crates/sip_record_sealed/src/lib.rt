@@ -1,6 +1,7 @@
 //! The line `sealed DIGEST` of a record's file, which holds the SHA-256 of all that stands before it: how one is written, what is digested,
 //! and a reader that takes these lines out, and fails at the first one that disagrees. So who reads a record through it reads one as it
-//! always was, up to where its file was changed.
+//! always was, up to where its file was changed. A second line `follows NAME DIGEST`, which says which record a record follows, with the digest in
+//! that one's last line, is written and taken out here, too.
 //!
 //! The first word of a file is its mark, which is written over in its place; it counts as `record` in a digest, whatever it is.
 //!
@@ -15,10 +16,13 @@
 #![tactic(auto)]
 
 mod digesting;
+mod follows;
+mod line;
 mod seal;
 mod unsealing;
 mod window;
 
 pub use digesting::Digesting;
+pub use follows::{Follows, follows_line};
 pub use seal::seal_line;
 pub use unsealing::Unsealing;

@@ -1,8 +1,10 @@
-//! The line that holds a digest.
+//! The line that holds a digest, and what stands at the front of a line of a record's file.
 ghost use Rattle.std.specs.Prelude.{◌≡◌, ◌≤◌, length};
 ghost use Rattle.sip_record_sealed.specs.Seal;
 ghost use Rattle.sip_record_sealed.specs.declared.seal.Front.TheVariants as Fronts;
 
+use crate::follows::{FOLLOWS, LONGEST};
+use crate::line::part_of_line;
 use hex::encode_to_slice;
 
 /// How it begins.
@@ -28,6 +30,8 @@ pub(crate) enum Front {
     Other,
     /// Those of a line with a digest, of which all bytes stand there, if its form is right.
     Seal,
+    /// Those of a line that begins as one does that says which record is followed, up to its LF.
+    Follows,
     /// Too few to know.
     Short,
 }
@@ -54,6 +58,27 @@ fn short_front(bytes: &[u8]) -> Front
         return Front::Short;
     }
     if FRONT.starts_with(bytes) {
+        Front::Short
+    } else {
+        Front::Other
+    }
+}
+
+/// The same of the second line of a file.
+pub(crate) fn front_of_second(bytes: &[u8]) -> Front
+    ensures { result ≡ Fronts.Seal → 72 ≤ length bytes.now }
+{
+    if FOLLOWS.starts_with(bytes) {
+        return Front::Short;
+    }
+    if !bytes.starts_with(FOLLOWS) {
+        return front_of(bytes);
+    }
+    let (count, ends) = part_of_line(bytes, LONGEST);
+    if ends {
+        return Front::Follows;
+    }
+    if count < LONGEST {
         Front::Short
     } else {
         Front::Other

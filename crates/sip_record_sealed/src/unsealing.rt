@@ -2,18 +2,22 @@
 ghost use Rattle.std.specs.Prelude.{◌≡◌, ◌≤◌, length};
 
 use crate::digesting::Digesting;
-use crate::seal::{Front, SIZE, front_of, seal_line};
+use crate::follows::{Follows, LONGEST, read_follows};
+use crate::line::part_of_line;
+use crate::seal::{Front, SIZE, front_of, front_of_second, seal_line};
 use crate::window::Window;
 use std::alloc::{AllocError, Global};
 use std::io;
 use std::io::{ErrorKind, Read};
 
-/// A reader that gives what another one gives of a record's file, line by line, without the lines that hold digests. It fails with
-/// `InvalidData` at the first one that isn't the digest of what stands before it, and gives nothing more. A file that ends in such a line that
-/// was cut ends in front of that. It takes memory where it is made, and none later.
+/// A reader that gives what another one gives of a record's file, line by line, without the lines that hold digests, and without the second one,
+/// where that says which record is followed. It fails with `InvalidData` at the first digest that isn't that of what stands before it, and gives
+/// nothing more. A file that ends in such a line that was cut ends in front of that. It takes memory where it is made, and for a second line of that
+/// kind.
 #[derive(Drop)]
 pub struct Unsealing<R> {
     pub inner: R,
+    alloc: Global,
     window: Window,
     /// Whether the front of a line was given, or stands at the file's end.
     is_inside: bool,
@@ -22,23 +26,23 @@ pub struct Unsealing<R> {
     lines: u64,
     /// How many of them held digests.
     seals: u64,
-    /// Whether the last line that was passed held one.
-    ends_sealed: bool,
+    /// The digest in the last line that was passed, where that held one.
+    ending: Option<[u8; 32]>,
+    /// Which record is followed, where that was said, and isn't handed out.
+    follows: Option<Follows>,
+    /// Whether it was said.
+    has_followed: bool,
     /// Whether one disagreed, which is the line behind those.
     has_changed: bool,
 }
 
-/// How many bytes of a line there are room for, up to its LF; whether that is one of them.
-fn part_of_line(bytes: &[u8], room: usize) -> (usize, bool)
-    ensures { (result.0 ≤ length bytes.now) × (result.0 ≤ room) }
-{
-    let most = bytes.len().min(room);
-    for at in 0..most {
-        if bytes[at] == b'\n' {
-            return (at + 1, true);
-        }
+/// What stands at the front of a line behind so many others.
+fn front_of_line(bytes: &[u8], lines: u64) -> Front {
+    if lines == 1 {
+        front_of_second(bytes)
+    } else {
+        front_of(bytes)
     }
-    (most, false)
 }
 
 /// That a digest disagrees.
@@ -63,19 +67,41 @@ impl<R> Unsealing<R> {
         let window = Window::new(alloc)?;
         Ok(Unsealing {
             inner,
+            alloc,
             window,
             is_inside: false,
             digesting: Digesting::new(),
             lines: 0,
             seals: 0,
-            ends_sealed: false,
+            ending: None,
+            follows: None,
+            has_followed: false,
             has_changed: false,
         })
     }
 
-    /// How many lines that hold digests were passed: a line that is given stands so many lines further on in the file.
+    /// How many lines that hold digests of the file were passed.
     pub fn seals(&self) -> u64 {
         self.seals
+    }
+
+    /// How many lines were passed that aren't given: a line that is given stands so many lines further on in the file.
+    pub fn hidden(&self) -> u64 {
+        if self.has_followed {
+            self.seals.saturating_add(1)
+        } else {
+            self.seals
+        }
+    }
+
+    /// Which record this one follows, where that was passed: once, and none behind that.
+    pub fn follows(&mut self) -> Option<Follows> {
+        self.follows.take()
+    }
+
+    /// The digest in the last line that was passed, where that holds one.
+    pub fn end_digest(&self) -> Option<[u8; 32]> {
+        self.ending
     }
 
     /// The line of the file from which on it disagrees with its digests, counted from 1, where one was read that does.
@@ -95,7 +121,7 @@ impl<R> Unsealing<R> {
 
     /// Whether something was passed behind the last line that holds a digest, and ends a line.
     pub fn wants_seal(&self) -> bool {
-        !self.is_inside && !self.ends_sealed && self.lines > 0
+        !self.is_inside && self.ending.is_none() && self.lines > 0
     }
 
     /// Passes so many bytes, which are a line or a part of one.
@@ -114,14 +140,28 @@ impl<R> Unsealing<R> {
 
     /// Passes a line that holds a digest, if it is that of what stands before it; whether it is.
     fn pass_seal(&mut self) -> Result<bool, AllocError> {
-        let line = seal_line(&self.digesting.digest()?);
+        let digest = self.digesting.digest()?;
+        let line = seal_line(&digest);
         if !self.window.unread().starts_with(&line) {
             self.has_changed = true;
             return Ok(false);
         }
         self.pass(SIZE, true);
         self.seals = self.seals.saturating_add(1);
-        self.ends_sealed = true;
+        self.ending = Some(digest);
+        Ok(true)
+    }
+
+    /// Passes the second line, if it says which record is followed; whether it does.
+    fn pass_follows(&mut self) -> Result<bool, AllocError> {
+        let unread = self.window.unread();
+        let (count, _) = part_of_line(unread, LONGEST);
+        let Some(follows) = read_follows(self.alloc, &unread[..count])? else {
+            return Ok(false);
+        };
+        self.pass(count, true);
+        self.follows = Some(follows);
+        self.has_followed = true;
         Ok(true)
     }
 
@@ -136,7 +176,7 @@ impl<R> Unsealing<R> {
             return false;
         }
         self.is_inside = !self.window.unread().is_empty();
-        self.window.pass(SIZE);
+        self.window.pass(LONGEST);
         true
     }
 
@@ -144,7 +184,7 @@ impl<R> Unsealing<R> {
     fn front(&self) -> Front {
         let unread = self.window.unread();
         if !self.is_inside {
-            return front_of(unread);
+            return front_of_line(unread, self.lines);
         }
         if unread.is_empty() {
             Front::Short
@@ -163,7 +203,7 @@ impl<R> Unsealing<R> {
         self.is_inside = !ends && (self.is_inside || count > 0);
         self.pass(count, ends);
         if count > 0 {
-            self.ends_sealed = false;
+            self.ending = None;
         }
         count
     }
@@ -187,6 +227,11 @@ impl<R: Read> Unsealing<R> {
                 Front::Seal => {
                     if !self.pass_seal()? {
                         return Err(disagrees());
+                    }
+                }
+                Front::Follows => {
+                    if !self.pass_follows()? {
+                        return Ok(());
                     }
                 }
                 Front::Short => {

@@ -30,6 +30,8 @@ use Rattle.sipd_arguments.specs.declared.call.ExpectedDecision.{ExpectedDecision
 use Rattle.sipd_arguments.specs.declared.call.ExpectedDecision.TheVariants.{Allow, Deny, Challenge}
 use Rattle.sipd_exit.specs.declared.record_place.RecordFault.{RecordFault}
 use Rattle.sipd_exit.specs.declared.record_place.RecordFault.TheVariants.{GoOn, End}
+use Rattle.sipd_exit.specs.declared.record_place.RecordSync.{RecordSync}
+use Rattle.sipd_exit.specs.declared.record_place.RecordSync.TheVariants.{Never, Second, Each}
 use Rattle.sipd_exit.specs.declared.record_place.RecordPlace.{RecordPlace}
 use Rattle.sipd_exit.specs.declared.record_place.RecordPlace.TheVariants.{File, Folder}
 use Rattle.sipd_arguments.specs.declared.commands.Parsed.{Parsed}
@@ -38,7 +40,7 @@ use Rattle.sipd_exit.specs.declared.exit.Exit.{Exit}
 use Rattle.sipd_exit.specs.declared.exit.Exit.TheVariants.{Usage, Memory}
 use Rattle.sipd_arguments.specs.declared.misuse.Misuse.{Misuse}
 use Rattle.sipd_arguments.specs.declared.misuse.Misuse.TheVariants.{NoCommand, TwoRecords, NoNewRecord, NoRecord, NoSuchWord, NoRealm, Sha256Said, NoSuchVerdict}
-use Rattle.sipd_arguments.specs.declared.misuse.Misuse.TheVariants.{NoQuestion, LogAlone, TwoForms}
+use Rattle.sipd_arguments.specs.declared.misuse.Misuse.TheVariants.{NoQuestion, LogAlone, TwoForms, NoFolder, NothingSynced, NoSuchSync}
 
 -- ---- the options of each command
 
@@ -86,6 +88,8 @@ serve_command = command (codes "serve")
     ∷ option (codes "records")
     ∷ option (codes "record-fault")
     ∷ option (codes "resume")
+    ∷ number_from 0 36500 (option (codes "keep"))
+    ∷ option (codes "sync")
     ∷ number_from 1 1000000 (option (codes "per-source"))
     ∷ flag (codes "reload")
     ∷ [])
@@ -202,12 +206,27 @@ fault_named word = if bytes_eq word (codes "go-on") then Some GoOn else (if byte
 abbrev pub fault_said : List Row → Option RecordFault
 fault_said rows = option_map_or fault_named (text_at (codes "record-fault") rows) (Some GoOn)
 
+-- when what is recorded is put on the disk: when the system does that, if nothing is said
+abbrev pub sync_named : Text → Option RecordSync
+sync_named word =
+    if bytes_eq word (codes "each") then Some Each else (if bytes_eq word (codes "second") then Some Second
+    else (if bytes_eq word (codes "never") then Some Never else None))
+
+abbrev pub sync_said : List Row → Option RecordSync
+sync_said rows = option_map_or sync_named (text_at (codes "sync") rows) (Some Never)
+
+-- for how many days records are kept: 0 keeps all
+abbrev pub days_said : List Row → ℕ
+days_said rows = unwrap_or (number_at 32 (codes "keep") rows) 0
+
 -- `serve`
 pub record IsServe (rows : List Row) (call : ServeCall) : Type 0 where
   pub config : string_bytes call.config ≡ needed_text (codes "config") rows
   pub turns : call.turns ≡ number_at 32 (codes "turns") rows
   pub place : IsPlace (text_at (codes "records") rows) (text_at (codes "record") rows) (text_at (codes "resume") rows) call.«record»
   pub fault : fault_said rows ≡ Some call.record_fault
+  pub keep : call.keep ≡ days_said rows
+  pub sync : sync_said rows ≡ Some call.sync
   pub per_source : call.per_source ≡ number_at 32 (codes "per-source") rows
   pub reload : call.reload ≡ is_on (codes "reload") rows
 
@@ -280,16 +299,41 @@ IsCallOf (Some named) call = IsCall named.0 named.1 call
 abbrev pub first_case : List (Bool × Misuse) → Option Misuse
 first_case cases = option_map (λ c. c.1) (find (λ c. c.0) cases)
 
-abbrev pub serve_misuse : List Row → Option Misuse
-serve_misuse rows =
+-- the first of two reasons
+abbrev pub first_why : Option Misuse → Option Misuse → Option Misuse
+first_why (Some why) other = Some why
+first_why None other = other
+
+-- of where it is recorded
+abbrev pub place_misuse : List Row → Option Misuse
+place_misuse rows =
     let file = is_there (codes "record") rows in
     let folder = is_there (codes "records") rows in
     first_case
     ((file && folder, TwoRecords)
     ∷ (is_there (codes "resume") rows && not file, NoNewRecord)
     ∷ (is_there (codes "record-fault") rows && not (file || folder), NoRecord)
-    ∷ (not (is_some (fault_said rows)), NoSuchWord)
     ∷ [])
+
+-- of how that is kept
+abbrev pub keeping_misuse : List Row → Option Misuse
+keeping_misuse rows =
+    let folder = is_there (codes "records") rows in
+    first_case
+    ((is_there (codes "keep") rows && not folder, NoFolder)
+    ∷ (is_there (codes "sync") rows && not (is_there (codes "record") rows || folder), NothingSynced)
+    ∷ [])
+
+-- of words
+abbrev pub word_misuse : List Row → Option Misuse
+word_misuse rows =
+    first_case
+    ((not (is_some (fault_said rows)), NoSuchWord)
+    ∷ (not (is_some (sync_said rows)), NoSuchSync)
+    ∷ [])
+
+abbrev pub serve_misuse : List Row → Option Misuse
+serve_misuse rows = first_why (place_misuse rows) (first_why (keeping_misuse rows) (word_misuse rows))
 
 abbrev pub user_misuse : List Row → Option Misuse
 user_misuse rows =
@@ -348,6 +392,9 @@ line_of TwoRecords = codes "error: '--record <FILE>' and '--records <FOLDER>' do
 line_of NoNewRecord = codes "error: '--resume <OLD>' is for a new record: '--record <FILE>'"
 line_of NoRecord = codes "error: '--record-fault <WORD>' is for a record: '--record <FILE>' or '--records <FOLDER>'"
 line_of NoSuchWord = codes "error: '--record-fault <WORD>' is 'go-on' or 'end'"
+line_of NoFolder = codes "error: '--keep <DAYS>' is for a folder of records: '--records <FOLDER>'"
+line_of NothingSynced = codes "error: '--sync <WORD>' is for a record: '--record <FILE>' or '--records <FOLDER>'"
+line_of NoSuchSync = codes "error: '--sync <WORD>' is 'each', 'second' or 'never'"
 line_of NoRealm = codes "error: no realm: '--realm <R>', or '--config <FILE>' that states it"
 line_of TwoForms = codes "error: '--against <OLD>', '--csv' and '--html' don't stand together"
 line_of Sha256Said = codes "error: '--sha256' isn't for '--config <FILE>', whose users say whether"

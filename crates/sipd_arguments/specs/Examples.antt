@@ -4,12 +4,13 @@ use Rattle.clap.specs.Faults.{fault_of}
 use Rattle.clap.specs.Kinds.{Kinds}
 use Rattle.clap.specs.Words.{Row, Text, subcommand_of}
 use Rattle.clap.specs.declared.error.kind.ErrorKind.TheVariants as kinds
-use Rattle.sipd_arguments.specs.CommandLine.{expected_said, fault_said, is_on, misuse_of, number_at, program, text_at}
+use Rattle.sipd_arguments.specs.CommandLine.{days_said, expected_said, fault_said, is_on, misuse_of, number_at, program, sync_said, text_at}
 use Rattle.sipd_exit.specs.declared.record_place.RecordFault.TheVariants.{GoOn, End}
+use Rattle.sipd_exit.specs.declared.record_place.RecordSync.TheVariants.{Never, Second}
 use Rattle.sipd_arguments.specs.declared.call.ExpectedDecision.TheVariants.{Deny}
 use Rattle.sipd_arguments.specs.declared.misuse.Misuse.{Misuse}
 use Rattle.sipd_arguments.specs.declared.misuse.Misuse.TheVariants.{TwoRecords, NoNewRecord, NoRecord, NoSuchWord, NoRealm, Sha256Said, NoSuchVerdict, NoQuestion}
-use Rattle.sipd_arguments.specs.declared.misuse.Misuse.TheVariants.{LogAlone, TwoForms}
+use Rattle.sipd_arguments.specs.declared.misuse.Misuse.TheVariants.{LogAlone, TwoForms, NoFolder, NothingSynced, NoSuchSync}
 
 -- words behind the program's own name
 abbrev pub line : List Text → List Text
@@ -58,6 +59,7 @@ pub record AreLines : Type 0 where
   pub too_few : faults_in (serving (codes "--per-source" ∷ codes "0" ∷ [])) ≡ kinds.ValueValidation ∷ []
   pub most : faults_in (serving (codes "--per-source" ∷ codes "1000000" ∷ [])) ≡ []
   pub too_many : faults_in (serving (codes "--per-source" ∷ codes "1000001" ∷ [])) ≡ kinds.ValueValidation ∷ []
+  pub too_long : faults_in (serving (codes "--records" ∷ codes "days" ∷ codes "--keep" ∷ codes "36501" ∷ [])) ≡ kinds.ValueValidation ∷ []
   pub last_minute : faults_in (deciding (codes "1439")) ≡ []
   pub no_minute : faults_in (deciding (codes "1440")) ≡ kinds.ValueValidation ∷ []
   pub one_word_more : faults_in (line (codes "replay" ∷ codes "x" ∷ [])) ≡ kinds.UnknownArgument ∷ []
@@ -73,6 +75,10 @@ pub record AreMisuses : Type 0 where
   pub not_new : misuse_in_line (serving (codes "--records" ∷ codes "days" ∷ codes "--resume" ∷ codes "a" ∷ [])) ≡ Some NoNewRecord
   pub no_record : misuse_in_line (serving (codes "--record-fault" ∷ codes "end" ∷ [])) ≡ Some NoRecord
   pub no_such_word : misuse_in_line (serving (codes "--record" ∷ codes "b" ∷ codes "--record-fault" ∷ codes "stop" ∷ [])) ≡ Some NoSuchWord
+  pub kept : misuse_in_line (serving (codes "--records" ∷ codes "days" ∷ codes "--keep" ∷ codes "30" ∷ codes "--sync" ∷ codes "each" ∷ [])) ≡ None
+  pub no_folder : misuse_in_line (serving (codes "--record" ∷ codes "b" ∷ codes "--keep" ∷ codes "30" ∷ [])) ≡ Some NoFolder
+  pub nothing_synced : misuse_in_line (serving (codes "--sync" ∷ codes "each" ∷ [])) ≡ Some NothingSynced
+  pub no_such_sync : misuse_in_line (serving (codes "--record" ∷ codes "b" ∷ codes "--sync" ∷ codes "minute" ∷ [])) ≡ Some NoSuchSync
   pub one_form : misuse_in_line (line (codes "matrix" ∷ codes "--config" ∷ codes "a.toml" ∷ codes "--csv" ∷ [])) ≡ None
   pub page : misuse_in_line (line (codes "matrix" ∷ codes "--config" ∷ codes "a.toml" ∷ codes "--html" ∷ [])) ≡ None
   pub two_forms : misuse_in_line (line (codes "matrix" ∷ codes "--config" ∷ codes "a.toml" ∷ codes "--csv" ∷ codes "--against" ∷ codes "b" ∷ [])) ≡ Some TwoForms
@@ -100,5 +106,9 @@ pub record AreSaid : Type 0 where
   pub no_reload : of_line (is_on (codes "reload")) (serving []) ≡ Some false
   pub ends : of_line fault_said (serving (codes "--record-fault" ∷ codes "end" ∷ [])) ≡ Some (Some End)
   pub goes_on : of_line fault_said (serving []) ≡ Some (Some GoOn)
+  pub days : of_line days_said (serving (codes "--records" ∷ codes "days" ∷ codes "--keep" ∷ codes "30" ∷ [])) ≡ Some 30
+  pub no_days : of_line days_said (serving []) ≡ Some 0
+  pub second : of_line sync_said (serving (codes "--record" ∷ codes "b" ∷ codes "--sync" ∷ codes "second" ∷ [])) ≡ Some (Some Second)
+  pub never : of_line sync_said (serving []) ≡ Some (Some Never)
   pub denied : of_line expected_said (asking (codes "--expect" ∷ codes "deny" ∷ [])) ≡ Some (Some (Some Deny))
   pub anything : of_line expected_said (asking []) ≡ Some (Some None)

@@ -1,6 +1,6 @@
 //! What the words of the command line ask for: a record for each command, with the files and the numbers that it was given. What each
 //! word means is in the help of its command.
-use sipd_exit::{RecordFault, RecordPlace};
+use sipd_exit::{RecordFault, RecordPlace, RecordSync};
 
 /// What is to be done.
 #[derive(Drop)]
@@ -35,7 +35,7 @@ pub enum ReplayCall {
     Script {
         config: Option<String>,
     },
-    /// The record in a file, with the configurations that it holds; one of before, which holds none, with that of a file.
+    /// The record in a file, or those in a folder, with the configurations that they hold; one of before, which holds none, with that of a file.
     Record {
         config: Option<String>,
         path: String,
@@ -63,6 +63,9 @@ pub struct ServeCall {
     /// Where what is heard is recorded; nowhere, where no place is named.
     pub record: Option<RecordPlace>,
     pub record_fault: RecordFault,
+    /// For how many days a record stays in its folder; 0, where all stay.
+    pub keep: u32,
+    pub sync: RecordSync,
     /// How many datagrams a second are heard from one address.
     pub per_source: Option<u32>,
     /// Whether the configuration is taken anew when its file changes.

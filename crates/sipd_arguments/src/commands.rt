@@ -99,13 +99,13 @@ fn check_command<'a>(alloc: Global) -> Result<Command<'a>, AllocError>
         .arg(option(alloc, "expect", "FILE", expect))
 }
 
-/// `--record FILE`, of a record that is there.
+/// `--record PATH`, of a record that is there, or of a folder of them.
 fn old_record_argument<'a>(alloc: Global) -> Arg<'a>
     ensures rule { rule_of result ≡ Definitions.option (codes "record") }
     ensures local { result.global ≡ false }
 {
-    let help = "Replay this record of a server instead of standard input";
-    option(alloc, "record", "FILE", help)
+    let help = "Replay this record, or those of this folder, instead of standard input";
+    option(alloc, "record", "PATH", help)
 }
 
 fn replay_command<'a>(alloc: Global) -> Result<Command<'a>, AllocError>
@@ -174,6 +174,24 @@ fn resume_argument<'a>(alloc: Global) -> Arg<'a>
     option(alloc, "resume", "OLD", help)
 }
 
+/// `--keep DAYS`.
+fn keep_argument<'a>(alloc: Global) -> Arg<'a>
+    ensures rule { rule_of result ≡ Definitions.number_from 0 36500 (Definitions.option (codes "keep")) }
+    ensures local { result.global ≡ false }
+{
+    let help = "Remove records of that folder that are older than so many days; 0 keeps all";
+    option(alloc, "keep", "DAYS", help).value_parser(value_parser!(u32).range(0..=36_500))
+}
+
+/// `--sync WORD`.
+fn sync_argument<'a>(alloc: Global) -> Arg<'a>
+    ensures rule { rule_of result ≡ Definitions.option (codes "sync") }
+    ensures local { result.global ≡ false }
+{
+    let help = "When it is put on the disk: with each event, each second, or never";
+    option(alloc, "sync", "WORD", help)
+}
+
 /// `--per-source N`.
 fn per_source_argument<'a>(alloc: Global) -> Arg<'a>
     ensures rule { rule_of result ≡ Definitions.number_from 1 1000000 (Definitions.option (codes "per-source")) }
@@ -195,6 +213,8 @@ fn serve_command<'a>(alloc: Global) -> Result<Command<'a>, AllocError>
         .arg(records_argument(alloc))?
         .arg(record_fault_argument(alloc))?
         .arg(resume_argument(alloc))?
+        .arg(keep_argument(alloc))?
+        .arg(sync_argument(alloc))?
         .arg(per_source_argument(alloc))?
         .arg(flag(alloc, "reload", reload))
 }

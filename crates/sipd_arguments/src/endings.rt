@@ -11,7 +11,7 @@ More: man sipd.toml, docs/CONFIGURATION.md";
 
 pub(crate) const REPLAY: &str = "\
 Example: sipd replay --record /var/lib/sipd/records/1795638404213.record
-Ends with 0 done, 1 usage, 2 configuration, 3 the line from which on it is damaged, or no record, 4 device, 5 memory.
+Ends with 0 done, 1 usage, 2 configuration, 3 the line from which on it is damaged, no record, or one of a folder that is missing, 4 device, 5 memory.
 More: docs/SCRIPTS.md";
 
 pub(crate) const COMPACT: &str = "\

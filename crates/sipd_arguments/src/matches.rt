@@ -11,7 +11,7 @@ use crate::call::{
 };
 use crate::misuse::Misuse;
 use clap::ArgMatches;
-use sipd_exit::{RecordFault, RecordPlace};
+use sipd_exit::{RecordFault, RecordPlace, RecordSync};
 use std::alloc::{AllocError, Global};
 
 /// Why what a command line says is no call.
@@ -159,23 +159,99 @@ fn has(matches: &ArgMatches<'_>, name: &str) -> bool
     matches.get_str(name).is_some()
 }
 
-/// What becomes of the server where its record can't be written, where what is said of records stands together.
-fn record_fault(matches: &ArgMatches<'_>) -> Result<RecordFault, Misuse>
-    ensures fault { IfOk result (λ fault. (Definitions.fault_said (rows_of (found_of matches.now)) ≡ Some fault) × (Definitions.serve_misuse (rows_of (found_of matches.now)) ≡ None)) }
-    ensures misuse { IfErr result (λ why. Definitions.serve_misuse (rows_of (found_of matches.now)) ≡ Some why) }
+/// When what is recorded is put on the disk, by a word that is known.
+fn sync_named(word: &str) -> Option<RecordSync>
+    ensures { result ≡ Definitions.sync_named word.now }
+{
+    if word == "each" {
+        return Some(RecordSync::Each);
+    }
+    if word == "second" {
+        return Some(RecordSync::Second);
+    }
+    if word == "never" {
+        return Some(RecordSync::Never);
+    }
+    None
+}
+
+/// The same of what is said, if it is a word that is known.
+#[tactic(auto, using(crate::proofs::Found::text_found))]
+fn sync_said(matches: &ArgMatches<'_>) -> Option<RecordSync>
+    ensures { result ≡ Definitions.sync_said (rows_of (found_of matches.now)) }
+{
+    match matches.get_str("sync") {
+        Some(word) => sync_named(word),
+        None => Some(RecordSync::Never),
+    }
+}
+
+/// For how many days records stay in their folder; 0, where nothing is said.
+fn days_said(matches: &ArgMatches<'_>) -> u32
+    ensures { result ≡ Definitions.days_said (rows_of (found_of matches.now)) }
+{
+    number_of(matches, "keep").unwrap_or(0)
+}
+
+/// Why what is said of where it is recorded doesn't stand together.
+fn place_misuse(matches: &ArgMatches<'_>) -> Option<Misuse>
+    ensures { result ≡ Definitions.place_misuse (rows_of (found_of matches.now)) }
 {
     let file = has(matches, "record");
     let folder = has(matches, "records");
     if file && folder {
-        return Err(Misuse::TwoRecords);
+        return Some(Misuse::TwoRecords);
     }
     if has(matches, "resume") && !file {
-        return Err(Misuse::NoNewRecord);
+        return Some(Misuse::NoNewRecord);
     }
     if has(matches, "record-fault") && !(file || folder) {
-        return Err(Misuse::NoRecord);
+        return Some(Misuse::NoRecord);
     }
-    fault_said(matches).ok_or(Misuse::NoSuchWord)
+    None
+}
+
+/// Why what is said of how it is kept doesn't stand together with that.
+fn keeping_misuse(matches: &ArgMatches<'_>) -> Option<Misuse>
+    ensures { result ≡ Definitions.keeping_misuse (rows_of (found_of matches.now)) }
+{
+    let folder = has(matches, "records");
+    if has(matches, "keep") && !folder {
+        return Some(Misuse::NoFolder);
+    }
+    if has(matches, "sync") && !(has(matches, "record") || folder) {
+        return Some(Misuse::NothingSynced);
+    }
+    None
+}
+
+/// What words say of a record.
+#[derive(Clone, Copy)]
+struct RecordWords {
+    fault: RecordFault,
+    sync: RecordSync,
+}
+
+/// What words say of the record, where what is said of it stands together.
+fn record_words(matches: &ArgMatches<'_>) -> Result<RecordWords, Misuse>
+    ensures fault { IfOk result (λ words. Definitions.fault_said (rows_of (found_of matches.now)) ≡ Some words.fault) }
+    ensures sync { IfOk result (λ words. Definitions.sync_said (rows_of (found_of matches.now)) ≡ Some words.sync) }
+    ensures together { IfOk result (λ words. Definitions.serve_misuse (rows_of (found_of matches.now)) ≡ None) }
+    ensures misuse { IfErr result (λ why. Definitions.serve_misuse (rows_of (found_of matches.now)) ≡ Some why) }
+{
+    if let Some(why) = place_misuse(matches) {
+        return Err(why);
+    }
+    if let Some(why) = keeping_misuse(matches) {
+        return Err(why);
+    }
+    let Some(fault) = fault_said(matches) else {
+        return Err(Misuse::NoSuchWord);
+    };
+    let Some(sync) = sync_said(matches) else {
+        return Err(Misuse::NoSuchSync);
+    };
+    Ok(RecordWords { fault, sync })
 }
 
 /// How phones are served.
@@ -183,12 +259,14 @@ fn serve_call(alloc: Global, matches: &ArgMatches<'_>) -> Result<ServeCall, Unca
     ensures call { IfOk result (λ call. Definitions.IsServe (rows_of (found_of matches.now)) call × (Definitions.serve_misuse (rows_of (found_of matches.now)) ≡ None)) }
     ensures refused { IfErr result (IsWhy (Definitions.serve_misuse (rows_of (found_of matches.now)))) }
 {
-    let record_fault = record_fault(matches)?;
+    let words = record_words(matches)?;
     Ok(ServeCall {
         config: needed_text(alloc, matches, "config")?,
         turns: number_of(matches, "turns"),
         record: record_place(alloc, matches)?,
-        record_fault,
+        record_fault: words.fault,
+        keep: days_said(matches),
+        sync: words.sync,
         per_source: number_of(matches, "per-source"),
         reload: is_on(matches, "reload"),
     })

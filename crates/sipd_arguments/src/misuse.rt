@@ -14,6 +14,12 @@ pub(crate) enum Misuse {
     NoRecord,
     /// `--record-fault` has a word that it doesn't know.
     NoSuchWord,
+    /// `--keep` stands without `--records`.
+    NoFolder,
+    /// `--sync` stands where no record is made.
+    NothingSynced,
+    /// `--sync` has a word that it doesn't know.
+    NoSuchSync,
     /// Neither `--realm` nor `--config` says the realm.
     NoRealm,
     /// `--sha256` stands beside `--config`, which says it.
@@ -43,6 +49,13 @@ impl Misuse {
                 "error: '--record-fault <WORD>' is for a record: '--record <FILE>' or '--records <FOLDER>'"
             }
             Misuse::NoSuchWord => "error: '--record-fault <WORD>' is 'go-on' or 'end'",
+            Misuse::NoFolder => {
+                "error: '--keep <DAYS>' is for a folder of records: '--records <FOLDER>'"
+            }
+            Misuse::NothingSynced => {
+                "error: '--sync <WORD>' is for a record: '--record <FILE>' or '--records <FOLDER>'"
+            }
+            Misuse::NoSuchSync => "error: '--sync <WORD>' is 'each', 'second' or 'never'",
             Misuse::NoRealm => {
                 "error: no realm: '--realm <R>', or '--config <FILE>' that states it"
             }

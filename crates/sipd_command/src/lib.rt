@@ -1,4 +1,4 @@
-//! The program's command line carried out: phones are served over a socket; what is replayed goes to `sipd_start`, and what else is asked for
+//! The program's command line carried out: phones are served over a socket; what is replayed goes to `sipd_replay`, and what else is asked for
 //! to `sipd_tools`.
 //!
 //! - Used: the program `sipd`, with its kinds of timers and rules.
@@ -8,9 +8,10 @@
 
 mod compacting;
 mod program;
+mod record_turning;
 mod serving;
 
 pub use program::command;
 pub use sipd_arguments::{Parsed, ProgramCall, parse, summary_of};
 pub use sipd_exit::Exit;
-pub use sipd_start::replay_script;
+pub use sipd_replay::replay_script;

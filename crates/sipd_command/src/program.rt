@@ -7,15 +7,15 @@ use sip_timers::Timers;
 use sipd_arguments::{Parsed, ProgramCall, ReplayCall, parse};
 use sipd_exit::{Exit, print};
 use sipd_progress::Watched;
+use sipd_replay::{replay_records, replay_script};
 use sipd_service::LinePrinter;
-use sipd_start::{replay_record, replay_script};
 use sipd_tools::{check, decide, make_report, make_user, matrix};
 use std::io::{Read, Write};
 use std::net::Net;
 use std::random::RandomSource;
 use std::rt::{Clock, Files};
 
-/// Replays the script of the input, or a record.
+/// Replays the script of the input, a record, or those of a folder.
 fn replay_call<
     T: Timers,
     P: Rules,
@@ -39,7 +39,7 @@ fn replay_call<
         }
         ReplayCall::Record { config, path } => {
             let config = config.as_ref().map(String::as_str);
-            replay_record::<T, P, R, W, C>(rt, config, path.as_str(), seen, output, complaints)
+            replay_records::<T, P, R, W, C>(rt, config, path.as_str(), seen, output, complaints)
         }
     }
 }

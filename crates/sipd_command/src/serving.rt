@@ -6,6 +6,7 @@ ghost use Rattle.sipd_boot.specs.Boots.{behind_secret, secret_from};
 ghost use Rattle.sipd_service.specs.Hops.{hop_addresses};
 ghost use Rattle.sipd_command.specs.Starts.{bound_address, decided_before, PrintsAt, PrintsFor, PrintsSomewhere};
 
+use crate::record_turning::RecordTurning;
 use rand::rngs::StdRng;
 use rand_core::Rng;
 use sip_audit::Record;
@@ -23,13 +24,15 @@ use sip_transport::{Clock, Link, SteadyClock, UdpLink};
 use sip_uri::Addr;
 use sipd_arguments::ServeCall;
 use sipd_boot::secret;
-use sipd_exit::{DeviceFault, Exit, Stated, config_of_bytes, stated_in};
+use sipd_exit::{DeviceFault, Exit, RecordPlace, Stated, config_of_bytes, stated_in};
 use sipd_old_record::WatchedJournal;
 use sipd_progress::Watched;
 use sipd_reload::{PathFile, Watch, WatchedFile};
 use sipd_service::engine::Engine;
-use sipd_service::{LinePrinter, Said, Service, Serving, hops_of, serve_turns};
-use sipd_start::{Beginning, Begun, begin, begin_unrecorded, check_stack};
+use sipd_service::{
+    LinePrinter, NextRecord, OneRecord, Said, Service, Serving, hops_of, serve_turns,
+};
+use sipd_start::{Beginning, Begun, RecordFolder, begin, begin_unrecorded, check_stack};
 use std::alloc::{AllocError, Global};
 use std::io::{ErrorKind, Read, Write};
 use std::net::Net;
@@ -44,6 +47,8 @@ struct ServeStart<L: Link, N: Rng + Drop> {
     address: Addr,
     /// The path of the configuration's file, as the command line says it.
     path: Bytes,
+    /// What that file stated.
+    stated: Bytes,
     /// The IP addresses of the configured hops, which are heard however much they send.
     hops: Vec<[u8; 4]>,
     words: N,
@@ -77,17 +82,19 @@ fn start_of<L: Link, N: Rng + Drop>(
     alloc: Global,
     call: &ServeCall,
     config: &Config,
+    stated: &Stated,
     link: L,
     words: N,
 ) -> Result<ServeStart<L, N>, AllocError>
     ensures { IfOk result (λ start. (start.link ≡ link) × (start.address ≡ bound_address config.now)
-        × (start.path ≡ string_bytes call.now.config) × (start.hops.items ≡ hop_addresses config.now) × (start.words ≡ words)
+        × (start.path ≡ string_bytes call.now.config) × (start.stated ≡ stated.now.bytes) × (start.hops.items ≡ hop_addresses config.now) × (start.words ≡ words)
         × (start.per_source ≡ call.now.per_source) × (start.turns ≡ call.now.turns)) }
 {
     Ok(ServeStart {
         link,
         address: address_of(config),
         path: Bytes::copy(alloc, call.config.as_bytes())?,
+        stated: Bytes::copy(alloc, stated.bytes.as_slice())?,
         hops: hops_of(alloc, config)?,
         words,
         per_source: call.per_source,
@@ -122,6 +129,7 @@ fn service_of<
     L: Link,
     C: Clock,
     J: WatchedJournal,
+    X: NextRecord<T, P, J>,
     N: Rng + Drop,
     F: WatchedFile,
 >(
@@ -129,10 +137,11 @@ fn service_of<
     start: ServeStart<L, N>,
     engine: Engine<T, P>,
     journal: J,
+    next: X,
     aside: C,
     clock: C,
     watch: Option<Watch<F>>,
-) -> Result<Service<T, P, L, C, J, N, F>, AllocError>
+) -> Result<Service<T, P, L, C, J, X, N, F>, AllocError>
     ensures engine { IfOk result (λ service. service.engine ≡ engine) }
     ensures journal { IfOk result (λ service. service.journal ≡ journal) }
     ensures clock { IfOk result (λ service. service.clock ≡ clock) }
@@ -141,11 +150,13 @@ fn service_of<
         (link_told (L.heard start.link) (L.fresh start.link) (L.aside start.link) (L.given start.link) (L.held start.link)
         (L.waits start.link) (L.receives start.link) (L.failures start.link)) (C.readings aside)) }
     ensures watch { IfOk result (λ service. (service.watch ≡ watch) × (service.port ≡ start.address.port) × (service.path ≡ start.path)) }
+    ensures stated { IfOk result (λ service. service.stated ≡ start.stated) }
 {
     let ServeStart {
         link,
         address,
         path,
+        stated,
         hops,
         mut words,
         per_source,
@@ -162,6 +173,8 @@ fn service_of<
         watch,
         port: address.port,
         path,
+        next,
+        stated,
         said: Said::new(),
     })
 }
@@ -173,6 +186,7 @@ fn serve_with<
     R: rt::Clock + AllocGlobal,
     L: Link,
     J: WatchedJournal,
+    X: NextRecord<T, P, J>,
     N: Rng + Drop,
     F: WatchedFile,
     W: Write + Drop,
@@ -182,6 +196,7 @@ fn serve_with<
     start: ServeStart<L, N>,
     engine: Engine<T, P>,
     journal: J,
+    next: X,
     decided: &[Record],
     watch: Option<Watch<F>>,
     printer: &mut LinePrinter<W>,
@@ -197,7 +212,7 @@ fn serve_with<
         turns: start.turns,
     };
     let aside = SteadyClock::new(rt);
-    let mut service = service_of(alloc, start, engine, journal, aside, clock, watch)?;
+    let mut service = service_of(alloc, start, engine, journal, next, aside, clock, watch)?;
     let served = serve_turns(alloc, &mut service, &serving, printer, complaints);
     service.journal.close();
     served
@@ -213,19 +228,21 @@ fn decided_by(last: &Option<StepOut>) -> &[Record]
     }
 }
 
-/// Serves with a server that is begun, which records, or couldn't.
+/// Serves with a server that is begun, which records: in one file, or in a folder in which it turns to the next one; or couldn't.
 fn serve_begun<
+    'a,
     T: Timers,
     P: Rules,
-    R: Files + rt::Clock + AllocGlobal,
+    R: Files + rt::Clock + Eprint + AllocGlobal,
     L: Link,
     F: WatchedFile,
     W: Write + Drop,
     M: Write,
 >(
-    rt: &R,
+    rt: &'a R,
     start: ServeStart<L, StdRng>,
-    begun: Begun<'_, T, P, R>,
+    begun: Begun<'a, T, P, R>,
+    turning: Option<RecordTurning<'a, R>>,
     watch: Option<Watch<F>>,
     printer: &mut LinePrinter<W>,
     complaints: &mut M,
@@ -239,18 +256,46 @@ fn serve_begun<
         last,
     } = begun;
     let decided = decided_by(&last);
-    if let Some(recorder) = recorder {
+    let Some(recorder) = recorder else {
+        let _ = writeln!(
+            complaints,
+            "sipd: the record can't be written; nothing is recorded"
+        );
         return serve_with(
-            rt, start, engine, recorder, decided, watch, printer, complaints,
+            rt, start, engine, NoJournal, OneRecord, decided, watch, printer, complaints,
+        );
+    };
+    if let Some(turning) = turning {
+        return serve_with(
+            rt, start, engine, recorder, turning, decided, watch, printer, complaints,
         );
     }
-    let _ = writeln!(
-        complaints,
-        "sipd: the record can't be written; nothing is recorded"
-    );
     serve_with(
-        rt, start, engine, NoJournal, decided, watch, printer, complaints,
+        rt, start, engine, recorder, OneRecord, decided, watch, printer, complaints,
     )
+}
+
+/// What turns from one record to the next, where a server records in a folder.
+fn turning_of<'a, R: Files + rt::Clock + Eprint + AllocGlobal>(
+    rt: &'a R,
+    call: &ServeCall,
+    beginning: &Beginning<'a, R>,
+    words: &mut StdRng,
+) -> Result<Option<RecordTurning<'a, R>>, AllocError> {
+    let Some(RecordPlace::Folder(folder)) = &call.record else {
+        return Ok(None);
+    };
+    let keys = secret(words);
+    let folder = RecordFolder::new(
+        rt,
+        folder.as_str(),
+        call.record_fault,
+        call.sync,
+        call.keep,
+        keys,
+    )?;
+    let path = String::from_str(rt.alloc(), beginning.place.record.path.as_str())?;
+    Ok(Some(RecordTurning::new(folder, path)))
 }
 
 /// What looks at the configuration's file while it serves, where that is asked for: what the file stated is in force.
@@ -273,6 +318,7 @@ fn watch_of<'a, R: Files + AllocGlobal>(
 /// Serves and records. The address is bound first; behind what the input gives, where the server goes on from that, since until then
 /// it is the address of the server whose record comes there.
 fn serve_recorded<
+    'a,
     T: Timers,
     P: Rules,
     R: Files + Net + rt::Clock + Eprint + AllocGlobal,
@@ -281,10 +327,10 @@ fn serve_recorded<
     W: Write + Drop,
     M: Write,
 >(
-    rt: &R,
+    rt: &'a R,
     call: &ServeCall,
     config: &Config,
-    beginning: &Beginning<'_, R>,
+    beginning: &Beginning<'a, R>,
     mut words: StdRng,
     watch: Option<Watch<F>>,
     input: &mut I,
@@ -304,8 +350,9 @@ fn serve_recorded<
         Some(link) => link,
         None => bind(rt, address)?,
     };
-    let start = start_of(rt.alloc(), call, config, link, words)?;
-    serve_begun(rt, start, begun, watch, printer, complaints)
+    let turning = turning_of(rt, call, beginning, &mut words)?;
+    let start = start_of(rt.alloc(), call, config, beginning.stated, link, words)?;
+    serve_begun(rt, start, begun, turning, watch, printer, complaints)
 }
 
 /// Serves, and records nothing.
@@ -329,15 +376,66 @@ fn serve_unrecorded<
     ensures { OnOk result (PrintsFor call.now.turns (bound_address config.now) [] (W.contents printer.old.output) (W.contents printer.new.output)) }
 {
     let link = bind(rt, address_of(config))?;
-    let mut start = start_of(rt.alloc(), call, config, link, words)?;
+    let mut start = start_of(rt.alloc(), call, config, stated, link, words)?;
     let engine = begin_unrecorded::<T, P, _, _>(rt, stated, &mut start.words)?;
     serve_with(
         rt,
         start,
         engine,
         NoJournal,
+        OneRecord,
         &[],
         watch,
+        printer,
+        complaints,
+    )
+}
+
+/// Serves and records at a place. The record from which the server goes on may come through an input.
+fn serve_placed<
+    T: Timers,
+    P: Rules,
+    R: Files + Net + rt::Clock + Eprint + AllocGlobal,
+    I: Read,
+    F: WatchedFile,
+    W: Write + Drop,
+    M: Write,
+>(
+    rt: &R,
+    call: &ServeCall,
+    place: &RecordPlace,
+    config: &Config,
+    stated: &Stated,
+    words: StdRng,
+    watch: Option<Watch<F>>,
+    seen: bool,
+    input: &mut I,
+    printer: &mut LinePrinter<W>,
+    complaints: &mut M,
+) -> Result<(), Exit>
+    ensures { OnOk result (PrintsAt call.now.turns (bound_address config.now) (W.contents printer.old.output) (W.contents printer.new.output)) }
+{
+    let beginning = Beginning::new(
+        rt,
+        stated,
+        place,
+        call.record_fault,
+        call.sync,
+        call.keep,
+        seen,
+    )?;
+    let alloc = rt.alloc();
+    let unsealing = Unsealing::new(alloc, input)?;
+    let watched = Watched::new(rt, unsealing, "the record that comes", None, seen);
+    let mut record = Expanding::new(alloc, watched)?;
+    serve_recorded::<T, P, R, _, _, _, M>(
+        rt,
+        call,
+        config,
+        &beginning,
+        words,
+        watch,
+        &mut record,
         printer,
         complaints,
     )
@@ -372,19 +470,7 @@ pub fn serve_file<
             rt, call, &config, &stated, words, watch, printer, complaints,
         );
     };
-    let beginning = Beginning::new(rt, &stated, place, call.record_fault, seen)?;
-    let unsealing = Unsealing::new(alloc, input)?;
-    let watched = Watched::new(rt, unsealing, "the record that comes", None, seen);
-    let mut record = Expanding::new(alloc, watched)?;
-    serve_recorded::<T, P, R, _, _, _, M>(
-        rt,
-        call,
-        &config,
-        &beginning,
-        words,
-        watch,
-        &mut record,
-        printer,
-        complaints,
+    serve_placed::<T, P, R, I, _, _, M>(
+        rt, call, place, &config, &stated, words, watch, seen, input, printer, complaints,
     )
 }

@@ -8,7 +8,7 @@ use Rattle.sipd_exit.specs.declared.device_fault.DeviceFault.{DeviceFault}
 use Rattle.sipd_exit.specs.declared.device_fault.DeviceFault.TheVariants.{PortTaken, NoSuchAddress, NoFile, NoRightToRead, DiskFull, OutputClosed, Other}
 use Rattle.sipd_exit.specs.declared.exit.Exit.{Exit}
 use Rattle.sipd_exit.specs.declared.exit.Exit.TheVariants.{Usage, Configuration, LongConfiguration, Script, Device, Memory, Stack, Question, NoRecord, OtherConfiguration}
-use Rattle.sipd_exit.specs.declared.exit.Exit.TheVariants.{BareRecord, Changed, OtherFrame, PipedRecord, NewRecord, NoShorter, Recording, Unexpected}
+use Rattle.sipd_exit.specs.declared.exit.Exit.TheVariants.{BareRecord, Changed, Missing, OtherFrame, PipedRecord, NewRecord, NoShorter, Recording, Unexpected}
 use Rattle.sipd_exit.specs.declared.exit.Exit.TheVariants.{OtherPolicy, OtherDecision}
 use Rattle.sipd_reload.specs.declared.file_fault.FileFault.{FileFault}
 use Rattle.sipd_reload.specs.declared.file_fault.FileFault.TheVariants as files
@@ -27,6 +27,7 @@ status_of NoRecord = 3
 status_of OtherConfiguration = 3
 status_of BareRecord = 3
 status_of (Changed line) = 3
+status_of Missing = 3
 status_of OtherFrame = 3
 status_of PipedRecord = 4
 status_of NewRecord = 4

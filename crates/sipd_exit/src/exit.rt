@@ -36,6 +36,8 @@ pub enum Exit {
     BareRecord,
     /// This line of a record's file has the digest of other bytes than stand before it.
     Changed(u64),
+    /// Of the records of a folder one isn't there that another one follows, or isn't as it was then.
+    Missing,
     /// A server that runs can't take a configuration in the place of another.
     OtherFrame,
     /// What is named as the record to go on from is a named pipe.
@@ -67,6 +69,7 @@ impl Exit {
             | Exit::OtherConfiguration
             | Exit::BareRecord
             | Exit::Changed(_)
+            | Exit::Missing
             | Exit::OtherFrame
             | Exit::NoShorter => 3,
             Exit::Device(_) | Exit::PipedRecord | Exit::NewRecord | Exit::Recording => 4,
@@ -103,6 +106,7 @@ impl fmt::Display for Exit {
                 f,
                 "sipd: the record was changed: its line {line} has the digest of other bytes"
             ),
+            Exit::Missing => write!(f, "sipd: a record is missing, or was changed"),
             Exit::OtherFrame => write!(f, "sipd: a server that runs can't take it"),
             Exit::PipedRecord => write!(
                 f,

@@ -24,7 +24,7 @@ pub struct Stated {
 
 impl Stated {
     /// The bytes of a file, with their digest.
-    fn of(bytes: Bytes) -> Self
+    pub fn of(bytes: Bytes) -> Self
         ensures bytes { result.bytes ≡ bytes }
         ensures digest { result.digest ≡ sha256 bytes }
     {

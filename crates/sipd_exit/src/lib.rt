@@ -17,4 +17,4 @@ pub use device_fault::DeviceFault;
 pub use exit::Exit;
 pub use files::{Stated, bytes_in, config_of, config_of_bytes, stated_in};
 pub use printing::print;
-pub use record_place::{RecordFault, RecordPlace};
+pub use record_place::{RecordFault, RecordPlace, RecordSync};

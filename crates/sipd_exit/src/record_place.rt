@@ -7,6 +7,17 @@ pub enum RecordFault {
     End,
 }
 
+/// When what was recorded is put on the disk.
+#[derive(Clone, Copy)]
+pub enum RecordSync {
+    /// When the system does that by itself.
+    Never,
+    /// Within a second or so.
+    Second,
+    /// Before anything is sent for it.
+    Each,
+}
+
 /// Where the record of a server is made.
 #[derive(Drop)]
 pub enum RecordPlace {

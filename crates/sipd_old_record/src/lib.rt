@@ -22,5 +22,5 @@ pub use old_record::{
     open_file,
 };
 pub use record_configuration::own_configuration;
-pub use record_file::{RecordFile, mark_file, new_file, seal_file};
+pub use record_file::{RecordFile, SealedFile, mark_file, new_file, seal_file};
 pub use watched_journal::{Unrecorded, WatchedJournal};

@@ -106,7 +106,7 @@ pub fn is_made_with(head: &RecordHead, digest: &[u8; 32]) -> bool
     head.digest == *digest
 }
 
-/// The file of a record, to be read, without the lines that hold digests.
+/// The file of a record, to be read, without the lines that hold digests of it or of the record that it follows.
 #[tactic(auto, using(crate::proofs::FirstLines::system_fault, crate::proofs::FirstLines::no_memory))]
 pub fn open_file<R: Files>(
     rt: &R,
@@ -135,7 +135,7 @@ pub fn open_any_record<R: Files>(
 }
 
 /// How the program ends at a line of a record's file, where the line is said of the text that the file stands for, in which so many lines more
-/// stand in front of that one, and so many fewer, since those hold digests.
+/// stand in front of that one, and so many fewer, since those hold digests, or say which record is followed.
 pub fn at_line_of_file(exit: Exit, more: u64, fewer: u64) -> Exit
     ensures { result ≡ at_line_of_file more fewer exit }
 {
@@ -149,7 +149,7 @@ pub fn at_line_of_file(exit: Exit, more: u64, fewer: u64) -> Exit
 pub fn exit_in_file<I>(exit: Exit, file: &Unsealing<I>, more: u64) -> Exit {
     match file.changed() {
         Some(line) => Exit::Changed(line),
-        None => at_line_of_file(exit, more, file.seals()),
+        None => at_line_of_file(exit, more, file.hidden()),
     }
 }
 

@@ -2,6 +2,7 @@
 //! What is written into it is in `sip_journal`.
 use sip_journal::RecordMark;
 use sip_record_sealed::{Digesting, Unsealing, seal_line};
+use sipd_exit::RecordSync;
 use std::alloc::Global;
 use std::fs::{OpenFile, OpenOptions};
 use std::io::{BufReader, ErrorKind, Read, Seek, SeekFrom, Write};
@@ -32,6 +33,12 @@ pub struct RecordFile<'a, R: Files> {
     sealed: u64,
     /// When that was written.
     sealed_at: Option<Instant>,
+    /// The digest in that line.
+    sealed_as: Option<[u8; 32]>,
+    /// When what is written is put on the disk.
+    sync: RecordSync,
+    /// How many bytes were put there.
+    synced: u64,
     /// What was written, as it is digested.
     digesting: Digesting,
     /// Whether that ends a line.
@@ -73,7 +80,8 @@ pub fn mark_file<R: Files>(rt: &R, path: &str, mark: RecordMark) -> io::Result<(
 }
 
 impl<'a, R: Files> RecordFile<'a, R> {
-    /// A new file that begins with a line; one that is there is never written over.
+    /// A new file that begins with a line; one that is there is never written over. Until it is named what is written is put on the disk when
+    /// that is asked for.
     pub fn create(rt: &'a R, path: String, line: &[u8]) -> io::Result<Self> {
         let file = new_file(rt, path.as_str())?;
         let marks = marks_of(rt, path.as_str())?;
@@ -85,6 +93,9 @@ impl<'a, R: Files> RecordFile<'a, R> {
             written: 0,
             sealed: 0,
             sealed_at: None,
+            sealed_as: None,
+            sync: RecordSync::Never,
+            synced: 0,
             digesting: Digesting::new(),
             ends_line: false,
             lost: false,
@@ -93,15 +104,58 @@ impl<'a, R: Files> RecordFile<'a, R> {
         Ok(made)
     }
 
-    /// By which name it is found from now on.
-    pub fn rename(&mut self, path: String) {
+    /// How many bytes were written.
+    pub fn size(&self) -> u64 {
+        self.written
+    }
+
+    /// By which name it is found from now on, and when what is written is put on the disk.
+    pub fn rename(&mut self, path: String, sync: RecordSync) {
         self.path = path;
+        self.sync = sync;
     }
 
     /// Has the system put on the disk what was written.
     pub fn sync(&mut self) -> io::Result<()> {
         self.file.flush()?;
-        self.file.sync_all()
+        self.file.sync_all()?;
+        self.synced = self.written;
+        Ok(())
+    }
+
+    /// The same of what was written since it did that last, where it is to do so by itself.
+    fn sync_rest(&mut self) -> io::Result<()> {
+        if self.synced == self.written {
+            return Ok(());
+        }
+        self.file.sync_data()?;
+        self.synced = self.written;
+        Ok(())
+    }
+
+    /// The same, where that is asked for with each event.
+    fn sync_each(&mut self) -> io::Result<()> {
+        match self.sync {
+            RecordSync::Each => self.sync_rest(),
+            RecordSync::Second | RecordSync::Never => Ok(()),
+        }
+    }
+
+    /// The same, where that is asked for each second, or with each event.
+    pub fn sync_if_asked(&mut self) -> io::Result<()> {
+        match self.sync {
+            RecordSync::Each | RecordSync::Second => self.sync_rest(),
+            RecordSync::Never => Ok(()),
+        }
+    }
+
+    /// The digest in its last line, where that holds one.
+    pub fn end_digest(&self) -> Option<[u8; 32]> {
+        if self.written == self.sealed {
+            self.sealed_as
+        } else {
+            None
+        }
     }
 
     /// Writes the digest of all that was written, unless that stands there already, or a line isn't whole.
@@ -109,9 +163,10 @@ impl<'a, R: Files> RecordFile<'a, R> {
         if self.written == self.sealed || !self.ends_line {
             return Ok(());
         }
-        let line = seal_line(&self.digesting.digest()?);
-        self.write_all(&line)?;
+        let digest = self.digesting.digest()?;
+        self.write_all(&seal_line(&digest))?;
         self.sealed = self.written;
+        self.sealed_as = Some(digest);
         self.file.flush()
     }
 
@@ -145,8 +200,10 @@ impl<'a, R: Files> Write for RecordFile<'a, R> {
         Ok(taken)
     }
 
+    /// Where that is asked for with each event, what was written is on the disk behind it.
     fn flush(&mut self) -> io::Result<()> {
-        self.file.flush()
+        self.file.flush()?;
+        self.sync_each()
     }
 }
 
@@ -194,21 +251,43 @@ fn read_out<I: Read>(reader: &mut I) -> io::Result<()> {
     Ok(())
 }
 
-/// Writes behind what a record's file holds the digest of that, unless it ends with one, or in the front of a line, or disagrees with one before.
-/// What is no regular file isn't opened: `Unsupported`.
-pub fn seal_file<R: Files>(rt: &R, alloc: Global, path: &str) -> io::Result<()> {
+/// What is known of a record's file behind which nothing more is written.
+#[derive(Clone, Copy)]
+pub struct SealedFile {
+    /// The digest in its last line; none, where it ends in the front of a line.
+    pub digest: Option<[u8; 32]>,
+    /// Whether it held none before.
+    pub was_unsealed: bool,
+}
+
+/// Writes a line at the end of a file, and has the system put it on the disk.
+fn write_end<R: Files>(rt: &R, path: &str, line: &[u8]) -> io::Result<()> {
+    let mut end = OpenOptions::new().append(true).open(rt, path)?;
+    end.write_all(line)?;
+    end.flush()?;
+    end.sync_all()
+}
+
+/// Writes behind what a record's file holds the digest of that, unless it ends with one, or in the front of a line. `InvalidData`, where it disagrees
+/// with one before. What is no regular file isn't opened: `Unsupported`.
+pub fn seal_file<R: Files>(rt: &R, alloc: Global, path: &str) -> io::Result<SealedFile> {
     if !fs::metadata(rt, path)?.is_file() {
         return Err(io::Error::from(ErrorKind::Unsupported));
     }
     let reader = BufReader::new(alloc, fs::File::open(rt, path)?)?;
     let mut file = Unsealing::new(alloc, reader)?;
     read_out(&mut file)?;
+    let was_unsealed = file.seals() == 0;
     if !file.wants_seal() {
-        return Ok(());
+        return Ok(SealedFile {
+            digest: file.end_digest(),
+            was_unsealed,
+        });
     }
-    let line = seal_line(&file.digest()?);
-    let mut end = OpenOptions::new().append(true).open(rt, path)?;
-    end.write_all(&line)?;
-    end.flush()?;
-    end.sync_all()
+    let digest = file.digest()?;
+    write_end(rt, path, &seal_line(&digest))?;
+    Ok(SealedFile {
+        digest: Some(digest),
+        was_unsealed,
+    })
 }

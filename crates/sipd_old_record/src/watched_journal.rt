@@ -16,12 +16,12 @@ pub enum Unrecorded {
 
 /// A journal that says whether it has failed.
 pub trait WatchedJournal: Journal {
-    /// Looks whether what was written stands where it belongs, and has its digest be written where that is due. Where it doesn't, or that can't
-    /// be, nothing is recorded from then on. One or two calls of the system.
+    /// Looks whether what was written stands where it belongs, has its digest be written where that is due, and has it be put on the disk where
+    /// that is asked for each second. Where it doesn't, or that can't be, nothing is recorded from then on. One to three calls of the system.
     fn look(&mut self)
         ensures { Notes (Self.written self.old) (Self.written self.new) [] };
 
-    /// Has the digest be written of all that was written, at its end.
+    /// Has the digest be written of all that was written, at its end, and all be put on the disk, where that is asked for at all.
     fn close(&mut self)
         ensures { Notes (Self.written self.old) (Self.written self.new) [] };
 
@@ -60,7 +60,10 @@ impl<'a, R: Files + Clock> WatchedJournal for Recorder<RecordFile<'a, R>> {
         if self.has_failed {
             return;
         }
-        if self.writer.is_lost() || self.writer.seal_if_due().is_err() {
+        if self.writer.is_lost()
+            || self.writer.seal_if_due().is_err()
+            || self.writer.sync_if_asked().is_err()
+        {
             self.has_failed = true;
         }
     }
@@ -68,6 +71,7 @@ impl<'a, R: Files + Clock> WatchedJournal for Recorder<RecordFile<'a, R>> {
     fn close(&mut self) {
         if !self.has_failed {
             let _ = self.writer.seal();
+            let _ = self.writer.sync_if_asked();
         }
     }
 

@@ -1,3 +1,4 @@
 mod Changing
+mod GoingOver
 mod Printed
 mod Turning

@@ -76,7 +76,7 @@ turns_print zero before after a b turning e f =
 turns_print (suc n) before after a b (middle, turning, turn) e f =
     let last : turn.last.log.bytes ≡ Some b = sym (ap (λ (t : Told). t.log.bytes) turn.ends.others) ∙ f in
     let first : turn.first.devices.log.bytes ≡ middle.devices.log.bytes = ap (λ (t : Told). t.log.bytes) turn.begins.others
-    ∙ ap (λ (t : Told). t.log.bytes) turn.begins.looked.others in
+    ∙ ap (λ (t : Told). t.log.bytes) turn.begins.told_on ∙ ap (λ (t : Told). t.log.bytes) turn.begins.looked.others in
     let printed : Prints middle.devices.log.bytes (Some b) (gathered records_logged turn.served.done) =
     subst (λ bytes. Prints bytes (Some b) (gathered records_logged turn.served.done)) first
     (subst (λ bytes. Prints turn.first.devices.log.bytes bytes (gathered records_logged turn.served.done)) last turn.served.serves.told.printed) in

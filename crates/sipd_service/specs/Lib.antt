@@ -1,5 +1,6 @@
 pub mod Exits
 pub mod Hops
+pub mod NextRecords
 pub mod Printing
 pub mod Reloads
 pub mod Turns

@@ -1,4 +1,4 @@
-//! A server that serves: turn by turn, with a configuration that may change between two of them, a journal that is looked at, and each
+//! A server that serves: turn by turn, with a configuration that may change and a record that may be begun anew between two of them, a journal that is looked at, and each
 //! decision printed before what it decides is sent.
 //!
 //! - Used: `sipd_command`, once the server is begun.
@@ -7,7 +7,9 @@
 #![tactic(auto)]
 
 mod hops;
+pub mod laws;
 mod line_printer;
+mod next_record;
 mod printing;
 mod reloading;
 mod service;
@@ -15,6 +17,7 @@ mod unheard_lines;
 
 pub use hops::hops_of;
 pub use line_printer::LinePrinter;
+pub use next_record::{NextRecord, OneRecord};
 pub use service::{Said, Service, Serving, serve_turns};
 
 /// Of `sip_engine`.

@@ -1,15 +1,18 @@
-//! The turns of a serving program: it looks at record and configuration, waits until a datagram comes or something is due, and serves.
+//! The turns of a serving program: it looks at record and configuration, begins a new record where it is time for one, waits until a datagram comes or something is due, and serves.
 //! One turn itself is `serve` of `sip_loop`.
 ghost use Rattle.std.specs.Prelude.{◌≡◌, ◌^◌, ◌-◌, [], false, None, IfErr, IfNone, IfSome, IsSome, OnErr, OnOk};
 ghost use Rattle.std.specs.Io.KnownBytes.{Appends};
 ghost use Rattle.sip_journal.specs.Record.{Notes};
 ghost use Rattle.sipd_exit.specs.Exits.{IsPrintFault};
 ghost use Rattle.sipd_service.specs.Exits;
+ghost use Rattle.sipd_service.specs.NextRecords;
+ghost use Rattle.sipd_service.specs.NextRecords.{MayGoOver};
 ghost use Rattle.sipd_service.specs.Printing.{PrintsServed, start_text};
 ghost use Rattle.sipd_service.specs.Reloads.{FollowsHops, IsUnnoted, MayChange};
 ghost use Rattle.sipd_service.specs.Turns.{AreTurns, EndsCounted, EndsEarly, EndsTurn, EndsWithin, IsTurn, Serves, ServesCounted, service_seen};
 
 use crate::line_printer::LinePrinter;
+use crate::next_record::NextRecord;
 use crate::reloading::reload;
 use crate::unheard_lines::tell_unheard;
 use rand_core::Rng;
@@ -43,6 +46,7 @@ pub struct Service<
     L: Link,
     C: Clock,
     J: WatchedJournal,
+    X: NextRecord<T, P, J>,
     N: Rng + Drop,
     F: WatchedFile,
 > {
@@ -57,6 +61,10 @@ pub struct Service<
     pub port: u16,
     /// The path of that file, as it was given.
     pub path: Bytes,
+    /// What begins a new record where it is time for one.
+    pub next: X,
+    /// The bytes of the configuration with which it began.
+    pub stated: Bytes,
     pub said: Said,
 }
 
@@ -176,6 +184,38 @@ fn change<T: Timers, P: Rules, L: Link, C: Clock, F: WatchedFile, J: WatchedJour
     }
 }
 
+/// The bytes of the configuration in force.
+fn in_force<'a, F: WatchedFile>(watch: &'a Option<Watch<F>>, stated: &'a Bytes) -> &'a [u8]
+    ensures { result.now ≡ NextRecords.in_force stated.now watch.now }
+{
+    match watch {
+        Some(watch) => watch.in_force(),
+        None => stated.as_slice(),
+    }
+}
+
+/// Lets a new record be begun, where it is time for one.
+fn go_over<
+    T: Timers,
+    P: Rules,
+    J: WatchedJournal,
+    X: NextRecord<T, P, J>,
+    F: WatchedFile,
+    M: Write,
+>(
+    next: &mut X,
+    engine: &mut Engine<T, P>,
+    journal: &mut J,
+    watch: &Option<Watch<F>>,
+    stated: &Bytes,
+    now: u64,
+    complaints: &mut M,
+)
+    ensures { MayGoOver (NextRecords.in_force stated.now watch.now) engine.old engine.new (J.written journal.old) (J.written journal.new) }
+{
+    next.look(engine, journal, in_force(watch, stated), now, complaints);
+}
+
 /// Says what wasn't heard, once a minute at most.
 fn say_unheard<L: Link, C: Clock, M: Write>(
     link: &mut Guard<L, C>,
@@ -193,7 +233,7 @@ fn say_unheard<L: Link, C: Clock, M: Write>(
     }
 }
 
-/// Looks at the journal, and lets the configuration change; then waits for a datagram until something is due, and lets the server do one
+/// Looks at the journal, lets a new record be begun, and lets the configuration change; then waits for a datagram until something is due, and lets the server do one
 /// turn, in which it prints its records. Complains about a record that can't be written, and about what wasn't heard. Where a change
 /// can't be told to the journal, there is no turn.
 fn do_turn<
@@ -202,34 +242,44 @@ fn do_turn<
     L: Link,
     C: Clock,
     J: WatchedJournal,
+    X: NextRecord<T, P, J>,
     N: Rng + Drop,
     F: WatchedFile,
     O: Write + Drop,
     M: Write,
 >(
     alloc: Global,
-    service: &mut Service<T, P, L, C, J, N, F>,
+    service: &mut Service<T, P, L, C, J, X, N, F>,
     printer: &mut LinePrinter<O>,
     complaints: &mut M,
 ) -> Result<(), Exit>
     ensures failed { OnOk result (printer.new.has_failed ≡ printer.old.has_failed) }
     ensures turn { OnOk result (IsTurn
-        (service_seen service.old.engine service.old.port service.old.watch
+        (service_seen service.old.engine service.old.port service.old.watch service.old.stated
         service.old.link (C.readings service.old.clock) (J.written service.old.journal) (J.faulted service.old.journal)
         (N.stream service.old.words) printer.old.has_failed (O.contents printer.old.output))
-        (service_seen service.new.engine service.new.port service.new.watch
+        (service_seen service.new.engine service.new.port service.new.watch service.new.stated
         service.new.link (C.readings service.new.clock) (J.written service.new.journal) (J.faulted service.new.journal)
         (N.stream service.new.words) printer.new.has_failed (O.contents printer.new.output))) }
     ensures ended { IfErr result (EndsTurn
-        (service_seen service.old.engine service.old.port service.old.watch
+        (service_seen service.old.engine service.old.port service.old.watch service.old.stated
         service.old.link (C.readings service.old.clock) (J.written service.old.journal) (J.faulted service.old.journal)
         (N.stream service.old.words) printer.old.has_failed (O.contents printer.old.output))
-        (service_seen service.new.engine service.new.port service.new.watch
+        (service_seen service.new.engine service.new.port service.new.watch service.new.stated
         service.new.link (C.readings service.new.clock) (J.written service.new.journal) (J.faulted service.new.journal)
         (N.stream service.new.words) printer.new.has_failed (O.contents printer.new.output)) printer.new.fault) }
 {
     let now = service.clock.now();
     look(&mut service.journal, &mut service.said, now);
+    go_over(
+        &mut service.next,
+        &mut service.engine,
+        &mut service.journal,
+        &service.watch,
+        &service.stated,
+        now,
+        complaints,
+    );
     let changed = change(
         alloc,
         &mut service.engine,
@@ -272,30 +322,31 @@ fn do_turns<
     L: Link,
     C: Clock,
     J: WatchedJournal,
+    X: NextRecord<T, P, J>,
     N: Rng + Drop,
     F: WatchedFile,
     O: Write + Drop,
     M: Write,
 >(
     alloc: Global,
-    service: &mut Service<T, P, L, C, J, N, F>,
+    service: &mut Service<T, P, L, C, J, X, N, F>,
     turns: u64,
     printer: &mut LinePrinter<O>,
     complaints: &mut M,
 ) -> Result<(), Exit>
     ensures failed { OnOk result (printer.new.has_failed ≡ printer.old.has_failed) }
     ensures turns { OnOk result (AreTurns turns
-        (service_seen service.old.engine service.old.port service.old.watch
+        (service_seen service.old.engine service.old.port service.old.watch service.old.stated
         service.old.link (C.readings service.old.clock) (J.written service.old.journal) (J.faulted service.old.journal)
         (N.stream service.old.words) printer.old.has_failed (O.contents printer.old.output))
-        (service_seen service.new.engine service.new.port service.new.watch
+        (service_seen service.new.engine service.new.port service.new.watch service.new.stated
         service.new.link (C.readings service.new.clock) (J.written service.new.journal) (J.faulted service.new.journal)
         (N.stream service.new.words) printer.new.has_failed (O.contents printer.new.output))) }
     ensures ended { IfErr result (EndsWithin turns
-        (service_seen service.old.engine service.old.port service.old.watch
+        (service_seen service.old.engine service.old.port service.old.watch service.old.stated
         service.old.link (C.readings service.old.clock) (J.written service.old.journal) (J.faulted service.old.journal)
         (N.stream service.old.words) printer.old.has_failed (O.contents printer.old.output))
-        (service_seen service.new.engine service.new.port service.new.watch
+        (service_seen service.new.engine service.new.port service.new.watch service.new.stated
         service.new.link (C.readings service.new.clock) (J.written service.new.journal) (J.faulted service.new.journal)
         (N.stream service.new.words) printer.new.has_failed (O.contents printer.new.output)) printer.new.fault) }
 {
@@ -330,31 +381,32 @@ fn serve_on<
     L: Link,
     C: Clock,
     J: WatchedJournal,
+    X: NextRecord<T, P, J>,
     N: Rng + Drop,
     F: WatchedFile,
     O: Write + Drop,
     M: Write,
 >(
     alloc: Global,
-    service: &mut Service<T, P, L, C, J, N, F>,
+    service: &mut Service<T, P, L, C, J, X, N, F>,
     served: &Serving<'_>,
     turns: u64,
     printer: &mut LinePrinter<O>,
     complaints: &mut M,
 ) -> Result<(), Exit>
     ensures served { OnOk result (Serves served.now.address served.now.decided.now turns
-        (service_seen service.old.engine service.old.port service.old.watch
+        (service_seen service.old.engine service.old.port service.old.watch service.old.stated
         service.old.link (C.readings service.old.clock) (J.written service.old.journal) (J.faulted service.old.journal)
         (N.stream service.old.words) printer.old.has_failed (O.contents printer.old.output))
-        (service_seen service.new.engine service.new.port service.new.watch
+        (service_seen service.new.engine service.new.port service.new.watch service.new.stated
         service.new.link (C.readings service.new.clock) (J.written service.new.journal) (J.faulted service.new.journal)
         (N.stream service.new.words) printer.new.has_failed (O.contents printer.new.output))
         (O.contents printer.old.output) (O.contents printer.new.output)) }
     ensures ended { IfErr result (EndsEarly served.now.address served.now.decided.now turns
-        (service_seen service.old.engine service.old.port service.old.watch
+        (service_seen service.old.engine service.old.port service.old.watch service.old.stated
         service.old.link (C.readings service.old.clock) (J.written service.old.journal) (J.faulted service.old.journal)
         (N.stream service.old.words) printer.old.has_failed (O.contents printer.old.output))
-        (service_seen service.new.engine service.new.port service.new.watch
+        (service_seen service.new.engine service.new.port service.new.watch service.new.stated
         service.new.link (C.readings service.new.clock) (J.written service.new.journal) (J.faulted service.new.journal)
         (N.stream service.new.words) printer.new.has_failed (O.contents printer.new.output))
         (O.contents printer.old.output) printer.new.fault) }
@@ -370,32 +422,33 @@ fn serve_counted<
     L: Link,
     C: Clock,
     J: WatchedJournal,
+    X: NextRecord<T, P, J>,
     N: Rng + Drop,
     F: WatchedFile,
     O: Write + Drop,
     M: Write,
 >(
     alloc: Global,
-    service: &mut Service<T, P, L, C, J, N, F>,
+    service: &mut Service<T, P, L, C, J, X, N, F>,
     served: &Serving<'_>,
     turns: u32,
     printer: &mut LinePrinter<O>,
     complaints: &mut M,
 ) -> Result<(), Exit>
     ensures served { OnOk result (ServesCounted served.now.address served.now.decided.now turns
-        (service_seen service.old.engine service.old.port service.old.watch
+        (service_seen service.old.engine service.old.port service.old.watch service.old.stated
         service.old.link (C.readings service.old.clock) (J.written service.old.journal) (J.faulted service.old.journal)
         (N.stream service.old.words) printer.old.has_failed (O.contents printer.old.output))
-        (service_seen service.new.engine service.new.port service.new.watch
+        (service_seen service.new.engine service.new.port service.new.watch service.new.stated
         service.new.link (C.readings service.new.clock) (J.written service.new.journal) (J.faulted service.new.journal)
         (N.stream service.new.words) printer.new.has_failed (O.contents printer.new.output))
         (O.contents printer.old.output) (O.contents printer.new.output)) }
     ensures printed { OnOk result (PrintsServed served.now.address served.now.decided.now turns (O.contents printer.old.output) (O.contents printer.new.output)) }
     ensures ended { IfErr result (EndsCounted served.now.address served.now.decided.now turns
-        (service_seen service.old.engine service.old.port service.old.watch
+        (service_seen service.old.engine service.old.port service.old.watch service.old.stated
         service.old.link (C.readings service.old.clock) (J.written service.old.journal) (J.faulted service.old.journal)
         (N.stream service.old.words) printer.old.has_failed (O.contents printer.old.output))
-        (service_seen service.new.engine service.new.port service.new.watch
+        (service_seen service.new.engine service.new.port service.new.watch service.new.stated
         service.new.link (C.readings service.new.clock) (J.written service.new.journal) (J.faulted service.new.journal)
         (N.stream service.new.words) printer.new.has_failed (O.contents printer.new.output))
         (O.contents printer.old.output) printer.new.fault) }
@@ -420,48 +473,49 @@ pub fn serve_turns<
     L: Link,
     C: Clock,
     J: WatchedJournal,
+    X: NextRecord<T, P, J>,
     N: Rng + Drop,
     F: WatchedFile,
     O: Write + Drop,
     M: Write,
 >(
     alloc: Global,
-    service: &mut Service<T, P, L, C, J, N, F>,
+    service: &mut Service<T, P, L, C, J, X, N, F>,
     served: &Serving<'_>,
     printer: &mut LinePrinter<O>,
     complaints: &mut M,
 ) -> Result<(), Exit>
     ensures served { IfSome served.now.turns (λ turns. OnOk result (ServesCounted served.now.address served.now.decided.now turns
-        (service_seen service.old.engine service.old.port service.old.watch
+        (service_seen service.old.engine service.old.port service.old.watch service.old.stated
         service.old.link (C.readings service.old.clock) (J.written service.old.journal) (J.faulted service.old.journal)
         (N.stream service.old.words) printer.old.has_failed (O.contents printer.old.output))
-        (service_seen service.new.engine service.new.port service.new.watch
+        (service_seen service.new.engine service.new.port service.new.watch service.new.stated
         service.new.link (C.readings service.new.clock) (J.written service.new.journal) (J.faulted service.new.journal)
         (N.stream service.new.words) printer.new.has_failed (O.contents printer.new.output))
         (O.contents printer.old.output) (O.contents printer.new.output))) }
     ensures printed { IfSome served.now.turns (λ turns. OnOk result (PrintsServed served.now.address served.now.decided.now turns
         (O.contents printer.old.output) (O.contents printer.new.output))) }
     ensures ended { IfSome served.now.turns (λ turns. IfErr result (EndsCounted served.now.address served.now.decided.now turns
-        (service_seen service.old.engine service.old.port service.old.watch
+        (service_seen service.old.engine service.old.port service.old.watch service.old.stated
         service.old.link (C.readings service.old.clock) (J.written service.old.journal) (J.faulted service.old.journal)
         (N.stream service.old.words) printer.old.has_failed (O.contents printer.old.output))
-        (service_seen service.new.engine service.new.port service.new.watch
+        (service_seen service.new.engine service.new.port service.new.watch service.new.stated
         service.new.link (C.readings service.new.clock) (J.written service.new.journal) (J.faulted service.new.journal)
         (N.stream service.new.words) printer.new.has_failed (O.contents printer.new.output))
         (O.contents printer.old.output) printer.new.fault)) }
     ensures endless { IfNone served.now.turns (OnOk result (Serves served.now.address served.now.decided.now (2 ^ 64 - 1)
-        (service_seen service.old.engine service.old.port service.old.watch
+        (service_seen service.old.engine service.old.port service.old.watch service.old.stated
         service.old.link (C.readings service.old.clock) (J.written service.old.journal) (J.faulted service.old.journal)
         (N.stream service.old.words) printer.old.has_failed (O.contents printer.old.output))
-        (service_seen service.new.engine service.new.port service.new.watch
+        (service_seen service.new.engine service.new.port service.new.watch service.new.stated
         service.new.link (C.readings service.new.clock) (J.written service.new.journal) (J.faulted service.new.journal)
         (N.stream service.new.words) printer.new.has_failed (O.contents printer.new.output))
         (O.contents printer.old.output) (O.contents printer.new.output))) }
     ensures ended_endless { IfNone served.now.turns (IfErr result (EndsEarly served.now.address served.now.decided.now (2 ^ 64 - 1)
-        (service_seen service.old.engine service.old.port service.old.watch
+        (service_seen service.old.engine service.old.port service.old.watch service.old.stated
         service.old.link (C.readings service.old.clock) (J.written service.old.journal) (J.faulted service.old.journal)
         (N.stream service.old.words) printer.old.has_failed (O.contents printer.old.output))
-        (service_seen service.new.engine service.new.port service.new.watch
+        (service_seen service.new.engine service.new.port service.new.watch service.new.stated
         service.new.link (C.readings service.new.clock) (J.written service.new.journal) (J.faulted service.new.journal)
         (N.stream service.new.words) printer.new.has_failed (O.contents printer.new.output))
         (O.contents printer.old.output) printer.new.fault)) }

@@ -27,7 +27,7 @@ use Rattle.sipd_start.specs.Shorter.{GoesOnAlike, IsLedByFile, LeadsAlike}
 use Rattle.sip_model.specs.SameAhead.{SameAhead}
 use Rattle.sipd_boot.specs.Boots.{behind_boot, secret_from, behind_secret}
 use Rattle.sipd_start.specs.OldRecords.{IsBegunBy}
-use Rattle.sipd_start.specs.Places.{is_input}
+use Rattle.sipd_record_files.specs.Places.{is_input}
 use Rattle.sipd_start.specs.declared.not_resumed.NotResumed.{NotResumed as Reason}
 use Rattle.sipd_start.specs.declared.not_resumed.StartStop.TheVariants.{NotResumed}
 
@@ -191,7 +191,7 @@ server_one bytes one other left right words a b =
     let word : left.word ≡ right.word = a.word_is ∙ words ∙ sym b.word_is in
     ap (λ (c : Config). server_with c left.word) config ∙ ap (λ (w : ℕ). server_with right.config w) word
 
-pub alike : (bytes digest : List ℕ) (one other : ℕ) (shorter : Option (List ℕ)) (left right : Server) (state state_then : Standing) (lines lines_then : ℕ)
+alike : (bytes digest : List ℕ) (one other : ℕ) (shorter : Option (List ℕ)) (left right : Server) (state state_then : Standing) (lines lines_then : ℕ)
     (last last_then : Option StepOut)
     → GoesOnFrom bytes digest shorter left state lines last → IsLedByFile bytes digest right state_then lines_then last_then
     → IsServerOf bytes one left → IsServerOf bytes other right → one ≡ other → SameAhead state.state state_then.state
@@ -210,6 +210,14 @@ alike bytes digest one other shorter left right state state_then lines lines_the
 pub led_by_file : (bytes digest : List ℕ) (whole : Option (List ℕ)) (server : Server) (state : Standing) (lines : ℕ) (last : Option StepOut)
     → GoesOnFrom bytes digest whole server state lines last → IsLedByFile bytes digest server state lines last
 led_by_file bytes digest whole server state lines last h = (whole, h)
+
+pub alike_in_files : (bytes digest : List ℕ) (one other : ℕ) (left right : Server) (state state_then : Standing) (lines lines_then : ℕ)
+    (last last_then : Option StepOut)
+    → IsLedByFile bytes digest left state lines last → IsLedByFile bytes digest right state_then lines_then last_then
+    → IsServerOf bytes one left → IsServerOf bytes other right → one ≡ other → SameAhead state.state state_then.state
+    → LeadsAlike bytes digest left state lines last
+alike_in_files bytes digest one other left right state state_then lines lines_then last last_then h g a b words same =
+    alike bytes digest one other h.0 left right state state_then lines lines_then last last_then h.1 g a b words same
 
 pub goes_alike : (bytes digest : List ℕ) (server : Server) (state : Standing) (lines : ℕ) (last : Option StepOut)
     → LeadsAlike bytes digest server state lines last → GoesOnAlike bytes digest server state last

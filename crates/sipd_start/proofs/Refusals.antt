@@ -38,7 +38,8 @@ use Rattle.sipd_old_record.specs.OldRecord.{IsRefused, IsSystemFault, SaysHead}
 use Rattle.sipd_old_record.specs.Own.{OwnStops}
 use Rattle.sipd_old_record.specs.Readers.{HasStopped, WasAsked, most_asks}
 use Rattle.sipd_start.specs.OldRecords.{HaveFrameOf, IsBegunBy, IsUnbegun, IsUnheld}
-use Rattle.sipd_start.specs.Stops.{EndsStart, IsNotUnder, IsUnmade, StatesOtherFrame, is_unreadable, unheld, unread, untaken}
+use Rattle.sipd_record_files.specs.Unmade.{IsUnmade}
+use Rattle.sipd_start.specs.Stops.{EndsStart, IsNotUnder, StatesOtherFrame, is_unreadable, unheld, unread, untaken}
 use Rattle.sipd_start.specs.declared.not_resumed.NotResumed.{NotResumed as Reason}
 use Rattle.sipd_start.specs.declared.not_resumed.NotResumed.TheVariants.{Unreadable}
 use Rattle.sipd_start.specs.declared.not_resumed.StartStop.{StartStop}

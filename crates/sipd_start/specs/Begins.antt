@@ -21,8 +21,9 @@ use Rattle.sipd_old_record.specs.OldRecord.{IsRefused, IsSystemFault, SaysHead}
 use Rattle.sipd_old_record.specs.Readers.{HasStopped, most_asks}
 use Rattle.sipd_start.specs.OldRecords.{HaveFrameOf, IsBegunBy, IsUnbegun}
 use Rattle.sipd_reload.specs.File.{most_bytes}
-use Rattle.sipd_start.specs.Places.{is_input, reads_input}
-use Rattle.sipd_start.specs.Stops.{EndsStart, IsUnmade, unread, untaken}
+use Rattle.sipd_record_files.specs.Places.{is_input, reads_input}
+use Rattle.sipd_record_files.specs.Unmade.{IsUnmade}
+use Rattle.sipd_start.specs.Stops.{EndsStart, unread, untaken}
 use Rattle.sipd_start.specs.declared.not_resumed.NotResumed.{NotResumed as Reason}
 use Rattle.sipd_start.specs.declared.not_resumed.NotResumed.TheVariants as why
 use Rattle.sipd_start.specs.declared.not_resumed.StartStop.{StartStop}

@@ -1,10 +1,6 @@
 pub mod Begins
 pub mod Boots
 pub mod OldRecords
-pub mod Places
-pub mod RecordNames
 pub mod Shorter
 pub mod StackLimit
 pub mod Stops
-pub mod ReplayExits
-pub mod Replays

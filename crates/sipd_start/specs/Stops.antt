@@ -13,6 +13,7 @@ use Rattle.sipd_exit.specs.declared.device_fault.DeviceFault.TheVariants.{Other}
 use Rattle.sipd_exit.specs.declared.exit.Exit.{Exit}
 use Rattle.sipd_exit.specs.declared.exit.Exit.TheVariants as exits
 use Rattle.sipd_old_record.specs.OldRecord.{line_of_file}
+use Rattle.sipd_record_files.specs.Unmade.{IsUnmade}
 use Rattle.sipd_start.specs.declared.not_resumed.NotResumed.{NotResumed as Reason}
 use Rattle.sipd_start.specs.declared.not_resumed.NotResumed.TheVariants.{Unreadable, NoRecord, CutConfiguration, Damaged, TooLong, NoConfiguration, OtherFrame, Unlawful}
 use Rattle.sipd_start.specs.declared.not_resumed.StartStop.{StartStop}
@@ -53,11 +54,7 @@ is_unreadable reason = false
 
 -- ---- how a start ends
 
--- it makes no record: memory ran out, or a file of the record can't be made, or can't be written
-abbrev pub IsUnmade : Exit → Type 0
-IsUnmade exit = (exit ≡ exits.Memory) ⊎ (exit ≡ exits.NewRecord) ⊎ (exit ≡ exits.Recording)
-
--- or the bytes of its configuration's file state none
+-- it makes no record, or the bytes of its configuration's file state none
 abbrev pub EndsStart : List ℕ → Exit → Type 0
 EndsStart bytes exit = IsUnmade exit ⊎ IsRefusedWith bytes exit
 

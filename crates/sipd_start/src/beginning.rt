@@ -10,14 +10,14 @@ ghost use Rattle.sipd_exit.specs.declared.record_place.RecordFault.TheVariants.{
 ghost use Rattle.sipd_start.specs.Begins.{Begins, GoesOn, GoesOnFrom, GoesOnFromFile, IsFileNotResumed, IsLeftBehind, IsNotGoneOn};
 ghost use Rattle.sipd_start.specs.Shorter.{GoesOnAlike};
 ghost use Rattle.sipd_start.specs.Begins.{IsNotResumed, IsOpened, LeadsTo, StartsAnew, StopsAt};
-ghost use Rattle.sipd_start.specs.Places;
-ghost use Rattle.sipd_start.specs.Places.{IsPlaceOf};
+ghost use Rattle.sipd_record_files.specs.Places;
+ghost use Rattle.sipd_record_files.specs.Places.{IsPlaceOf};
 ghost use Rattle.sipd_old_record.specs.Readers.{HasStopped, most_asks};
-ghost use Rattle.sipd_start.specs.Stops.{EndsStart, IsUnmade};
+ghost use Rattle.sipd_record_files.specs.Unmade.{IsUnmade};
+ghost use Rattle.sipd_start.specs.Stops.{EndsStart};
 ghost use Rattle.sipd_start.specs.declared.not_resumed.StartStop.TheVariants as Ended;
 
 use crate::compacting::{Led, Shorter, make_shorter};
-use crate::making::{RecordFiles, check_free, make_part, name_part, place_of, remove_part};
 use crate::not_resumed::{NotResumed, StartStop, unread};
 use crate::old_lines::{OldBeginning, OldLines};
 use crate::opening::{InFile, boot_again, open_old, read_old};
@@ -26,15 +26,20 @@ use rand_core::Rng;
 use sip_event::{Boot, StepOut};
 use sip_journal::{NoJournal, RecordHead, RecordMark, Recorder};
 use sip_policy::Rules;
+use sip_record_sealed::Follows;
 use sip_replay::resume::Resumed;
 use sip_replay::resume::engine::Engine;
 use sip_replay_script::TellingReader;
 use sip_text::same_bytes;
 use sip_timers::Timers;
 use sipd_boot::{new_boot, secret};
-use sipd_exit::{Exit, RecordFault, RecordPlace, Stated, config_of_bytes};
+use sipd_exit::{Exit, RecordFault, RecordPlace, RecordSync, Stated, config_of_bytes};
 use sipd_old_record::laws::asks_add_up;
-use sipd_old_record::{RecordFile, head_in, mark_file, seal_file};
+use sipd_old_record::{RecordFile, head_in, mark_file};
+use sipd_record_files::{
+    RecordFiles, check_free, folder_of, follow, make_part, name_part, place_of, remove_old,
+    remove_part,
+};
 use std::fs;
 use std::io::{ErrorKind, Write};
 use std::os::unix::fs::FileTypeExt;
@@ -52,18 +57,24 @@ pub struct Beginning<'a, R> {
     /// Where the new record is made.
     pub place: RecordFiles,
     pub fault: RecordFault,
+    /// When what is recorded is put on the disk.
+    sync: RecordSync,
+    /// For how many days records stay in a folder; 0, where all stay.
+    keep: u32,
     /// Whether somebody looks at standard error, where it is said then how far the older record is read.
     pub seen: bool,
 }
 
 impl<'a, R: Files + Clock + AllocGlobal> Beginning<'a, R> {
     /// The beginning of a server with the configuration of a file, whose record is wanted at a place; what to do where that can't be
-    /// written; and whether somebody looks at standard error.
+    /// written, when it is put on the disk, and for how many days records stay in a folder; and whether somebody looks at standard error.
     pub fn new(
         rt: &'a R,
         stated: &'a Stated,
         wanted: &RecordPlace,
         fault: RecordFault,
+        sync: RecordSync,
+        keep: u32,
         seen: bool,
     ) -> Result<Self, Exit>
         ensures stated { IfOk result (λ beginning. beginning.stated.now ≡ stated.now) }
@@ -77,6 +88,8 @@ impl<'a, R: Files + Clock + AllocGlobal> Beginning<'a, R> {
             stated,
             place,
             fault,
+            sync,
+            keep,
             seen,
         })
     }
@@ -163,11 +176,12 @@ pub fn begin_unrecorded<T: Timers, P: Rules, R: AllocGlobal, W: Rng>(
     open(rt, stated, boot)
 }
 
-/// The new record of a start, of which the first line is written, with this digest. It hasn't its name yet.
+/// The new record of a start, of which the first line is written, with this digest, and which record it follows. It hasn't its name yet.
 fn make<'a, R: Files + AllocGlobal>(
     beginning: &Beginning<'a, R>,
     boot: Boot,
     digest: [u8; 32],
+    follows: Option<&Follows>,
 ) -> Result<Recorder<RecordFile<'a, R>>, Exit>
     ensures whole { IfOk result (λ r. r.has_failed ≡ false) }
     ensures refused { IfErr result IsUnmade }
@@ -184,6 +198,7 @@ fn make<'a, R: Files + AllocGlobal>(
         &head,
         beginning.stated,
         beginning.fault,
+        follows,
     )
 }
 
@@ -198,7 +213,12 @@ fn name<'a, R: Files + AllocGlobal>(
     if recorder.has_failed() {
         return Err(Exit::Recording);
     }
-    name_part(beginning.rt, &beginning.place, &mut recorder.writer)?;
+    name_part(
+        beginning.rt,
+        &beginning.place,
+        &mut recorder.writer,
+        beginning.sync,
+    )?;
     Ok(recorder)
 }
 
@@ -231,7 +251,7 @@ fn make_anew<'a, R: Files + AllocGlobal>(
     ensures whole { IfOk result (λ r. r.has_failed ≡ false) }
     ensures refused { IfErr result IsUnmade }
 {
-    let mut recorder = make(beginning, boot, beginning.stated.digest)?;
+    let mut recorder = make(beginning, boot, beginning.stated.digest, None)?;
     tell(beginning.stated.bytes.as_slice(), &mut recorder)?;
     name(beginning, recorder)
 }
@@ -337,6 +357,7 @@ fn go_on<'a, T: Timers, P: Rules, R: Files + AllocGlobal, I: TellingReader>(
     head: &RecordHead,
     reader: &mut I,
     keys: u128,
+    follows: Option<&Follows>,
 ) -> Result<GoneOn<'a, T, P, R>, StartStop>
     ensures goes_on { IfOk result (λ gone_on. GoesOn beginning.now.stated.now.bytes beginning.now.stated.now.digest head.now
         (I.remaining reader.old) gone_on.begun.engine.server (standing_of gone_on.begun.engine) gone_on.lines gone_on.begun.last) }
@@ -352,7 +373,7 @@ fn go_on<'a, T: Timers, P: Rules, R: Files + AllocGlobal, I: TellingReader>(
     let old = old_beginning(alloc, beginning.stated, head, reader)?;
     let OldBeginning { lines, config } = old;
     let engine = open_old(beginning.rt, boot, config)?;
-    match settle(beginning, make(beginning, boot, head.digest))? {
+    match settle(beginning, make(beginning, boot, head.digest, follows))? {
         Some(recorder) => go_on_recorded(beginning, engine, recorder, lines, reader),
         None => go_on_alone(beginning, engine, lines, reader),
     }
@@ -365,6 +386,7 @@ fn begin_from<'a, T: Timers, P: Rules, R: Files + AllocGlobal, I: TellingReader>
     beginning: &Beginning<'a, R>,
     reader: &mut I,
     keys: u128,
+    follows: Option<&Follows>,
 ) -> Result<GoneOn<'a, T, P, R>, StartStop>
     ensures goes_on { IfOk result (λ gone_on. GoesOnFrom beginning.now.stated.now.bytes beginning.now.stated.now.digest
         (I.remaining reader.old) gone_on.begun.engine.server (standing_of gone_on.begun.engine) gone_on.lines gone_on.begun.last) }
@@ -380,7 +402,7 @@ fn begin_from<'a, T: Timers, P: Rules, R: Files + AllocGlobal, I: TellingReader>
         Err(exit) => return Err(unread(exit)),
     };
     match head.mark {
-        RecordMark::Whole => go_on(beginning, &head, reader, keys),
+        RecordMark::Whole => go_on(beginning, &head, reader, keys, follows),
         RecordMark::Broken => Err(StartStop::NotResumed(NotResumed::Broken)),
         RecordMark::Left => Err(StartStop::NotResumed(NotResumed::Left)),
     }
@@ -392,6 +414,7 @@ fn begin_shorter<'a, T: Timers, P: Rules, R: Files + Clock + Eprint + AllocGloba
     beginning: &Beginning<'a, R>,
     old: &str,
     keys: u128,
+    follows: Option<&Follows>,
     file: &mut InFile,
 ) -> Result<GoneOn<'a, T, P, R>, StartStop>
     ensures goes_on { IfOk result (λ gone_on. GoesOnAlike beginning.now.stated.now.bytes beginning.now.stated.now.digest
@@ -408,6 +431,7 @@ fn begin_shorter<'a, T: Timers, P: Rules, R: Files + Clock + Eprint + AllocGloba
         beginning.fault,
         keys,
         beginning.seen,
+        follows,
         file,
     )?;
     let Shorter {
@@ -430,6 +454,7 @@ fn try_shorter<'a, T: Timers, P: Rules, R: Files + Clock + Eprint + AllocGlobal,
     beginning: &Beginning<'a, R>,
     old: &str,
     keys: u128,
+    follows: Option<&Follows>,
     file: &mut InFile,
     complaints: &mut C,
 ) -> Option<GoneOn<'a, T, P, R>>
@@ -439,7 +464,7 @@ fn try_shorter<'a, T: Timers, P: Rules, R: Files + Clock + Eprint + AllocGlobal,
     ensures unrecorded { IfSome result (λ gone_on. IfNone gone_on.begun.recorder (beginning.now.fault ≡ GoOn)) }
     ensures secrets { IfSome result (λ gone_on. gone_on.begun.engine.secrets ≡ secrets_of keys) }
 {
-    let stop = match begin_shorter(beginning, old, keys, file) {
+    let stop = match begin_shorter(beginning, old, keys, follows, file) {
         Ok(gone_on) => return Some(gone_on),
         Err(stop) => stop,
     };
@@ -483,29 +508,31 @@ fn begin_again<
 {
     let keys = secret(words);
     if is_input(old) {
-        return begin_from(beginning, input, keys);
+        return begin_from(beginning, input, keys, None);
     }
-    if let Some(gone_on) = try_shorter(beginning, old, keys, file, complaints) {
+    let followed = follow(beginning.rt, old);
+    let follows = followed.follows.as_ref();
+    if let Some(gone_on) = try_shorter(beginning, old, keys, follows, file, complaints) {
+        file.note(&followed);
         return Ok(gone_on);
     }
     match read_old(beginning.rt, old, beginning.seen) {
         Ok(mut reader) => {
-            let begun = begin_from(beginning, &mut reader, keys);
+            let begun = begin_from(beginning, &mut reader, keys, follows);
             *file = InFile::of(&reader);
+            file.note(&followed);
             begun
         }
         Err(exit) => Err(unread(exit)),
     }
 }
 
-/// Closes a record that is gone on from: its last line holds the digest of the others, and its first one says it, so that no other start goes on
-/// from it. Where it came through the input, its file is somebody
+/// Marks a record that is gone on from, so that no other start goes on from it. Where it came through the input, its file is somebody
 /// else's; where it is no regular file, as a named pipe, nothing stands there any more.
-fn leave<R: Files + AllocGlobal, C: Write>(rt: &R, old: &str, complaints: &mut C) {
+fn leave<R: Files, C: Write>(rt: &R, old: &str, complaints: &mut C) {
     if is_input(old) {
         return;
     }
-    let _ = seal_file(rt, rt.alloc(), old);
     if mark_file(rt, old, RecordMark::Left).is_err() {
         let _ = writeln!(
             complaints,
@@ -519,8 +546,15 @@ fn name_of_old(old: &str) -> &str {
     if is_input(old) { "standard input" } else { old }
 }
 
-/// Says behind how many lines of a record it goes on, and whether a change of that would have been told.
-fn say_gone_on<C: Write>(old: &str, lines: u64, file: &InFile, complaints: &mut C) {
+/// Says behind how many lines of a record it goes on, whether a change of that would have been told, and where the new record doesn't say which one it
+/// follows.
+fn say_gone_on<C: Write>(
+    old: &str,
+    lines: u64,
+    file: &InFile,
+    is_recorded: bool,
+    complaints: &mut C,
+) {
     let name = name_of_old(old);
     let lines = file.line(lines);
     let _ = writeln!(complaints, "sipd: goes on behind {lines} lines of {name}");
@@ -528,6 +562,12 @@ fn say_gone_on<C: Write>(old: &str, lines: u64, file: &InFile, complaints: &mut 
         let _ = writeln!(
             complaints,
             "sipd: {name} holds no digests: a change of it isn't told"
+        );
+    }
+    if file.is_unclosed && is_recorded {
+        let _ = writeln!(
+            complaints,
+            "sipd: {name} can't be closed by a digest: the new record doesn't say that it follows it"
         );
     }
 }
@@ -597,11 +637,55 @@ fn pass_rest<I: TellingReader>(old: &str, why: NotResumed, input: &mut I)
     read_out(input);
 }
 
+/// Takes away what is too old of a folder in which a new record stands.
+fn remove_behind<T: Timers, P: Rules, R: Files + Clock + AllocGlobal, C: Write>(
+    beginning: &Beginning<'_, R>,
+    begun: &Result<Begun<'_, T, P, R>, Exit>,
+    complaints: &mut C,
+) {
+    let Ok(begun) = begun else {
+        return;
+    };
+    if begun.recorder.is_some() && beginning.place.copy.is_some() {
+        let folder = folder_of(beginning.place.record.path.as_str());
+        remove_old(beginning.rt, folder, beginning.keep, complaints);
+    }
+}
+
 /// A server that records: one that goes on from where an older record leads, if there is one and it can be had, or else one that starts
 /// anew. The older record may be the input, which is read up to its end then, unless it can't be read. Where it goes on, `last` is the last
-/// step of that record; what it records isn't in it.
-#[tactic(auto, using(crate::proofs::Beginnings::begins_again, crate::proofs::Beginnings::begins_anew, crate::proofs::Beginnings::begins_alone, crate::proofs::Refusals::file_exits))]
+/// step of that record; what it records isn't in it. What is too old of a folder in which it records is taken away then.
 pub fn begin<
+    'a,
+    T: Timers,
+    P: Rules,
+    R: Files + Clock + Eprint + AllocGlobal,
+    I: TellingReader,
+    W: Rng,
+    C: Write,
+>(
+    beginning: &Beginning<'a, R>,
+    input: &mut I,
+    words: &mut W,
+    complaints: &mut C,
+) -> Result<Begun<'a, T, P, R>, Exit>
+    ensures begins { IfOk result (λ begun. Begins (option_map (λ old. string_bytes old) beginning.now.place.old) (I.remaining input.old)
+        (I.has_failed input.new) (I.asked input.old) (I.asked input.new) beginning.now.stated.now.bytes beginning.now.stated.now.digest
+        (W.stream words.old) begun.engine.server (standing_of begun.engine) begun.engine.secrets begun.last (W.stream words.new)) }
+    ensures alone { beginning.now.place.old ≡ None → IfOk result (λ begun. StartsAnew beginning.now.stated.now.bytes
+        (W.stream words.old) begun.engine.server (standing_of begun.engine) begun.engine.secrets begun.last) }
+    ensures whole { IfOk result (λ begun. IfSome begun.recorder (λ r. r.has_failed ≡ false)) }
+    ensures unrecorded { IfOk result (λ begun. IfNone begun.recorder (beginning.now.fault ≡ GoOn)) }
+    ensures refused { IfErr result (EndsStart beginning.now.stated.now.bytes) }
+{
+    let begun = begin_server(beginning, input, words, complaints);
+    remove_behind(beginning, &begun, complaints);
+    begun
+}
+
+/// The same, and nothing is taken away.
+#[tactic(auto, using(crate::proofs::Beginnings::begins_again, crate::proofs::Beginnings::begins_anew, crate::proofs::Beginnings::begins_alone, crate::proofs::Refusals::file_exits))]
+fn begin_server<
     'a,
     T: Timers,
     P: Rules,
@@ -634,7 +718,8 @@ pub fn begin<
     match begin_again(beginning, old, input, words, &mut file, complaints) {
         Ok(GoneOn { begun, lines }) => {
             leave(beginning.rt, old, complaints);
-            say_gone_on(old, lines, &file, complaints);
+            let is_recorded = begun.recorder.is_some();
+            say_gone_on(old, lines, &file, is_recorded, complaints);
             Ok(begun)
         }
         Err(StartStop::NotResumed(why)) => {

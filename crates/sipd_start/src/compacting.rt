@@ -10,7 +10,6 @@ ghost use Rattle.sipd_start.specs.Shorter.{IsLedByFile, LeadsAlike};
 
 use crate::choosing::{Choice, Choosing};
 use crate::keeping::Keeping;
-use crate::making::{RecordFiles, check_free, make_part, name_part, place_of, remove_part};
 use crate::not_resumed::{NotResumed, StartStop};
 use crate::old_lines::{OldBeginning, OldLines};
 use crate::opening::{InFile, boot_again, open_old, read_old};
@@ -20,13 +19,15 @@ use rand_core::Rng;
 use sip_event::StepOut;
 use sip_journal::{Journal, NoJournal, RecordHead, RecordMark, Recorder};
 use sip_policy::Rules;
+use sip_record_sealed::Follows;
 use sip_replay::resume::Resumed;
 use sip_replay::resume::engine::Engine;
 use sip_replay_script::TellingReader;
 use sip_timers::Timers;
 use sipd_boot::secret;
-use sipd_exit::{Exit, RecordFault, RecordPlace, Stated};
+use sipd_exit::{Exit, RecordFault, RecordPlace, RecordSync, Stated};
 use sipd_old_record::{RecordFile, head_in};
+use sipd_record_files::{RecordFiles, check_free, make_part, name_part, place_of, remove_part};
 use std::io::Write;
 use std::rt::{Clock, Files};
 
@@ -193,7 +194,7 @@ fn choose_in<T: Timers, P: Rules, R: Files + Clock + Eprint + AllocGlobal>(
 }
 
 /// The shorter record, which hasn't its name yet, of that of a file.
-fn rewrite<'a, R: Files + Clock + Eprint + AllocGlobal>(
+pub(crate) fn rewrite<'a, R: Files + Clock + Eprint + AllocGlobal>(
     rt: &'a R,
     stated: &Stated,
     old: &str,
@@ -201,6 +202,7 @@ fn rewrite<'a, R: Files + Clock + Eprint + AllocGlobal>(
     fault: RecordFault,
     head: &RecordHead,
     choice: Choice,
+    follows: Option<&Follows>,
 ) -> Result<Recorder<RecordFile<'a, R>>, StartStop> {
     let Choice { chosen, digest } = choice;
     let shorter = RecordHead {
@@ -209,7 +211,7 @@ fn rewrite<'a, R: Files + Clock + Eprint + AllocGlobal>(
         first: chosen.first,
         digest,
     };
-    let recorder = make_part(rt, files, &shorter, stated, fault)?;
+    let recorder = make_part(rt, files, &shorter, stated, fault, follows)?;
     let mut keeping = Keeping::new(rt.alloc(), recorder, chosen.choices);
     let mut reader = read_old(rt, old, false)?;
     write_chosen(rt, stated, &mut reader, &mut keeping)?;
@@ -253,8 +255,25 @@ fn lead_again<T: Timers, P: Rules, R: AllocGlobal, I: TellingReader>(
     Ok(led)
 }
 
+/// The same of a new record that hasn't its name yet.
+#[tactic(auto, using(crate::proofs::Beginnings::led_by_file))]
+pub(crate) fn lead_part<T: Timers, P: Rules, R: Files + Clock + Eprint + AllocGlobal>(
+    rt: &R,
+    stated: &Stated,
+    files: &RecordFiles,
+    keys: u128,
+) -> Result<Led<T, P>, StartStop>
+    ensures goes_on { IfOk result (λ led. IsLedByFile stated.now.bytes stated.now.digest led.engine.server (standing_of led.engine)
+        led.lines led.last) }
+    ensures server { IfOk result (λ led. IsServerOf stated.now.bytes led.word led.engine.server) }
+    ensures secrets { IfOk result (λ led. led.engine.secrets ≡ secrets_of keys) }
+{
+    let mut reader = read_old(rt, files.record.part.as_str(), false)?;
+    lead_again::<T, P, _, _>(rt, stated, keys, &mut reader)
+}
+
 /// Makes the shorter record of that of a file, which hasn't its name then; and what is known of that file. `NoShorter` where what is chosen leads elsewhere.
-#[tactic(auto, using(crate::proofs::Beginnings::alike))]
+#[tactic(auto, using(crate::proofs::Beginnings::alike_in_files))]
 pub(crate) fn make_shorter<'a, T: Timers, P: Rules, R: Files + Clock + Eprint + AllocGlobal>(
     rt: &'a R,
     stated: &Stated,
@@ -263,6 +282,7 @@ pub(crate) fn make_shorter<'a, T: Timers, P: Rules, R: Files + Clock + Eprint + 
     fault: RecordFault,
     keys: u128,
     seen: bool,
+    follows: Option<&Follows>,
     file: &mut InFile,
 ) -> Result<Shorter<'a, T, P, R>, StartStop>
     ensures leads { IfOk result (λ shorter. LeadsAlike stated.now.bytes stated.now.digest shorter.led.engine.server
@@ -271,9 +291,8 @@ pub(crate) fn make_shorter<'a, T: Timers, P: Rules, R: Files + Clock + Eprint + 
 {
     let whole = choose_in::<T, P, R>(rt, stated, keys, old, seen, file)?;
     let Whole { head, led, choice } = whole;
-    let recorder = rewrite(rt, stated, old, files, fault, &head, choice)?;
-    let mut shorter = read_old(rt, files.record.part.as_str(), false)?;
-    let new = lead_again::<T, P, _, _>(rt, stated, keys, &mut shorter)?;
+    let recorder = rewrite(rt, stated, old, files, fault, &head, choice, follows)?;
+    let new = lead_part::<T, P, R>(rt, stated, files, keys)?;
     check_same(&new, &led)?;
     Ok(Shorter {
         led: new,
@@ -300,6 +319,7 @@ fn make_named<T: Timers, P: Rules, R: Files + Clock + Eprint + AllocGlobal>(
         RecordFault::End,
         keys,
         seen,
+        None,
         &mut file,
     )?;
     let Shorter {
@@ -307,7 +327,7 @@ fn make_named<T: Timers, P: Rules, R: Files + Clock + Eprint + AllocGlobal>(
         mut recorder,
         lines: _,
     } = shorter;
-    name_part(rt, files, &mut recorder.writer)?;
+    name_part(rt, files, &mut recorder.writer, RecordSync::Never)?;
     Ok(())
 }
 

@@ -5,7 +5,7 @@ ghost use Rattle.sip_replay.specs.resume.run.Due.{standing_of};
 ghost use Rattle.sip_replay.specs.resume.run.engine.engine_time.proxy.Proxy.{secrets_of};
 ghost use Rattle.sipd_old_record.specs.OldRecord.{IsSystemFault};
 ghost use Rattle.sipd_start.specs.Boots.{boot_again};
-ghost use Rattle.sipd_start.specs.Stops.{IsUnmade};
+ghost use Rattle.sipd_record_files.specs.Unmade.{IsUnmade};
 
 use sip_config_types::Config;
 use sip_event::Boot;
@@ -18,6 +18,7 @@ use sip_timers::Timers;
 use sipd_exit::Exit;
 use sipd_old_record::open_file;
 use sipd_progress::{Watched, size_of_file};
+use sipd_record_files::Followed;
 use std::io::BufReader;
 use std::rt::{Clock, Files};
 
@@ -57,6 +58,8 @@ pub(crate) struct InFile {
     pub(crate) changed: Option<u64>,
     /// Whether none was read that holds a digest.
     pub(crate) is_unsealed: bool,
+    /// Whether the digest of all of it couldn't be written behind it.
+    pub(crate) is_unclosed: bool,
 }
 
 impl InFile {
@@ -67,6 +70,7 @@ impl InFile {
             fewer: 0,
             changed: None,
             is_unsealed: false,
+            is_unclosed: false,
         }
     }
 
@@ -77,10 +81,17 @@ impl InFile {
         let file = &reader.inner.reader;
         InFile {
             more: reader.added(),
-            fewer: file.seals(),
+            fewer: file.hidden(),
             changed: file.changed(),
             is_unsealed: file.seals() == 0,
+            is_unclosed: false,
         }
+    }
+
+    /// Adds what is known of the record as one that is followed, where it was read since.
+    pub(crate) fn note(&mut self, followed: &Followed) {
+        self.is_unclosed = followed.is_unclosed;
+        self.is_unsealed = followed.was_unsealed;
     }
 
     /// The line of the file that is this one of the text.

@@ -30,6 +30,7 @@ returns c = record {
   too_few = refl;
   most = refl;
   too_many = refl;
+  too_long = refl;
   last_minute = refl;
   no_minute = refl;
   one_word_more = refl;

@@ -12,6 +12,10 @@ returns c = record {
   no_reload = refl;
   ends = refl;
   goes_on = refl;
+  days = refl;
+  no_days = refl;
+  second = refl;
+  never = refl;
   denied = refl;
   anything = refl;
 }

@@ -3,8 +3,8 @@ use Rattle.sipd_command.specs.Starts.{decided_before}
 use Rattle.sipd_command.proofs.Printed.{prints_as}
 use Rattle.sipd_command.proofs.serving.serve_begun.Goals as goal
 
-pub returns-in-Some : goal.returns-in-Some
-returns-in-Some g c = prints_as c.serve_with.result c.args.start.turns c.args.start.turns c.args.start.address c.args.start.address _
+pub returns-in_default : goal.returns-in_default
+returns-in_default g c = prints_as c.serve_with.result c.args.start.turns c.args.start.turns c.args.start.address c.args.start.address _
     (decided_before c.args.begun.last) (g.W.Write.contents c.args.printer.now.output) (g.W.Write.contents c.serve_with.new.printer.output)
     refl refl c.decided_by-decided.ensures c.serve_with.ensures
 

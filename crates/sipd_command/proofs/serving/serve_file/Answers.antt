@@ -8,5 +8,5 @@ returns-in_default g c = prints_first c.serve_unrecorded.result c.args.call.now.
     (g.W.Write.contents c.args.printer.now.output) (g.W.Write.contents c.serve_unrecorded.new.printer.output) c.serve_unrecorded.ensures
 
 pub returns : goal.returns
-returns g c = prints_somewhere c.serve_recorded.result c.args.call.now.turns (bound_address c.in_ok-config.config)
-    (g.W.Write.contents c.args.printer.now.output) (g.W.Write.contents c.serve_recorded.new.printer.output) c.serve_recorded.ensures
+returns g c = prints_somewhere c.serve_placed.result c.args.call.now.turns (bound_address c.in_ok-config.config)
+    (g.W.Write.contents c.args.printer.now.output) (g.W.Write.contents c.serve_placed.new.printer.output) c.serve_placed.ensures

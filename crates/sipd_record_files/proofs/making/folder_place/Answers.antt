@@ -1,7 +1,7 @@
 use Rattle.std.proofs.Common.{refl, subst}
 use Rattle.std.specs.Prelude.{IfOk}
-use Rattle.sipd_start.specs.Places.{AreFolderFiles}
-use Rattle.sipd_start.proofs.making.folder_place.Goals as goal
+use Rattle.sipd_record_files.specs.Places.{AreFolderFiles}
+use Rattle.sipd_record_files.proofs.making.folder_place.Goals as goal
 
 pub returns : goal.returns
 returns g c =

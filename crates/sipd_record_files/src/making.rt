@@ -3,12 +3,13 @@
 ghost use Rattle.std.specs.Prelude.{◌≡◌, false, Err, Ok, IfErr, IfOk, option_map, string_bytes};
 ghost use Rattle.std.specs.IoError.{error_kind};
 ghost use Rattle.sipd_exit.specs.declared.exit.Exit.TheVariants.{Memory};
-ghost use Rattle.sipd_start.specs.Places;
-ghost use Rattle.sipd_start.specs.Stops.{IsUnmade};
+ghost use Rattle.sipd_record_files.specs.Places;
+ghost use Rattle.sipd_record_files.specs.Unmade.{IsUnmade};
 
 use crate::record_folder::files_in;
 use sip_journal::{OnFault, RecordHead, Recorder, head_text};
-use sipd_exit::{Exit, RecordFault, RecordPlace, Stated};
+use sip_record_sealed::{Follows, follows_line};
+use sipd_exit::{Exit, RecordFault, RecordPlace, RecordSync, Stated};
 use sipd_old_record::{RecordFile, new_file};
 use std::fs::OpenFile;
 use std::io::{ErrorKind, Write};
@@ -32,7 +33,7 @@ pub struct RecordFiles {
 }
 
 /// A copy of a text.
-fn copy_of<R: AllocGlobal>(rt: &R, text: &str) -> Result<String, Exit>
+pub fn copy_of<R: AllocGlobal>(rt: &R, text: &str) -> Result<String, Exit>
     ensures same { IfOk result (λ copy. string_bytes copy ≡ text.now) }
     ensures refused { IfErr result (λ exit. exit ≡ Memory) }
 {
@@ -159,13 +160,35 @@ fn write_copy<R: Files>(rt: &R, path: &str, bytes: &[u8]) -> io::Result<()> {
     file.sync_all()
 }
 
-/// A recorder into a new file that has the first line of a record, and not its name yet; one that is there is never written over.
+/// A new file that has the first line of a record, and behind that which record it follows, where it follows one.
+fn begin_part<'a, R: Files + AllocGlobal>(
+    rt: &'a R,
+    path: &str,
+    head: &RecordHead,
+    follows: Option<&Follows>,
+) -> Result<RecordFile<'a, R>, Exit>
+    ensures { IfErr result IsUnmade }
+{
+    let line = head_text(rt.alloc(), head)?;
+    let path = copy_of(rt, path)?;
+    let mut file = made(RecordFile::create(rt, path, line.as_slice()))?;
+    let Some(follows) = follows else {
+        return Ok(file);
+    };
+    let line = follows_line(rt.alloc(), follows)?;
+    made(file.write_all(line.as_slice()))?;
+    Ok(file)
+}
+
+/// A recorder into a new file that has the first line of a record, and behind that which record it follows, where it follows one. It hasn't its name
+/// yet; one that is there is never written over.
 pub fn make_part<'a, R: Files + AllocGlobal>(
     rt: &'a R,
     place: &RecordFiles,
     head: &RecordHead,
     stated: &Stated,
     fault: RecordFault,
+    follows: Option<&Follows>,
 ) -> Result<Recorder<RecordFile<'a, R>>, Exit>
     ensures whole { IfOk result (λ recorder. recorder.has_failed ≡ false) }
     ensures on_fault { IfOk result (λ recorder. recorder.on_fault ≡ Places.on_fault fault) }
@@ -175,20 +198,22 @@ pub fn make_part<'a, R: Files + AllocGlobal>(
     if let Some(copy) = &place.copy {
         made(write_copy(rt, copy.part.as_str(), stated.bytes.as_slice()))?;
     }
-    let line = head_text(rt.alloc(), head)?;
-    let path = copy_of(rt, place.record.part.as_str())?;
-    let file = made(RecordFile::create(rt, path, line.as_slice()))?;
+    let file = begin_part(rt, place.record.part.as_str(), head, follows)?;
     Ok(Recorder::new(rt.alloc(), file, on_fault(fault))?)
+}
+
+/// The folder in which a file is.
+pub fn folder_of(path: &str) -> &str {
+    match path.rsplit_once('/') {
+        Some((folder, _)) if !folder.is_empty() => folder,
+        Some(_) => "/",
+        None => ".",
+    }
 }
 
 /// Has the system put the names of a folder on the disk, where it can.
 fn sync_folder<R: Files>(rt: &R, path: &str) {
-    let folder = match path.rsplit_once('/') {
-        Some((folder, _)) if !folder.is_empty() => folder,
-        Some(_) => "/",
-        None => ".",
-    };
-    if let Ok(folder) = fs::File::open(rt, folder) {
+    if let Ok(folder) = fs::File::open(rt, folder_of(path)) {
         let _ = folder.sync_all();
     }
 }
@@ -217,11 +242,13 @@ fn name_files<R: Files>(rt: &R, place: &RecordFiles) -> Result<(), Exit>
     named
 }
 
-/// Gives a record its name once what was written of it is on the disk, unless a file has that name.
+/// Gives a record its name once what was written of it is on the disk, unless a file has that name; what is written from then on is put there when
+/// that is asked for.
 pub fn name_part<R: Files + AllocGlobal>(
     rt: &R,
     place: &RecordFiles,
     file: &mut RecordFile<'_, R>,
+    sync: RecordSync,
 ) -> Result<(), Exit>
     ensures { IfErr result IsUnmade }
 {
@@ -229,7 +256,7 @@ pub fn name_part<R: Files + AllocGlobal>(
     made(file.sync())?;
     name_files(rt, place)?;
     sync_folder(rt, path.as_str());
-    file.rename(path);
+    file.rename(path, sync);
     Ok(())
 }
 

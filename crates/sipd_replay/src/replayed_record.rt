@@ -2,9 +2,9 @@
 ghost use Rattle.std.specs.Prelude.{◌≡◌, ◌⊎◌, IfErr, IfNone, IfOk, IfSome, OnOk};
 ghost use Rattle.sip_replay_script.specs.Devices.{later, GaveUp};
 ghost use Rattle.sip_replay_script.specs.Lines.{IsSpent};
-ghost use Rattle.sipd_start.specs.ReplayExits as Exits;
+ghost use Rattle.sipd_replay.specs.ReplayExits as Exits;
 ghost use Rattle.sipd_old_record.specs.Own.{HoldsNone};
-ghost use Rattle.sipd_start.specs.Replays.{BeginsWith, GivesOwn, HasDigest, IsKeptBack, IsOfAnother, IsReplayed, IsReplayedOn, IsUnconfigured, IsUnreplayed, OwnUnread, StatesNamed, UnnamedStops};
+ghost use Rattle.sipd_replay.specs.Replays.{BeginsWith, GivesOwn, HasDigest, IsKeptBack, IsOfAnother, IsReplayed, IsReplayedOn, IsUnconfigured, IsUnreplayed, OwnUnread, StatesNamed, UnnamedStops};
 
 use sip_config_types::Config;
 use sip_event::Boot;
@@ -201,10 +201,10 @@ fn named_file<R: Files + AllocGlobal>(
 }
 
 /// Replays a record, whatever became of it, with the configurations that it holds; one of before, which holds none, with that of the file
-/// with which it was made. Complains where it lacks events.
+/// with which it was made. Complains where it lacks events. Gives the digest in its last line, where that holds one.
 ///
 /// `seen`: whether somebody looks at standard error, where it is said then how far it is.
-pub fn replay_record<
+pub(crate) fn replay_file<
     T: Timers,
     P: Rules,
     R: Files + Clock + Eprint + AllocGlobal,
@@ -217,7 +217,7 @@ pub fn replay_record<
     seen: bool,
     output: &mut W,
     complaints: &mut C,
-) -> Result<(), Exit> {
+) -> Result<Option<[u8; 32]>, Exit> {
     let alloc = rt.alloc();
     let named = named_file(rt, config)?;
     let OldRecord { head, events } = open_any_record(rt, alloc, path)?;
@@ -251,7 +251,28 @@ pub fn replay_record<
         );
     }
     match replayed {
-        Ok(()) => Ok(()),
+        Ok(()) => Ok(file.end_digest()),
         Err(exit) => Err(exit_in_file(exit, file, events.added())),
+    }
+}
+
+/// Replays a record.
+pub fn replay_record<
+    T: Timers,
+    P: Rules,
+    R: Files + Clock + Eprint + AllocGlobal,
+    W: Write,
+    C: Write,
+>(
+    rt: &R,
+    config: Option<&str>,
+    path: &str,
+    seen: bool,
+    output: &mut W,
+    complaints: &mut C,
+) -> Result<(), Exit> {
+    match replay_file::<T, P, R, W, C>(rt, config, path, seen, output, complaints) {
+        Ok(_) => Ok(()),
+        Err(exit) => Err(exit),
     }
 }

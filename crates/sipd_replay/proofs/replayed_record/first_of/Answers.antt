@@ -1,5 +1,5 @@
 use Rattle.std.proofs.Common.{◌≡◌, Some, arith}
-use Rattle.sipd_start.proofs.replayed_record.first_of.Goals as goal
+use Rattle.sipd_replay.proofs.replayed_record.first_of.Goals as goal
 
 pub returns-in-Ok-Some-clause-own : goal.returns-in-Ok-Some-clause-own
 returns-in-Ok-Some-clause-own g c =

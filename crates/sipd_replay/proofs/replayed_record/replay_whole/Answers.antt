@@ -1,7 +1,7 @@
 use Rattle.std.proofs.Common.{inl, inr, ap, ◌∙◌}
 use Rattle.std.proofs.lemmas.Result.{err_from_is_err_and}
-use Rattle.sipd_start.specs.ReplayExits.{exit_of_print}
-use Rattle.sipd_start.proofs.replayed_record.replay_whole.Goals as goal
+use Rattle.sipd_replay.specs.ReplayExits.{exit_of_print}
+use Rattle.sipd_replay.proofs.replayed_record.replay_whole.Goals as goal
 
 pub returns-in_err-replay_behind-clause-refused : goal.returns-in_err-replay_behind-clause-refused
 returns-in_err-replay_behind-clause-refused g c =

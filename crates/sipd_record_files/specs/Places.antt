@@ -12,10 +12,10 @@ use Rattle.sipd_exit.specs.declared.record_place.RecordPlace.{RecordPlace}
 use Rattle.sipd_exit.specs.declared.record_place.RecordPlace.TheVariants.{File, Folder}
 use Rattle.sipd_exit.specs.declared.exit.Exit.{Exit}
 use Rattle.sipd_exit.specs.declared.exit.Exit.TheVariants.{Memory, NewRecord, Recording}
-use Rattle.sipd_start.specs.RecordNames.{name_of, newer, next_number}
-use Rattle.sipd_start.specs.declared.making.RecordFiles.{RecordFiles}
-use Rattle.sipd_start.specs.declared.making.NewFile.{NewFile}
-use Rattle.sipd_start.specs.declared.record_folder.FolderFiles.{FolderFiles}
+use Rattle.sipd_record_files.specs.RecordNames.{name_of, newer, next_number}
+use Rattle.sipd_record_files.specs.declared.making.RecordFiles.{RecordFiles}
+use Rattle.sipd_record_files.specs.declared.making.NewFile.{NewFile}
+use Rattle.sipd_record_files.specs.declared.record_folder.FolderFiles.{FolderFiles}
 
 -- a file that is made has that name in the end, and that one before
 pub record IsNewFile (path part : List ℕ) (file : NewFile) : Type 0 where

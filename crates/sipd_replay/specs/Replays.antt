@@ -17,7 +17,7 @@ use Rattle.sipd_exit.specs.declared.exit.Exit.TheVariants.{BareRecord, Device, M
 use Rattle.sipd_exit.specs.declared.files.Stated.{Stated}
 use Rattle.sipd_exit.specs.declared.device_fault.DeviceFault.TheVariants.{Other}
 use Rattle.sipd_old_record.specs.Own.{BeginsAsEvent, HoldsNone, HoldsOwn, OwnStops, unread}
-use Rattle.sipd_start.specs.ReplayExits.{exit_of_record, exit_of_segment}
+use Rattle.sipd_replay.specs.ReplayExits.{exit_of_record, exit_of_segment}
 use Rattle.sipd_reload.specs.File.{most_bytes}
 
 -- a record begins with this configuration of its own, where its first line has that digest

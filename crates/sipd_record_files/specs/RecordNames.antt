@@ -1,6 +1,7 @@
 -- The files of a folder of records: `NUMBER.record`, with its configuration in `NUMBER.toml`, the number being milliseconds of UTC
 -- since 1970 (this project's profile).
-use Rattle.std.specs.Prelude.{ℕ, ◌+◌, ◌-◌, ◌^◌, max, min, List, ◌++◌, codes, decimal, if◌then◌else◌, Option, Some, None, option_and_then}
+use Rattle.std.specs.Prelude.{ℕ, ◌+◌, ◌-◌, ◌*◌, ◌^◌, ◌==◌, ◌&&◌, nat_le, nat_lt, Bool, false, max, min, List, ◌++◌, codes, decimal, if◌then◌else◌, Option, Some, None, option_and_then}
+use Rattle.std.specs.List.{list_any}
 use Rattle.std.specs.Str.{bytes_eq}
 use Rattle.sip_text.specs.Numbers.{plain_decimal_of}
 use Rattle.sip_text.specs.Splits.{split_at_byte}
@@ -27,3 +28,12 @@ next_number (Some newest) now = max now (min (newest + 1) (2 ^ 64 - 1))
 -- `FOLDER/NUMBER.KIND`
 abbrev pub name_of : List ℕ → ℕ → List ℕ → List ℕ
 name_of folder number kind = folder ++ (codes "/" ++ (decimal number ++ (codes "." ++ kind)))
+
+-- whether another record is newer than a file of this number, and began at a moment or before it
+abbrev pub has_begun : ℕ → ℕ → ℕ → Bool
+has_begun number moment other = nat_lt number other && nat_le other moment
+
+-- Whether a file of this number goes, where records of these numbers are kept for so many days: a newer one began before these, so that all that it
+-- holds came earlier; 0 keeps all.
+abbrev pub goes : ℕ → ℕ → List ℕ → ℕ → Bool
+goes days now numbers number = if days == 0 then false else list_any (has_begun number (now - days * 86400000)) numbers

@@ -1,5 +1,5 @@
 ghost use Rattle.std.specs.Prelude.{◌≡◌};
-ghost use Rattle.sipd_start.specs.ReplayExits as Exits;
+ghost use Rattle.sipd_replay.specs.ReplayExits as Exits;
 
 use sip_event::Boot;
 use sip_policy::Rules;

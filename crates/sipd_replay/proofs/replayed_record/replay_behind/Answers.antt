@@ -1,7 +1,7 @@
 use Rattle.std.proofs.Common.{inl, inr, refl}
 use Rattle.std.proofs.lemmas.Result.{err_from_is_err_and}
 use Rattle.sipd_old_record.specs.Readers.{most_asks}
-use Rattle.sipd_start.proofs.replayed_record.replay_behind.Goals as goal
+use Rattle.sipd_replay.proofs.replayed_record.replay_behind.Goals as goal
 
 pub returns-in_err-lines-clause-refused : goal.returns-in_err-lines-clause-refused
 returns-in_err-lines-clause-refused g c =

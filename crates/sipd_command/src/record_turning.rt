@@ -1,0 +1,180 @@
+//! When a server that serves begins the next record of its folder: once a day, and where the one that it writes has become long.
+ghost use Rattle.std.specs.Prelude.{◌≡◌, OnErr, OnOk};
+ghost use Rattle.sip_config.specs.Stated.{States};
+ghost use Rattle.sip_model.specs.SameAhead.{SameAhead};
+
+use sip_journal::{RecordMark, Recorder};
+use sip_policy::Rules;
+use sip_timers::Timers;
+use sipd_exit::Exit;
+use sipd_old_record::{RecordFile, WatchedJournal};
+use sipd_service::NextRecord;
+use sipd_service::engine::Engine;
+use sipd_start::{LastRecord, NextInFolder, RecordFolder};
+use std::io::Write;
+use std::rt::{Clock, Files};
+
+/// The milliseconds of a minute.
+const MINUTE: u64 = 60_000;
+
+/// The milliseconds of a day.
+const DAY: u64 = 86_400_000;
+
+/// How many milliseconds at least pass until the next record is begun again, where it couldn't be.
+const HOUR: u64 = 3_600_000;
+
+/// How many milliseconds of a day a server waits for a turn in which it hears nothing.
+const LONGEST_WAIT: u64 = 60_000;
+
+/// From how many bytes on a record is a long one: a start takes what one file holds again, and is to take a few seconds at most.
+const LONG: u64 = 32_000_000;
+
+/// The milliseconds of an office's time, a day ahead, that is so many minutes ahead of UTC.
+fn office_time(now: u64, offset: i16) -> u64 {
+    let away = u64::from(offset.unsigned_abs()) * MINUTE;
+    let now = now.saturating_add(DAY);
+    if offset < 0 {
+        now.saturating_sub(away)
+    } else {
+        now.saturating_add(away)
+    }
+}
+
+/// The turning of a server that records in a folder from one record to the next.
+#[derive(Drop)]
+pub struct RecordTurning<'a, R> {
+    folder: RecordFolder<'a, R>,
+    /// The path of the record that it writes.
+    path: String,
+    /// The day of the office on which that was begun, where the server has done a turn.
+    day: Option<u64>,
+    /// From how many bytes on it is a long one.
+    long: u64,
+    /// The number of the next datagram, as it was in the turn before.
+    number: u64,
+    /// When the next record couldn't be begun last, in milliseconds.
+    refused: u64,
+}
+
+impl<'a, R: Files + Clock + Eprint + AllocGlobal> RecordTurning<'a, R> {
+    /// The turning of a server that writes the record with this path.
+    pub fn new(folder: RecordFolder<'a, R>, path: String) -> Self {
+        RecordTurning {
+            folder,
+            path,
+            day: None,
+            long: LONG,
+            number: 0,
+            refused: 0,
+        }
+    }
+
+    /// Begins the next record, and closes the one that was written up to here.
+    fn turn<T: Timers, P: Rules>(
+        &mut self,
+        engine: &mut Engine<T, P>,
+        journal: &mut Recorder<RecordFile<'a, R>>,
+        stated: &[u8],
+    ) -> Result<(), Exit>
+        ensures stated { OnOk result (States stated.now engine.new.server.config) }
+        ensures word { OnOk result (engine.new.server.word ≡ engine.old.server.word) }
+        ensures same { OnOk result (SameAhead engine.new.state engine.old.state) }
+        ensures still { OnErr result (engine.new ≡ engine.old) }
+        ensures unwritten { OnErr result (journal.new ≡ journal.old) }
+    {
+        let last = LastRecord {
+            path: self.path.as_str(),
+            digest: journal.writer.end_digest(),
+        };
+        let next = self.folder.next(&last, stated, engine)?;
+        let NextInFolder {
+            engine: begun,
+            recorder,
+            path,
+        } = next;
+        let _ = journal.writer.mark(RecordMark::Left);
+        *engine = begun;
+        *journal = recorder;
+        self.path = path;
+        Ok(())
+    }
+
+    /// Another record is written from here on, at a time of the office, which has so many bytes. However many of them were kept, it isn't a long one.
+    fn begin(&mut self, time: u64, size: u64) {
+        self.day = Some(time / DAY);
+        self.long = LONG.max(size.saturating_mul(2));
+    }
+
+    /// Whether nothing was heard since the last turn, by the number of the next datagram.
+    fn is_quiet(&mut self, number: u64) -> bool {
+        let is_quiet = number == self.number;
+        self.number = number;
+        is_quiet
+    }
+
+    /// Whether it is time for the next record, where the one that is written has so many bytes: another day has begun, or it has become long; and
+    /// nothing was heard in the last turn, or that was waited for long enough.
+    fn is_time(&mut self, is_quiet: bool, time: u64, size: u64, now: u64) -> bool {
+        let Some(day) = self.day else {
+            self.begin(time, size);
+            return false;
+        };
+        if now.saturating_sub(self.refused) < HOUR {
+            return false;
+        }
+        if time / DAY > day {
+            return is_quiet || time % DAY >= LONGEST_WAIT;
+        }
+        let rest = size.saturating_sub(self.long);
+        size >= self.long && (is_quiet || rest >= self.long / 8)
+    }
+}
+
+/// Says that the next record is begun, or why it isn't.
+fn say_turned<C: Write>(path: &str, turned: &Result<(), Exit>, complaints: &mut C) {
+    let _ = match turned {
+        Ok(()) => writeln!(complaints, "sipd: {path} is written from here on"),
+        Err(Exit::NoShorter) => writeln!(
+            complaints,
+            "sipd: no next record leads where {path} does: that is written on"
+        ),
+        Err(exit) => writeln!(
+            complaints,
+            "sipd: no next record could be begun, so {path} is written on: {exit}"
+        ),
+    };
+}
+
+impl<'a, T: Timers, P: Rules, R: Files + Clock + Eprint + AllocGlobal> NextRecord<
+    T,
+    P,
+    Recorder<RecordFile<'a, R>>,
+> for RecordTurning<'a, R> {
+    fn look<C: Write>(
+        &mut self,
+        engine: &mut Engine<T, P>,
+        journal: &mut Recorder<RecordFile<'a, R>>,
+        stated: &[u8],
+        now: u64,
+        complaints: &mut C,
+    ) {
+        if journal.has_failed {
+            return;
+        }
+        let time = office_time(now, engine.config().offset);
+        let is_quiet = self.is_quiet(engine.next_number());
+        if !self.is_time(is_quiet, time, journal.writer.size(), now) {
+            return;
+        }
+        journal.close();
+        let turned = self.turn(engine, journal, stated);
+        match &turned {
+            Ok(()) => self.begin(time, journal.writer.size()),
+            Err(_) => self.refused = now,
+        }
+        say_turned(self.path.as_str(), &turned, complaints);
+        if turned.is_ok() {
+            self.folder.remove_old(complaints);
+        }
+    }
+}

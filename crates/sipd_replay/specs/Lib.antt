@@ -1,0 +1,2 @@
+pub mod ReplayExits
+pub mod Replays
