@@ -1,5 +1,5 @@
 #!/usr/bin/env python3
-"""Makes the stored runs `damaged_datagrams_*` and `size_limits` of crates/test_server/data, and those of a record, by rules of its own.
+"""Makes the stored runs `damaged_datagrams_*` and `size_limits` of crates/test_server/data, those of a record, and those of its calls, by rules of its own.
 
 Says whether the stored files are what it makes; with the word `write` writes them; with `script NAME` or `print NAME`
 prints the script of a run, or what `sipd replay` must print of it, whole, so that a difference can be looked at.
@@ -383,11 +383,11 @@ def word_of(number):
     return f"{number:032x}"
 
 
-def credential(key, method, uri, count=1):
-    """Mufasa's answer by a key to the challenge of the first datagram, by its count: the first such, the second, .."""
+def credential(key, method, uri, count=1, user="Mufasa"):
+    """A user's answer by a key to the challenge of the first datagram, by its count: the first such, the second, .."""
     nonce, cnonce, times = word_of(1), "0a4f113b", f"{count:08x}"
     digest = md5(f"{key}:{nonce}:{times}:{cnonce}:auth:{md5(f'{method}:{uri}')}")
-    return f'Digest username="Mufasa", realm="{REALM}", nonce="{nonce}", uri="{uri}", response="{digest}", qop=auth, nc={times}, cnonce="{cnonce}"\r\n'.encode()
+    return f'Digest username="{user}", realm="{REALM}", nonce="{nonce}", uri="{uri}", response="{digest}", qop=auth, nc={times}, cnonce="{cnonce}"\r\n'.encode()
 
 
 def proving(key, number=2):
@@ -520,6 +520,203 @@ def sealed(text):
     return text + f"sealed {sha256(text)}\n"
 
 
+# ---- the calls of a day
+
+# What happens, and what a row says of it. help registers. x calls help, who answers after eight seconds, talks for 51 and hangs up; x calls
+# vault, which rule 3 denies; x calls help, who is busy after two seconds; x calls alice, for whom rule 6 wants a proof; the clock is an hour
+# ahead from then on; x calls help, and nobody has answered when the record ends; Mufasa calls alice, who has no phone.
+DAY_HEAD = "number 1970 UTC{} caller   called        rule  result    ring talk    ended\n"
+DAY_ROWS = {
+    3: "3      01-01 00:00:03 -        help          4     answered  8    0:51    callee\n",
+    6: "6      01-01 00:01:10 -        vault         3     denied    0            \n",
+    7: "7      01-01 00:01:20 -        help          4     busy      2            \n",
+    9: "9      01-01 00:01:30 -        alice         -     unproven  0            \n",
+    10: "10     01-01 01:01:35 -        help          4     open                   \n",
+    11: "11     01-01 01:01:37 Mufasa   alice         6     480       0            \n",
+}
+DAY_NAMES = "number,start,caller,from,called,rule,result,ring_ms,talk_ms,ended_by,call_id\r\n"
+DAY_LINES = {
+    3: "3,1970-01-01T00:00:03+00:00,,127.0.0.1:5070,help@host.com,4,answered,8000,51000,callee,k1\r\n",
+    6: "6,1970-01-01T00:01:10+00:00,,127.0.0.1:5070,vault@host.com,3,denied,0,,,k2\r\n",
+    7: "7,1970-01-01T00:01:20+00:00,,127.0.0.1:5070,help@host.com,4,busy,2000,,,k3\r\n",
+    9: "9,1970-01-01T00:01:30+00:00,,127.0.0.1:5070,alice@host.com,,unproven,0,,,k4\r\n",
+    10: "10,1970-01-01T01:01:35+01:00,,127.0.0.1:5070,help@host.com,4,open,,,,k5\r\n",
+    11: "11,1970-01-01T01:01:37+01:00,Mufasa,127.0.0.1:5070,alice@host.com,6,480,0,,,k6\r\n",
+}
+DAY_OBJECTS = {
+    7: '{"number":7,"start":"1970-01-01T00:01:20+00:00","caller":null,"from":"127.0.0.1:5070","called":"help@host.com","rule":"4","result":"busy",'
+    '"ring_ms":2000,"talk_ms":null,"ended_by":null,"call_id":"k3"}\n',
+    10: '{"number":10,"start":"1970-01-01T01:01:35+01:00","caller":null,"from":"127.0.0.1:5070","called":"help@host.com","rule":"4","result":"open",'
+    '"ring_ms":null,"talk_ms":null,"ended_by":null,"call_id":"k5"}\n',
+}
+
+
+def calling(number, whom):
+    """x's INVITE of a number to a user."""
+    call = INVITE.replace(b"help@", whom + b"@").replace(b"z9hG4bKinv1", f"z9hG4bKinv{number}".encode())
+    return call.replace(b"Call-ID: k1", f"Call-ID: k{number}".encode())
+
+
+def answering(number, call, status):
+    """What help's phone answers to the INVITE of a call, which the datagram of a number brought."""
+    return lines(
+        f"SIP/2.0 {status}",
+        f"Via: SIP/2.0/UDP sip.host.com:5060;branch=z9hG4bK{0:016x}.{number}.1",
+        f"Via: SIP/2.0/UDP pc.host.com:5070;branch=z9hG4bKinv{call};rport=5070;received=127.0.0.1",
+        "Record-Route: <sip:sip.host.com:5060;lr>",
+        "From: <sip:x@away.net>;tag=f1",
+        "To: <sip:help@host.com>;tag=t1",
+        f"Call-ID: k{call}",
+        "CSeq: 7 INVITE",
+        "Contact: <sip:help@127.0.0.1:5082>",
+        "Content-Length: 0",
+    )
+
+
+def of_a_day(sample, key):
+    """The record of such a day."""
+    phone = REGISTER.replace(b"Mufasa", b"help").replace(b"5062", b"5082")
+    again = phone.replace(b"z9hG4bKreg1", b"z9hG4bKreg2").replace(b"CSeq: 1 ", b"CSeq: 2 ")
+    proven = with_lines(again, b"Authorization: " + credential("2" * 32, "REGISTER", "sip:host.com", 1, "help"))
+    bye = lines(
+        "BYE sip:x@127.0.0.1:5070 SIP/2.0",
+        "Via: SIP/2.0/UDP 127.0.0.1:5082;branch=z9hG4bKbye1",
+        "Route: <sip:sip.host.com:5060;lr>",
+        "Max-Forwards: 70",
+        "From: <sip:help@host.com>;tag=t1",
+        "To: <sip:x@away.net>;tag=f1",
+        "Call-ID: k1",
+        "CSeq: 1 BYE",
+        "Content-Length: 0",
+    )
+    mufasas = with_lines(calling(6, b"alice"), b"Proxy-Authorization: " + credential(key, "INVITE", "sip:alice@host.com", 2))
+    ahead = sample.replace("version = 1\n", "version = 2\noffset = 60\n", 1)
+    assert ahead != sample
+    before = held(sample) + recorded(1, phone, 5082) + recorded(2, proven, 5082)
+    first = recorded(3, calling(1, b"help"), 5070) + recorded(4, answering(3, 1, "200 OK"), 5082, 11_000) + recorded(5, bye, 5082, 62_000)
+    others = recorded(6, calling(2, b"vault"), 5070, 70_000) + recorded(7, calling(3, b"help"), 5070, 80_000)
+    others += recorded(8, answering(7, 3, "486 Busy Here"), 5082, 82_000) + recorded(9, calling(4, b"alice"), 5070, 90_000)
+    others += held(ahead) + recorded(10, calling(5, b"help"), 5070, 95_000) + recorded(11, mufasas, 5070, 97_000)
+    return before + first, others
+
+
+def of_calls(head, sample, key):
+    """The runs of `calls`, `phones` and `now`, by the names of their files."""
+    front, others = of_a_day(sample, key)
+    utc, ahead = DAY_HEAD.format("+00:00"), DAY_HEAD.format("+01:00")
+    shown = "".join(DAY_ROWS[number] for number in (3, 6, 7))
+    late = "".join(DAY_ROWS[number] for number in (10, 11))
+    table = utc + shown + ahead + late + "calls: 5, answered: 1, talked: 0:51\n"
+    damaged = head + front
+    changed = sealed(head + front) + sealed("another" + others)[len("another") :]
+    shorter = sealed(head + front + OMITTED)
+    for name, words, record, output, why in (
+        ("calls_of_a_day", "", head + front + others, table, None),
+        # an end in the middle of an event's line is none of a day that is over
+        ("calls_of_a_day_so_far", "", damaged + others[:40], utc + DAY_ROWS[3] + "calls: 1, answered: 1, talked: 0:51\n", None),
+        (
+            "calls_of_a_damaged_day",
+            "",
+            damaged + "x\n" + others,
+            utc + DAY_ROWS[3] + "calls: 1, answered: 1, talked: 0:51\n",
+            f"sipd: script line {damaged.count(chr(10)) + 1}\n",
+        ),
+        # all that stands in front of the wrong digest is told, too
+        (
+            "calls_of_a_changed_day",
+            "",
+            changed,
+            table,
+            f"sipd: the record was changed: its line {changed.count(chr(10))} has the digest of other bytes\n",
+        ),
+        # lines that stand for others, and those of digests, count as one each
+        (
+            "calls_of_a_damaged_shorter_day",
+            "",
+            shorter + "x\n",
+            utc + DAY_ROWS[3] + "calls: 1, answered: 1, talked: 0:51\n",
+            f"sipd: script line {shorter.count(chr(10)) + 1}\n",
+        ),
+        ("calls_for_programs", "--csv --challenged", None, DAY_NAMES + "".join(DAY_LINES.values()), None),
+        ("calls_by_choice", "--json --target help --since 1970-01-01T00:01", None, "".join(DAY_OBJECTS.values()), None),
+        ("calls_of_a_user", "--user Mufasa --from 127.0.0.1", None, ahead + DAY_ROWS[11] + "calls: 1, answered: 0, talked: 0:00\n", None),
+        ("calls_before_the_first", "--until 1970-01-01T00:00:03", None, "calls: 0, answered: 0, talked: 0:00\n", None),
+    ):
+        file = "calls_of_a_day" if record is None else name
+        yield f"{name}.args", "\n".join(["calls", "--record", f"{file}.record", *words.split(), ""])
+        if record is not None:
+            yield f"{file}.record", record
+        yield f"{name}.out", output
+        if why is not None:
+            yield f"{name}.err", why
+            yield f"{name}.status", "3\n"
+    # help's binding lives for an hour from second 2 on; the answered call is talked from second 11 on; the last one rings from 01:01:35 on
+    phone = "registered   contact                     left    since          from\n"
+    call = "number since          caller       called               rule  state   for\n"
+    for name, words, output in (
+        (
+            "phones_at_a_minute",
+            "phones --at 1970-01-01T00:01",
+            "1970-01-01 00:01:00 UTC+00:00\n" + phone + "help         sip:help@127.0.0.1:5082     59:02   01-01 00:00:02 127.0.0.1:5082\n",
+        ),
+        ("phones_when_it_is_over", "phones --at 1970-01-01T02:00:02", "1970-01-01 02:00:02 UTC+01:00\n" + phone),
+        (
+            "now_at_a_minute",
+            "now --at 1970-01-01T00:01",
+            "1970-01-01 00:01:00 UTC+00:00\n" + call + "3      01-01 00:00:11 -            help                 4     talks   0:49\n",
+        ),
+        (
+            "now_at_the_end",
+            "now",
+            "1970-01-01 01:01:37 UTC+01:00\n" + call + "10     01-01 01:01:35 -            help                 4     rings   0:02\n",
+        ),
+        (
+            "now_by_a_later_clock",
+            "now --at 1970-01-01T01:01:36",
+            "1970-01-01 01:01:36 UTC+01:00\n" + call + "10     01-01 01:01:35 -            help                 4     rings   0:01\n",
+        ),
+        (
+            "phones_as_values",
+            "phones --csv --at 1970-01-01T00:01",
+            "registered,contact,left,since,from\r\n"
+            "help@host.com,sip:help@127.0.0.1:5082,3542,1970-01-01T00:00:02+00:00,127.0.0.1:5082\r\n",
+        ),
+        (
+            "phones_for_programs",
+            "phones --json --at 1970-01-01T00:01",
+            '{"registered":"help@host.com","contact":"sip:help@127.0.0.1:5082","left":3542,"since":"1970-01-01T00:00:02+00:00",'
+            '"from":"127.0.0.1:5082"}\n',
+        ),
+        (
+            "now_as_values",
+            "now --csv",
+            "number,since,caller,from,called,rule,state,for_ms,call_id\r\n"
+            "10,1970-01-01T01:01:35+01:00,,127.0.0.1:5070,help@host.com,4,rings,2000,k5\r\n",
+        ),
+        (
+            "now_for_programs",
+            "now --json --at 1970-01-01T00:01",
+            '{"number":3,"since":"1970-01-01T00:00:11+00:00","caller":null,"from":"127.0.0.1:5070","called":"help@host.com","rule":"4",'
+            '"state":"talks","for_ms":49000,"call_id":"k1"}\n',
+        ),
+    ):
+        command, *options = words.split()
+        yield f"{name}.args", "\n".join([command, "--record", "calls_of_a_day.record", *options, ""])
+        yield f"{name}.out", output
+    # at the moment of the last event in front of the damage no call stands
+    yield "now_of_a_damaged_day.args", "now\n--record\ncalls_of_a_damaged_day.record\n--at\n1970-01-01T00:02\n"
+    yield "now_of_a_damaged_day.out", "1970-01-01 00:01:02 UTC+00:00\n" + call
+    yield "now_of_a_damaged_day.err", f"sipd: script line {damaged.count(chr(10)) + 1}\n"
+    yield "now_of_a_damaged_day.status", "3\n"
+    # another start went on from the first of these: each is told
+    yield "calls_of_two_records.args", "calls\n--record\ncalls_of_two_records.record\ncalls_of_a_day.record\n"
+    yield "calls_of_two_records.record", head.replace("record ", "left   ", 1) + front
+    yield "calls_of_two_records.out", utc + DAY_ROWS[3] + "calls: 1, answered: 1, talked: 0:51\n" + table
+    yield "calls_since_no_time.args", "calls\n--record\ncalls_of_a_day.record\n--since\nyesterday\n"
+    yield "calls_since_no_time.err", "sipd: no time: yesterday: it is a date, as 2026-10-14, or with a time of day, as 2026-10-14T06:30\n"
+    yield "calls_since_no_time.status", "1\n"
+
+
 def of_records():
     """The runs of records, by the names of their files."""
     with open(os.path.join(DATA, "check_sample.toml"), encoding="ascii") as file:
@@ -565,13 +762,14 @@ def of_records():
     yield "replay_of_an_otherwise_sealed_record.status", "3\n"
     yield "replay_of_a_damaged_shorter_record.err", f"sipd: script line {(head + held(sample) + first + OMITTED + NO_LINE).count(chr(10))}\n"
     yield "replay_of_a_damaged_shorter_record.status", "3\n"
+    yield from of_calls(head, sample, key)
     yield "check_against_a_record.args", "check\n--config\ncheck_sample.toml\n--against\nreplay_of_a_changed_record.record\n"
     yield "check_against_a_record.out", "user Mufasa has another a1\na server that runs can take it\n"
 
 
 def made():
     """Each file by its name, and its bytes."""
-    files = {name: text.encode("ascii") for name, text in of_records()}
+    files = {name: text.encode() for name, text in of_records()}
     for name, datagram in DAMAGED.items():
         output = printed(events_of(damages(datagram)))
         files[f"{name}.args"] = b"replay\n"

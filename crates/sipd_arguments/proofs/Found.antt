@@ -1,6 +1,6 @@
 -- What the matches of a parse say, by its rows.
 use Rattle.std.proofs.Common.{◌≡◌, ℕ, List, [], ◌∷◌, Bool, true, false, Option, Some, None, if◌then◌else◌, refl, sym, ◌∙◌, ap, codes}
-use Rattle.std.specs.Prelude.{option_and_then, unwrap_or, Result, Ok, Err, ◌^◌, ◌&&◌, nat_lt}
+use Rattle.std.specs.Prelude.{option_and_then, option_map, unwrap_or, Result, Ok, Err, ◌^◌, ◌&&◌, nat_lt}
 use Rattle.std.specs.Char.{digit_value}
 use Rattle.std.specs.List.{list_all}
 use Rattle.std.specs.Option.{option_map_or}
@@ -8,14 +8,17 @@ use Rattle.std.specs.Str.{bytes_eq}
 use Rattle.std.specs.Str.Parse.{AllDigits, IsNumeral, ParsesUnsigned, ParsesBool, digits_value, without_leading_plus}
 use Rattle.std.proofs.lemmas.Bool.{lt-ltb, ltb-true}
 use Rattle.std.proofs.lemmas.Slice.Eq.{bytes_eq-Decides}
-use Rattle.clap.specs.Words.{ReadsOne, Text, first_of, first_value, one_text, rows_of}
+use Rattle.clap.specs.Words.{ReadsOne, Text, all_of, first_of, first_value, matched_of, one_text, raw_values, rows_of}
 use Rattle.clap.specs.ValueTests.{is_numeral}
 use Rattle.clap.specs.declared.parser.matches.Found.{Found}
-use Rattle.clap.proofs.WalkLemmas.{first_value-rows, one_text-rows, both}
+use Rattle.clap.proofs.WalkLemmas.{first_value-rows, one_text-rows, raw_values-rows, both}
 use Rattle.sipd_arguments.specs.CommandLine.{number_in, number_at, is_on}
 
 pub text_found : (f : Found) (id : Text) → first_value f id ≡ first_of id (rows_of f)
 text_found f id = first_value-rows f id
+
+pub texts_found : (f : Found) (id : Text) → option_map raw_values (matched_of f id) ≡ all_of id (rows_of f)
+texts_found f id = raw_values-rows f id
 
 -- ---- numbers
 

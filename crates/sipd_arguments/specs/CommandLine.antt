@@ -1,15 +1,16 @@
 -- The command line: the commands that the program knows, with their options, and what each asks for (this project's profile).
 use Rattle.std.specs.Prelude.{◌≡◌, ◌⊎◌, ⊤, ℕ, pos, ◌^◌, Bool, true, false, ◌&&◌, ◌||◌, not, nat_lt, if◌then◌else◌, List, [], ◌∷◌, ◌++◌, codes, Option, Some, None, find}
-use Rattle.std.specs.Prelude.{unwrap_or, option_map, option_and_then, is_some, string_bytes, Result, Ok, Err}
+use Rattle.std.specs.Prelude.{unwrap_or, option_map, option_and_then, is_some, map, string_bytes, Result, Ok, Err}
 use Rattle.std.specs.List.{list_any}
 use Rattle.std.specs.Str.{bytes_eq}
 use Rattle.std.specs.Str.Parse.{digits_value, without_leading_plus}
 use Rattle.std.specs.Option.{option_map_or}
-use Rattle.clap.specs.Words.{App, Row, Rule, Shape, Text, new_app, new_rule, first_of, one_of, subcommand_of}
+use Rattle.clap.specs.Words.{App, Row, Rule, Shape, Text, all_of, new_app, new_rule, first_of, one_of, subcommand_of}
+use Rattle.clap.specs.Lexer.{usize_max}
 use Rattle.clap.specs.Faults.{fault_of}
 use Rattle.clap.specs.Kinds.{IsAmong, Kinds}
 use Rattle.clap.specs.ValueTests.{is_numeral}
-use Rattle.clap.specs.declared.builder.action.ArgAction.TheVariants.{Set, SetTrue}
+use Rattle.clap.specs.declared.builder.action.ArgAction.TheVariants.{Append, Set, SetTrue}
 use Rattle.clap.specs.declared.builder.value_parser.ValueParser.TheVariants as parsers
 use Rattle.clap.specs.declared.error.kind.ErrorKind.{ErrorKind}
 use Rattle.clap.specs.declared.error.kind.ErrorKind.TheVariants.{DisplayHelp, DisplayVersion}
@@ -26,6 +27,9 @@ use Rattle.sipd_arguments.specs.declared.call.QuestionCall.{QuestionCall}
 use Rattle.sipd_arguments.specs.declared.call.MatrixCall.{MatrixCall}
 use Rattle.sipd_arguments.specs.declared.call.ReportCall.{ReportCall}
 use Rattle.sipd_arguments.specs.declared.call.UserCall.{UserCall}
+use Rattle.sipd_arguments.specs.declared.call.CallsCall.{CallsCall}
+use Rattle.sipd_arguments.specs.declared.call.ChosenCalls.{ChosenCalls}
+use Rattle.sipd_arguments.specs.declared.call.TimeCall.{TimeCall}
 use Rattle.sipd_arguments.specs.declared.call.ExpectedDecision.{ExpectedDecision}
 use Rattle.sipd_arguments.specs.declared.call.ExpectedDecision.TheVariants.{Allow, Deny, Challenge}
 use Rattle.sipd_exit.specs.declared.record_place.RecordFault.{RecordFault}
@@ -40,7 +44,7 @@ use Rattle.sipd_exit.specs.declared.exit.Exit.{Exit}
 use Rattle.sipd_exit.specs.declared.exit.Exit.TheVariants.{Usage, Memory}
 use Rattle.sipd_arguments.specs.declared.misuse.Misuse.{Misuse}
 use Rattle.sipd_arguments.specs.declared.misuse.Misuse.TheVariants.{NoCommand, TwoRecords, NoNewRecord, NoRecord, NoSuchWord, NoRealm, Sha256Said, NoSuchVerdict}
-use Rattle.sipd_arguments.specs.declared.misuse.Misuse.TheVariants.{NoQuestion, LogAlone, TwoForms, NoFolder, NothingSynced, NoSuchSync}
+use Rattle.sipd_arguments.specs.declared.misuse.Misuse.TheVariants.{NoQuestion, LogAlone, TwoForms, NoFolder, NothingSynced, NoSuchSync, CsvAndJson}
 
 -- ---- the options of each command
 
@@ -67,6 +71,10 @@ needed r = record r { required = true }
 -- its value is a number, from one to another
 abbrev pub number_from : ℕ → ℕ → Rule → Rule
 number_from low high r = record r { parser = Some (parsers.Signed (pos low) (pos high)) }
+
+-- it may have several values, and stand several times
+abbrev pub several : Rule → Rule
+several r = record r { range = Some (record { start_inclusive = 1; end_inclusive = usize_max }); action = Some Append }
 
 abbrev pub command : Text → List Rule → Shape
 command name rules = record (new_app name).top { rules = rules }
@@ -131,6 +139,50 @@ user_command = command (codes "user")
     ∷ flag (codes "sha256")
     ∷ [])
 
+-- a command with the options that say which calls are shown
+abbrev pub choosing : Shape → Shape
+choosing s = record s {
+  rules =
+      s.rules ++ (option (codes "since") ∷ []) ++ (option (codes "until") ∷ []) ++ (option (codes "user") ∷ []) ++ (option (codes "target") ∷ [])
+      ++ (option (codes "from") ∷ []);
+}
+
+-- a command with the options that say for which programs something is written
+abbrev pub with_forms : Shape → Shape
+with_forms s = record s { rules = s.rules ++ (flag (codes "csv") ∷ []) ++ (flag (codes "json") ∷ []) }
+
+-- a command that tells the calls of recorded days, without them
+abbrev pub day_command : Shape
+day_command = command (codes "calls") (needed (several (option (codes "record"))) ∷ option (codes "config") ∷ [])
+
+abbrev pub calls_command : Shape
+calls_command = command (codes "calls")
+    (needed (several (option (codes "record")))
+    ∷ option (codes "config")
+    ∷ option (codes "since")
+    ∷ option (codes "until")
+    ∷ option (codes "user")
+    ∷ option (codes "target")
+    ∷ option (codes "from")
+    ∷ flag (codes "challenged")
+    ∷ flag (codes "csv")
+    ∷ flag (codes "json")
+    ∷ [])
+
+-- a command with the options that say which day at which time
+abbrev pub at_a_time : Shape → Shape
+at_a_time s = record s {
+  rules = s.rules ++ (needed (option (codes "record")) ∷ []) ++ (option (codes "config") ∷ []) ++ (option (codes "at") ∷ []);
+}
+
+abbrev pub phones_command : Shape
+phones_command = command (codes "phones")
+    (needed (option (codes "record")) ∷ option (codes "config") ∷ option (codes "at") ∷ flag (codes "csv") ∷ flag (codes "json") ∷ [])
+
+abbrev pub now_command : Shape
+now_command = command (codes "now")
+    (needed (option (codes "record")) ∷ option (codes "config") ∷ option (codes "at") ∷ flag (codes "csv") ∷ flag (codes "json") ∷ [])
+
 -- the program without its commands: one has to be there
 abbrev pub no_commands : App
 no_commands = record (new_app (codes "sipd")) { top = record (new_app (codes "sipd")).top { has_version = true; subcommand_required = true } }
@@ -139,8 +191,8 @@ no_commands = record (new_app (codes "sipd")) { top = record (new_app (codes "si
 abbrev pub program : App
 program = record {
   top = record no_commands.top { is_leaf = false };
-  subs =
-      check_command ∷ replay_command ∷ compact_command ∷ serve_command ∷ decide_command ∷ matrix_command ∷ report_command ∷ user_command ∷ [];
+  subs = check_command ∷ replay_command ∷ compact_command ∷ serve_command ∷ decide_command ∷ matrix_command ∷ report_command ∷ user_command
+      ∷ calls_command ∷ phones_command ∷ now_command ∷ [];
 }
 
 -- ---- what is said of an option
@@ -148,6 +200,10 @@ program = record {
 -- its text; none where it isn't there
 abbrev pub text_at : Text → List Row → Option Text
 text_at = first_of
+
+-- the texts of one that may have several
+abbrev pub texts_at : Text → List Row → List Text
+texts_at name rows = unwrap_or (all_of name rows) []
 
 -- whether it is there, with a text
 abbrev pub is_there : Text → List Row → Bool
@@ -277,6 +333,31 @@ pub record IsUser (rows : List Row) (call : UserCall) : Type 0 where
   pub realm : option_map string_bytes call.realm ≡ text_at (codes "realm") rows
   pub sha256 : call.sha256 ≡ is_on (codes "sha256") rows
 
+-- which calls of `calls`
+pub record IsChosen (rows : List Row) (chosen : ChosenCalls) : Type 0 where
+  pub since : option_map string_bytes chosen.since ≡ text_at (codes "since") rows
+  pub until : option_map string_bytes chosen.until ≡ text_at (codes "until") rows
+  pub user : option_map string_bytes chosen.user ≡ text_at (codes "user") rows
+  pub target : option_map string_bytes chosen.target ≡ text_at (codes "target") rows
+  pub from : option_map string_bytes chosen.from ≡ text_at (codes "from") rows
+  pub challenged : chosen.challenged ≡ is_on (codes "challenged") rows
+
+-- `calls`
+pub record IsCalls (rows : List Row) (call : CallsCall) : Type 0 where
+  pub records : map string_bytes call.records.items ≡ texts_at (codes "record") rows
+  pub config : option_map string_bytes call.config ≡ text_at (codes "config") rows
+  pub chosen : IsChosen rows call.chosen
+  pub csv : call.csv ≡ is_on (codes "csv") rows
+  pub json : call.json ≡ is_on (codes "json") rows
+
+-- `phones` and `now`
+pub record IsTime (rows : List Row) (call : TimeCall) : Type 0 where
+  pub file : string_bytes call.file ≡ needed_text (codes "record") rows
+  pub config : option_map string_bytes call.config ≡ text_at (codes "config") rows
+  pub at : option_map string_bytes call.at ≡ text_at (codes "at") rows
+  pub csv : call.csv ≡ is_on (codes "csv") rows
+  pub json : call.json ≡ is_on (codes "json") rows
+
 -- what a command with its options asks for
 abbrev pub IsCall : Text → List Row → ProgramCall → Type 0
 IsCall name rows (calls.Check call) = (name ≡ codes "check") × IsCheck rows call
@@ -287,6 +368,9 @@ IsCall name rows (calls.Decide call) = (name ≡ codes "decide") × IsDecide row
 IsCall name rows (calls.Matrix call) = (name ≡ codes "matrix") × IsMatrix rows call
 IsCall name rows (calls.Report call) = (name ≡ codes "report") × IsReport rows call
 IsCall name rows (calls.User call) = (name ≡ codes "user") × IsUser rows call
+IsCall name rows (calls.Calls call) = (name ≡ codes "calls") × IsCalls rows call
+IsCall name rows (calls.Phones call) = (name ≡ codes "phones") × IsTime rows call
+IsCall name rows (calls.Now call) = (name ≡ codes "now") × IsTime rows call
 
 -- the same of the command that a command line names, if it names one
 abbrev pub IsCallOf : Option (Text × List Row) → ProgramCall → Type 0
@@ -343,6 +427,10 @@ user_misuse rows =
     ∷ (config && is_on (codes "sha256") rows, Sha256Said)
     ∷ [])
 
+-- what is written has one form
+abbrev pub forms_misuse : List Row → Option Misuse
+forms_misuse rows = first_case ((is_on (codes "csv") rows && is_on (codes "json") rows, CsvAndJson) ∷ [])
+
 -- whether something of a question of `decide` is said, and whether a whole one is
 abbrev pub is_asking : List Row → Bool
 is_asking rows = is_there (codes "METHOD") rows || (is_there (codes "user") rows || (is_there (codes "minute") rows || is_there (codes "expect") rows))
@@ -371,6 +459,10 @@ matrix_misuse rows =
     ∷ (csv && html, TwoForms)
     ∷ [])
 
+-- the commands about recorded days
+abbrev pub is_of_days : Text → Bool
+is_of_days name = list_any (bytes_eq name) (codes "calls" ∷ codes "phones" ∷ codes "now" ∷ [])
+
 -- the commands whose options all stand together
 abbrev pub is_free : Text → Bool
 is_free name = list_any (bytes_eq name) (codes "check" ∷ codes "replay" ∷ codes "compact" ∷ codes "report" ∷ [])
@@ -379,7 +471,7 @@ abbrev pub misuse_in : Text → List Row → Option Misuse
 misuse_in name rows =
     if bytes_eq name (codes "serve") then serve_misuse rows else (if bytes_eq name (codes "user") then user_misuse rows
     else (if bytes_eq name (codes "decide") then decide_misuse rows else (if bytes_eq name (codes "matrix") then matrix_misuse rows
-    else (if is_free name then None else Some NoCommand))))
+    else (if is_of_days name then forms_misuse rows else (if is_free name then None else Some NoCommand)))))
 
 -- why the command that a line names is no call with its options
 abbrev pub misuse_of : Option (Text × List Row) → Option Misuse
@@ -398,6 +490,7 @@ line_of NoSuchSync = codes "error: '--sync <WORD>' is 'each', 'second' or 'never
 line_of NoRealm = codes "error: no realm: '--realm <R>', or '--config <FILE>' that states it"
 line_of TwoForms = codes "error: '--against <OLD>', '--csv' and '--html' don't stand together"
 line_of Sha256Said = codes "error: '--sha256' isn't for '--config <FILE>', whose users say whether"
+line_of CsvAndJson = codes "error: '--csv' and '--json' don't stand together"
 line_of NoSuchVerdict = codes "error: '--expect <WORD>' is 'allow', 'deny' or 'challenge'"
 line_of NoQuestion = codes "error: no question: METHOD and TARGET, or '--log'"
 line_of LogAlone = codes "error: '--log' asks what each line says: '--config <FILE>' alone stands beside it"

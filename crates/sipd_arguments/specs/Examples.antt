@@ -4,13 +4,13 @@ use Rattle.clap.specs.Faults.{fault_of}
 use Rattle.clap.specs.Kinds.{Kinds}
 use Rattle.clap.specs.Words.{Row, Text, subcommand_of}
 use Rattle.clap.specs.declared.error.kind.ErrorKind.TheVariants as kinds
-use Rattle.sipd_arguments.specs.CommandLine.{days_said, expected_said, fault_said, is_on, misuse_of, number_at, program, sync_said, text_at}
+use Rattle.sipd_arguments.specs.CommandLine.{days_said, expected_said, fault_said, is_on, misuse_of, number_at, program, sync_said, text_at, texts_at}
 use Rattle.sipd_exit.specs.declared.record_place.RecordFault.TheVariants.{GoOn, End}
 use Rattle.sipd_exit.specs.declared.record_place.RecordSync.TheVariants.{Never, Second}
 use Rattle.sipd_arguments.specs.declared.call.ExpectedDecision.TheVariants.{Deny}
 use Rattle.sipd_arguments.specs.declared.misuse.Misuse.{Misuse}
 use Rattle.sipd_arguments.specs.declared.misuse.Misuse.TheVariants.{TwoRecords, NoNewRecord, NoRecord, NoSuchWord, NoRealm, Sha256Said, NoSuchVerdict, NoQuestion}
-use Rattle.sipd_arguments.specs.declared.misuse.Misuse.TheVariants.{LogAlone, TwoForms, NoFolder, NothingSynced, NoSuchSync}
+use Rattle.sipd_arguments.specs.declared.misuse.Misuse.TheVariants.{LogAlone, TwoForms, NoFolder, NothingSynced, NoSuchSync, CsvAndJson}
 
 -- words behind the program's own name
 abbrev pub line : List Text → List Text
@@ -18,6 +18,9 @@ line words = codes "sipd" ∷ words
 
 abbrev pub serving : List Text → List Text
 serving words = line (codes "serve" ∷ codes "--config" ∷ codes "a.toml" ∷ words)
+
+abbrev pub calling : List Text → List Text
+calling words = line (codes "calls" ∷ codes "--record" ∷ codes "a" ∷ codes "b" ∷ words)
 
 abbrev pub deciding : Text → List Text
 deciding minute = line (codes "decide" ∷ codes "--config" ∷ codes "a.toml" ∷ codes "--minute" ∷ minute ∷ codes "INVITE" ∷ codes "a@b" ∷ [])
@@ -47,6 +50,11 @@ pub record AreLines : Type 0 where
   pub values : faults_in (line (codes "matrix" ∷ codes "--config" ∷ codes "a.toml" ∷ codes "--csv" ∷ [])) ≡ []
   pub no_option : faults_in (line (codes "report" ∷ [])) ≡ []
   pub user : faults_in (line (codes "user" ∷ codes "carol" ∷ codes "--realm" ∷ codes "office" ∷ codes "--sha256" ∷ [])) ≡ []
+  pub calls : faults_in (calling (codes "--since" ∷ codes "2026-10-14" ∷ codes "--json" ∷ [])) ≡ []
+  pub phones : faults_in (line (codes "phones" ∷ codes "--record" ∷ codes "a" ∷ codes "--at" ∷ codes "2026-10-14" ∷ [])) ≡ []
+  pub now : faults_in (line (codes "now" ∷ codes "--record" ∷ codes "a" ∷ codes "b" ∷ [])) ≡ kinds.UnknownArgument ∷ []
+  pub no_records : faults_in (line (codes "calls" ∷ [])) ≡ kinds.MissingRequiredArgument ∷ []
+  pub empty_records : faults_in (line (codes "calls" ∷ codes "--record" ∷ codes "--csv" ∷ [])) ≡ kinds.InvalidValue ∷ []
   pub no_command : faults_in (line []) ≡ kinds.MissingSubcommand ∷ []
   pub other_command : faults_in (line (codes "serv" ∷ [])) ≡ kinds.UnknownArgument ∷ kinds.InvalidSubcommand ∷ []
   pub nothing_named : faults_in (line (codes "serve" ∷ [])) ≡ kinds.MissingRequiredArgument ∷ []
@@ -85,6 +93,9 @@ pub record AreMisuses : Type 0 where
   pub page_of_values : misuse_in_line (line (codes "matrix" ∷ codes "--config" ∷ codes "a.toml" ∷ codes "--csv" ∷ codes "--html" ∷ [])) ≡ Some TwoForms
   pub with_file : misuse_in_line (line (codes "user" ∷ codes "carol" ∷ codes "--config" ∷ codes "a.toml" ∷ [])) ≡ None
   pub no_realm : misuse_in_line (line (codes "user" ∷ codes "carol" ∷ [])) ≡ Some NoRealm
+  pub csv_alone : misuse_in_line (calling (codes "--csv" ∷ [])) ≡ None
+  pub csv_and_json : misuse_in_line (calling (codes "--csv" ∷ codes "--json" ∷ [])) ≡ Some CsvAndJson
+  pub phones_twice : misuse_in_line (line (codes "phones" ∷ codes "--record" ∷ codes "a" ∷ codes "--csv" ∷ codes "--json" ∷ [])) ≡ Some CsvAndJson
   pub said : misuse_in_line (line (codes "user" ∷ codes "carol" ∷ codes "--config" ∷ codes "a.toml" ∷ codes "--sha256" ∷ [])) ≡ Some Sha256Said
   pub verdict : misuse_in_line (asking (codes "--expect" ∷ codes "challenge" ∷ [])) ≡ None
   pub no_verdict : misuse_in_line (asking (codes "--expect" ∷ codes "denied" ∷ [])) ≡ Some NoSuchVerdict
@@ -110,5 +121,7 @@ pub record AreSaid : Type 0 where
   pub no_days : of_line days_said (serving []) ≡ Some 0
   pub second : of_line sync_said (serving (codes "--record" ∷ codes "b" ∷ codes "--sync" ∷ codes "second" ∷ [])) ≡ Some (Some Second)
   pub never : of_line sync_said (serving []) ≡ Some (Some Never)
+  pub records : of_line (texts_at (codes "record")) (calling (codes "--csv" ∷ codes "--record" ∷ codes "c" ∷ []))
+      ≡ Some (codes "a" ∷ codes "b" ∷ codes "c" ∷ [])
   pub denied : of_line expected_said (asking (codes "--expect" ∷ codes "deny" ∷ [])) ≡ Some (Some (Some Deny))
   pub anything : of_line expected_said (asking []) ≡ Some (Some None)

@@ -13,6 +13,9 @@ pub enum ProgramCall {
     Matrix(MatrixCall),
     Report(ReportCall),
     User(UserCall),
+    Calls(CallsCall),
+    Phones(TimeCall),
+    Now(TimeCall),
 }
 
 /// `check`: a configuration is checked.
@@ -148,4 +151,51 @@ pub struct UserCall {
     pub realm: Option<String>,
     /// Whether the digest by SHA-256 is wanted, too; beside a configuration it is never said, since that says it.
     pub sha256: bool,
+}
+
+/// `calls`: the calls of recorded days.
+#[derive(Drop)]
+pub struct CallsCall {
+    /// The files of the records, in the order in which they are shown.
+    pub records: Vec<String>,
+    /// The file of the configuration of records that hold none.
+    pub config: Option<String>,
+    /// Which calls are shown.
+    pub chosen: ChosenCalls,
+    /// Whether comma-separated values are printed.
+    pub csv: bool,
+    /// Whether objects of JSON are; not both.
+    pub json: bool,
+}
+
+/// Which calls of recorded days are shown.
+#[derive(Drop)]
+pub struct ChosenCalls {
+    /// The time from which on calls are shown, as it is said; all are where none is said.
+    pub since: Option<String>,
+    /// The time before which they are.
+    pub until: Option<String>,
+    /// The caller who was proven; anybody where none is named.
+    pub user: Option<String>,
+    /// Who was called.
+    pub target: Option<String>,
+    /// Where they came from.
+    pub from: Option<String>,
+    /// Whether those that were asked for a credential are shown, too.
+    pub challenged: bool,
+}
+
+/// `phones` and `now`: how a recorded day stood at a time.
+#[derive(Drop)]
+pub struct TimeCall {
+    /// The file of the record.
+    pub file: String,
+    /// The file of the configuration of a record that holds none.
+    pub config: Option<String>,
+    /// The time, as it is said; the record's end where none is said.
+    pub at: Option<String>,
+    /// Whether comma-separated values are printed.
+    pub csv: bool,
+    /// Whether objects of JSON are; not both.
+    pub json: bool,
 }

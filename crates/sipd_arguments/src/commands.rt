@@ -317,6 +317,121 @@ fn user_command<'a>(alloc: Global) -> Result<Command<'a>, AllocError>
         .arg(sha256_argument(alloc))
 }
 
+/// `--record FILE ..`, of records that are there.
+fn days_argument<'a>(alloc: Global) -> Arg<'a>
+    ensures rule { rule_of result ≡ Definitions.several (Definitions.option (codes "record")) }
+    ensures local { result.global ≡ false }
+{
+    let help = "The records, in their order";
+    option(alloc, "record", "FILE", help)
+        .num_args(1..)
+        .action(ArgAction::Append)
+}
+
+/// `--config FILE`, of records that hold none.
+fn old_config_argument<'a>(alloc: Global) -> Arg<'a>
+    ensures rule { rule_of result ≡ Definitions.option (codes "config") }
+    ensures local { result.global ≡ false }
+{
+    let help = "The configuration of an older record, which holds none";
+    option(alloc, "config", "FILE", help)
+}
+
+/// `--challenged`.
+fn challenged_argument<'a>(alloc: Global) -> Arg<'a>
+    ensures rule { rule_of result ≡ Definitions.flag (codes "challenged") }
+    ensures local { result.global ≡ false }
+{
+    let help = "Those that were asked for a credential, too";
+    flag(alloc, "challenged", help)
+}
+
+/// The options that say which calls are shown.
+fn choosing<'a>(alloc: Global, command: Command<'a>) -> Result<Command<'a>, AllocError>
+    ensures { (shape : Shape) → IsCommand shape command.entry → IfOk result (IsCommand (Definitions.choosing shape)) }
+{
+    command
+        .arg(option(alloc, "since", "TIME", "Calls from this time on"))?
+        .arg(option(alloc, "until", "TIME", "Calls before this time"))?
+        .arg(option(alloc, "user", "NAME", "Calls of this proven user"))?
+        .arg(option(alloc, "target", "WHOM", "Calls to this USER or USER@HOST"))?
+        .arg(option(alloc, "from", "ADDRESS", "Calls from this IP or IP:PORT"))
+}
+
+/// The options that say for which programs something is written.
+fn forms<'a>(alloc: Global, command: Command<'a>) -> Result<Command<'a>, AllocError>
+    ensures { (shape : Shape) → IsCommand shape command.entry → IfOk result (IsCommand (Definitions.with_forms shape)) }
+{
+    command
+        .arg(flag(alloc, "csv", "Comma-separated values"))?
+        .arg(flag(alloc, "json", "An object of JSON a line"))
+}
+
+/// A command that tells the calls of recorded days, without the options that say which and how.
+fn day_command<'a>(alloc: Global) -> Result<Command<'a>, AllocError>
+    ensures { IfOk result (IsCommand Definitions.day_command) }
+{
+    Command::new(alloc, "calls")
+        .about(
+            "Tells the calls of recorded days: who called whom, what came of it, and for how long",
+        )
+        .arg(days_argument(alloc).required(true))?
+        .arg(old_config_argument(alloc))
+}
+
+fn calls_command<'a>(alloc: Global) -> Result<Command<'a>, AllocError>
+    ensures { IfOk result (IsCommand Definitions.calls_command) }
+{
+    let command = day_command(alloc)?;
+    let chosen = choosing(alloc, command)?;
+    let all_chosen = chosen.arg(challenged_argument(alloc))?;
+    forms(alloc, all_chosen)
+}
+
+/// `--record FILE`, of one record that is there.
+fn one_day_argument<'a>(alloc: Global) -> Arg<'a>
+    ensures rule { rule_of result ≡ Definitions.option (codes "record") }
+    ensures local { result.global ≡ false }
+{
+    option(alloc, "record", "FILE", "The record")
+}
+
+/// `--at TIME`.
+fn at_argument<'a>(alloc: Global) -> Arg<'a>
+    ensures rule { rule_of result ≡ Definitions.option (codes "at") }
+    ensures local { result.global ≡ false }
+{
+    let help = "At this time; at the record's end, if not given";
+    option(alloc, "at", "TIME", help)
+}
+
+/// The options that say which day at which time.
+fn at_a_time<'a>(alloc: Global, command: Command<'a>) -> Result<Command<'a>, AllocError>
+    ensures { (shape : Shape) → IsCommand shape command.entry → IfOk result (IsCommand (Definitions.at_a_time shape)) }
+{
+    command
+        .arg(one_day_argument(alloc).required(true))?
+        .arg(old_config_argument(alloc))?
+        .arg(at_argument(alloc))
+}
+
+fn phones_command<'a>(alloc: Global) -> Result<Command<'a>, AllocError>
+    ensures { IfOk result (IsCommand Definitions.phones_command) }
+{
+    let about =
+        "Tells who was registered at a time of a recorded day: contact, time left, since when";
+    let timed = at_a_time(alloc, Command::new(alloc, "phones").about(about))?;
+    forms(alloc, timed)
+}
+
+fn now_command<'a>(alloc: Global) -> Result<Command<'a>, AllocError>
+    ensures { IfOk result (IsCommand Definitions.now_command) }
+{
+    let about = "Tells the calls that rang or were talked at a time of a recorded day";
+    let timed = at_a_time(alloc, Command::new(alloc, "now").about(about))?;
+    forms(alloc, timed)
+}
+
 /// A command whose help ends with a text.
 fn ended<'a>(command: Command<'a>, text: &'a str) -> Command<'a>
     ensures { (shape : Shape) → IsCommand shape command.entry → IsCommand shape result }
@@ -348,7 +463,10 @@ fn commands<'a>(alloc: Global) -> Result<Command<'a>, AllocError>
         .subcommand(ended(decide_command(alloc)?, endings::DECIDE))?
         .subcommand(ended(matrix_command(alloc)?, endings::MATRIX))?
         .subcommand(ended(report_command(alloc)?, endings::REPORT))?
-        .subcommand(ended(user_command(alloc)?, endings::USER))
+        .subcommand(ended(user_command(alloc)?, endings::USER))?
+        .subcommand(ended(calls_command(alloc)?, endings::CALLS))?
+        .subcommand(ended(phones_command(alloc)?, endings::PHONES))?
+        .subcommand(ended(now_command(alloc)?, endings::NOW))
 }
 
 /// Why a command line isn't taken, or the text that it asks for.

@@ -39,6 +39,24 @@ Example: journalctl -u sipd -o cat | sipd report --config office.toml --denied
 Ends with 0 done, 1 usage, 2 configuration, 4 device, 5 memory.
 More: docs/OPERATING.md";
 
+pub(crate) const CALLS: &str = "\
+TIME is a date, as 2026-10-14, or with a time of day, as 2026-10-14T06:30, on the office's clock.
+Example: sipd calls --record /var/lib/sipd/records/*.record --since 2026-10-14 --user alice
+Ends with 0 done, 1 usage or no such time, 2 configuration, 3 damaged record behind what came before, 4 device, 5 memory.
+More: docs/OPERATING.md";
+
+pub(crate) const PHONES: &str = "\
+TIME is a date, as 2026-10-14, or with a time of day, as 2026-10-14T06:30, on the office's clock.
+Example: sipd phones --record /var/lib/sipd/records/1795638404213.record --at 2026-10-14T10:32
+Ends with 0 done, 1 usage or no such time, 2 configuration, 3 damaged record behind what came before, 4 device, 5 memory.
+More: docs/OPERATING.md";
+
+pub(crate) const NOW: &str = "\
+TIME is a date, as 2026-10-14, or with a time of day, as 2026-10-14T06:30, on the office's clock.
+Example: sipd now --record /var/lib/sipd/records/1795638404213.record
+Ends with 0 done, 1 usage or no such time, 2 configuration, 3 damaged record behind what came before, 4 device, 5 memory.
+More: docs/OPERATING.md";
+
 pub(crate) const USER: &str = "\
 Example: echo sesame | sipd user carol --config office.toml >> office.toml
 Ends with 0 done, 1 usage or no such table, 2 configuration, 4 device, 5 memory.

@@ -15,8 +15,8 @@ mod misuse;
 mod summary;
 
 pub use call::{
-    CheckCall, CompactCall, DecideCall, ExpectedDecision, MatrixCall, ProgramCall, QuestionCall,
-    ReplayCall, ReportCall, ServeCall, UserCall,
+    CallsCall, CheckCall, ChosenCalls, CompactCall, DecideCall, ExpectedDecision, MatrixCall,
+    ProgramCall, QuestionCall, ReplayCall, ReportCall, ServeCall, TimeCall, UserCall,
 };
 pub use commands::{Parsed, parse};
 pub use summary::summary_of;

@@ -1,13 +1,13 @@
 //! What the words of a command ask for, read out of what was parsed; and which options don't stand together.
-ghost use Rattle.std.specs.Prelude.{◌≡◌, Some, None, codes, IfErr, IfOk, is_some, option_map, string_bytes};
+ghost use Rattle.std.specs.Prelude.{◌≡◌, Some, None, codes, map, IfErr, IfOk, is_some, option_map, string_bytes};
 ghost use Rattle.clap.specs.Words.{found_of, rows_of, subcommand_rows_of};
 ghost use Rattle.sipd_arguments.specs.CommandLine as Definitions;
 ghost use Rattle.sipd_arguments.specs.CommandLine.{IsCall, IsCallOf, IsPlace};
 ghost use Rattle.sipd_arguments.specs.Commands.{IsWhy};
 
 use crate::call::{
-    CheckCall, CompactCall, DecideCall, ExpectedDecision, MatrixCall, ProgramCall, QuestionCall,
-    ReplayCall, ReportCall, ServeCall, UserCall,
+    CallsCall, CheckCall, ChosenCalls, CompactCall, DecideCall, ExpectedDecision, MatrixCall,
+    ProgramCall, QuestionCall, ReplayCall, ReportCall, ServeCall, TimeCall, UserCall,
 };
 use crate::misuse::Misuse;
 use clap::ArgMatches;
@@ -53,6 +53,28 @@ fn text_of(
     match matches.get_str(name) {
         Some(text) => Ok(Some(String::from_str(alloc, text)?)),
         None => Ok(None),
+    }
+}
+
+/// Copies of texts.
+fn copies(alloc: Global, texts: &[&str]) -> Result<Vec<String>, AllocError>
+    ensures { IfOk result (λ copies. map string_bytes copies.items ≡ map (λ text. text.now) texts.now) }
+{
+    let mut copies = Vec::new(alloc);
+    for text in texts {
+        copies.push(String::from_str(alloc, text)?)?;
+    }
+    Ok(copies)
+}
+
+/// The texts of an option that may have several.
+#[tactic(auto, using(crate::proofs::Found::texts_found))]
+fn texts_of(alloc: Global, matches: &ArgMatches<'_>, name: &str) -> Result<Vec<String>, AllocError>
+    ensures { IfOk result (λ texts. map string_bytes texts.items ≡ Definitions.texts_at name.now (rows_of (found_of matches.now))) }
+{
+    match matches.get_strs(name) {
+        Some(texts) => Ok(copies(alloc, texts)?),
+        None => Ok(Vec::new(alloc)),
     }
 }
 
@@ -439,6 +461,76 @@ fn user_call(alloc: Global, matches: &ArgMatches<'_>) -> Result<UserCall, Uncall
     })
 }
 
+/// Why these options don't stand together: what is written has one form.
+fn forms_misuse(matches: &ArgMatches<'_>) -> Option<Misuse>
+    ensures { result ≡ Definitions.forms_misuse (rows_of (found_of matches.now)) }
+{
+    if is_on(matches, "csv") && is_on(matches, "json") {
+        return Some(Misuse::CsvAndJson);
+    }
+    None
+}
+
+/// Which calls are to be shown.
+fn chosen_calls(alloc: Global, matches: &ArgMatches<'_>) -> Result<ChosenCalls, AllocError>
+    ensures { IfOk result (Definitions.IsChosen (rows_of (found_of matches.now))) }
+{
+    Ok(ChosenCalls {
+        since: text_of(alloc, matches, "since")?,
+        until: text_of(alloc, matches, "until")?,
+        user: text_of(alloc, matches, "user")?,
+        target: text_of(alloc, matches, "target")?,
+        from: text_of(alloc, matches, "from")?,
+        challenged: is_on(matches, "challenged"),
+    })
+}
+
+/// Which calls of which records are asked for.
+fn asked_calls(alloc: Global, matches: &ArgMatches<'_>) -> Result<CallsCall, AllocError>
+    ensures { IfOk result (Definitions.IsCalls (rows_of (found_of matches.now))) }
+{
+    Ok(CallsCall {
+        records: texts_of(alloc, matches, "record")?,
+        config: text_of(alloc, matches, "config")?,
+        chosen: chosen_calls(alloc, matches)?,
+        csv: is_on(matches, "csv"),
+        json: is_on(matches, "json"),
+    })
+}
+
+fn calls_call(alloc: Global, matches: &ArgMatches<'_>) -> Result<CallsCall, Uncalled>
+    ensures call { IfOk result (λ call. Definitions.IsCalls (rows_of (found_of matches.now)) call × (Definitions.forms_misuse (rows_of (found_of matches.now)) ≡ None)) }
+    ensures refused { IfErr result (IsWhy (Definitions.forms_misuse (rows_of (found_of matches.now)))) }
+{
+    if let Some(why) = forms_misuse(matches) {
+        return Err(Uncalled::Misused(why));
+    }
+    Ok(asked_calls(alloc, matches)?)
+}
+
+/// Which day is asked for, and at which time.
+fn asked_time(alloc: Global, matches: &ArgMatches<'_>) -> Result<TimeCall, AllocError>
+    ensures { IfOk result (Definitions.IsTime (rows_of (found_of matches.now))) }
+{
+    Ok(TimeCall {
+        file: needed_text(alloc, matches, "record")?,
+        config: text_of(alloc, matches, "config")?,
+        at: text_of(alloc, matches, "at")?,
+        csv: is_on(matches, "csv"),
+        json: is_on(matches, "json"),
+    })
+}
+
+fn time_call(alloc: Global, matches: &ArgMatches<'_>) -> Result<TimeCall, Uncalled>
+    ensures call { IfOk result (λ call. Definitions.IsTime (rows_of (found_of matches.now)) call × (Definitions.forms_misuse (rows_of (found_of matches.now)) ≡ None)) }
+    ensures refused { IfErr result (IsWhy (Definitions.forms_misuse (rows_of (found_of matches.now)))) }
+{
+    if let Some(why) = forms_misuse(matches) {
+        return Err(Uncalled::Misused(why));
+    }
+    Ok(asked_time(alloc, matches)?)
+}
+
 /// What a command with its options asks for.
 fn call_named(alloc: Global, name: &str, matches: &ArgMatches<'_>) -> Result<ProgramCall, Uncalled>
     ensures call { IfOk result (λ call. IsCall name.now (rows_of (found_of matches.now)) call × (Definitions.misuse_in name.now (rows_of (found_of matches.now)) ≡ None)) }
@@ -453,6 +545,9 @@ fn call_named(alloc: Global, name: &str, matches: &ArgMatches<'_>) -> Result<Pro
         "matrix" => Ok(ProgramCall::Matrix(matrix_call(alloc, matches)?)),
         "report" => Ok(ProgramCall::Report(report_call(alloc, matches)?)),
         "user" => Ok(ProgramCall::User(user_call(alloc, matches)?)),
+        "calls" => Ok(ProgramCall::Calls(calls_call(alloc, matches)?)),
+        "phones" => Ok(ProgramCall::Phones(time_call(alloc, matches)?)),
+        "now" => Ok(ProgramCall::Now(time_call(alloc, matches)?)),
         _ => Err(Uncalled::Misused(Misuse::NoCommand)),
     }
 }

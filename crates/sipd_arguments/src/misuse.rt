@@ -32,6 +32,8 @@ pub(crate) enum Misuse {
     LogAlone,
     /// Two of `--against`, whose lines have a form of their own, `--csv` and `--html` stand beside each other.
     TwoForms,
+    /// `--csv` of `calls` stands beside `--json`.
+    CsvAndJson,
 }
 
 impl Misuse {
@@ -65,6 +67,7 @@ impl Misuse {
             Misuse::Sha256Said => {
                 "error: '--sha256' isn't for '--config <FILE>', whose users say whether"
             }
+            Misuse::CsvAndJson => "error: '--csv' and '--json' don't stand together",
             Misuse::NoSuchVerdict => "error: '--expect <WORD>' is 'allow', 'deny' or 'challenge'",
             Misuse::NoQuestion => "error: no question: METHOD and TARGET, or '--log'",
             Misuse::LogAlone => {

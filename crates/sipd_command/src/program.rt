@@ -5,6 +5,7 @@ use crate::serving::serve_file;
 use sip_policy::Rules;
 use sip_timers::Timers;
 use sipd_arguments::{Parsed, ProgramCall, ReplayCall, parse};
+use sipd_days::{DayTable, show_calls, show_table};
 use sipd_exit::{Exit, print};
 use sipd_progress::Watched;
 use sipd_replay::{replay_records, replay_script};
@@ -73,6 +74,13 @@ fn carry_out<
         ProgramCall::Matrix(call) => matrix(rt, call, output, complaints),
         ProgramCall::Report(call) => make_report(rt, call, input, output, complaints),
         ProgramCall::User(call) => make_user(rt, call, input, output, complaints),
+        ProgramCall::Calls(call) => show_calls::<T, P, R, W, C>(rt, call, seen, output, complaints),
+        ProgramCall::Phones(call) => {
+            show_table::<T, P, R, W, C>(rt, DayTable::Phones, call, seen, output, complaints)
+        }
+        ProgramCall::Now(call) => {
+            show_table::<T, P, R, W, C>(rt, DayTable::Standing, call, seen, output, complaints)
+        }
     }
 }
 

@@ -1,3 +1,4 @@
 pub mod OldRecord
 pub mod Own
 pub mod Readers
+pub mod FirstConfiguration

@@ -6,8 +6,6 @@ use Rattle.sip_replay_script.specs.declared.print_stop.PrintStop.{PrintStop}
 use Rattle.sip_replay_script.specs.declared.print_stop.PrintStop.TheVariants as prints
 use Rattle.sip_replay.specs.resume.declared.record_error.RecordError.{RecordError}
 use Rattle.sip_replay.specs.resume.declared.record_error.RecordError.TheVariants as records
-use Rattle.sip_segment_config.specs.declared.stop.SegmentStop.{SegmentStop}
-use Rattle.sip_segment_config.specs.declared.stop.SegmentStop.TheVariants as segments
 use Rattle.sipd_exit.specs.declared.device_fault.DeviceFault.TheVariants.{Other}
 use Rattle.sipd_exit.specs.declared.exit.Exit.{Exit}
 use Rattle.sipd_exit.specs.declared.exit.Exit.TheVariants.{Script, Device, Memory, Recording}
@@ -19,16 +17,6 @@ exit_of_replay replays.NoMemory = Memory
 exit_of_replay (replays.Script line) = Script line
 exit_of_replay replays.Read = Device Other
 exit_of_replay replays.Write = Device Other
-
--- what it is where the configuration isn't read with which a record begins
-abbrev pub exit_of_segment : SegmentStop → Exit
-exit_of_segment segments.NoMemory = Memory
-exit_of_segment (segments.Damaged line) = Script (line_of_file line)
-exit_of_segment (segments.Cut line) = Script (line_of_file line)
-exit_of_segment (segments.TooLong line) = Script (line_of_file line)
-exit_of_segment (segments.NoConfiguration line e) = Script (line_of_file line)
-exit_of_segment (segments.OtherFrame line key) = Script (line_of_file line)
-exit_of_segment segments.Read = Device Other
 
 -- what the refused replay of a record is to it, behind whose first line so many lines were read
 abbrev pub exit_of_record : RecordError → ℕ → Exit

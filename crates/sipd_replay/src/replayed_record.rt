@@ -1,12 +1,9 @@
-//! The command `replay --record` carried out: the configuration with which a record begins, and how the program ends where it is refused.
-ghost use Rattle.std.specs.Prelude.{◌≡◌, ◌⊎◌, IfErr, IfNone, IfOk, IfSome, OnOk};
-ghost use Rattle.sip_replay_script.specs.Devices.{later, GaveUp};
-ghost use Rattle.sip_replay_script.specs.Lines.{IsSpent};
+//! The command `replay --record` carried out, and how the program ends where it is refused.
+ghost use Rattle.std.specs.Prelude.{◌≡◌, ◌⊎◌, IfErr, OnOk};
+ghost use Rattle.sip_replay_script.specs.Devices.{GaveUp};
 ghost use Rattle.sipd_replay.specs.ReplayExits as Exits;
-ghost use Rattle.sipd_old_record.specs.Own.{HoldsNone};
-ghost use Rattle.sipd_replay.specs.Replays.{BeginsWith, GivesOwn, HasDigest, IsKeptBack, IsOfAnother, IsReplayed, IsReplayedOn, IsUnconfigured, IsUnreplayed, OwnUnread, StatesNamed, UnnamedStops};
+ghost use Rattle.sipd_replay.specs.Replays.{IsKeptBack, IsReplayed, IsReplayedOn, IsUnreplayed};
 
-use sip_config_types::Config;
 use sip_event::Boot;
 use sip_journal::{RecordHead, RecordMark};
 use sip_policy::Rules;
@@ -14,32 +11,16 @@ use sip_record_omitted::Expanding;
 use sip_replay::resume::RecordError;
 use sip_replay_print::Printer;
 use sip_replay_script::{PrintStop, ScriptLines, TellingReader, TellingWriter, hand_on};
-use sip_segment_config::SegmentStop;
 use sip_timers::Timers;
-use sipd_exit::{DeviceFault, Exit, Stated, config_of_bytes, stated_in};
+use sipd_exit::{DeviceFault, Exit, Stated};
 use sipd_old_record::{
-    OldRecord, exit_in_file, is_made_with, line_of_file, open_any_record, own_configuration,
+    OldRecord, configuration_of, exit_in_file, line_of_file, named_file, open_any_record,
 };
 use sipd_progress::{Watched, size_of_file};
 use sipd_reload::MOST_BYTES;
 use std::alloc::Global;
 use std::io::Write;
 use std::rt::{Clock, Files};
-
-/// How the program ends where the configuration isn't read with which a record begins.
-fn exit_of_segment(stop: SegmentStop) -> Exit
-    ensures { result ≡ Exits.exit_of_segment stop }
-{
-    match stop {
-        SegmentStop::NoMemory => Exit::Memory,
-        SegmentStop::Damaged(line)
-        | SegmentStop::Cut(line)
-        | SegmentStop::TooLong(line)
-        | SegmentStop::NoConfiguration(line, _)
-        | SegmentStop::OtherFrame(line, _) => Exit::Script(line_of_file(line)),
-        SegmentStop::Read => Exit::Device(DeviceFault::Other),
-    }
-}
 
 /// How the program ends where the replay of a record is refused, of which so many lines behind the first one were read.
 fn exit_of_record(e: RecordError, lines: u64) -> Exit
@@ -64,75 +45,6 @@ fn exit_of_print(stop: PrintStop) -> Exit
     match stop {
         PrintStop::NoMemory => Exit::Memory,
         PrintStop::Write => Exit::Device(DeviceFault::Other),
-    }
-}
-
-/// The configuration of its own with which a record begins whose first line says this head; none where it holds none. Refusals: `Script`, where
-/// what comes is neither a configuration nor an event, and with the first line, where that has the digest of other bytes; `Memory`; `Device`,
-/// where the reader failed.
-fn first_of<I: TellingReader>(
-    alloc: Global,
-    head: &RecordHead,
-    lines: &mut ScriptLines,
-    reader: &mut I,
-) -> Result<Option<Config>, Exit>
-    ensures own { IfOk result (λ found. IfSome found (GivesOwn head.now.digest lines.old lines.new (I.remaining reader.old) (I.remaining reader.new))) }
-    ensures none { IfOk result (λ found. IfNone found (HoldsNone lines.old lines.new (I.remaining reader.old) (I.remaining reader.new))) }
-    ensures refused { IfErr result (OwnUnread head.now.digest (IsSpent (I.has_failed reader.new) lines.new.asks) lines.old (I.remaining reader.old)) }
-    ensures asked { later lines.new.asks (I.asked reader.new) ≡ later lines.old.asks (I.asked reader.old) }
-{
-    match own_configuration(alloc, head, lines, reader) {
-        Ok(Some(held)) => Ok(Some(held.config)),
-        Ok(None) => Ok(None),
-        Err(stop) => Err(exit_of_segment(stop)),
-    }
-}
-
-/// The configuration of the file that is named, for a record that holds none. Refusals: `BareRecord`, where none is named; `Memory`,
-/// and `Configuration`, where its bytes state none.
-fn named_configuration(alloc: Global, named: Option<&Stated>) -> Result<Config, Exit>
-    ensures stated { IfOk result (StatesNamed named.entry) }
-    ensures refused { IfErr result (UnnamedStops named.entry) }
-{
-    match named {
-        Some(file) => config_of_bytes(alloc, file.bytes.as_slice()),
-        None => Err(Exit::BareRecord),
-    }
-}
-
-/// That a file that is named has the digest of a record's first line. `OtherConfiguration` is the only refusal.
-fn check_digest(head: &RecordHead, named: Option<&Stated>) -> Result<(), Exit>
-    ensures same { OnOk result (HasDigest head.now.digest named.entry) }
-    ensures other { IfErr result (IsOfAnother head.now.digest named.entry) }
-{
-    let Some(file) = named else {
-        return Ok(());
-    };
-    if is_made_with(head, &file.digest) {
-        Ok(())
-    } else {
-        Err(Exit::OtherConfiguration)
-    }
-}
-
-/// The configuration with which a record begins whose first line says this head: its own; or of one that holds none that of the file that is
-/// named. A file that is named has to have the digest of the head, in either case: `OtherConfiguration` is the refusal else. Refused as
-/// `first_of` and `named_configuration`, too.
-fn configuration_of<I: TellingReader>(
-    alloc: Global,
-    head: &RecordHead,
-    named: Option<&Stated>,
-    lines: &mut ScriptLines,
-    reader: &mut I,
-) -> Result<Config, Exit>
-    ensures begins { IfOk result (BeginsWith head.now.digest named.entry lines.old lines.new (I.remaining reader.old) (I.remaining reader.new)) }
-    ensures refused { IfErr result (IsUnconfigured head.now.digest named.entry (IsSpent (I.has_failed reader.new) lines.new.asks) lines.old (I.remaining reader.old)) }
-    ensures asked { later lines.new.asks (I.asked reader.new) ≡ later lines.old.asks (I.asked reader.old) }
-{
-    check_digest(head, named)?;
-    match first_of(alloc, head, lines, reader)? {
-        Some(config) => Ok(config),
-        None => Ok(named_configuration(alloc, named)?),
     }
 }
 
@@ -186,17 +98,6 @@ fn replay_whole<T: Timers, P: Rules, I: TellingReader, W: TellingWriter + Drop>(
     match hand_on(&mut printer.writer) {
         Ok(()) => Ok(()),
         Err(stop) => Err(exit_of_print(stop)),
-    }
-}
-
-/// The file that is named, if one is.
-fn named_file<R: Files + AllocGlobal>(
-    rt: &R,
-    config: Option<&str>,
-) -> Result<Option<Stated>, Exit> {
-    match config {
-        Some(path) => Ok(Some(stated_in(rt, path)?)),
-        None => Ok(None),
     }
 }
 

@@ -6,7 +6,7 @@ const DAYS_OF_400_YEARS: u64 = 146_097;
 
 /// A date of the Gregorian calendar; months and days are counted from 1.
 #[derive(Clone, Copy)]
-pub(crate) struct Date {
+pub struct Date {
     pub year: u64,
     pub month: u64,
     pub day: u64,
@@ -24,7 +24,8 @@ fn days_of_year(year: u64) -> u64
     if is_leap_year(year) { 366 } else { 365 }
 }
 
-fn days_of_months(year: u64) -> [u64; 12]
+/// How many days the months of a year have.
+pub fn days_of_months(year: u64) -> [u64; 12]
     ensures { result ≡ Definitions.days_of_months year }
 {
     let february = if is_leap_year(year) { 29 } else { 28 };
@@ -58,7 +59,7 @@ fn day_of_year(year: u64, day: u64) -> Date
 }
 
 /// The date that is so many days behind 1 January 1970.
-pub(crate) fn date_of(days: u64) -> Date
+pub fn date_of(days: u64) -> Date
     requires { days < 2 ^ 60 }
     ensures { result ≡ Definitions.date_of days }
 {

@@ -67,8 +67,8 @@ fn push_spaces(row: &mut Bytes, count: usize) -> Result<(), AllocError>
     Ok(())
 }
 
-/// Adds a text with spaces behind it up to a width.
-pub(crate) fn push_padded(row: &mut Bytes, width: usize, text: &[u8]) -> Result<(), AllocError>
+/// Adds a text with spaces behind it up to a width; a longer one isn't cut.
+pub fn push_padded(row: &mut Bytes, width: usize, text: &[u8]) -> Result<(), AllocError>
     ensures { OnOk result (row.new ≡ row.old ++ Definitions.padded width text.now) }
 {
     row.extend(text)?;

@@ -2,7 +2,7 @@
 //! CSV, and what is counted of them.
 //!
 //! - Used: `sipd_tools`, for `report`; `sipd_expect`, for the lines of a log and what each says; `sipd_matrix_forms`, for fields of
-//!   comma-separated values.
+//!   comma-separated values; `sipd_days`, `sipd_calls` and the rooms above it write dates, times and cells as it does.
 //! - Not here: audit lines (`sip_audit`), and which words of a command line ask for a report.
 //! - Tried: worked examples in `src/examples.rt`, as contracts that compute.
 //!
@@ -27,9 +27,12 @@ mod target;
 mod times;
 mod totals;
 
-pub use cells::push_field;
+pub use calendar::{Date, date_of, days_of_months};
+pub use cells::{push_field, push_padded};
 pub use entry::entry_of;
 pub use error::ReportError;
 pub use lines::next_front;
-pub use query::{Form, Query};
+pub use query::{Form, Query, is_of_user};
 pub use reporting::report;
+pub use target::{push_user, put_target, upper_digit};
+pub use times::{push_clock, push_dated, push_offset, push_two_digits, shown_seconds};

@@ -39,7 +39,8 @@ impl Query<'_> {
     }
 }
 
-fn is_of_user(wanted: Option<&[u8]>, who: &Option<Bytes>) -> bool
+/// Whether the proven user is the one that is asked for; anybody is, where none is.
+pub fn is_of_user(wanted: Option<&[u8]>, who: &Option<Bytes>) -> bool
     ensures { result ≡ Definitions.is_of_user (option_map (λ name. name.now) wanted.entry) who.now }
 {
     let Some(name) = wanted else {

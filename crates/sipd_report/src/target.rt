@@ -8,7 +8,7 @@ use sip_uri::Aor;
 use std::alloc::AllocError;
 
 /// A hexadecimal digit, letters in upper case.
-fn upper_digit(value: u8) -> u8
+pub fn upper_digit(value: u8) -> u8
     requires { value < 16 }
     ensures { result ≡ Definitions.upper_digit value }
 {
@@ -36,7 +36,8 @@ fn push_user_byte(text: &mut Bytes, byte: u8) -> Result<(), AllocError>
     text.extend(&[b'%', upper_digit(byte / 16), upper_digit(byte % 16)])
 }
 
-fn push_user(text: &mut Bytes, user: &[u8]) -> Result<(), AllocError>
+/// Adds a user, each byte as an escape unless it may stand in a name.
+pub fn push_user(text: &mut Bytes, user: &[u8]) -> Result<(), AllocError>
     ensures { OnOk result (text.new ≡ text.old ++ flat_map Definitions.user_byte_text user.now) }
 {
     for byte in user {
@@ -46,7 +47,7 @@ fn push_user(text: &mut Bytes, user: &[u8]) -> Result<(), AllocError>
 }
 
 /// Adds an address of record as an audit line has it.
-pub(crate) fn put_target(text: &mut Bytes, target: &Aor) -> Result<(), AllocError>
+pub fn put_target(text: &mut Bytes, target: &Aor) -> Result<(), AllocError>
     ensures { OnOk result (text.new ≡ text.old ++ Definitions.target_text target.now) }
 {
     push_user(text, target.user.as_slice())?;

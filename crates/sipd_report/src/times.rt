@@ -11,7 +11,7 @@ use std::alloc::AllocError;
 const DAY: u64 = 86_400;
 
 /// Adds a number in two digits or more.
-fn push_two_digits(text: &mut Bytes, number: u64) -> Result<(), AllocError>
+pub fn push_two_digits(text: &mut Bytes, number: u64) -> Result<(), AllocError>
     ensures { OnOk result (text.new ≡ text.old ++ Definitions.two_digits number) }
 {
     if number < 10 {
@@ -36,7 +36,8 @@ fn push_date(text: &mut Bytes, date: Date) -> Result<(), AllocError>
     push_behind(text, b'-', date.day)
 }
 
-fn push_clock(text: &mut Bytes, second: u64) -> Result<(), AllocError>
+/// Adds the time of day at a second of it, as 14:03:36.
+pub fn push_clock(text: &mut Bytes, second: u64) -> Result<(), AllocError>
     ensures { OnOk result (text.new ≡ text.old ++ Definitions.clock_text second) }
 {
     push_two_digits(text, second / 3600)?;
@@ -60,7 +61,8 @@ pub(crate) fn push_minutes(text: &mut Bytes, minutes: u64) -> Result<(), AllocEr
     push_behind(text, b':', minutes % 60)
 }
 
-fn push_offset(text: &mut Bytes, offset: i16) -> Result<(), AllocError>
+/// Adds how far a clock is ahead of UTC, in minutes, as +01:00.
+pub fn push_offset(text: &mut Bytes, offset: i16) -> Result<(), AllocError>
     ensures { OnOk result (text.new ≡ text.old ++ Definitions.offset_text offset) }
 {
     let sign = if offset < 0 { b'-' } else { b'+' };
@@ -68,8 +70,9 @@ fn push_offset(text: &mut Bytes, offset: i16) -> Result<(), AllocError>
     push_minutes(text, u64::from(offset.unsigned_abs()))
 }
 
-/// What a clock shows that is so many minutes ahead of UTC, in seconds since the start of 1970, not before it.
-fn shown_seconds(at: u64, offset: i16) -> u64
+/// What a clock shows that is so many minutes ahead of UTC, at a moment in milliseconds since the start of 1970: in seconds since that, not
+/// before it.
+pub fn shown_seconds(at: u64, offset: i16) -> u64
     ensures shown { result ≡ Definitions.shown_seconds at offset }
     ensures small { result < 2 ^ 60 }
 {
@@ -84,7 +87,7 @@ fn shown_seconds(at: u64, offset: i16) -> u64
 
 /// Adds date and time of day with a mark between them, at seconds since 1970 began.
 #[tactic(auto, using(crate::proofs::Ends::behind_date))]
-fn push_dated(text: &mut Bytes, mark: u8, seconds: u64) -> Result<(), AllocError>
+pub fn push_dated(text: &mut Bytes, mark: u8, seconds: u64) -> Result<(), AllocError>
     requires { seconds < 2 ^ 60 }
     ensures { OnOk result (text.new ≡ text.old ++ Definitions.dated_text mark seconds) }
 {

@@ -4,7 +4,10 @@ use Rattle.sipd_arguments.proofs.commands.commands.Goals as goal
 
 pub returns : goal.returns
 returns c =
-    IfOk-weaker c.subcommand-8.result _ _ (λ r h. placed _ _ _ _ r
+    IfOk-weaker c.subcommand-11.result _ _ (λ r h. placed _ _ _ _ r
+    (placed _ _ _ _ _
+    (placed _ _ _ _ _
+    (placed _ _ _ _ _
     (placed _ _ _ _ _
     (placed _ _ _ _ _
     (placed _ _ _ _ _
@@ -20,4 +23,7 @@ returns c =
     (c.ended-5.ensures _ c.in_ok-decide_command.ensures) c.in_ok-subcommand-5.ensures)
     (c.ended-6.ensures _ c.in_ok-matrix_command.ensures) c.in_ok-subcommand-6.ensures)
     (c.ended-7.ensures _ c.in_ok-report_command.ensures) c.in_ok-subcommand-7.ensures)
-    (c.ended-8.ensures _ c.in_ok-user_command.ensures) h) c.subcommand-8.ensures
+    (c.ended-8.ensures _ c.in_ok-user_command.ensures) c.in_ok-subcommand-8.ensures)
+    (c.ended-9.ensures _ c.in_ok-calls_command.ensures) c.in_ok-subcommand-9.ensures)
+    (c.ended-10.ensures _ c.in_ok-phones_command.ensures) c.in_ok-subcommand-10.ensures)
+    (c.ended-11.ensures _ c.in_ok-now_command.ensures) h) c.subcommand-11.ensures

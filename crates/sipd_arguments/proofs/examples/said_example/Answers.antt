@@ -16,6 +16,7 @@ returns c = record {
   no_days = refl;
   second = refl;
   never = refl;
+  records = refl;
   denied = refl;
   anything = refl;
 }

@@ -1,0 +1,9 @@
+pub mod Deciding
+pub mod Growing
+pub mod Opened
+pub mod Settled
+pub mod Told
+pub mod Unchanged
+pub mod Places
+pub mod Telling
+pub mod PhonesGrowing

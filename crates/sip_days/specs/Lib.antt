@@ -1,0 +1,9 @@
+pub mod Calls
+pub mod Results
+pub mod Hearing
+pub mod Changing
+pub mod Begun
+pub mod Days
+pub mod ExampleCalls
+pub mod Phones
+pub mod ExamplePhones

@@ -1,0 +1,4 @@
+pub mod Items
+pub mod Errors
+pub mod Retells
+pub mod Stops

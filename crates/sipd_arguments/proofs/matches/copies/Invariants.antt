@@ -1,0 +1,7 @@
+use Rattle.std.proofs.Common.{◌≡◌, map, take}
+use Rattle.std.specs.Prelude.{string_bytes}
+use Rattle.sipd_arguments.proofs.matches.copies.Given as goal
+
+-- the texts so far are copied
+abbrev pub invariant-loop-text : goal.invariant-loop-text
+invariant-loop-text l = map string_bytes l.copies.items ≡ map (λ text. text.now) (take l.text-index l.texts)

@@ -1,0 +1,4 @@
+pub mod MomentParts
+pub mod Rows
+pub mod Parts
+pub mod Shown

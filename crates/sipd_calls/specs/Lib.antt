@@ -1,0 +1,9 @@
+pub mod Moments
+pub mod Notation
+pub mod Words
+pub mod Choices
+pub mod Program
+pub mod Cells
+pub mod Totals
+pub mod Table
+pub mod Example

@@ -1,0 +1,5 @@
+pub mod Sums
+pub mod Shown
+pub mod Stood
+pub mod Timed
+pub mod Printing

@@ -1,0 +1,25 @@
+-- What the words of a command line choose.
+use Rattle.std.specs.Prelude.{◌≡◌, ℕ, Bool, if◌then◌else◌, List, Option, None, Some, option_map, string_bytes}
+use Rattle.std.specs.Option.{option_and_then}
+use Rattle.sipd_arguments.specs.declared.call.ChosenCalls.{ChosenCalls}
+use Rattle.sipd_calls.specs.declared.choice.CallFilter.{CallFilter}
+use Rattle.sipd_calls.specs.declared.notation.Notation.{Notation}
+use Rattle.sipd_calls.specs.declared.notation.Notation.TheVariants.{Csv, Json}
+use Rattle.sipd_days.specs.Said.{time_said}
+
+-- how something is written; none is a table
+abbrev pub form_of : Bool → Bool → Option Notation
+form_of csv json = if csv then Some Csv else if json then Some Json else None
+
+-- the time that is said, if one is
+abbrev pub time_in : Option (List ℕ) → Option ℕ
+time_in said = option_and_then time_said said
+
+-- which calls are asked for
+pub record IsChoice (chosen : ChosenCalls) (choice : CallFilter) : Type 0 where
+  pub since : choice.since ≡ time_in (option_map string_bytes chosen.since)
+  pub until : choice.until ≡ time_in (option_map string_bytes chosen.until)
+  pub user : option_map (λ name. name.now) choice.user ≡ option_map string_bytes chosen.user
+  pub target : option_map (λ text. text.now) choice.target ≡ option_map string_bytes chosen.target
+  pub from : option_map (λ text. text.now) choice.from ≡ option_map string_bytes chosen.from
+  pub challenged : choice.challenged ≡ chosen.challenged

@@ -1,0 +1,9 @@
+pub mod Said
+pub mod Examples
+pub mod Exits
+pub mod Tellings
+pub mod Choosing
+pub mod Days
+pub mod Standing
+pub mod DayAt
+pub mod Printed

@@ -1,0 +1,24 @@
+//! What is told of recorded days: their calls; and who was registered, and which calls stood, at a time. The record in a file, told to a listener:
+//! the configuration with which it begins, a server that takes its events again, and how the program ends where it isn't told to its end.
+//!
+//! - Used: `sipd_command`.
+//! - Not here: how the steps of a record are told (`sip_retell`), with which configuration one begins (`sipd_old_record`), what a call is
+//!   (`sip_days`), and how all of it is written (`sipd_calls`, `sipd_standing`).
+//! - Tried: worked times in `src/examples.rt`, as contracts that compute; `test_server`.
+#![tactic(auto)]
+
+mod calls;
+mod choosing;
+mod day;
+mod day_at;
+pub mod examples;
+mod exits;
+mod moments;
+mod said;
+mod showing;
+mod standing;
+mod telling;
+
+pub use calls::show_calls;
+pub use day_at::DayTable;
+pub use moments::show_table;

@@ -1,0 +1,122 @@
+//! The commands `phones` and `now`: how a recorded day stood at a time.
+ghost use Rattle.std.specs.Prelude.{◌≡◌, ◌<◌, ◌^◌, None, option_map, string_bytes, IfNone, IfOk, IfSome, OnOk};
+ghost use Rattle.sipd_days.specs.Choosing as Chosen;
+ghost use Rattle.sipd_days.specs.DayAt.{IsByClock, WasTableIf};
+ghost use Rattle.sipd_days.specs.Printed.{PrintsTable};
+
+use crate::calls::{complain_of_older, ended};
+use crate::choosing::{form_of, time_in};
+use crate::day::{end_of_day, exit_of_day, open_day};
+use crate::day_at::{DayAt, DayTable, table_of};
+use crate::standing::DayClock;
+use sip_policy::Rules;
+use sip_record_omitted::Expanding;
+use sip_record_sealed::Unsealing;
+use sip_timers::Timers;
+use sipd_arguments::TimeCall;
+use sipd_exit::{Exit, print};
+use sipd_old_record::{OldRecord, named_file};
+use sipd_progress::Watched;
+use std::io::{BufReader, Write};
+use std::rt::{Clock, Files};
+
+/// A table, where the program ends at a line of the record's file.
+fn in_file<R: Files + Clock + Eprint + AllocGlobal>(
+    day: DayAt,
+    events: &Expanding<Watched<'_, R, Unsealing<BufReader<R::File>>>>,
+) -> DayAt
+    ensures text { result.text ≡ day.text }
+    ensures taken { result.taken.ahead ≡ day.taken.ahead }
+    ensures in_force { result.in_force.ahead ≡ day.in_force.ahead }
+    ensures end { IfNone result.end (day.end ≡ None) }
+{
+    let DayAt {
+        text,
+        taken,
+        in_force,
+        end,
+    } = day;
+    DayAt {
+        text,
+        taken,
+        in_force,
+        end: end_of_day(end, events),
+    }
+}
+
+/// A table of the record in a file, at a time of a clock, or of that of the configuration with which it begins, where none is given; at its end,
+/// where no time is.
+fn table_in<T: Timers, P: Rules, R: Files + Clock + Eprint + AllocGlobal, C: Write>(
+    rt: &R,
+    table: DayTable,
+    call: &TimeCall,
+    time: Option<u64>,
+    clock: Option<DayClock>,
+    seen: bool,
+    complaints: &mut C,
+) -> Result<DayAt, Exit>
+    requires { IfSome time (λ t. t < 2 ^ 50) }
+    ensures { IfOk result (λ day. WasTableIf table (Chosen.form_of call.now.csv call.now.json) time (option_map (λ c. c.ahead) clock) day.text day.taken.ahead day.in_force.ahead day.end) }
+{
+    let named = named_file(rt, call.config.as_ref().map(String::as_str))?;
+    let OldRecord { head, mut events } = open_day(rt, call.file.as_str(), seen, complaints)?;
+    let form = form_of(call.csv, call.json);
+    match table_of::<T, P, _>(
+        rt.alloc(),
+        table,
+        &head,
+        named.as_ref(),
+        &mut events,
+        form,
+        time,
+        clock,
+    ) {
+        Ok(day) => Ok(in_file(day, &events)),
+        Err(exit) => Err(complain_of_older(exit_of_day(exit, &events), complaints)),
+    }
+}
+
+/// The same by the clock that is in force then: where that isn't the clock with which the record begins, it is told once more.
+fn table_by_clock<T: Timers, P: Rules, R: Files + Clock + Eprint + AllocGlobal, C: Write>(
+    rt: &R,
+    table: DayTable,
+    call: &TimeCall,
+    time: Option<u64>,
+    seen: bool,
+    complaints: &mut C,
+) -> Result<DayAt, Exit>
+    requires { IfSome time (λ t. t < 2 ^ 50) }
+    ensures { IfOk result (λ day. IsByClock table (Chosen.form_of call.now.csv call.now.json) time day.text day.end) }
+{
+    let first = table_in::<T, P, R, C>(rt, table, call, time, None, seen, complaints)?;
+    match first.other_clock() {
+        None => Ok(first),
+        Some(clock) => table_in::<T, P, R, C>(rt, table, call, time, Some(clock), seen, complaints),
+    }
+}
+
+/// Prints a table of a recorded day at a time, or at its end. The time is one of the office's clock by the configuration that was in
+/// force then: where that isn't the clock with which the record begins, it is told once more. Where the record is damaged in front of that, it
+/// is so at the damage, and the program ends as that says.
+///
+/// `seen`: whether somebody looks at standard error, where it is said then how far it is.
+pub fn show_table<T: Timers, P: Rules, R: Files + Clock + Eprint + AllocGlobal, W: Write, C: Write>(
+    rt: &R,
+    table: DayTable,
+    call: &TimeCall,
+    seen: bool,
+    output: &mut W,
+    complaints: &mut C,
+) -> Result<(), Exit>
+    ensures { OnOk result (PrintsTable table call.now (W.contents output.old) (W.contents output.new)) }
+{
+    let time = time_in(rt.alloc(), &call.at)?;
+    let DayAt {
+        text,
+        taken: _,
+        in_force: _,
+        end,
+    } = table_by_clock::<T, P, R, C>(rt, table, call, time, seen, complaints)?;
+    print(text.as_slice(), output)?;
+    ended(end)
+}

@@ -1,0 +1,5 @@
+pub mod Program
+pub mod Standing
+pub mod PhoneCells
+pub mod PhoneProgram
+pub mod PhoneTable
