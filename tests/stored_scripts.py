@@ -607,20 +607,15 @@ def of_calls(head, sample, key):
     shown = "".join(DAY_ROWS[number] for number in (3, 6, 7))
     late = "".join(DAY_ROWS[number] for number in (10, 11))
     table = utc + shown + ahead + late + "calls: 5, answered: 1, talked: 0:51\n"
+    one = utc + DAY_ROWS[3] + "calls: 1, answered: 1, talked: 0:51\n"
     damaged = head + front
     changed = sealed(head + front) + sealed("another" + others)[len("another") :]
     shorter = sealed(head + front + OMITTED)
     for name, words, record, output, why in (
         ("calls_of_a_day", "", head + front + others, table, None),
         # an end in the middle of an event's line is none of a day that is over
-        ("calls_of_a_day_so_far", "", damaged + others[:40], utc + DAY_ROWS[3] + "calls: 1, answered: 1, talked: 0:51\n", None),
-        (
-            "calls_of_a_damaged_day",
-            "",
-            damaged + "x\n" + others,
-            utc + DAY_ROWS[3] + "calls: 1, answered: 1, talked: 0:51\n",
-            f"sipd: script line {damaged.count(chr(10)) + 1}\n",
-        ),
+        ("calls_of_a_day_so_far", "", damaged + others[:40], one, None),
+        ("calls_of_a_damaged_day", "", damaged + "x\n" + others, one, f"sipd: script line {damaged.count(chr(10)) + 1}\n"),
         # all that stands in front of the wrong digest is told, too
         (
             "calls_of_a_changed_day",
@@ -630,13 +625,7 @@ def of_calls(head, sample, key):
             f"sipd: the record was changed: its line {changed.count(chr(10))} has the digest of other bytes\n",
         ),
         # lines that stand for others, and those of digests, count as one each
-        (
-            "calls_of_a_damaged_shorter_day",
-            "",
-            shorter + "x\n",
-            utc + DAY_ROWS[3] + "calls: 1, answered: 1, talked: 0:51\n",
-            f"sipd: script line {shorter.count(chr(10)) + 1}\n",
-        ),
+        ("calls_of_a_damaged_shorter_day", "", shorter + "x\n", one, f"sipd: script line {shorter.count(chr(10)) + 1}\n"),
         ("calls_for_programs", "--csv --challenged", None, DAY_NAMES + "".join(DAY_LINES.values()), None),
         ("calls_by_choice", "--json --target help --since 1970-01-01T00:01", None, "".join(DAY_OBJECTS.values()), None),
         ("calls_of_a_user", "--user Mufasa --from 127.0.0.1", None, ahead + DAY_ROWS[11] + "calls: 1, answered: 0, talked: 0:00\n", None),
@@ -711,7 +700,7 @@ def of_calls(head, sample, key):
     # another start went on from the first of these: each is told
     yield "calls_of_two_records.args", "calls\n--record\ncalls_of_two_records.record\ncalls_of_a_day.record\n"
     yield "calls_of_two_records.record", head.replace("record ", "left   ", 1) + front
-    yield "calls_of_two_records.out", utc + DAY_ROWS[3] + "calls: 1, answered: 1, talked: 0:51\n" + table
+    yield "calls_of_two_records.out", one + table
     yield "calls_since_no_time.args", "calls\n--record\ncalls_of_a_day.record\n--since\nyesterday\n"
     yield "calls_since_no_time.err", "sipd: no time: yesterday: it is a date, as 2026-10-14, or with a time of day, as 2026-10-14T06:30\n"
     yield "calls_since_no_time.status", "1\n"
