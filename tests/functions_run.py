@@ -158,7 +158,7 @@ def served(folder):
     """What `sipd serve` does over a socket, with a record, and what is done with that: it is replayed and gone on from."""
     port, is_over = phone.free_port(), threading.Event()
     config, record = phone.office(folder, port), os.path.join(folder, "record")
-    serve = ["sipd", "serve", "--config", config, "--per-source", "2"]
+    serve = ["sipd", "serve", "--config", config, "--per-source", "2", "--status", os.path.join(folder, "status")]
     beside = threading.Thread(target=knock, args=(port, config, is_over), daemon=True)
     beside.start()
     yield [*serve, "--record", record, "--reload", "--turns", "240"], folder, b"", None, 0

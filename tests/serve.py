@@ -428,9 +428,24 @@ def told_against(folder):
     assert told(new, bad) == (2, "", "sipd: of --against\nsipd: configuration refused 2\n"), told(new, bad)
 
 
+def status(folder):
+    """How it is stands in the file that is named soon after the start, whole, and nothing beside it."""
+    path = os.path.join(folder, "sipd.prom")
+    server, _ = started(PROGRAM, office(folder, free_port()), "--status", path)
+    end = time.monotonic() + 5
+    while not os.path.exists(path):
+        assert time.monotonic() < end, "no file comes"
+        time.sleep(0.05)
+    with open(path) as source:
+        text = source.read()
+    assert text.startswith("# HELP sipd_decisions_total ") and re.search(r"\nsipd_memory_bytes \d{6,}\n$", text), text
+    assert not os.path.exists(path + ".part")
+    assert stopped(server) == ("", "")
+
+
 TRIALS = (
     call, another_address, turns, timer_a, guarded_timer, failed_send, failed_receive, drawn_anew, stop_and_continue, bad_starts, closed_output, *serve_records.TRIALS,
-    small_stack, guard, decided_now, changed, not_taken, changed_record, told_against,
+    small_stack, guard, status, decided_now, changed, not_taken, changed_record, told_against,
 )
 
 

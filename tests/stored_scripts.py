@@ -1,5 +1,5 @@
 #!/usr/bin/env python3
-"""Makes the stored runs `damaged_datagrams_*` and `size_limits` of crates/test_server/data, those of a record, and those of its calls, by rules of its own.
+"""Makes the stored runs `damaged_datagrams_*` and `size_limits` of crates/test_server/data, those of a record, and those of its calls, as captures and diagrams, too, by rules of its own.
 
 Says whether the stored files are what it makes; with the word `write` writes them; with `script NAME` or `print NAME`
 prints the script of a run, or what `sipd replay` must print of it, whole, so that a difference can be looked at.
@@ -20,6 +20,7 @@ to the hop is made by the words of docs/SPECIFICATION.md on a request that is se
 import hashlib
 import os
 import re
+import struct
 import sys
 
 DATA = os.path.join(os.path.dirname(os.path.abspath(__file__)), "..", "crates", "test_server", "data")
@@ -27,6 +28,7 @@ WORD = f"{1:032x}"
 SOURCE = ("127.0.0.1", 5070)
 APART = 40_000  # more than any request of these stays open
 COPIES = [500, 1500] + list(range(3500, 32_000, 4000))  # when a 300 to 699 to an INVITE goes again, in ms
+DROPPED = b"\0\tcaf\xc3\xa9 \\ \x7f\xff\r\n"  # no message
 OMITTED, NO_LINE = "omitted 3\n", "no line\n"  # of a record that was made shorter
 MARKS = [0, 13, 10, ord(","), ord('"')]
 
@@ -415,8 +417,8 @@ def escaped(datagram):
     return "".join(letters.get(byte) or (chr(byte) if 32 <= byte <= 126 else f"\\{byte:02x}") for byte in datagram)
 
 
-def recorded(number, datagram, port=5062, at=None):
-    return f"text {at or 1000 * number} 127.0.0.1:{port} {word_of(number)} {escaped(datagram)}\n"
+def recorded(number, datagram, port=5062, at=None, ip="127.0.0.1"):
+    return f"text {at or 1000 * number} {ip}:{port} {word_of(number)} {escaped(datagram)}\n"
 
 
 def recorded_before(number, datagram):
@@ -706,6 +708,186 @@ def of_calls(head, sample, key):
     yield "calls_since_no_time.status", "1\n"
 
 
+# ---- the addresses of a day
+
+# What happens. 192.0.2.7 is asked for a credential as Mufasa, proves it, comes back with it later, when its nonce was used so often, and proves it
+# again. 192.0.2.9 has an old password of alice's. 198.51.100.5 asks as 100, as 101, for vault, which rule 3 denies, and as 102, with a password.
+# From 203.0.113.1 something comes that is no message. The clock is an hour ahead from second 10 on.
+SOURCES_HEAD = "address         heard    asked  proven wrong names first          last\n"
+SOURCES_NAMES = "address,heard,asked,proven,wrong,names,first,last\r\n"
+
+
+def registering(number, user, answer=b""):
+    """A user's REGISTER of a number, with credentials or without."""
+    datagram = REGISTER.replace(b"Mufasa", user.encode()).replace(b"z9hG4bKreg1", f"z9hG4bKreg{number}".encode())
+    return with_lines(datagram.replace(b"CSeq: 1 ", f"CSeq: {number} ".encode()), b"Authorization: " + answer if answer else b"")
+
+
+def of_sources(head, sample, key):
+    """The runs of `sources`, by the names of their files."""
+    ahead = sample.replace("version = 1\n", "version = 2\noffset = 60\n", 1)
+    right, again = (credential(key, "REGISTER", "sip:host.com", count) for count in (1, 2))
+    old, guess = (credential("3" * 32, "REGISTER", "sip:host.com", 1, user) for user in ("alice", "102"))
+    record = head + held(sample)
+    for number, ip, datagram in (
+        (1, "192.0.2.7", registering(1, "Mufasa")),
+        (2, "192.0.2.7", registering(2, "Mufasa", right)),
+        (3, "192.0.2.9", registering(3, "alice")),
+        (4, "192.0.2.9", registering(4, "alice", old)),
+        (5, "192.0.2.9", registering(5, "alice", old)),
+        (6, "198.51.100.5", registering(6, "100")),
+        (7, "198.51.100.5", registering(7, "101")),
+        (8, "198.51.100.5", calling(8, b"vault")),
+        (9, "198.51.100.5", registering(9, "102", guess)),
+        (10, "192.0.2.7", registering(10, "Mufasa", right)),
+        (11, "192.0.2.7", registering(11, "Mufasa", again)),
+        (12, "203.0.113.1", DROPPED),
+    ):
+        record += held(ahead) if number == 10 else ""
+        record += recorded(number, datagram, ip=ip)
+    yield "sources_of_a_day.record", record
+    damaged = (head + of_a_day(sample, key)[0]).count("\n") + 1
+    for name, words, output, why, status in (
+        (
+            "sources_of_a_day",
+            "sources_of_a_day",
+            "1970-01-01 01:00:12 UTC+01:00\n" + SOURCES_HEAD
+            + "192.0.2.9       3        3      0      2     1     01-01 00:00:03 01-01 00:00:05\n"
+            + "198.51.100.5    4        3      0      1     3     01-01 00:00:06 01-01 00:00:09\n"
+            + "192.0.2.7       4        2      2      0     1     01-01 00:00:01 01-01 01:00:11\n"
+            + "203.0.113.1     1        0      0      0     0     01-01 01:00:12 01-01 01:00:12\n",
+            None,
+            0,
+        ),
+        (
+            "sources_of_some_seconds",
+            "sources_of_a_day --since 1970-01-01T00:00:05 --until 1970-01-01T00:00:09",
+            "1970-01-01 01:00:12 UTC+01:00\n" + SOURCES_HEAD
+            + "192.0.2.9       1        1      0      1     1     01-01 00:00:05 01-01 00:00:05\n"
+            + "198.51.100.5    3        2      0      0     2     01-01 00:00:06 01-01 00:00:08\n",
+            None,
+            0,
+        ),
+        (
+            "sources_for_programs",
+            "sources_of_a_day --json --from 192.0.2.7",
+            '{"address":"192.0.2.7","heard":4,"asked":2,"proven":2,"wrong":0,"names":1,"first":"1970-01-01T00:00:01+00:00",'
+            '"last":"1970-01-01T01:00:11+01:00"}\n',
+            None,
+            0,
+        ),
+        # the names of the columns stand once
+        (
+            "sources_of_two_records",
+            "calls_of_a_day sources_of_a_day --csv --since 1970-01-01T00:00:12",
+            SOURCES_NAMES
+            + "127.0.0.1,7,1,1,0,1,1970-01-01T00:01:02+00:00,1970-01-01T01:01:37+01:00\r\n"
+            + "192.0.2.7,2,1,1,0,1,1970-01-01T01:00:10+01:00,1970-01-01T01:00:11+01:00\r\n"
+            + "203.0.113.1,1,0,0,0,0,1970-01-01T01:00:12+01:00,1970-01-01T01:00:12+01:00\r\n",
+            None,
+            0,
+        ),
+        (
+            "sources_of_a_damaged_day",
+            "calls_of_a_damaged_day",
+            "1970-01-01 00:01:02 UTC+00:00\n" + SOURCES_HEAD + "127.0.0.1       5        1      1      0     1     01-01 00:00:01 01-01 00:01:02\n",
+            f"sipd: script line {damaged}\n",
+            3,
+        ),
+        ("sources_of_no_address", "sources_of_a_day --from phone", None, "sipd: no address: phone: it is four numbers with dots, as 192.0.2.7\n", 1),
+    ):
+        files = [f"{word}.record" for word in words.split(" --")[0].split()]
+        yield f"{name}.args", "\n".join(["sources", "--record", *files, *words.split()[len(files) :], ""])
+        if output is not None:
+            yield f"{name}.out", output
+        if why is not None:
+            yield f"{name}.err", why
+            yield f"{name}.status", f"{status}\n"
+
+
+# ---- what came and went
+
+
+def captured(at, source, to, datagram):
+    """A datagram in a capture: a packet's head, IP (RFC 791) with its checksum (RFC 1071), UDP (RFC 768) without one."""
+    total = 28 + len(datagram)
+    ip = struct.pack(">BBHHHBBH4s4s", 0x45, 0, total, 0, 0x4000, 64, 17, 0, bytes([127, 0, 0, 1]), bytes([127, 0, 0, 1]))
+    number = sum(struct.unpack(">10H", ip))
+    while number >> 16:
+        number = (number & 0xFFFF) + (number >> 16)
+    ip = ip[:10] + struct.pack(">H", number ^ 0xFFFF) + ip[12:]
+    return struct.pack("<IIII", at // 1000, at % 1000 * 1000, total, total) + ip + struct.pack(">HHHH", source, to, 8 + len(datagram), 0) + datagram
+
+
+def without_secrets(datagram):
+    """The same with an x for each byte of a credential's values; none of these has a body."""
+
+    def hide(value):
+        return b"=" + value[1] + b"x" * len(value[2])
+
+    def field(line):
+        return line[1] + re.sub(rb'=("?)([^",\r]*)', hide, line[2])
+
+    return re.sub(rb"(?m)^(Authorization:)(.*)$", field, datagram)
+
+
+def of_traces(key):
+    """The runs of `trace`, by the names of their files: the two REGISTERs of Mufasa with their answers, and what is no message; the two alone, as
+    those of the number of the second, without secrets; a file that is there."""
+    second = proving(key)
+    answers = (401, ("WWW-Authenticate", challenge(word_of(1)))), (200, ("Contact", "<sip:Mufasa@127.0.0.1:5062>;expires=3600"))
+    packets = []
+    for number, (datagram, (status, more)) in enumerate(zip((REGISTER, second), answers), 1):
+        answer, port = response(status, more, read(datagram)[1], number)
+        packets += [(1000 * number, 5062, 5060, datagram), (1000 * number, 5060, port, answer.encode())]
+    head = struct.pack("<IHHIIII", 0xA1B2C3D4, 2, 4, 0, 0, 262_144, 101)
+    record = ["--record", "replay_of_a_whole_record.record", "--pcap"]
+    for name, words, output in (
+        ("trace_of_a_record", ["trace", *record, "-"], [*packets, (3000, 5062, 5060, DROPPED)]),
+        ("trace_of_a_number", ["trace", "2", *record, "-", "--hide"], [(*place, without_secrets(datagram)) for *place, datagram in packets]),
+    ):
+        yield f"{name}.args", "\n".join([*words, ""]).encode()
+        yield f"{name}.out", head + b"".join(captured(*one) for one in output)
+    yield "trace_over_a_file.args", "\n".join(["trace", *record, "check_sample.toml", ""]).encode()
+    yield "trace_over_a_file.err", b"sipd: check_sample.toml is there, and isn't written over\nsipd: device\n"
+    yield "trace_over_a_file.status", b"4\n"
+
+
+def drawn(row):
+    """A row of a diagram of three lines: what was decided or happened, or an arrow in one of its two gaps, with a word in the middle."""
+    if isinstance(row, str):
+        return " " * 12 + "│" + " " * 29 + f"│ {row:28}│\n"
+    after, gap, rightward, word = row
+    left = (25 - len(word)) // 2
+    arrow = "─" * left + f" {word} " + "─" * (25 - len(word) - left)
+    arrow = "─" + arrow + "▶" if rightward else "◀" + arrow + "─"
+    gaps = [" " * 29, " " * 29]
+    gaps[gap] = arrow
+    time = f"{after // 1000}.{after % 1000:03}"
+    return f"{time:>8}    │" + "│".join(gaps) + "│\n"
+
+
+def of_ladders():
+    """The runs of `ladder`: x calls help, who is busy. INVITE goes again 500 and 1,500 ms behind its first sending, the 486, which isn't taken, 500,
+    1,500, 3,500, 7,500 and 11,500 ms behind its."""
+    rows = [(0, 0, True, "INVITE"), "rule 4: sent 1", (0, 0, False, "100 Trying"), (0, 1, True, "INVITE")]
+    for after in (500, 1500):
+        rows += ["timer", (after, 1, True, "INVITE again")]
+    rows += [(2000, 1, False, "486 Busy Here"), (2000, 1, True, "ACK"), (2000, 0, False, "486 Busy Here")]
+    for after in (2500, 3500, 5500, 9500, 13_500):
+        rows += ["timer", (after, 0, False, "486 Busy Here again")]
+    head = "call k3, 1970-01-01 00:01:20.000 (UTC+00:00)\n\n"
+    head += " " * 40 + "sipd" + " " * 26 + "help\n" + " " * 5 + "127.0.0.1:5070" + " " * 46 + "127.0.0.1:5082\n"
+    diagram = head + "".join(map(drawn, rows))
+    for name, whom in (("ladder_of_a_number", "7"), ("ladder_of_a_call", "k3")):
+        yield f"{name}.args", f"ladder\n{whom}\n--record\ncalls_of_a_day.record\n"
+        yield f"{name}.out", diagram
+    # the number of a response is none of the log's
+    yield "ladder_of_nothing.args", "ladder\n8\n--record\ncalls_of_a_day.record\n"
+    yield "ladder_of_nothing.err", "sipd: nothing of the call 8\n"
+    yield "ladder_of_nothing.status", "1\n"
+
+
 def of_records():
     """The runs of records, by the names of their files."""
     with open(os.path.join(DATA, "check_sample.toml"), encoding="ascii") as file:
@@ -716,8 +898,7 @@ def of_records():
     datagrams = [REGISTER, proving(key)]
     first, second = (recorded(number, datagram) for number, datagram in enumerate(datagrams, 1))
     older = "".join(recorded_before(number, datagram) for number, datagram in enumerate(datagrams, 1))
-    # no message, so it is dropped
-    dropped = recorded(3, b"\0\tcaf\xc3\xa9 \\ \x7f\xff\r\n")
+    dropped = recorded(3, DROPPED)
     head, refused, taken = first_line(sha256(sample)), challenged(1, REGISTER), registered(2, datagrams[1])
     named = "replay --config check_sample.toml --record"
     closed = sealed(sealed(head + held(sample)) + first + second)
@@ -752,6 +933,8 @@ def of_records():
     yield "replay_of_a_damaged_shorter_record.err", f"sipd: script line {(head + held(sample) + first + OMITTED + NO_LINE).count(chr(10))}\n"
     yield "replay_of_a_damaged_shorter_record.status", "3\n"
     yield from of_calls(head, sample, key)
+    yield from of_sources(head, sample, key)
+    yield from of_ladders()
     yield "check_against_a_record.args", "check\n--config\ncheck_sample.toml\n--against\nreplay_of_a_changed_record.record\n"
     yield "check_against_a_record.out", "user Mufasa has another a1\na server that runs can take it\n"
 
@@ -759,6 +942,7 @@ def of_records():
 def made():
     """Each file by its name, and its bytes."""
     files = {name: text.encode() for name, text in of_records()}
+    files.update(of_traces(md5(f"Mufasa:{REALM}:Circle Of Life")))
     for name, datagram in DAMAGED.items():
         output = printed(events_of(damages(datagram)))
         files[f"{name}.args"] = b"replay\n"

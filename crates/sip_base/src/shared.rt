@@ -6,9 +6,15 @@ use std::rc::Rc;
 
 /// A value with several owners, which none changes, seen as the value. A clone is one more owner: it copies no byte and
 /// takes no memory, and is refused only where owners can't be counted any more.
-#[derive(Drop)]
 pub struct Shared<T: Drop> {
     owned: Rc<T>,
+}
+
+/// Written out, so that it is proved once and not wherever one is dropped.
+impl<T: Drop> Drop for Shared<T> {
+    fn drop(self) {
+        let Shared { owned: _ } = self;
+    }
 }
 
 impl<T: Drop> Model for Shared<T> {

@@ -1,13 +1,12 @@
 //! Which REGISTERs bound which contacts.
 use crate::marks::Marks;
-use indexmap::IndexMap;
 use sip_base::KeyedHasher;
 use sip_text::same_bytes;
 use sip_uri::Aor;
 use std::alloc::{AllocError, Global};
+use std::collections::HashMap;
 
 /// What the REGISTERs of one Call-ID bound at an address of record.
-#[derive(Drop)]
 struct Bound {
     call_id: Vec<u8>,
     /// The number of the one with which the binding began: it is that by which bindings have their order.
@@ -16,6 +15,18 @@ struct Bound {
     last: u64,
     /// Up to which moment it lasts, in milliseconds.
     until: u64,
+}
+
+/// Written out, so that it is proved once and not wherever one is dropped.
+impl Drop for Bound {
+    fn drop(self) {
+        let Bound {
+            call_id: _,
+            first: _,
+            last: _,
+            until: _,
+        } = self;
+    }
 }
 
 /// How many of some bindings live at a moment.
@@ -85,7 +96,7 @@ fn bind(
 #[derive(Drop)]
 pub(crate) struct BindingsByAor {
     alloc: Global,
-    rows: IndexMap<Aor, Vec<Bound>, KeyedHasher>,
+    rows: HashMap<Aor, Vec<Bound>, KeyedHasher>,
 }
 
 impl BindingsByAor {
@@ -93,7 +104,7 @@ impl BindingsByAor {
     pub(crate) fn new(alloc: Global, keys: u128) -> Self {
         BindingsByAor {
             alloc,
-            rows: IndexMap::with_hasher(alloc, KeyedHasher::new(keys)),
+            rows: HashMap::with_hasher(alloc, KeyedHasher::new(keys)),
         }
     }
 

@@ -1,17 +1,16 @@
 //! Which calls stand, and what taught where their dialogs lead (RFC 3261 12).
 use crate::marks::Marks;
 use crate::seen::{Method, SeenMessage};
-use indexmap::IndexMap;
 use sip_base::KeyedHasher;
 use sip_text::same_bytes;
 use sip_uri::{Addr, addr_text};
 use std::alloc::{AllocError, Global};
+use std::collections::HashMap;
 
 /// For how long a dialog is known without a request, in milliseconds.
 const KNOWN: u64 = 43_200_000;
 
 /// What is known of a call.
-#[derive(Drop)]
 struct KnownCall {
     /// The number of the INVITE with which it began, the last one that came before it was answered.
     first: u64,
@@ -28,6 +27,22 @@ struct KnownCall {
     lessons: Vec<u64>,
     /// What was said of that, each with who said it.
     said: Vec<Vec<u8>>,
+}
+
+/// Written out, so that it is proved once and not wherever one is dropped.
+impl Drop for KnownCall {
+    fn drop(self) {
+        let KnownCall {
+            first: _,
+            begun: _,
+            confirmed: _,
+            ended: _,
+            last: _,
+            last_at: _,
+            lessons: _,
+            said: _,
+        } = self;
+    }
 }
 
 impl KnownCall {
@@ -128,7 +143,7 @@ fn invite_answered(
 #[derive(Drop)]
 pub(crate) struct Calls {
     alloc: Global,
-    rows: IndexMap<Vec<u8>, KnownCall, KeyedHasher>,
+    rows: HashMap<Vec<u8>, KnownCall, KeyedHasher>,
 }
 
 impl Calls {
@@ -136,7 +151,7 @@ impl Calls {
     pub(crate) fn new(alloc: Global, keys: u128) -> Self {
         Calls {
             alloc,
-            rows: IndexMap::with_hasher(alloc, KeyedHasher::new(keys)),
+            rows: HashMap::with_hasher(alloc, KeyedHasher::new(keys)),
         }
     }
 

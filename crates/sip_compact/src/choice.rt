@@ -17,11 +17,28 @@ pub enum ShorterItem {
 }
 
 /// A shorter record.
-#[derive(Drop)]
 pub struct Chosen {
     /// The number of its first datagram.
     pub first: u64,
     pub choices: Items<ShorterItem>,
+}
+
+/// Written out, so that it is proved once and not wherever one is dropped.
+impl Drop for Chosen {
+    fn drop(self) {
+        let Chosen {
+            first: _,
+            choices: _,
+        } = self;
+    }
+}
+
+impl Chosen {
+    /// The choices.
+    pub fn into_choices(self) -> Items<ShorterItem> {
+        let Chosen { first: _, choices } = self;
+        choices
+    }
 }
 
 /// The number of the first marked datagram, or the number of the next one.

@@ -12,10 +12,10 @@ use crate::rows::Rows;
 use crate::saying::seen_in;
 use crate::seen::{Asks, Method, SeenMessage};
 use crate::words::Words;
-use indexmap::IndexMap;
 use sip_event::Ticket;
 use sip_uri::Addr;
 use std::alloc::{AllocError, Global};
+use std::collections::HashMap;
 use std::marker::Model;
 
 /// Behind how many events at least what doesn't matter any more is forgotten.
@@ -23,7 +23,6 @@ const ROOM: usize = 4_096;
 
 /// What chooses the events of a record that still matter, seen as the places of those that it may choose. Where memory runs out,
 /// it isn't to be told more, nor asked: it may lack what the refused event said.
-#[derive(Drop)]
 pub struct Chooser {
     alloc: Global,
     rows: Rows,
@@ -36,7 +35,24 @@ pub struct Chooser {
     bindings: BindingsByAor,
     calls: Calls,
     /// The REGISTERs by which the target of a request outside a dialog was bound when it came, by the number of that.
-    needs: IndexMap<u64, Vec<u64>>,
+    needs: HashMap<u64, Vec<u64>>,
+}
+
+/// Written out, so that it is proved once and not wherever one is dropped.
+impl Drop for Chooser {
+    fn drop(self) {
+        let Chooser {
+            alloc: _,
+            rows: _,
+            next: _,
+            most: _,
+            words: _,
+            open: _,
+            bindings: _,
+            calls: _,
+            needs: _,
+        } = self;
+    }
 }
 
 impl Model for Chooser {
@@ -62,7 +78,7 @@ impl Chooser {
             open: OpenRequests::new(alloc, keys),
             bindings: BindingsByAor::new(alloc, keys),
             calls: Calls::new(alloc, keys),
-            needs: IndexMap::new(alloc),
+            needs: HashMap::new(alloc),
         }
     }
 

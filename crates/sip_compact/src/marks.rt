@@ -1,7 +1,7 @@
 //! Which of some events are chosen, marked one after the other.
 use crate::row::Row;
-use indexmap::IndexMap;
 use std::alloc::{AllocError, Global};
+use std::collections::HashMap;
 
 /// Whether the event at a place is marked.
 pub(crate) fn is_marked(marks: &[bool], at: usize) -> bool {
@@ -12,15 +12,24 @@ pub(crate) fn is_marked(marks: &[bool], at: usize) -> bool {
 }
 
 /// Marks of some events, of which the datagrams are found by their numbers.
-#[derive(Drop)]
 pub(crate) struct Marks {
-    places: IndexMap<u64, usize>,
+    places: HashMap<u64, usize>,
     marks: Vec<bool>,
 }
 
+/// Written out, so that it is proved once and not wherever one is dropped.
+impl Drop for Marks {
+    fn drop(self) {
+        let Marks {
+            places: _,
+            marks: _,
+        } = self;
+    }
+}
+
 /// The place of each datagram of some events, by its number.
-fn places_by_number(alloc: Global, rows: &[Row]) -> Result<IndexMap<u64, usize>, AllocError> {
-    let mut places = IndexMap::new(alloc);
+fn places_by_number(alloc: Global, rows: &[Row]) -> Result<HashMap<u64, usize>, AllocError> {
+    let mut places = HashMap::new(alloc);
     for (at, row) in rows.iter().enumerate() {
         if row.is_datagram() {
             places.insert(row.number, at)?;

@@ -1,9 +1,9 @@
 //! Which requests may be open: nothing that came behind the oldest of them may be left out.
 use crate::seen::SeenMessage;
 use crate::words::LIFE;
-use indexmap::IndexMap;
 use sip_base::KeyedHasher;
 use std::alloc::{AllocError, Global};
+use std::collections::HashMap;
 
 /// For how long a request stays behind its final answer, at most, in milliseconds: 64 times T1 (RFC 3261 17), and some more.
 const ENDING: u64 = 40_000;
@@ -41,7 +41,7 @@ fn key_of(alloc: Global, seen: &SeenMessage) -> Result<Vec<u8>, AllocError> {
 #[derive(Drop)]
 pub(crate) struct OpenRequests {
     alloc: Global,
-    rows: IndexMap<Vec<u8>, Open, KeyedHasher>,
+    rows: HashMap<Vec<u8>, Open, KeyedHasher>,
 }
 
 impl OpenRequests {
@@ -49,7 +49,7 @@ impl OpenRequests {
     pub(crate) fn new(alloc: Global, keys: u128) -> Self {
         OpenRequests {
             alloc,
-            rows: IndexMap::with_hasher(alloc, KeyedHasher::new(keys)),
+            rows: HashMap::with_hasher(alloc, KeyedHasher::new(keys)),
         }
     }
 

@@ -59,7 +59,6 @@ pub(crate) enum Asks {
 }
 
 /// What a message says that tells whether it matters.
-#[derive(Drop)]
 pub(crate) struct SeenMessage {
     /// None of a request.
     pub status: Option<u16>,
@@ -75,4 +74,21 @@ pub(crate) struct SeenMessage {
     pub asks: Asks,
     /// Its contacts and recorded routes.
     pub lesson: Vec<u8>,
+}
+
+/// Written out, so that it is proved once and not wherever one is dropped.
+impl Drop for SeenMessage {
+    fn drop(self) {
+        let SeenMessage {
+            status: _,
+            method: _,
+            call_id: _,
+            sequence: _,
+            has_to_tag: _,
+            nonce: _,
+            target: _,
+            asks: _,
+            lesson: _,
+        } = self;
+    }
 }

@@ -1,6 +1,6 @@
 //! Which datagram had which word: its nonce, where it was challenged.
-use indexmap::IndexMap;
 use std::alloc::{AllocError, Global};
+use std::collections::HashMap;
 
 /// How long a nonce lives, in milliseconds.
 pub(crate) const LIFE: u64 = 300_000;
@@ -20,14 +20,14 @@ fn lives(at: u64, now: u64) -> bool {
 /// The datagrams by their words, which this server drew.
 #[derive(Drop)]
 pub(crate) struct Words {
-    rows: IndexMap<u128, Worded>,
+    rows: HashMap<u128, Worded>,
 }
 
 impl Words {
     /// None yet. Takes no memory.
     pub(crate) fn new(alloc: Global) -> Self {
         Words {
-            rows: IndexMap::new(alloc),
+            rows: HashMap::new(alloc),
         }
     }
 

@@ -1,5 +1,5 @@
 //! The calls on the dialogs that are known (RFC 3261 12): what is asked of them, and what begins, renews and ends one.
-ghost use Rattle.std.specs.Prelude.{◌≡◌, ◌≢◌, ◌↔◌, ◌≤◌, ◌+◌, ℕ, true, [], map, Err, IfErr, OnOk, OnErr};
+ghost use Rattle.std.specs.Prelude.{◌≡◌, ◌≢◌, ◌↔◌, ◌≤◌, ◌+◌, ℕ, true, [], length, map, Err, IfErr, OnOk, OnErr};
 ghost use Rattle.sip_base.specs.KeyedHasher.{fed_first};
 ghost use Rattle.sip_dialog.specs.declared.error.DialogError.TheVariants.{NoMemory, Full};
 ghost use Rattle.sip_dialog.specs.Dialogs.{is_in_dialog, is_full_for, learnt, taught, renewed, without_dialog, after_invite};
@@ -43,6 +43,14 @@ impl Dialogs {
         Dialogs {
             rows: DialogRows::new(alloc, keys),
         }
+    }
+
+    /// How many dialogs stand in it, those counted that aren't known any more: at most 4,096.
+    pub fn len(&self) -> usize
+        ensures value { result ≡ length self.now.dialogs }
+        ensures few { result ≤ 4096 }
+    {
+        self.rows.len()
     }
 
     /// Whether a request of this name, to this address, is in a dialog that is known (RFC 3261 12.2.2,

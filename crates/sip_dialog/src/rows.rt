@@ -135,6 +135,13 @@ impl DialogRows {
         }
     }
 
+    /// How many rows stand in it.
+    pub(crate) fn len(&self) -> usize
+        ensures { result ≡ length self.now.entries }
+    {
+        self.rows.len()
+    }
+
     /// Makes room for one more row.
     pub(crate) fn reserve(&mut self) -> Result<(), AllocError>
         ensures entries { self.new.entries ≡ self.old.entries }

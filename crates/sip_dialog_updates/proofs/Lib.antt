@@ -5,3 +5,4 @@ pub mod Told
 pub mod PlainAddresses
 pub mod PlainTags
 pub mod ToTags
+pub mod OtherLengths

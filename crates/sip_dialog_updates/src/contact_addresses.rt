@@ -1,8 +1,7 @@
 //! The addresses that Contact and Record-Route of a message give (RFC 3261 12.1.1, 12.2), of a view and of a message that is kept.
 //! Of a request that is kept, `sip_state` gives them.
-ghost use Rattle.std.specs.Prelude.{◌≡◌, ◌++◌, ◌||◌, ℕ, List, false, IfOk, OnOk};
+ghost use Rattle.std.specs.Prelude.{◌≡◌, ◌++◌, ◌||◌, false, IfOk, OnOk};
 ghost use Rattle.sip_message_fields.specs.FieldName.{is_same_name};
-ghost use Rattle.sip_message_fields.specs.KnownName.{name_seen};
 ghost use Rattle.sip_message_fields.specs.KeptField.{field_kept, IsStored};
 ghost use Rattle.sip_message_fields.specs.declared.field_name.FieldName.TheVariants as Name;
 ghost use Rattle.sip_hops.specs.HostAddress.{address_of};
@@ -83,16 +82,32 @@ fn put_addresses(
     Ok(())
 }
 
-/// Whether a field that is kept so may be a Contact or a Record-Route: none of the other names that this project knows is.
-fn may_give(kept: &KeptField) -> bool
-    ensures { (written : List ℕ) → result ≡ false → (is_same_name (name_seen kept.now.known written) Name.Contact
-        || is_same_name (name_seen kept.now.known written) Name.RecordRoute) ≡ false }
+/// Whether an unknown name is as long as that of a Contact or of a Record-Route, so that it may be either.
+#[inline(always)]
+#[tactic(auto, using(crate::proofs::OtherLengths::never_given))]
+fn may_be_spelled(written: &[u8]) -> bool
+    ensures { result ≡ false → (is_same_name (Name.Other written.now) Name.Contact || is_same_name (Name.Other written.now) Name.RecordRoute) ≡ false }
+{
+    let length = written.len();
+    if length == 7 {
+        return true;
+    }
+    length == 12
+}
+
+/// Whether a field that is kept so in a store may be a Contact or a Record-Route: none of the other names that this project knows is,
+/// and no name of another length.
+#[inline(always)]
+fn may_give(store: &[u8], kept: &KeptField) -> bool
+    requires { IsStored store.now kept.now }
+    ensures { result ≡ false → (is_same_name (field_kept store.now kept.now).name Name.Contact
+        || is_same_name (field_kept store.now kept.now).name Name.RecordRoute) ≡ false }
 {
     match kept.known {
         Some(known) => {
             known.is_same(KnownName::Contact) || known.is_same(KnownName::RecordRoute)
         }
-        None => true,
+        None => may_be_spelled(kept.spelling.of(store)),
     }
 }
 
@@ -136,7 +151,7 @@ fn kept_address(
     requires { IsStored store.now kept.now }
     ensures { IfOk result (λ address. address ≡ Given.address_in (address_of hops.now.addresses) (field_kept store.now kept.now)) }
 {
-    if !may_give(kept) {
+    if !may_give(store, kept) {
         return Ok(None);
     }
     given_address(alloc, hops, store, kept)

@@ -1,5 +1,5 @@
 //! The public calls of the server, and what each of them promises. The steps behind them are taken in `stepping`.
-ghost use Rattle.std.specs.Prelude.{◌≡◌, ◌≤◌, ◌<◌, ◌^◌, ◌⊎◌, ℕ, true, [], None, Some, Err, MatchOption, IsOk, IfOk, IfErr, IfSome, OnErr, OnOk};
+ghost use Rattle.std.specs.Prelude.{◌≡◌, ◌≤◌, ◌<◌, ◌^◌, ◌⊎◌, ℕ, true, [], length, None, Some, Err, MatchOption, IsOk, IfOk, IfErr, IfSome, OnErr, OnOk};
 ghost use Rattle.sip_event.specs.declared.event.Event.TheVariants.{Datagram, Fault};
 ghost use Rattle.sip_engine_request.specs.Faults.{failed_of};
 ghost use Rattle.sip_engine_request.specs.Next.{IsNext};
@@ -188,6 +188,24 @@ impl<T: Timers, R: Rules> Engine<T, R> {
     {
         let _judge = &self.judge;
         self.proxy.bindings(aor)
+    }
+
+    /// How many requests are open: at most 1,024.
+    pub fn open_count(&self) -> usize
+        ensures value { result ≡ length self.now.state.requests }
+        ensures few { result ≤ 1024 }
+    {
+        let _judge = &self.judge;
+        self.proxy.len()
+    }
+
+    /// How many dialogs stand in its table, those counted that aren't known any more: at most 4,096.
+    pub fn dialog_count(&self) -> usize
+        ensures value { result ≡ length self.now.state.dialogs }
+        ensures few { result ≤ 4096 }
+    {
+        let _judge = &self.judge;
+        self.proxy.dialog_count()
     }
 
     /// Does the first that is due by a moment in milliseconds, in a step at its own moment: a deadline passes, or something

@@ -10,11 +10,22 @@ pub struct Ticket {
 }
 
 /// A datagram that is handed out, to be sent to an address.
-#[derive(Drop)]
 pub struct Packet {
     pub to: Addr,
     pub bytes: Bytes,
     pub ticket: Ticket,
     /// Whether it is a retransmission.
     pub again: bool,
+}
+
+/// Written out, so that it is proved once and not wherever one is dropped.
+impl Drop for Packet {
+    fn drop(self) {
+        let Packet {
+            to: _,
+            bytes: _,
+            ticket: _,
+            again: _,
+        } = self;
+    }
 }

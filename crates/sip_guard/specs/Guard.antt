@@ -43,13 +43,14 @@ link_told heard fresh aside given held waits receives failures =
     record { heard = heard; fresh = fresh; aside = aside; given = given; held = held; waits = waits; receives = receives; failures = failures }
 
 -- what a guard is seen as: what it keeps where there is a limit; what the link under it tells, and its clock; how often it was
--- asked for a datagram itself, and how often that failed
+-- asked for a datagram itself, and how often that failed; and of whom the datagram is that it handed on last
 pub record GuardState : Type 0 where
   pub allowances : Option AllowanceState
   pub link : LinkState
   pub readings : Option (List ℕ)
   pub receives : ℕ
   pub failures : ℕ
+  pub last : Option Addr
 
 -- no more of all this is kept than there is room for
 abbrev pub IsBounded : AllowanceState → Type 0
@@ -68,6 +69,7 @@ guard_over keys always per_source link readings = record {
   readings = readings;
   receives = 0;
   failures = 0;
+  last = None;
 }
 
 -- the same with nothing unheard
@@ -139,6 +141,11 @@ Receives before after (Ok from) = (after.aside ≡ before.aside) × (after.heard
     × (after.receives ≡ counted before.receives) × (after.failures ≡ before.failures)
 Receives before after (Err fault) = (after.aside ≡ before.aside) × (after.heard ≡ before.heard) × (after.given ≡ before.given) × (after.waits ≡ before.waits)
     × (after.receives ≡ counted before.receives) × (after.failures ≡ counted before.failures)
+
+-- of whom the datagram is that a receive answers
+abbrev pub handed_on : Result (Option Addr) LinkFault → Option Addr
+handed_on (Ok from) = from
+handed_on (Err fault) = None
 
 -- what becomes of the allowances behind what a receive answers: a datagram's source is heard always, or it was within its allowance
 abbrev pub Answers : AllowanceState → AllowanceState → Result (Option Addr) LinkFault → Type 0

@@ -27,6 +27,8 @@ pub struct Guard<L: Link, C: Clock> {
     allowances: Option<Allowances>,
     receives: u64,
     failures: u64,
+    /// Of whom the datagram is that the last receive handed on.
+    last: Option<Addr>,
 }
 
 impl<L: Link, C: Clock> Model for Guard<L, C> {
@@ -49,6 +51,7 @@ impl<L: Link, C: Clock> Model for Guard<L, C> {
       readings = C.readings g.clock;
       receives = g.receives;
       failures = g.failures;
+      last = g.last;
     } };
 }
 
@@ -61,6 +64,16 @@ fn instead_behind(passed: u64) -> Instead
         Instead::AskedAgain
     } else {
         Instead::HeardNothing
+    }
+}
+
+/// Of whom the datagram is that a receive answers.
+fn handed_on(found: &Result<Option<Addr>, LinkFault>) -> Option<Addr>
+    ensures { result ≡ Guarding.handed_on found.now }
+{
+    match found {
+        Ok(from) => *from,
+        Err(_) => None,
     }
 }
 
@@ -124,6 +137,7 @@ impl<L: Link, C: Clock> Guard<L, C> {
             allowances,
             receives: 0,
             failures: 0,
+            last: None,
         })
     }
 
@@ -132,6 +146,13 @@ impl<L: Link, C: Clock> Guard<L, C> {
         ensures { self.now.link ≡ record { heard = L.heard result.now; fresh = L.fresh result.now; aside = L.aside result.now; given = L.given result.now; held = L.held result.now; waits = L.waits result.now; receives = L.receives result.now; failures = L.failures result.now } }
     {
         &self.link
+    }
+
+    /// Of whom the datagram is that the last receive handed on. None where it handed on none.
+    pub fn last(&self) -> Option<Addr>
+        ensures { result ≡ self.now.last }
+    {
+        self.last
     }
 
     /// How much of whom it didn't hand on since these counts began. None where there is no limit.
@@ -209,6 +230,7 @@ impl<L: Link, C: Clock> Link for Guard<L, C> {
         ensures err { OnErr result (self.new.failures ≡ counted self.old.failures) }
         ensures bounded { IfSome self.new.allowances IsBounded }
         ensures guards { Guards self.old.allowances self.old self.new result }
+        ensures last { self.new.last ≡ Guarding.handed_on result }
         ensures tells { IfOk result (λ from. self.new.link.heard ≡ and_then self.old.link.heard (heard_of from self.new.link.held)) }
         ensures silent { OnErr result (self.new.link.heard ≡ self.old.link.heard) }
         ensures fresh { IfOk result (λ from. IfSome from (λ _. self.new.link.fresh ≡ true)) }
@@ -218,6 +240,7 @@ impl<L: Link, C: Clock> Link for Guard<L, C> {
     {
         self.receives = self.receives.saturating_add(1);
         let found = self.hear();
+        self.last = handed_on(&found);
         if found.is_err() {
             self.failures = self.failures.saturating_add(1);
         }
@@ -229,6 +252,7 @@ impl<L: Link, C: Clock> Link for Guard<L, C> {
             → SetsAside (record { from = from; bytes = self.old.link.held }) instead self.old.link.heard self.new.link.heard self.old.link.aside self.new.link.aside }
         ensures allowances { self.new.allowances ≡ self.old.allowances }
         ensures readings { self.new.readings ≡ self.old.readings }
+        ensures last { self.new.last ≡ self.old.last }
         ensures counted { self.new.receives ≡ self.old.receives }
         ensures failures { self.new.failures ≡ self.old.failures }
         ensures given { self.new.link.given ≡ self.old.link.given }
@@ -246,6 +270,7 @@ impl<L: Link, C: Clock> Link for Guard<L, C> {
         ensures failures { self.new.failures ≡ self.old.failures }
         ensures allowances { self.new.allowances ≡ self.old.allowances }
         ensures readings { self.new.readings ≡ self.old.readings }
+        ensures last { self.new.last ≡ self.old.last }
         ensures heard { self.new.link.heard ≡ self.old.link.heard }
         ensures asked { self.new.link.receives ≡ self.old.link.receives }
         ensures whole { self.new.link.failures ≡ self.old.link.failures }
@@ -262,6 +287,7 @@ impl<L: Link, C: Clock> Link for Guard<L, C> {
         ensures waited { GrewBy milliseconds self.old.link.waits self.new.link.waits }
         ensures allowances { self.new.allowances ≡ self.old.allowances }
         ensures readings { self.new.readings ≡ self.old.readings }
+        ensures last { self.new.last ≡ self.old.last }
         ensures counted { self.new.receives ≡ self.old.receives }
         ensures failures { self.new.failures ≡ self.old.failures }
         ensures heard { self.new.link.heard ≡ self.old.link.heard }

@@ -275,17 +275,15 @@ pub named_later : (name text : List ℕ) (parameter : HeaderParameter) (behind :
     → parameter_of name (said_in (parts_at 59 text)) ≡ parameter_of name (said_in (parts_behind 59 behind))
 named_later name text parameter behind b e other = rw (said text parameter behind b e, other) refl
 
--- ---- the first of them is of two tokens
+-- ---- the first of them was read
 
 pub assigned_begins : (text name rest given value last : List ℕ) (behind : Option (List ℕ)) → name ≡ token_at text → rest ≡ behind_token text → (length name == 0) ≡ false
-    → rest ≡ 61 ∷ given
-    → value ≡ token_at given → last ≡ behind_token given → (length value == 0) ≡ false → last ≡ closing behind
-    → Begins text (record { name = name; value = Some value }) behind
-assigned_begins text name rest given value last behind front back some mark of_value after some_value closed =
+    → rest ≡ 61 ∷ given → IsValueAt given value last → last ≡ closing behind → Begins text (record { name = name; value = Some value }) behind
+assigned_begins text name rest given value last behind front back some mark at closed =
     let token : is_token_text name ≡ true = is_token_here text name front some in
     let whole : name ++ 61 ∷ given ≡ text = sym (token_whole text name rest front back ∙ ap (λ (w : List ℕ). name ++ w) mark) in
     subst (λ (w : List ℕ). Begins w (record { name = name; value = Some value }) behind) whole
-    (value_begins name given value last name value behind token of_value after some_value closed refl refl)
+    (value_at_begins name given value last name value behind token at closed refl refl)
 
 none_by : {X : Type 0} (parameter : X) (o : Option (List X)) → is_some o ≡ false → None ≡ option_map (λ others. parameter ∷ others) o
 none_by parameter None e = refl

@@ -20,7 +20,7 @@ pub struct HeaderParameter<'a> {
     pub value: Option<Text<'a>>,
 }
 
-/// A parameter of two tokens with nothing round them: a name and its value.
+/// A parameter of a token and a token or quoted text with nothing round them: a name and its value.
 #[derive(Drop)]
 pub(crate) struct Assigned<'a> {
     name: &'a [u8],
@@ -30,7 +30,7 @@ pub(crate) struct Assigned<'a> {
 /// The parameters of a value, each behind a `;`. They were read once, and are looked up where they stand.
 #[derive(Drop)]
 pub struct Parameters<'a> {
-    /// The first of them, if it is of two tokens, as `branch` and `tag` are, which are looked up most.
+    /// The first of them, if it is written so, as `branch` and `tag` are, which are looked up most.
     first: Option<Assigned<'a>>,
     /// What follows the `;` behind that one, or else the first `;`, if one stands there.
     others: Option<&'a [u8]>,
@@ -347,8 +347,8 @@ fn any_parameters<'v>(behind: Option<&'v [u8]>) -> Option<Parameters<'v>>
     })
 }
 
-/// A parameter of two tokens at the front of a text, and what follows its `;`: so each byte is read once. None says
-/// nothing.
+/// A parameter of a token and a token or quoted text at the front of a text, and what follows its `;`: so each byte is read once.
+/// None says nothing.
 fn assigned_at(text: &[u8]) -> Option<(Assigned<'_>, Option<&[u8]>)>
     ensures { IfSome result (λ x. Begins text.now (record { name = x.0.name.now; value = Some x.0.value.now }) (option_map (λ y. y.now) x.1)) }
 {
@@ -359,15 +359,12 @@ fn assigned_at(text: &[u8]) -> Option<(Assigned<'_>, Option<&[u8]>)>
     let Some((b'=', given)) = rest.split_first() else {
         return None;
     };
-    let (value, rest) = split_token(given);
-    if value.is_empty() {
-        return None;
-    }
-    let behind = plain_end(rest)?;
+    let (value, last) = plain_value_at(given)?;
+    let behind = plain_end(last)?;
     Some((Assigned { name, value }, behind))
 }
 
-/// The parameters of a text, of which the first is of two tokens, if each behind it is one.
+/// The parameters of a text, of which the first was read, if each behind it is one.
 #[tactic(auto, using(crate::proofs::Plain::none_begun, crate::proofs::Plain::begun))]
 fn parameters_behind<'v>(
     text: &'v [u8],

@@ -15,11 +15,21 @@ use std::marker::Model;
 
 /// Rows in their order, found by a code of their host and port: the code leads to the first row with it, and each
 /// row to the next one with its code.
-#[derive(Drop)]
 pub(crate) struct AddressTable {
     rows: Items<HostAddress>,
     firsts: HashMap<u64, usize>,
     nexts: Vec<Option<usize>>,
+}
+
+/// Written out, so that it is proved once and not wherever one is dropped.
+impl Drop for AddressTable {
+    fn drop(self) {
+        let AddressTable {
+            rows: _,
+            firsts: _,
+            nexts: _,
+        } = self;
+    }
 }
 
 impl Model for AddressTable {

@@ -15,10 +15,19 @@ use std::marker::Model;
 
 /// The configured tables that give the next hop its address, in place of DNS (RFC 3263): the address table for
 /// URIs, and the hops for rules. A call costs no more with many rows, and none but [`Hops::new`] takes memory.
-#[derive(Drop)]
 pub struct Hops {
     addresses: AddressTable,
     hops: Items<Hop>,
+}
+
+/// Written out, so that it is proved once and not wherever one is dropped.
+impl Drop for Hops {
+    fn drop(self) {
+        let Hops {
+            addresses: _,
+            hops: _,
+        } = self;
+    }
 }
 
 impl Model for Hops {

@@ -25,12 +25,23 @@ use std::alloc::{AllocError, Global};
 /// memory where it is made, and none for an event. A configuration, whatever its bytes are, is written line by line, and handed on behind
 /// the line with its digest. A recorder has failed once its writer gave up, or was told an event that no script says: a moment of 2^62 or
 /// more, a datagram from the port 0, or one of more than 65,508 bytes. From then on it writes nothing, and answers as `on_fault` says.
-#[derive(Drop)]
 pub struct Recorder<W: TellingWriter + Drop> {
     pub writer: W,
     pub on_fault: OnFault,
     pub has_failed: bool,
     line: LineRoom,
+}
+
+/// Written out, so that it is proved once and not wherever one is dropped.
+impl<W: TellingWriter + Drop> Drop for Recorder<W> {
+    fn drop(self) {
+        let Recorder {
+            writer: _,
+            on_fault: _,
+            has_failed: _,
+            line: _,
+        } = self;
+    }
 }
 
 impl<W: TellingWriter + Drop> Recorder<W> {

@@ -20,6 +20,23 @@ pub enum LocationError {
     TooMany = 5,
 }
 
+impl LocationError {
+    ghost use Rattle.sip_location.specs.LocationError.{words_of};
+
+    /// What is wrong, in words.
+    fn words(self) -> &'static str
+        ensures { result.now ≡ words_of self }
+    {
+        match self {
+            LocationError::NoMemory => "out of memory",
+            LocationError::BadStar => "a `*` that doesn't stand alone with Expires 0",
+            LocationError::TooBrief => "an interval below a minute",
+            LocationError::OldCSeq => "a CSeq that isn't higher",
+            LocationError::TooMany => "more than 16 bindings",
+        }
+    }
+}
+
 impl fmt::Display for LocationError {
     ghost use Rattle.std.specs.Prelude.{Some};
     ghost use Rattle.sip_location.specs.LocationError.{words_of};
@@ -27,13 +44,7 @@ impl fmt::Display for LocationError {
     ghost output = { λ e. Some (words_of e) };
 
     fn fmt<W: fmt::Write>(&self, f: &mut fmt::Formatter<W>) -> fmt::Result {
-        match self {
-            LocationError::NoMemory => write!(f, "out of memory"),
-            LocationError::BadStar => write!(f, "a `*` that doesn't stand alone with Expires 0"),
-            LocationError::TooBrief => write!(f, "an interval below a minute"),
-            LocationError::OldCSeq => write!(f, "a CSeq that isn't higher"),
-            LocationError::TooMany => write!(f, "more than 16 bindings"),
-        }
+        f.write_str(self.words())
     }
 }
 

@@ -18,8 +18,8 @@ use sip_message_form::{ViewError, ViewRefusal};
 use sip_text::{decimal, is_one_item};
 use std::alloc::Global;
 
-/// Room for the fields of most messages.
-pub(crate) const USUAL_FIELDS: usize = 16;
+/// Room for the fields of most messages: what desk phones send has some more than twenty.
+pub(crate) const USUAL_FIELDS: usize = 24;
 
 /// The length, once one more is written behind others: a second one, and what is none below 2^64, is refused
 /// (RFC 3261 20.14).

@@ -9,7 +9,7 @@ ghost use Rattle.sip_message.specs.Filled.{item_of, IsFieldFilled, IsLineFilled,
 ghost use Rattle.sip_message.specs.Stands.{IsStanding, IsTakenAs};
 ghost use Rattle.sip_message.specs.HeadContent.{IsFault, IsLineRefused, next_length, field_taken};
 ghost use Rattle.sip_message.specs.Reading.{Gives, head_said};
-ghost use Rattle.sip_message_fields.specs.FieldName.{is_length, is_list};
+ghost use Rattle.sip_message_fields.specs.FieldName.{is_length, is_list, name_of};
 ghost use Rattle.sip_message_fields.specs.Lines.{line_of};
 ghost use Rattle.sip_message_form.specs.Text.{AreLinesOf};
 ghost use Rattle.sip_text.specs.Lists.{cut};
@@ -189,14 +189,20 @@ impl<'a> Filling<'a> {
         self.take_any(alloc, ViewName::of_part(name), Value::of_part(value))
     }
 
-    /// The same in place, where it is one field.
+    /// The same in place, where it is one field, of which it was read what its name is.
     #[inline(always)]
-    fn take_seen(&mut self, alloc: Global, name: &'a [u8], value: &'a [u8]) -> Result<(), LineFault>
+    fn take_seen(
+        &mut self,
+        alloc: Global,
+        seen: ViewName<'a>,
+        name: &'a [u8],
+        value: &'a [u8],
+    ) -> Result<(), LineFault>
+        requires { seen ≡ name_of name.now }
         ensures { MatchResult result
             (λ _. IsFieldFilled self.old (seen_field name.now value.now) self.new)
             (λ e. IsFault e (field_taken self.old.length (seen_field name.now value.now))) }
     {
-        let seen = ViewName::of_part(name);
         if seen.is_content_length() || !is_one_field(&seen, value) {
             return self.take_parts(alloc, name, value);
         }
@@ -269,7 +275,7 @@ impl<'a> Filling<'a> {
         Ok(next.after)
     }
 
-    /// Takes a line with a name and without folds that isn't written as its field is, and gives what follows it.
+    /// Takes a line with a name and without folds behind whose `:` no space stands alone, and gives what follows it.
     #[inline(always)]
     fn take_unusual(&mut self, alloc: Global, next: NamedLine<'a>) -> Result<&'a [u8], LineFault>
         requires no_fold { is_fold next.after.now ≡ false }
@@ -278,7 +284,8 @@ impl<'a> Filling<'a> {
         ensures { MatchResult result (λ rest. IsLineFilled self.old next.entry.line.now next.entry.after.now self.new rest.now)
             (λ e. (e ≡ LineFault.NoMemory) ⊎ IsLineRefused self.old.length next.entry.line.now next.entry.after.now) }
     {
-        self.take_seen(alloc, next.name, trimmed_slice(next.value))?;
+        let seen = ViewName::of_part(next.name);
+        self.take_seen(alloc, seen, next.name, trimmed_slice(next.value))?;
         Ok(next.after)
     }
 
@@ -303,8 +310,8 @@ impl<'a> Filling<'a> {
         };
         let (name, is_full) = ViewName::of_written(next.name);
         if !is_full {
-            let after = self.take_unusual(alloc, next)?;
-            return Ok(TakenLine::apart(after));
+            self.take_seen(alloc, name, next.name, value)?;
+            return Ok(TakenLine::apart(next.after));
         }
         if !is_one_field(&name, value) {
             self.take_parts(alloc, next.name, value)?;

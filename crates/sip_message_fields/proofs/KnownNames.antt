@@ -1,6 +1,6 @@
 -- Names that this project knows are the same where they are one.
 use Rattle.std.proofs.Common.{◌≡◌, ℕ, zero, suc, ◌<◌, Bool, true, false, List, [], ◌∷◌, length, get_or, refl, sym, ap, ◌∙◌, rules, arith, lit<}
-use Rattle.std.specs.Prelude.{not, ◌&&◌}
+use Rattle.std.specs.Prelude.{not, ◌&&◌, ◌==◌}
 use denote.Enum.Bare.{sameb}
 use Rattle.sip_message_fields.specs.contracts.known_names.KnownName.{the_type}
 use Rattle.sip_message_fields.specs.declared.field_name.FieldName.{FieldName}
@@ -15,6 +15,7 @@ use Rattle.sip_message_fields.specs.declared.known_names.KnownName.TheVariants.{
 use Rattle.std.specs.Str.{bytes_eq}
 use Rattle.sip_message_fields.specs.FieldName.{spelling, is_same_name, name_of}
 use Rattle.sip_message_fields.specs.KnownName.{field_name_of, known_of, name_seen}
+use Rattle.sip_message_fields.specs.NameEnds.{place_of}
 
 abbrev known : List KnownName
 known =
@@ -104,6 +105,14 @@ by_tags a b = agrees (sameb the_type a b) (is_same_name (field_name_of a) (field
 
 pub same_known : (a b : KnownName) → sameb the_type a b ≡ is_same_name (field_name_of a) (field_name_of b)
 same_known a b = agree (sameb the_type a b) (is_same_name (field_name_of a) (field_name_of b)) (by_name (by_tags a) b (by_name (λ x. each (by_tags x) known) a refl))
+
+abbrev by_places : KnownName → KnownName → Bool
+by_places a b = agrees (place_of a == place_of b) (is_same_name (field_name_of a) (field_name_of b))
+
+-- two names have one place only where they are the same
+pub same_place : (a b : KnownName) → (place_of a == place_of b) ≡ is_same_name (field_name_of a) (field_name_of b)
+same_place a b = agree (place_of a == place_of b) (is_same_name (field_name_of a) (field_name_of b)) (by_name (by_places a) b
+    (by_name (λ x. each (by_places x) known) a refl))
 
 pub seen_again : (name : FieldName) → name_seen (known_of name) (spelling name) ≡ name
 seen_again Name.Via = refl

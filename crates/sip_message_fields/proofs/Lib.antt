@@ -4,3 +4,4 @@ pub mod Spelled
 pub mod Keeping
 pub mod Slicing
 pub mod ToldNames
+pub mod NameEnds

@@ -7,4 +7,5 @@ pub mod Piece
 pub mod Slice
 pub mod KeptField
 pub mod Lines
+pub mod NameEnds
 pub use Rattle.sip_text.specs as text

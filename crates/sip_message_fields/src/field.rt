@@ -5,10 +5,17 @@ use sip_text::Bytes;
 use std::alloc::{AllocError, Global};
 
 /// A field of a message: its name, and its value without blanks at both ends (RFC 3261 7.3.1).
-#[derive(Clone, Drop)]
+#[derive(Clone)]
 pub struct Field {
     pub name: FieldName,
     pub value: Bytes,
+}
+
+/// Written out, so that it is proved once and not wherever one is dropped.
+impl Drop for Field {
+    fn drop(self) {
+        let Field { name: _, value: _ } = self;
+    }
 }
 
 impl Field {

@@ -18,6 +18,7 @@ mod full_spelling;
 mod kept_field;
 mod known_names;
 mod lines;
+mod name_ends;
 mod named_values;
 mod piece;
 mod slices;

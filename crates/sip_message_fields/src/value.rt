@@ -6,9 +6,16 @@ use std::alloc::{AllocError, Global};
 use std::marker::Model;
 
 /// A value of a view, seen as its bytes, wherever they stand.
-#[derive(Clone, Drop)]
+#[derive(Clone)]
 pub struct Value<'a> {
     piece: ViewPiece<'a>,
+}
+
+/// Written out, so that it is proved once and not wherever one is dropped.
+impl<'a> Drop for Value<'a> {
+    fn drop(self) {
+        let Value { piece: _ } = self;
+    }
 }
 
 impl<'a> Model for Value<'a> {

@@ -11,11 +11,21 @@ use std::marker::Model;
 
 /// A field of a view, seen as that field. Where its line stands so in what was read, it has that, too: it is copied as a
 /// whole where the field is written.
-#[derive(Drop)]
 pub struct ViewField<'a> {
     name: ViewName<'a>,
     value: Value<'a>,
     line: Option<&'a [u8]>,
+}
+
+/// Written out, so that it is proved once and not wherever one is dropped.
+impl<'a> Drop for ViewField<'a> {
+    fn drop(self) {
+        let ViewField {
+            name: _,
+            value: _,
+            line: _,
+        } = self;
+    }
 }
 
 impl<'a> Model for ViewField<'a> {

@@ -1,7 +1,9 @@
 //! The fields of a view: looked up, counted, added and edited by name, without a byte copied. `Fields` has bytes of its own.
-ghost use Rattle.std.specs.Prelude.{◌≡◌, [], ◌∷◌, ◌++◌, IfOk, OnOk, OnErr, length, map, option_map};
+ghost use Rattle.std.specs.Prelude.{◌≡◌, [], ◌∷◌, ◌++◌, true, IfOk, OnOk, OnErr, None, length, map, option_map};
 ghost use Rattle.sip_message_fields.specs.Lines.{line_of};
 
+use crate::known_names::KnownName;
+use crate::name_ends::{ANYWHERE, NAMES, note, place_of};
 use crate::value::Value;
 use crate::view_edits::{put_all, put_named, with_first};
 use crate::view_field::ViewField;
@@ -12,18 +14,35 @@ use std::alloc::{AllocError, Global};
 use std::marker::Model;
 
 /// The fields of a view, in their order, seen as the list of them.
-#[derive(Clone, Drop)]
+#[derive(Drop)]
 pub struct ViewFields<'a> {
     list: Vec<ViewField<'a>>,
+    /// Told as each field is added: how many of the first fields hold all that have a known name.
+    ends: [u8; NAMES],
 }
 
 impl<'a> Model for ViewFields<'a> {
     ghost use Rattle.std.specs.Prelude.{List};
     ghost use Rattle.sip_message_fields.specs.declared.field.Field.{Field};
+    ghost use Rattle.sip_message_fields.specs.NameEnds.{AreEnds};
 
     ghost Value = { List Field };
 
     ghost view = { λ f. f.list.items };
+
+    ghost invariant = { λ f. AreEnds f.ends f.list.items };
+}
+
+/// Written out, so that a copy is known to be equal.
+impl<'a> Clone for ViewFields<'a> {
+    ghost is_clone = { λ fields copy. copy ≡ fields };
+
+    fn clone(&self) -> Result<ViewFields<'a>, AllocError> {
+        Ok(ViewFields {
+            list: self.list.clone()?,
+            ends: self.ends,
+        })
+    }
 }
 
 impl<'a> ViewFields<'a> {
@@ -32,11 +51,13 @@ impl<'a> ViewFields<'a> {
     ghost use Rattle.sip_message_fields.specs.Values.{values_of, first_value};
 
     /// No fields, and room for so many.
+    #[tactic(auto, using(crate::proofs::NameEnds::none_yet))]
     pub fn with_room(alloc: Global, room: usize) -> Result<Self, AllocError>
         ensures { IfOk result (λ views. views ≡ []) }
     {
         Ok(ViewFields {
             list: Vec::with_capacity(alloc, room)?,
+            ends: [0; NAMES],
         })
     }
 
@@ -56,6 +77,8 @@ impl<'a> ViewFields<'a> {
         if self.list.len() == self.list.capacity() {
             self.list.reserve(1)?;
         }
+        let count = self.list.len();
+        note(&mut self.ends, field.name(), count);
         self.list.push_reserved(field);
         Ok(())
     }
@@ -76,6 +99,8 @@ impl<'a> ViewFields<'a> {
         if self.list.len() == self.list.capacity() {
             self.list.reserve(1)?;
         }
+        let count = self.list.len();
+        note(&mut self.ends, &name, count);
         self.list
             .push_reserved(ViewField::of_line(name, value, line));
         Ok(())
@@ -91,6 +116,8 @@ impl<'a> ViewFields<'a> {
         if self.list.len() == self.list.capacity() {
             self.list.reserve(1)?;
         }
+        let count = self.list.len();
+        note(&mut self.ends, &name, count);
         self.list
             .push_reserved(ViewField::new(name, Value::of_part(value)));
         Ok(())
@@ -125,7 +152,7 @@ impl<'a> ViewFields<'a> {
     ) -> Result<(), AllocError>
         ensures { OnOk result (self.new ≡ self.old ++ all_named name.now others.now) }
     {
-        put_named(self, others.as_slice(), name)
+        put_named(self, others.up_to_last(name), name)
     }
 
     /// The fields, the first of a name with another value. No byte is copied.
@@ -148,10 +175,47 @@ impl<'a> ViewFields<'a> {
         self.list.as_slice()
     }
 
+    /// Fields from the front on among which all stand that have a name: none where it was told that no field has it. Takes no memory.
+    #[inline]
+    #[tactic(auto, using(crate::proofs::NameEnds::up_to_end, crate::proofs::NameEnds::first_by_all))]
+    pub fn up_to_last(&self, name: &FieldName) -> &[ViewField<'a>]
+        ensures all { all_named name.now result.now ≡ all_named name.now self.now }
+        ensures first { first_named name.now result.now ≡ first_named name.now self.now }
+    {
+        let fields = self.list.as_slice();
+        let Some(known) = KnownName::of(name) else {
+            return fields;
+        };
+        let end = self.ends[place_of(known)];
+        if end == ANYWHERE {
+            return fields;
+        }
+        let end = usize::from(end);
+        if end >= fields.len() {
+            return fields;
+        }
+        &fields[..end]
+    }
+
+    /// Only where no field has a name, as was told when each was added. Takes no memory.
+    #[inline(always)]
+    #[tactic(auto, using(crate::proofs::NameEnds::none_at_all))]
+    fn lacks(&self, name: &FieldName) -> bool
+        ensures { result ≡ true → first_named name.now self.now ≡ None }
+    {
+        match KnownName::of(name) {
+            Some(known) => self.ends[place_of(known)] == 0,
+            None => false,
+        }
+    }
+
     /// The first field of a name.
     pub fn first_field(&self, name: &FieldName) -> Option<&ViewField<'a>>
         ensures { option_map (λ field. field.now) result ≡ first_named name.now self.now }
     {
+        if self.lacks(name) {
+            return None;
+        }
         first_of(self.list.as_slice(), name)
     }
 
@@ -167,7 +231,7 @@ impl<'a> ViewFields<'a> {
     pub fn values(&self, alloc: Global, name: &FieldName) -> Result<Vec<&[u8]>, AllocError>
         ensures { IfOk result (λ values. map (λ value. value.now) values.items ≡ values_of name.now self.now) }
     {
-        values_in(alloc, self.list.as_slice(), name)
+        values_in(alloc, self.up_to_last(name), name)
     }
 
     /// How many fields have a name.
@@ -175,7 +239,7 @@ impl<'a> ViewFields<'a> {
     pub fn count(&self, name: &FieldName) -> usize
         ensures { result ≡ length (values_of name.now self.now) }
     {
-        count_of(self.list.as_slice(), name)
+        count_of(self.up_to_last(name), name)
     }
 
     /// The fields, which own their bytes.
@@ -189,7 +253,7 @@ impl<'a> ViewFields<'a> {
     pub fn into_list(self) -> Vec<ViewField<'a>>
         ensures { result.items ≡ self.entry }
     {
-        let ViewFields { list } = self;
+        let ViewFields { list, ends: _ } = self;
         list
     }
 }

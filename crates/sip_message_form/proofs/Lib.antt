@@ -4,3 +4,4 @@ pub mod KeptFields
 pub mod Longer
 pub mod StoredText
 pub mod WrittenLines
+pub mod OtherLengths

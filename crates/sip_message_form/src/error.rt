@@ -27,6 +27,8 @@ pub enum ReadError {
 }
 
 impl ReadError {
+    ghost use Rattle.sip_message_form.specs.ReadError.{words_of};
+
     /// Its number, from 1 to 6.
     pub fn number(&self) -> u8
         ensures { result ≡ number_of self.now }
@@ -40,6 +42,20 @@ impl ReadError {
             ReadError::TooManyFields => 6,
         }
     }
+
+    /// What is wrong, in words.
+    fn words(&self) -> &'static str
+        ensures { result.now ≡ words_of self.now }
+    {
+        match self {
+            ReadError::NoMemory => "out of memory",
+            ReadError::NotSip => "no SIP message",
+            ReadError::BadField => "a malformed field",
+            ReadError::ShortBody(_) => "a body shorter than its Content-Length",
+            ReadError::TooLong => "too long",
+            ReadError::TooManyFields => "too many fields",
+        }
+    }
 }
 
 impl fmt::Display for ReadError {
@@ -49,14 +65,7 @@ impl fmt::Display for ReadError {
     ghost output = { λ e. Some (words_of e) };
 
     fn fmt<W: fmt::Write>(&self, f: &mut fmt::Formatter<W>) -> fmt::Result {
-        match self {
-            ReadError::NoMemory => write!(f, "out of memory"),
-            ReadError::NotSip => write!(f, "no SIP message"),
-            ReadError::BadField => write!(f, "a malformed field"),
-            ReadError::ShortBody(_) => write!(f, "a body shorter than its Content-Length"),
-            ReadError::TooLong => write!(f, "too long"),
-            ReadError::TooManyFields => write!(f, "too many fields"),
-        }
+        f.write_str(self.words())
     }
 }
 

@@ -23,12 +23,23 @@ use std::marker::Model;
 
 /// A message that is kept beyond its datagram, seen as that message: its written form stands in one store, and spans name
 /// its first line, its fields and its body in it.
-#[derive(Drop)]
 pub struct Kept {
     store: Buffer,
     start: KeptStart,
     list: Vec<KeptField>,
     body: Span,
+}
+
+/// Written out, so that it is proved once and not wherever one is dropped.
+impl Drop for Kept {
+    fn drop(self) {
+        let Kept {
+            store: _,
+            start: _,
+            list: _,
+            body: _,
+        } = self;
+    }
 }
 
 impl Model for Kept {

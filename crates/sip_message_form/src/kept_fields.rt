@@ -34,8 +34,10 @@ fn is_spelled(store: &[u8], kept: &KeptField, name: &FieldName) -> bool
     same_no_case(spelling_in(store, kept), name.spelling())
 }
 
-/// Whether a field that is kept so in a store has a name, of which it is known whether this project knows it.
+/// Whether a field that is kept so in a store has a name, of which it is known whether this project knows it. An unknown name of
+/// another length isn't compared with a known one.
 #[inline(always)]
+#[tactic(auto, using(crate::proofs::OtherLengths::other_length))]
 fn is_named(store: &[u8], kept: &KeptField, known: Option<KnownName>, name: &FieldName) -> bool
     requires stored { IsStored store.now kept.now }
     requires known { name_seen known (spelling name.now) ≡ name.now }
@@ -43,6 +45,12 @@ fn is_named(store: &[u8], kept: &KeptField, known: Option<KnownName>, name: &Fie
 {
     match (kept.known, known) {
         (Some(left), Some(right)) => left.is_same(right),
+        (None, Some(right)) => {
+            if kept.spelling.of(store).len() != right.spelling().len() {
+                return false;
+            }
+            is_spelled(store, kept, name)
+        }
         _ => is_spelled(store, kept, name),
     }
 }

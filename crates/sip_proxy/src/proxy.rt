@@ -190,6 +190,15 @@ impl<T: Timers> Proxy<T> {
         self.contexts.len()
     }
 
+    /// How many dialogs stand in its table, those counted that aren't known any more: at most 4,096.
+    pub fn dialog_count(&self) -> usize
+        ensures value { result ≡ length self.now.state.dialogs }
+        ensures few { result ≤ 4096 }
+    {
+        let _open = &self.contexts;
+        self.dialogs.len()
+    }
+
     /// Whether no more can be opened.
     pub fn is_full(&self) -> bool
         ensures { result ≡ nat_le 1024 (length self.now.state.requests) }

@@ -11,10 +11,16 @@ use std::io;
 /// A reader that gives the text that another one's bytes stand for, line by line: in the place of each line `omitted COUNT` so
 /// many lines of a datagram of one byte, which says no message. What another reader gives without such a line it gives as it is.
 /// It looks at no line before all in front of that was given, takes memory where it is made, and none later.
-#[derive(Drop)]
 pub struct Expanding<I> {
     pub inner: I,
     pub(crate) held: Held,
+}
+
+/// Written out, so that it is proved once and not wherever one is dropped.
+impl<I: Drop> Drop for Expanding<I> {
+    fn drop(self) {
+        let Expanding { inner: _, held: _ } = self;
+    }
 }
 
 impl<I: TellingReader + Drop> Expanding<I> {

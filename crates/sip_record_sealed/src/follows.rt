@@ -19,10 +19,16 @@ pub(crate) const LONGEST: usize = 329;
 const BEHIND: usize = 66;
 
 /// Which record another one follows: the name of its file, without its folder, and the digest in its last line.
-#[derive(Drop)]
 pub struct Follows {
     pub name: Vec<u8>,
     pub digest: [u8; 32],
+}
+
+/// Written out, so that it is proved once and not wherever one is dropped.
+impl Drop for Follows {
+    fn drop(self) {
+        let Follows { name: _, digest: _ } = self;
+    }
 }
 
 /// Whether a line can say a file's name.

@@ -14,7 +14,6 @@ use std::io::{ErrorKind, Read};
 /// where that says which record is followed. It fails with `InvalidData` at the first digest that isn't that of what stands before it, and gives
 /// nothing more. A file that ends in such a line that was cut ends in front of that. It takes memory where it is made, and for a second line of that
 /// kind.
-#[derive(Drop)]
 pub struct Unsealing<R> {
     pub inner: R,
     alloc: Global,
@@ -34,6 +33,25 @@ pub struct Unsealing<R> {
     has_followed: bool,
     /// Whether one disagreed, which is the line behind those.
     has_changed: bool,
+}
+
+/// Written out, so that it is proved once and not wherever one is dropped.
+impl<R: Drop> Drop for Unsealing<R> {
+    fn drop(self) {
+        let Unsealing {
+            inner: _,
+            alloc: _,
+            window: _,
+            is_inside: _,
+            digesting: _,
+            lines: _,
+            seals: _,
+            ending: _,
+            follows: _,
+            has_followed: _,
+            has_changed: _,
+        } = self;
+    }
 }
 
 /// What stands at the front of a line behind so many others.

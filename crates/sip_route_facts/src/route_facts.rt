@@ -20,14 +20,19 @@ use sip_uri_equality::{same, says_same_no_case};
 use std::alloc::{AllocError, Global};
 
 /// Where a SIP or SIPS URI leads: its host, and the number of its port, 5060 where none is written.
-#[derive(Drop)]
 pub struct HostPort {
     pub host: Bytes,
     pub port: u16,
 }
 
+/// Written out, so that it is proved once and not wherever one is dropped.
+impl Drop for HostPort {
+    fn drop(self) {
+        let HostPort { host: _, port: _ } = self;
+    }
+}
+
 /// Where a Request-URI leads that the server there put into Record-Route.
-#[derive(Drop)]
 pub struct RecordedHostPort {
     /// Its host, as it was written.
     pub host: Bytes,
@@ -37,8 +42,18 @@ pub struct RecordedHostPort {
     pub first: Option<HostPort>,
 }
 
+/// Written out, so that it is proved once and not wherever one is dropped.
+impl Drop for RecordedHostPort {
+    fn drop(self) {
+        let RecordedHostPort {
+            host: _,
+            port: _,
+            first: _,
+        } = self;
+    }
+}
+
 /// What of a request decides which of its Routes are left, whichever server asks (RFC 3261 16.4).
-#[derive(Drop)]
 pub struct RouteFacts {
     /// Where its Request-URI leads, if a server may have put it into Record-Route and the last Route can take its place.
     pub recorded: Option<RecordedHostPort>,
@@ -46,6 +61,17 @@ pub struct RouteFacts {
     pub first: Option<HostPort>,
     /// How many Routes it has.
     pub count: usize,
+}
+
+/// Written out, so that it is proved once and not wherever one is dropped.
+impl Drop for RouteFacts {
+    fn drop(self) {
+        let RouteFacts {
+            recorded: _,
+            first: _,
+            count: _,
+        } = self;
+    }
 }
 
 /// Where a URI of any scheme leads.

@@ -5,6 +5,7 @@ use crate::resend::Resend;
 use sip_base::Shared;
 use sip_text::{Bytes, same_bytes};
 use sip_uri::Addr;
+use std::alloc::AllocError;
 
 /// How far a branch is, with its deadline in milliseconds: the client transaction of its request, and Timer C of an INVITE
 /// (RFC 3261 9.1, 16.6 step 11, 17.1; RFC 6026 7.2).
@@ -88,7 +89,6 @@ impl Phase {
 }
 
 /// A branch of an open request (RFC 3261 16.6).
-#[derive(Clone)]
 pub struct Branch {
     /// The number of its target, from 1.
     pub number: u32,
@@ -105,6 +105,26 @@ pub struct Branch {
     pub final_to: Option<Shared<Bytes>>,
     /// When what it sends goes again, while it does.
     pub again: Resend,
+}
+
+/// Written out, so that what can't be refused isn't asked for.
+impl Clone for Branch {
+    ghost is_clone = { λ branch copy. copy ≡ branch };
+
+    fn clone(&self) -> Result<Branch, AllocError> {
+        let uri = self.uri.clone()?;
+        let final_to = self.final_to.clone()?;
+        Ok(Branch {
+            number: self.number,
+            is_cancel: self.is_cancel,
+            wants_cancel: self.wants_cancel,
+            uri,
+            address: self.address,
+            phase: self.phase,
+            final_to,
+            again: self.again,
+        })
+    }
 }
 
 /// Only where two texts have the same bytes, or neither is there.

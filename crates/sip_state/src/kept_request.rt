@@ -42,12 +42,22 @@ use std::marker::Model;
 
 /// A request that is kept beyond its datagram, seen as that message and the address that it came from, with what is read of
 /// it once.
-#[derive(Drop)]
 pub struct KeptRequest {
     message: KeptParts,
     via: TopVia,
     /// Of a request that goes on, in a block of its own: one that is answered here has none.
     onward: Option<Shared<Onward>>,
+}
+
+/// Written out, so that it is proved once and not wherever one is dropped.
+impl Drop for KeptRequest {
+    fn drop(self) {
+        let KeptRequest {
+            message: _,
+            via: _,
+            onward: _,
+        } = self;
+    }
 }
 
 impl Model for KeptRequest {

@@ -12,6 +12,7 @@ use sip_best::Final;
 use sip_text::{Items, same_bytes};
 use sip_transaction_table::{TransactionKey, same_key};
 use sip_uri::Addr;
+use std::alloc::AllocError;
 
 /// How far the answering side of a request is, with its deadline in milliseconds: its server transaction (RFC 3261 17.2;
 /// RFC 6026 7.1).
@@ -64,7 +65,6 @@ pub struct LastAnswer {
 }
 
 /// An open request. What many of its states have in common is shared: a clone copies its branches and its numbers, and no text.
-#[derive(Clone)]
 pub struct OpenRequest {
     pub key: Shared<TransactionKey>,
     /// The request as it came, and where it came from.
@@ -81,6 +81,30 @@ pub struct OpenRequest {
     /// The final answers of its branches, in order of arrival (RFC 3261 16: response context).
     pub finals: Items<Final>,
     pub branches: Items<Branch>,
+}
+
+/// Written out, so that what can't be refused isn't asked for.
+impl Clone for OpenRequest {
+    ghost is_clone = { λ request copy. copy ≡ request };
+
+    fn clone(&self) -> Result<OpenRequest, AllocError> {
+        let key = self.key.clone()?;
+        let request = self.request.clone()?;
+        let answer = self.answer.clone()?;
+        let finals = self.finals.clone()?;
+        let branches = self.branches.clone()?;
+        Ok(OpenRequest {
+            key,
+            request,
+            number: self.number,
+            arrived_at: self.arrived_at,
+            answer,
+            side: self.side,
+            again: self.again,
+            finals,
+            branches,
+        })
+    }
 }
 
 impl Side {
@@ -218,9 +242,19 @@ impl Drop for OpenRequest {
 
 /// An answer that goes to the caller: its status, the message with its text, and the address of the branch that it came
 /// from, if it came from one.
-#[derive(Drop)]
 pub struct Upward {
     pub status: u16,
     pub message: KeptAnswer,
     pub target: Option<Addr>,
+}
+
+/// Written out, so that it is proved once and not wherever one is dropped.
+impl Drop for Upward {
+    fn drop(self) {
+        let Upward {
+            status: _,
+            message: _,
+            target: _,
+        } = self;
+    }
 }

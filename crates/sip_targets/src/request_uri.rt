@@ -16,9 +16,15 @@ use std::alloc::{AllocError, Global};
 use std::marker::Model;
 
 /// The SIP or SIPS URI that a request is for, if its Request-URI is one.
-#[derive(Drop)]
 pub struct RequestUri<'a> {
     uri: Option<UriRef<'a>>,
+}
+
+/// Written out, so that it is proved once and not wherever one is dropped.
+impl<'a> Drop for RequestUri<'a> {
+    fn drop(self) {
+        let RequestUri { uri: _ } = self;
+    }
 }
 
 impl<'a> Model for RequestUri<'a> {

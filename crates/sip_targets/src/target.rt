@@ -15,12 +15,18 @@ use sip_uri_ref::UriRef;
 use std::alloc::{AllocError, Global};
 
 /// A place that a request is sent to (RFC 3261 16.5).
-#[derive(Drop)]
 pub struct Target {
     /// The Request-URI that goes there.
     pub uri: TargetUri,
     /// None: nothing can be sent, and the branch counts as answered 503.
     pub address: Option<Addr>,
+}
+
+/// Written out, so that it is proved once and not wherever one is dropped.
+impl Drop for Target {
+    fn drop(self) {
+        let Target { uri: _, address: _ } = self;
+    }
 }
 
 /// Whether a parameter is the `method` parameter, escapes in its name resolved.

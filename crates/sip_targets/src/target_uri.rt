@@ -9,9 +9,15 @@ use std::marker::Model;
 
 /// The Request-URI that goes to a target, kept as its text, which may have several owners: most contacts' is the text that is
 /// registered, so that no URI is made of it.
-#[derive(Drop)]
 pub struct TargetUri {
     text: Shared<Bytes>,
+}
+
+/// Written out, so that it is proved once and not wherever one is dropped.
+impl Drop for TargetUri {
+    fn drop(self) {
+        let TargetUri { text: _ } = self;
+    }
 }
 
 impl Model for TargetUri {

@@ -14,12 +14,22 @@ const TOO_FAR: u64 = 1 << 30;
 
 /// A plain list of timers. Each key serves once: want of keys, after 2^64 timers, counts as want of
 /// memory.
-#[derive(Drop)]
 pub struct ListTimers {
     /// In the order in which they fire.
     rows: Vec<Timer>,
     next_key: usize,
     reached: u64,
+}
+
+/// Written out, so that it is proved once and not wherever one is dropped.
+impl Drop for ListTimers {
+    fn drop(self) {
+        let ListTimers {
+            rows: _,
+            next_key: _,
+            reached: _,
+        } = self;
+    }
 }
 
 impl Model for ListTimers {

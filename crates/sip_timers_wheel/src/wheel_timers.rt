@@ -20,12 +20,22 @@ const TOO_FAR: u64 = 1 << 30;
 
 /// A timer wheel: 5 levels of 64 slots, of 1 ms each at the lowest level and 64 times as long at each further one. What is
 /// due by the greatest moment that was given to `pop_due` stands in a slot of its own.
-#[derive(Drop)]
 pub struct WheelTimers {
     levels: Levels,
     reached: u64,
     /// The timer that fires first, which is asked for more often than another one takes its place.
     first: Option<Timer>,
+}
+
+/// Written out, so that it is proved once and not wherever one is dropped.
+impl Drop for WheelTimers {
+    fn drop(self) {
+        let WheelTimers {
+            levels: _,
+            reached: _,
+            first: _,
+        } = self;
+    }
 }
 
 impl Model for WheelTimers {

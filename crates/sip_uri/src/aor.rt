@@ -14,12 +14,18 @@ use std::alloc::{AllocError, Global};
 use std::hash::{Hash, Hasher};
 
 /// An address of record: the user and the host that a registrar keeps bindings for (RFC 3261 10.3).
-#[derive(Drop)]
 pub struct Aor {
     /// The user without escapes; empty where a URI has none.
     pub user: Bytes,
     /// The host. [`aor_of`] gives it in lower case.
     pub host: Bytes,
+}
+
+/// Written out, so that it is proved once and not wherever one is dropped.
+impl Drop for Aor {
+    fn drop(self) {
+        let Aor { user: _, host: _ } = self;
+    }
 }
 
 /// Written out, so that a copy is known to be equal.

@@ -9,12 +9,19 @@ use sip_text::{Bytes, Items, split_once};
 use std::alloc::Global;
 
 /// A header of a URI, as written (RFC 3261 19.1.1).
-#[derive(Clone, Drop)]
+#[derive(Clone)]
 pub struct UriHeader {
     /// The name, with its escapes.
     pub name: Bytes,
     /// The value, with its escapes. It may be empty.
     pub value: Bytes,
+}
+
+/// Written out, so that it is proved once and not wherever one is dropped.
+impl Drop for UriHeader {
+    fn drop(self) {
+        let UriHeader { name: _, value: _ } = self;
+    }
 }
 
 /// The header that a text writes: a name, `=` and a value, which may be empty.

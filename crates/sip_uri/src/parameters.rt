@@ -15,12 +15,19 @@ use sip_text::{Bytes, FEW_TEXTS, Items, all_differ, same_no_case, split_once};
 use std::alloc::{AllocError, Global};
 
 /// A URI parameter, as written (RFC 3261 19.1.1).
-#[derive(Clone, Drop)]
+#[derive(Clone)]
 pub struct UriParameter {
     /// The name, with its escapes.
     pub name: Bytes,
     /// The value, with its escapes, where a `=` stands.
     pub value: Option<Bytes>,
+}
+
+/// Written out, so that it is proved once and not wherever one is dropped.
+impl Drop for UriParameter {
+    fn drop(self) {
+        let UriParameter { name: _, value: _ } = self;
+    }
 }
 
 /// Whether a text is the value of a parameter, or there is none.

@@ -30,6 +30,10 @@ use Rattle.sipd_arguments.specs.declared.call.UserCall.{UserCall}
 use Rattle.sipd_arguments.specs.declared.call.CallsCall.{CallsCall}
 use Rattle.sipd_arguments.specs.declared.call.ChosenCalls.{ChosenCalls}
 use Rattle.sipd_arguments.specs.declared.call.TimeCall.{TimeCall}
+use Rattle.sipd_arguments.specs.declared.call.TraceCall.{TraceCall}
+use Rattle.sipd_arguments.specs.declared.call.LadderCall.{LadderCall}
+use Rattle.sipd_arguments.specs.declared.call.SourcesCall.{SourcesCall}
+use Rattle.sipd_arguments.specs.declared.call.ChosenSources.{ChosenSources}
 use Rattle.sipd_arguments.specs.declared.call.ExpectedDecision.{ExpectedDecision}
 use Rattle.sipd_arguments.specs.declared.call.ExpectedDecision.TheVariants.{Allow, Deny, Challenge}
 use Rattle.sipd_exit.specs.declared.record_place.RecordFault.{RecordFault}
@@ -99,6 +103,7 @@ serve_command = command (codes "serve")
     ∷ number_from 0 36500 (option (codes "keep"))
     ∷ option (codes "sync")
     ∷ number_from 1 1000000 (option (codes "per-source"))
+    ∷ option (codes "status")
     ∷ flag (codes "reload")
     ∷ [])
 
@@ -128,6 +133,7 @@ report_command = command (codes "report")
     ∷ option (codes "user")
     ∷ number_from 0 4294967295 (option (codes "rule"))
     ∷ flag (codes "denied")
+    ∷ option (codes "outcome")
     ∷ flag (codes "csv")
     ∷ [])
 
@@ -183,6 +189,37 @@ abbrev pub now_command : Shape
 now_command = command (codes "now")
     (needed (option (codes "record")) ∷ option (codes "config") ∷ option (codes "at") ∷ flag (codes "csv") ∷ flag (codes "json") ∷ [])
 
+-- a command with the options that name recorded days
+abbrev pub of_days : Shape → Shape
+of_days s = record s { rules = s.rules ++ (needed (several (option (codes "record"))) ∷ []) ++ (option (codes "config") ∷ []) }
+
+abbrev pub trace_command : Shape
+trace_command = command (codes "trace")
+    (needed (several (option (codes "record")))
+    ∷ option (codes "config")
+    ∷ needed (option (codes "pcap"))
+    ∷ flag (codes "hide")
+    ∷ spare_word (codes "CALL") 1
+    ∷ [])
+
+abbrev pub ladder_command : Shape
+ladder_command = command (codes "ladder") (needed (several (option (codes "record"))) ∷ option (codes "config") ∷ word (codes "CALL") 1 ∷ [])
+
+-- a command with the options that say which datagrams are counted
+abbrev pub counting : Shape → Shape
+counting s = record s { rules = s.rules ++ (option (codes "since") ∷ []) ++ (option (codes "until") ∷ []) ++ (option (codes "from") ∷ []) }
+
+abbrev pub sources_command : Shape
+sources_command = command (codes "sources")
+    (needed (several (option (codes "record")))
+    ∷ option (codes "config")
+    ∷ option (codes "since")
+    ∷ option (codes "until")
+    ∷ option (codes "from")
+    ∷ flag (codes "csv")
+    ∷ flag (codes "json")
+    ∷ [])
+
 -- the program without its commands: one has to be there
 abbrev pub no_commands : App
 no_commands = record (new_app (codes "sipd")) { top = record (new_app (codes "sipd")).top { has_version = true; subcommand_required = true } }
@@ -192,7 +229,7 @@ abbrev pub program : App
 program = record {
   top = record no_commands.top { is_leaf = false };
   subs = check_command ∷ replay_command ∷ compact_command ∷ serve_command ∷ decide_command ∷ matrix_command ∷ report_command ∷ user_command
-      ∷ calls_command ∷ phones_command ∷ now_command ∷ [];
+      ∷ calls_command ∷ phones_command ∷ now_command ∷ trace_command ∷ ladder_command ∷ sources_command ∷ [];
 }
 
 -- ---- what is said of an option
@@ -284,6 +321,7 @@ pub record IsServe (rows : List Row) (call : ServeCall) : Type 0 where
   pub keep : call.keep ≡ days_said rows
   pub sync : sync_said rows ≡ Some call.sync
   pub per_source : call.per_source ≡ number_at 32 (codes "per-source") rows
+  pub status : option_map string_bytes call.status ≡ text_at (codes "status") rows
   pub reload : call.reload ≡ is_on (codes "reload") rows
 
 -- what a word expects to be decided
@@ -324,6 +362,7 @@ pub record IsReport (rows : List Row) (call : ReportCall) : Type 0 where
   pub user : option_map string_bytes call.user ≡ text_at (codes "user") rows
   pub rule : call.rule ≡ number_at 32 (codes "rule") rows
   pub denied : call.denied ≡ is_on (codes "denied") rows
+  pub outcome : option_map string_bytes call.outcome ≡ text_at (codes "outcome") rows
   pub csv : call.csv ≡ is_on (codes "csv") rows
 
 -- `user`
@@ -358,6 +397,34 @@ pub record IsTime (rows : List Row) (call : TimeCall) : Type 0 where
   pub csv : call.csv ≡ is_on (codes "csv") rows
   pub json : call.json ≡ is_on (codes "json") rows
 
+-- `trace`
+pub record IsTrace (rows : List Row) (call : TraceCall) : Type 0 where
+  pub records : map string_bytes call.records.items ≡ texts_at (codes "record") rows
+  pub config : option_map string_bytes call.config ≡ text_at (codes "config") rows
+  pub of_call : option_map string_bytes call.call ≡ text_at (codes "CALL") rows
+  pub pcap : string_bytes call.pcap ≡ needed_text (codes "pcap") rows
+  pub hide : call.hide ≡ is_on (codes "hide") rows
+
+-- `ladder`
+pub record IsLadder (rows : List Row) (call : LadderCall) : Type 0 where
+  pub records : map string_bytes call.records.items ≡ texts_at (codes "record") rows
+  pub config : option_map string_bytes call.config ≡ text_at (codes "config") rows
+  pub of_call : string_bytes call.call ≡ needed_text (codes "CALL") rows
+
+-- which datagrams of `sources`
+pub record IsChosenOf (rows : List Row) (chosen : ChosenSources) : Type 0 where
+  pub since : option_map string_bytes chosen.since ≡ text_at (codes "since") rows
+  pub until : option_map string_bytes chosen.until ≡ text_at (codes "until") rows
+  pub from : option_map string_bytes chosen.from ≡ text_at (codes "from") rows
+
+-- `sources`
+pub record IsSources (rows : List Row) (call : SourcesCall) : Type 0 where
+  pub records : map string_bytes call.records.items ≡ texts_at (codes "record") rows
+  pub config : option_map string_bytes call.config ≡ text_at (codes "config") rows
+  pub chosen : IsChosenOf rows call.chosen
+  pub csv : call.csv ≡ is_on (codes "csv") rows
+  pub json : call.json ≡ is_on (codes "json") rows
+
 -- what a command with its options asks for
 abbrev pub IsCall : Text → List Row → ProgramCall → Type 0
 IsCall name rows (calls.Check call) = (name ≡ codes "check") × IsCheck rows call
@@ -371,6 +438,9 @@ IsCall name rows (calls.User call) = (name ≡ codes "user") × IsUser rows call
 IsCall name rows (calls.Calls call) = (name ≡ codes "calls") × IsCalls rows call
 IsCall name rows (calls.Phones call) = (name ≡ codes "phones") × IsTime rows call
 IsCall name rows (calls.Now call) = (name ≡ codes "now") × IsTime rows call
+IsCall name rows (calls.Trace call) = (name ≡ codes "trace") × IsTrace rows call
+IsCall name rows (calls.Ladder call) = (name ≡ codes "ladder") × IsLadder rows call
+IsCall name rows (calls.Sources call) = (name ≡ codes "sources") × IsSources rows call
 
 -- the same of the command that a command line names, if it names one
 abbrev pub IsCallOf : Option (Text × List Row) → ProgramCall → Type 0
@@ -461,11 +531,11 @@ matrix_misuse rows =
 
 -- the commands about recorded days
 abbrev pub is_of_days : Text → Bool
-is_of_days name = list_any (bytes_eq name) (codes "calls" ∷ codes "phones" ∷ codes "now" ∷ [])
+is_of_days name = list_any (bytes_eq name) (codes "calls" ∷ codes "phones" ∷ codes "now" ∷ codes "sources" ∷ [])
 
 -- the commands whose options all stand together
 abbrev pub is_free : Text → Bool
-is_free name = list_any (bytes_eq name) (codes "check" ∷ codes "replay" ∷ codes "compact" ∷ codes "report" ∷ [])
+is_free name = list_any (bytes_eq name) (codes "check" ∷ codes "replay" ∷ codes "compact" ∷ codes "report" ∷ codes "trace" ∷ codes "ladder" ∷ [])
 
 abbrev pub misuse_in : Text → List Row → Option Misuse
 misuse_in name rows =

@@ -53,6 +53,12 @@ pub record AreLines : Type 0 where
   pub calls : faults_in (calling (codes "--since" ∷ codes "2026-10-14" ∷ codes "--json" ∷ [])) ≡ []
   pub phones : faults_in (line (codes "phones" ∷ codes "--record" ∷ codes "a" ∷ codes "--at" ∷ codes "2026-10-14" ∷ [])) ≡ []
   pub now : faults_in (line (codes "now" ∷ codes "--record" ∷ codes "a" ∷ codes "b" ∷ [])) ≡ kinds.UnknownArgument ∷ []
+  pub trace : faults_in (line (codes "trace" ∷ codes "7" ∷ codes "--record" ∷ codes "a" ∷ codes "b" ∷ codes "--pcap" ∷ codes "c" ∷ codes "--hide" ∷ [])) ≡ []
+  pub no_capture : faults_in (line (codes "trace" ∷ codes "--record" ∷ codes "a" ∷ [])) ≡ kinds.MissingRequiredArgument ∷ []
+  pub ladder : faults_in (line (codes "ladder" ∷ codes "7" ∷ codes "--record" ∷ codes "a" ∷ [])) ≡ []
+  pub counted : faults_in (line (codes "sources" ∷ codes "--record" ∷ codes "a" ∷ codes "b" ∷ codes "--from" ∷ codes "192.0.2.7" ∷ [])) ≡ []
+  pub unproven : faults_in (line (codes "sources" ∷ codes "--record" ∷ codes "a" ∷ codes "--user" ∷ codes "carol" ∷ [])) ≡ kinds.UnknownArgument ∷ []
+  pub no_call : faults_in (line (codes "ladder" ∷ codes "--record" ∷ codes "a" ∷ [])) ≡ kinds.MissingRequiredArgument ∷ []
   pub no_records : faults_in (line (codes "calls" ∷ [])) ≡ kinds.MissingRequiredArgument ∷ []
   pub empty_records : faults_in (line (codes "calls" ∷ codes "--record" ∷ codes "--csv" ∷ [])) ≡ kinds.InvalidValue ∷ []
   pub no_command : faults_in (line []) ≡ kinds.MissingSubcommand ∷ []
@@ -115,6 +121,7 @@ pub record AreSaid : Type 0 where
   pub file : of_line (text_at (codes "config")) (serving []) ≡ Some (Some (codes "a.toml"))
   pub reload : of_line (is_on (codes "reload")) (serving (codes "--reload" ∷ [])) ≡ Some true
   pub no_reload : of_line (is_on (codes "reload")) (serving []) ≡ Some false
+  pub status : of_line (text_at (codes "status")) (serving (codes "--status" ∷ codes "sipd.prom" ∷ [])) ≡ Some (Some (codes "sipd.prom"))
   pub ends : of_line fault_said (serving (codes "--record-fault" ∷ codes "end" ∷ [])) ≡ Some (Some End)
   pub goes_on : of_line fault_said (serving []) ≡ Some (Some GoOn)
   pub days : of_line days_said (serving (codes "--records" ∷ codes "days" ∷ codes "--keep" ∷ codes "30" ∷ [])) ≡ Some 30

@@ -16,6 +16,9 @@ pub enum ProgramCall {
     Calls(CallsCall),
     Phones(TimeCall),
     Now(TimeCall),
+    Trace(TraceCall),
+    Ladder(LadderCall),
+    Sources(SourcesCall),
 }
 
 /// `check`: a configuration is checked.
@@ -71,6 +74,8 @@ pub struct ServeCall {
     pub sync: RecordSync,
     /// How many datagrams a second are heard from one address.
     pub per_source: Option<u32>,
+    /// The file in which it says how it is; none, where none is named.
+    pub status: Option<String>,
     /// Whether the configuration is taken anew when its file changes.
     pub reload: bool,
 }
@@ -137,6 +142,8 @@ pub struct ReportCall {
     pub rule: Option<u32>,
     /// Whether denials alone are shown.
     pub denied: bool,
+    /// The word of what became of a request whose lines are shown; those of any but a challenge where none is said.
+    pub outcome: Option<String>,
     /// Whether comma-separated values are printed.
     pub csv: bool,
 }
@@ -198,4 +205,56 @@ pub struct TimeCall {
     pub csv: bool,
     /// Whether objects of JSON are; not both.
     pub json: bool,
+}
+
+/// `trace`: what came and went on recorded days, as a capture.
+#[derive(Drop)]
+pub struct TraceCall {
+    /// The files of the records, in their order.
+    pub records: Vec<String>,
+    /// The file of the configuration of records that hold none.
+    pub config: Option<String>,
+    /// The number of a datagram, or a Call-ID; all calls where none is named.
+    pub call: Option<String>,
+    /// The file of the capture; `-` is the output.
+    pub pcap: String,
+    /// Whether credentials and bodies are hidden.
+    pub hide: bool,
+}
+
+/// `ladder`: a call of recorded days as a diagram.
+#[derive(Drop)]
+pub struct LadderCall {
+    /// The files of the records, in their order.
+    pub records: Vec<String>,
+    /// The file of the configuration of records that hold none.
+    pub config: Option<String>,
+    /// The number of a datagram, or a Call-ID.
+    pub call: String,
+}
+
+/// `sources`: what each address did from which datagrams came on recorded days.
+#[derive(Drop)]
+pub struct SourcesCall {
+    /// The files of the records, in the order in which they are shown.
+    pub records: Vec<String>,
+    /// The file of the configuration of records that hold none.
+    pub config: Option<String>,
+    /// Which datagrams are counted.
+    pub chosen: ChosenSources,
+    /// Whether comma-separated values are printed.
+    pub csv: bool,
+    /// Whether objects of JSON are; not both.
+    pub json: bool,
+}
+
+/// Which datagrams of recorded days are counted.
+#[derive(Drop)]
+pub struct ChosenSources {
+    /// The time from which on they are, as it is said; all are where none is said.
+    pub since: Option<String>,
+    /// The time before which they are.
+    pub until: Option<String>,
+    /// The address from which they came.
+    pub from: Option<String>,
 }

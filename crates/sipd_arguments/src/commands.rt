@@ -1,7 +1,7 @@
 //! The command line of the program: its commands, their options and their help, and what a line is complained about.
 //! What a line asks for is read in `matches`.
 ghost use Rattle.std.specs.Prelude.{◌≡◌, false, map, codes, IfOk, string_bytes};
-ghost use Rattle.clap.specs.Words.{Shape, app_of, kind_of, rule_of};
+ghost use Rattle.clap.specs.Words.{App, Shape, app_of, kind_of, rule_of, with_subcommand};
 ghost use Rattle.sipd_arguments.specs.CommandLine as Definitions;
 ghost use Rattle.sipd_arguments.specs.CommandLine.{EndsExactly, no_commands};
 ghost use Rattle.sipd_arguments.specs.Commands.{Answers, IsCommand};
@@ -16,7 +16,7 @@ use sipd_exit::Exit;
 use std::alloc::{AllocError, Global};
 
 /// The date at the head of CHANGELOG, and the kit. Of which commit it is can't stand in its own text: the package's PROOF tells it.
-const VERSION: &str = "2026-11-30, rattle-kit-13f logic dac8208d650f15bf";
+const VERSION: &str = "2026-12-01, rattle-kit-13f logic dac8208d650f15bf";
 
 /// What is said behind a complaint of this crate's own.
 const MORE: &str = "\n\nFor more information, try '--help'.\n";
@@ -201,6 +201,15 @@ fn per_source_argument<'a>(alloc: Global) -> Arg<'a>
     option(alloc, "per-source", "N", help).value_parser(value_parser!(u32).range(1..=1_000_000))
 }
 
+/// `--status FILE`.
+fn status_argument<'a>(alloc: Global) -> Arg<'a>
+    ensures rule { rule_of result ≡ Definitions.option (codes "status") }
+    ensures local { result.global ≡ false }
+{
+    let help = "Write how it is there every ten seconds, and say who gives wrong passwords alone";
+    option(alloc, "status", "FILE", help)
+}
+
 fn serve_command<'a>(alloc: Global) -> Result<Command<'a>, AllocError>
     ensures { IfOk result (IsCommand Definitions.serve_command) }
 {
@@ -216,6 +225,7 @@ fn serve_command<'a>(alloc: Global) -> Result<Command<'a>, AllocError>
         .arg(keep_argument(alloc))?
         .arg(sync_argument(alloc))?
         .arg(per_source_argument(alloc))?
+        .arg(status_argument(alloc))?
         .arg(flag(alloc, "reload", reload))
 }
 
@@ -276,6 +286,15 @@ fn rule_argument<'a>(alloc: Global) -> Arg<'a>
     option(alloc, "rule", "ID", help).value_parser(value_parser!(u32))
 }
 
+/// `--outcome WORD`.
+fn outcome_argument<'a>(alloc: Global) -> Arg<'a>
+    ensures rule { rule_of result ≡ Definitions.option (codes "outcome") }
+    ensures local { result.global ≡ false }
+{
+    let help = "Lines of this outcome: challenge (else left out), deny, sent or answer";
+    option(alloc, "outcome", "WORD", help)
+}
+
 fn report_command<'a>(alloc: Global) -> Result<Command<'a>, AllocError>
     ensures { IfOk result (IsCommand Definitions.report_command) }
 {
@@ -285,6 +304,7 @@ fn report_command<'a>(alloc: Global) -> Result<Command<'a>, AllocError>
         .arg(option(alloc, "user", "NAME", "Lines of this user"))?
         .arg(rule_argument(alloc))?
         .arg(flag(alloc, "denied", "Denials alone"))?
+        .arg(outcome_argument(alloc))?
         .arg(flag(alloc, "csv", "Comma-separated values"))
 }
 
@@ -432,6 +452,56 @@ fn now_command<'a>(alloc: Global) -> Result<Command<'a>, AllocError>
     forms(alloc, timed)
 }
 
+/// The options that name recorded days, with the configuration of those that hold none.
+fn of_days<'a>(alloc: Global, command: Command<'a>) -> Result<Command<'a>, AllocError>
+    ensures { (shape : Shape) → IsCommand shape command.entry → IfOk result (IsCommand (Definitions.of_days shape)) }
+{
+    command
+        .arg(days_argument(alloc).required(true))?
+        .arg(old_config_argument(alloc))
+}
+
+fn trace_command<'a>(alloc: Global) -> Result<Command<'a>, AllocError>
+    ensures { IfOk result (IsCommand Definitions.trace_command) }
+{
+    let about = "Writes what came and went on recorded days as a capture";
+    let call = "The datagram's number or the Call-ID of a call; all, if not given";
+    let pcap = "The new file of the capture; - is standard output";
+    let hide = "Write x in the place of credentials and bodies";
+    let told = of_days(alloc, Command::new(alloc, "trace").about(about))?;
+    told.arg(option(alloc, "pcap", "OUT", pcap).required(true))?
+        .arg(flag(alloc, "hide", hide))?
+        .arg(spare_word(alloc, "CALL", 1, call))
+}
+
+fn ladder_command<'a>(alloc: Global) -> Result<Command<'a>, AllocError>
+    ensures { IfOk result (IsCommand Definitions.ladder_command) }
+{
+    let about = "Draws a call of recorded days: who sent what to whom, and what was decided";
+    let call = "The datagram's number, or the Call-ID";
+    let told = of_days(alloc, Command::new(alloc, "ladder").about(about))?;
+    told.arg(word(alloc, "CALL", 1, call))
+}
+
+/// The options that say which datagrams are counted.
+fn counting<'a>(alloc: Global, command: Command<'a>) -> Result<Command<'a>, AllocError>
+    ensures { (shape : Shape) → IsCommand shape command.entry → IfOk result (IsCommand (Definitions.counting shape)) }
+{
+    command
+        .arg(option(alloc, "since", "TIME", "Datagrams from this time on"))?
+        .arg(option(alloc, "until", "TIME", "Datagrams before this time"))?
+        .arg(option(alloc, "from", "ADDRESS", "Datagrams from this IP"))
+}
+
+fn sources_command<'a>(alloc: Global) -> Result<Command<'a>, AllocError>
+    ensures { IfOk result (IsCommand Definitions.sources_command) }
+{
+    let about = "Tells what each address did on recorded days: asked, proven, wrong, names tried";
+    let told = of_days(alloc, Command::new(alloc, "sources").about(about))?;
+    let counted = counting(alloc, told)?;
+    forms(alloc, counted)
+}
+
 /// A command whose help ends with a text.
 fn ended<'a>(command: Command<'a>, text: &'a str) -> Command<'a>
     ensures { (shape : Shape) → IsCommand shape command.entry → IsCommand shape result }
@@ -450,23 +520,42 @@ fn program<'a>(alloc: Global) -> Command<'a>
         .subcommand_required(true)
 }
 
+/// A program with one command more, if that was made, whose help ends with a text. It stands apart, so that a program which isn't
+/// finished is dropped here alone.
+fn with_command<'a>(
+    program: Command<'a>,
+    command: Result<Command<'a>, AllocError>,
+    text: &'a str,
+) -> Result<Command<'a>, AllocError>
+    ensures { (app : App) (shape : Shape) → app_of program.entry ≡ app → IfOk command.entry (IsCommand shape)
+        → IfOk result (λ c. app_of c ≡ with_subcommand app shape) }
+{
+    match command {
+        Ok(command) => program.subcommand(ended(command, text)),
+        Err(e) => Err(e),
+    }
+}
+
 /// The commands that the program knows. None of their options is tied to another, and none has a list of words: of such commands alone the
 /// parse says of each line whether it takes it. What doesn't stand together is looked at behind it (`Misuse`).
 fn commands<'a>(alloc: Global) -> Result<Command<'a>, AllocError>
     ensures { IfOk result (λ c. app_of c ≡ Definitions.program) }
 {
-    program(alloc)
-        .subcommand(ended(check_command(alloc)?, endings::CHECK))?
-        .subcommand(ended(replay_command(alloc)?, endings::REPLAY))?
-        .subcommand(ended(compact_command(alloc)?, endings::COMPACT))?
-        .subcommand(ended(serve_command(alloc)?, endings::SERVE))?
-        .subcommand(ended(decide_command(alloc)?, endings::DECIDE))?
-        .subcommand(ended(matrix_command(alloc)?, endings::MATRIX))?
-        .subcommand(ended(report_command(alloc)?, endings::REPORT))?
-        .subcommand(ended(user_command(alloc)?, endings::USER))?
-        .subcommand(ended(calls_command(alloc)?, endings::CALLS))?
-        .subcommand(ended(phones_command(alloc)?, endings::PHONES))?
-        .subcommand(ended(now_command(alloc)?, endings::NOW))
+    let known = program(alloc);
+    let known = with_command(known, check_command(alloc), endings::CHECK)?;
+    let known = with_command(known, replay_command(alloc), endings::REPLAY)?;
+    let known = with_command(known, compact_command(alloc), endings::COMPACT)?;
+    let known = with_command(known, serve_command(alloc), endings::SERVE)?;
+    let known = with_command(known, decide_command(alloc), endings::DECIDE)?;
+    let known = with_command(known, matrix_command(alloc), endings::MATRIX)?;
+    let known = with_command(known, report_command(alloc), endings::REPORT)?;
+    let known = with_command(known, user_command(alloc), endings::USER)?;
+    let known = with_command(known, calls_command(alloc), endings::CALLS)?;
+    let known = with_command(known, phones_command(alloc), endings::PHONES)?;
+    let known = with_command(known, now_command(alloc), endings::NOW)?;
+    let known = with_command(known, trace_command(alloc), endings::TRACE)?;
+    let known = with_command(known, ladder_command(alloc), endings::LADDER)?;
+    with_command(known, sources_command(alloc), endings::SOURCES)
 }
 
 /// Why a command line isn't taken, or the text that it asks for.

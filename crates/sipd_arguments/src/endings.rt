@@ -57,6 +57,24 @@ Example: sipd now --record /var/lib/sipd/records/1795638404213.record
 Ends with 0 done, 1 usage or no such time, 2 configuration, 3 damaged record behind what came before, 4 device, 5 memory.
 More: docs/OPERATING.md";
 
+pub(crate) const TRACE: &str = "\
+CALL in front of --record: the number of a line of the log or of sipd calls, or a Call-ID.
+Example: sipd trace 4711 --record /var/lib/sipd/records/1795638404213.record --pcap call.pcap --hide
+Ends with 0 done, 1 usage, 2 configuration, 3 damaged record behind what came before, 4 device, or OUT is there, 5 memory.
+More: docs/OPERATING.md";
+
+pub(crate) const LADDER: &str = "\
+CALL in front of --record: the number of a line of the log or of sipd calls, or a Call-ID.
+Example: sipd ladder 4711 --record /var/lib/sipd/records/1795638404213.record
+Ends with 0 done, 1 usage or no such call, 2 configuration, 3 damaged record behind what came before, 4 device, 5 memory.
+More: docs/OPERATING.md";
+
+pub(crate) const SOURCES: &str = "\
+TIME is a date, as 2026-10-14, or with a time of day, as 2026-10-14T06:30, on the office's clock.
+Example: sipd sources --record /var/lib/sipd/records/*.record --since 2026-10-14
+Ends with 0 done, 1 usage, or no such time or address, 2 configuration, 3 damaged record behind what came before, 4 device, 5 memory.
+More: docs/OPERATING.md";
+
 pub(crate) const USER: &str = "\
 Example: echo sesame | sipd user carol --config office.toml >> office.toml
 Ends with 0 done, 1 usage or no such table, 2 configuration, 4 device, 5 memory.

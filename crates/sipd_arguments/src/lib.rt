@@ -15,8 +15,9 @@ mod misuse;
 mod summary;
 
 pub use call::{
-    CallsCall, CheckCall, ChosenCalls, CompactCall, DecideCall, ExpectedDecision, MatrixCall,
-    ProgramCall, QuestionCall, ReplayCall, ReportCall, ServeCall, TimeCall, UserCall,
+    CallsCall, CheckCall, ChosenCalls, ChosenSources, CompactCall, DecideCall, ExpectedDecision,
+    LadderCall, MatrixCall, ProgramCall, QuestionCall, ReplayCall, ReportCall, ServeCall,
+    SourcesCall, TimeCall, TraceCall, UserCall,
 };
 pub use commands::{Parsed, parse};
 pub use summary::summary_of;

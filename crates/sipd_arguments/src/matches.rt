@@ -6,8 +6,9 @@ ghost use Rattle.sipd_arguments.specs.CommandLine.{IsCall, IsCallOf, IsPlace};
 ghost use Rattle.sipd_arguments.specs.Commands.{IsWhy};
 
 use crate::call::{
-    CallsCall, CheckCall, ChosenCalls, CompactCall, DecideCall, ExpectedDecision, MatrixCall,
-    ProgramCall, QuestionCall, ReplayCall, ReportCall, ServeCall, TimeCall, UserCall,
+    CallsCall, CheckCall, ChosenCalls, ChosenSources, CompactCall, DecideCall, ExpectedDecision,
+    LadderCall, MatrixCall, ProgramCall, QuestionCall, ReplayCall, ReportCall, ServeCall,
+    SourcesCall, TimeCall, TraceCall, UserCall,
 };
 use crate::misuse::Misuse;
 use clap::ArgMatches;
@@ -290,6 +291,7 @@ fn serve_call(alloc: Global, matches: &ArgMatches<'_>) -> Result<ServeCall, Unca
         keep: days_said(matches),
         sync: words.sync,
         per_source: number_of(matches, "per-source"),
+        status: text_of(alloc, matches, "status")?,
         reload: is_on(matches, "reload"),
     })
 }
@@ -428,6 +430,7 @@ fn report_call(alloc: Global, matches: &ArgMatches<'_>) -> Result<ReportCall, Al
         user: text_of(alloc, matches, "user")?,
         rule: number_of(matches, "rule"),
         denied: is_on(matches, "denied"),
+        outcome: text_of(alloc, matches, "outcome")?,
         csv: is_on(matches, "csv"),
     })
 }
@@ -531,6 +534,64 @@ fn time_call(alloc: Global, matches: &ArgMatches<'_>) -> Result<TimeCall, Uncall
     Ok(asked_time(alloc, matches)?)
 }
 
+/// Which days are asked for as a capture, and where it goes.
+fn trace_call(alloc: Global, matches: &ArgMatches<'_>) -> Result<TraceCall, AllocError>
+    ensures { IfOk result (Definitions.IsTrace (rows_of (found_of matches.now))) }
+{
+    Ok(TraceCall {
+        records: texts_of(alloc, matches, "record")?,
+        config: text_of(alloc, matches, "config")?,
+        call: text_of(alloc, matches, "CALL")?,
+        pcap: needed_text(alloc, matches, "pcap")?,
+        hide: is_on(matches, "hide"),
+    })
+}
+
+/// Which call of which days is asked for.
+fn ladder_call(alloc: Global, matches: &ArgMatches<'_>) -> Result<LadderCall, AllocError>
+    ensures { IfOk result (Definitions.IsLadder (rows_of (found_of matches.now))) }
+{
+    Ok(LadderCall {
+        records: texts_of(alloc, matches, "record")?,
+        config: text_of(alloc, matches, "config")?,
+        call: needed_text(alloc, matches, "CALL")?,
+    })
+}
+
+/// Which datagrams are to be counted.
+fn chosen_sources(alloc: Global, matches: &ArgMatches<'_>) -> Result<ChosenSources, AllocError>
+    ensures { IfOk result (Definitions.IsChosenOf (rows_of (found_of matches.now))) }
+{
+    Ok(ChosenSources {
+        since: text_of(alloc, matches, "since")?,
+        until: text_of(alloc, matches, "until")?,
+        from: text_of(alloc, matches, "from")?,
+    })
+}
+
+/// Which addresses of which records are asked for.
+fn asked_sources(alloc: Global, matches: &ArgMatches<'_>) -> Result<SourcesCall, AllocError>
+    ensures { IfOk result (Definitions.IsSources (rows_of (found_of matches.now))) }
+{
+    Ok(SourcesCall {
+        records: texts_of(alloc, matches, "record")?,
+        config: text_of(alloc, matches, "config")?,
+        chosen: chosen_sources(alloc, matches)?,
+        csv: is_on(matches, "csv"),
+        json: is_on(matches, "json"),
+    })
+}
+
+fn sources_call(alloc: Global, matches: &ArgMatches<'_>) -> Result<SourcesCall, Uncalled>
+    ensures call { IfOk result (λ call. Definitions.IsSources (rows_of (found_of matches.now)) call × (Definitions.forms_misuse (rows_of (found_of matches.now)) ≡ None)) }
+    ensures refused { IfErr result (IsWhy (Definitions.forms_misuse (rows_of (found_of matches.now)))) }
+{
+    if let Some(why) = forms_misuse(matches) {
+        return Err(Uncalled::Misused(why));
+    }
+    Ok(asked_sources(alloc, matches)?)
+}
+
 /// What a command with its options asks for.
 fn call_named(alloc: Global, name: &str, matches: &ArgMatches<'_>) -> Result<ProgramCall, Uncalled>
     ensures call { IfOk result (λ call. IsCall name.now (rows_of (found_of matches.now)) call × (Definitions.misuse_in name.now (rows_of (found_of matches.now)) ≡ None)) }
@@ -548,6 +609,9 @@ fn call_named(alloc: Global, name: &str, matches: &ArgMatches<'_>) -> Result<Pro
         "calls" => Ok(ProgramCall::Calls(calls_call(alloc, matches)?)),
         "phones" => Ok(ProgramCall::Phones(time_call(alloc, matches)?)),
         "now" => Ok(ProgramCall::Now(time_call(alloc, matches)?)),
+        "trace" => Ok(ProgramCall::Trace(trace_call(alloc, matches)?)),
+        "ladder" => Ok(ProgramCall::Ladder(ladder_call(alloc, matches)?)),
+        "sources" => Ok(ProgramCall::Sources(sources_call(alloc, matches)?)),
         _ => Err(Uncalled::Misused(Misuse::NoCommand)),
     }
 }

@@ -1,5 +1,5 @@
 //! The program's command line carried out: phones are served over a socket; what is replayed goes to `sipd_replay`, what is told of recorded
-//! days to `sipd_days`, and what else is asked for to `sipd_tools`.
+//! days to `sipd_days`, and to `sipd_traces` what came and went on them, and what else is asked for to `sipd_tools`.
 //!
 //! - Used: the program `sipd`, with its kinds of timers and rules.
 //! - Not here: how a server that records begins (`sipd_start`), its turns (`sipd_service`); the process's streams themselves.
@@ -10,6 +10,7 @@ mod compacting;
 mod program;
 mod record_turning;
 mod serving;
+mod status_file;
 
 pub use program::command;
 pub use sipd_arguments::{Parsed, ProgramCall, parse, summary_of};

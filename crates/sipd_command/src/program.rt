@@ -5,12 +5,13 @@ use crate::serving::serve_file;
 use sip_policy::Rules;
 use sip_timers::Timers;
 use sipd_arguments::{Parsed, ProgramCall, ReplayCall, parse};
-use sipd_days::{DayTable, show_calls, show_table};
+use sipd_days::{DayTable, show_calls, show_sources, show_table};
 use sipd_exit::{Exit, print};
 use sipd_progress::Watched;
 use sipd_replay::{replay_records, replay_script};
 use sipd_service::LinePrinter;
 use sipd_tools::{check, decide, make_report, make_user, matrix};
+use sipd_traces::{draw_ladder, write_trace};
 use std::io::{Read, Write};
 use std::net::Net;
 use std::random::RandomSource;
@@ -80,6 +81,15 @@ fn carry_out<
         }
         ProgramCall::Now(call) => {
             show_table::<T, P, R, W, C>(rt, DayTable::Standing, call, seen, output, complaints)
+        }
+        ProgramCall::Trace(call) => {
+            write_trace::<T, P, R, W, C>(rt, call, seen, output, complaints)
+        }
+        ProgramCall::Ladder(call) => {
+            draw_ladder::<T, P, R, W, C>(rt, call, seen, output, complaints)
+        }
+        ProgramCall::Sources(call) => {
+            show_sources::<T, P, R, W, C>(rt, call, seen, output, complaints)
         }
     }
 }

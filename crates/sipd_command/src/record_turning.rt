@@ -70,11 +70,12 @@ impl<'a, R: Files + Clock + Eprint + AllocGlobal> RecordTurning<'a, R> {
     }
 
     /// Begins the next record, and closes the one that was written up to here.
-    fn turn<T: Timers, P: Rules>(
+    fn turn<T: Timers, P: Rules, C: Write>(
         &mut self,
         engine: &mut Engine<T, P>,
         journal: &mut Recorder<RecordFile<'a, R>>,
         stated: &[u8],
+        complaints: &mut C,
     ) -> Result<(), Exit>
         ensures stated { OnOk result (States stated.now engine.new.server.config) }
         ensures word { OnOk result (engine.new.server.word ≡ engine.old.server.word) }
@@ -92,7 +93,9 @@ impl<'a, R: Files + Clock + Eprint + AllocGlobal> RecordTurning<'a, R> {
             recorder,
             path,
         } = next;
-        let _ = journal.writer.mark(RecordMark::Left);
+        if journal.writer.mark(RecordMark::Left).is_err() {
+            say_unmarked(self.path.as_str(), complaints);
+        }
         *engine = begun;
         *journal = recorder;
         self.path = path;
@@ -128,6 +131,14 @@ impl<'a, R: Files + Clock + Eprint + AllocGlobal> RecordTurning<'a, R> {
         let rest = size.saturating_sub(self.long);
         size >= self.long && (is_quiet || rest >= self.long / 8)
     }
+}
+
+/// Says that a record that another one follows couldn't be marked so that no start goes on from it.
+fn say_unmarked<C: Write>(path: &str, complaints: &mut C) {
+    let _ = writeln!(
+        complaints,
+        "sipd: {path} can't be marked as left: let no other start go on from it"
+    );
 }
 
 /// Says that the next record is begun, or why it isn't.
@@ -167,7 +178,7 @@ impl<'a, T: Timers, P: Rules, R: Files + Clock + Eprint + AllocGlobal> NextRecor
             return;
         }
         journal.close();
-        let turned = self.turn(engine, journal, stated);
+        let turned = self.turn(engine, journal, stated, complaints);
         match &turned {
             Ok(()) => self.begin(time, journal.writer.size()),
             Err(_) => self.refused = now,

@@ -7,6 +7,7 @@ ghost use Rattle.sipd_service.specs.Hops.{hop_addresses};
 ghost use Rattle.sipd_command.specs.Starts.{bound_address, decided_before, PrintsAt, PrintsFor, PrintsSomewhere};
 
 use crate::record_turning::RecordTurning;
+use crate::status_file::StatusFile;
 use rand::rngs::StdRng;
 use rand_core::Rng;
 use sip_audit::Record;
@@ -30,9 +31,10 @@ use sipd_progress::Watched;
 use sipd_reload::{PathFile, Watch, WatchedFile};
 use sipd_service::engine::Engine;
 use sipd_service::{
-    LinePrinter, NextRecord, OneRecord, Said, Service, Serving, hops_of, serve_turns,
+    LinePrinter, NextRecord, OneRecord, Said, Service, Serving, SizedJournal, hops_of, serve_turns,
 };
 use sipd_start::{Beginning, Begun, RecordFolder, begin, begin_unrecorded, check_stack};
+use sipd_status::{Status, StatusPlace};
 use std::alloc::{AllocError, Global};
 use std::io::{ErrorKind, Read, Write};
 use std::net::Net;
@@ -54,6 +56,35 @@ struct ServeStart<L: Link, N: Rng + Drop> {
     words: N,
     per_source: Option<u32>,
     turns: Option<u32>,
+}
+
+/// What is looked at and written beside a server's traffic.
+struct Beside<F: WatchedFile, S: StatusPlace> {
+    /// What looks at the configuration's file, where that is asked for.
+    watch: Option<Watch<F>>,
+    /// What says how the server is, where that is asked for.
+    status: Option<Status<S>>,
+}
+
+/// Written out, so that it is proved once and not wherever one is dropped.
+impl<F: WatchedFile, S: StatusPlace> Drop for Beside<F, S> {
+    fn drop(self) {
+        let Beside {
+            watch: _,
+            status: _,
+        } = self;
+    }
+}
+
+impl<F: WatchedFile, S: StatusPlace> Beside<F, S> {
+    /// Each of them alone.
+    fn apart(self) -> (Option<Watch<F>>, Option<Status<S>>)
+        ensures watch { result.0 ≡ self.watch }
+        ensures status { result.1 ≡ self.status }
+    {
+        let Beside { watch, status } = self;
+        (watch, status)
+    }
 }
 
 /// Where a configuration says that a server is bound.
@@ -132,6 +163,7 @@ fn service_of<
     X: NextRecord<T, P, J>,
     N: Rng + Drop,
     F: WatchedFile,
+    S: StatusPlace,
 >(
     alloc: Global,
     start: ServeStart<L, N>,
@@ -140,8 +172,8 @@ fn service_of<
     next: X,
     aside: C,
     clock: C,
-    watch: Option<Watch<F>>,
-) -> Result<Service<T, P, L, C, J, X, N, F>, AllocError>
+    beside: Beside<F, S>,
+) -> Result<Service<T, P, L, C, J, X, N, F, S>, AllocError>
     ensures engine { IfOk result (λ service. service.engine ≡ engine) }
     ensures journal { IfOk result (λ service. service.journal ≡ journal) }
     ensures clock { IfOk result (λ service. service.clock ≡ clock) }
@@ -149,9 +181,11 @@ fn service_of<
     ensures guard { IfOk result (λ service. service.link ≡ guard_over (secret_from (N.stream start.words)) start.hops.items start.per_source
         (link_told (L.heard start.link) (L.fresh start.link) (L.aside start.link) (L.given start.link) (L.held start.link)
         (L.waits start.link) (L.receives start.link) (L.failures start.link)) (C.readings aside)) }
-    ensures watch { IfOk result (λ service. (service.watch ≡ watch) × (service.port ≡ start.address.port) × (service.path ≡ start.path)) }
+    ensures watch { IfOk result (λ service. (service.watch ≡ beside.watch) × (service.port ≡ start.address.port) × (service.path ≡ start.path)) }
     ensures stated { IfOk result (λ service. service.stated ≡ start.stated) }
+    ensures status { IfOk result (λ service. service.status ≡ beside.status) }
 {
+    let (watch, status) = beside.apart();
     let ServeStart {
         link,
         address,
@@ -176,6 +210,7 @@ fn service_of<
         next,
         stated,
         said: Said::new(),
+        status,
     })
 }
 
@@ -185,10 +220,11 @@ fn serve_with<
     P: Rules,
     R: rt::Clock + AllocGlobal,
     L: Link,
-    J: WatchedJournal,
+    J: WatchedJournal + SizedJournal,
     X: NextRecord<T, P, J>,
     N: Rng + Drop,
     F: WatchedFile,
+    S: StatusPlace,
     W: Write + Drop,
     M: Write,
 >(
@@ -198,7 +234,7 @@ fn serve_with<
     journal: J,
     next: X,
     decided: &[Record],
-    watch: Option<Watch<F>>,
+    beside: Beside<F, S>,
     printer: &mut LinePrinter<W>,
     complaints: &mut M,
 ) -> Result<(), Exit>
@@ -212,7 +248,7 @@ fn serve_with<
         turns: start.turns,
     };
     let aside = SteadyClock::new(rt);
-    let mut service = service_of(alloc, start, engine, journal, next, aside, clock, watch)?;
+    let mut service = service_of(alloc, start, engine, journal, next, aside, clock, beside)?;
     let served = serve_turns(alloc, &mut service, &serving, printer, complaints);
     service.journal.close();
     served
@@ -236,6 +272,7 @@ fn serve_begun<
     R: Files + rt::Clock + Eprint + AllocGlobal,
     L: Link,
     F: WatchedFile,
+    S: StatusPlace,
     W: Write + Drop,
     M: Write,
 >(
@@ -243,7 +280,7 @@ fn serve_begun<
     start: ServeStart<L, StdRng>,
     begun: Begun<'a, T, P, R>,
     turning: Option<RecordTurning<'a, R>>,
-    watch: Option<Watch<F>>,
+    beside: Beside<F, S>,
     printer: &mut LinePrinter<W>,
     complaints: &mut M,
 ) -> Result<(), Exit>
@@ -262,16 +299,16 @@ fn serve_begun<
             "sipd: the record can't be written; nothing is recorded"
         );
         return serve_with(
-            rt, start, engine, NoJournal, OneRecord, decided, watch, printer, complaints,
+            rt, start, engine, NoJournal, OneRecord, decided, beside, printer, complaints,
         );
     };
     if let Some(turning) = turning {
         return serve_with(
-            rt, start, engine, recorder, turning, decided, watch, printer, complaints,
+            rt, start, engine, recorder, turning, decided, beside, printer, complaints,
         );
     }
     serve_with(
-        rt, start, engine, recorder, OneRecord, decided, watch, printer, complaints,
+        rt, start, engine, recorder, OneRecord, decided, beside, printer, complaints,
     )
 }
 
@@ -315,6 +352,36 @@ fn watch_of<'a, R: Files + AllocGlobal>(
     Ok(Some(Watch::new(file, in_force, 0)))
 }
 
+/// What says how the server is, in the file that is named for that.
+fn status_of<'a, R: Files + AllocGlobal>(
+    rt: &'a R,
+    call: &ServeCall,
+) -> Result<Option<Status<StatusFile<'a, R>>>, AllocError>
+    ensures { IfOk result (λ status. is_some status ≡ is_some call.now.status) }
+{
+    let Some(path) = &call.status else {
+        return Ok(None);
+    };
+    let file = StatusFile::new(rt, path.as_str())?;
+    Ok(Some(Status::new(rt.alloc(), file)?))
+}
+
+/// What is looked at and written beside the traffic, as a command line asks for.
+fn beside_of<'a, R: Files + AllocGlobal>(
+    rt: &'a R,
+    call: &'a ServeCall,
+    stated: &Stated,
+) -> Result<Beside<PathFile<'a, R>, StatusFile<'a, R>>, AllocError>
+    ensures watched { IfOk result (λ beside. is_some beside.watch ≡ call.now.reload) }
+    ensures in_force { IfOk result (λ beside. IfSome beside.watch (λ w. w.in_force ≡ stated.now.bytes)) }
+    ensures told { IfOk result (λ beside. is_some beside.status ≡ is_some call.now.status) }
+{
+    Ok(Beside {
+        watch: watch_of(rt, call, stated)?,
+        status: status_of(rt, call)?,
+    })
+}
+
 /// Serves and records. The address is bound first; behind what the input gives, where the server goes on from that, since until then
 /// it is the address of the server whose record comes there.
 fn serve_recorded<
@@ -324,6 +391,7 @@ fn serve_recorded<
     R: Files + Net + rt::Clock + Eprint + AllocGlobal,
     I: TellingReader,
     F: WatchedFile,
+    S: StatusPlace,
     W: Write + Drop,
     M: Write,
 >(
@@ -332,7 +400,7 @@ fn serve_recorded<
     config: &Config,
     beginning: &Beginning<'a, R>,
     mut words: StdRng,
-    watch: Option<Watch<F>>,
+    beside: Beside<F, S>,
     input: &mut I,
     printer: &mut LinePrinter<W>,
     complaints: &mut M,
@@ -352,7 +420,7 @@ fn serve_recorded<
     };
     let turning = turning_of(rt, call, beginning, &mut words)?;
     let start = start_of(rt.alloc(), call, config, beginning.stated, link, words)?;
-    serve_begun(rt, start, begun, turning, watch, printer, complaints)
+    serve_begun(rt, start, begun, turning, beside, printer, complaints)
 }
 
 /// Serves, and records nothing.
@@ -361,6 +429,7 @@ fn serve_unrecorded<
     P: Rules,
     R: Net + rt::Clock + AllocGlobal,
     F: WatchedFile,
+    S: StatusPlace,
     W: Write + Drop,
     M: Write,
 >(
@@ -369,7 +438,7 @@ fn serve_unrecorded<
     config: &Config,
     stated: &Stated,
     words: StdRng,
-    watch: Option<Watch<F>>,
+    beside: Beside<F, S>,
     printer: &mut LinePrinter<W>,
     complaints: &mut M,
 ) -> Result<(), Exit>
@@ -385,7 +454,7 @@ fn serve_unrecorded<
         NoJournal,
         OneRecord,
         &[],
-        watch,
+        beside,
         printer,
         complaints,
     )
@@ -398,6 +467,7 @@ fn serve_placed<
     R: Files + Net + rt::Clock + Eprint + AllocGlobal,
     I: Read,
     F: WatchedFile,
+    S: StatusPlace,
     W: Write + Drop,
     M: Write,
 >(
@@ -407,7 +477,7 @@ fn serve_placed<
     config: &Config,
     stated: &Stated,
     words: StdRng,
-    watch: Option<Watch<F>>,
+    beside: Beside<F, S>,
     seen: bool,
     input: &mut I,
     printer: &mut LinePrinter<W>,
@@ -428,13 +498,13 @@ fn serve_placed<
     let unsealing = Unsealing::new(alloc, input)?;
     let watched = Watched::new(rt, unsealing, "the record that comes", None, seen);
     let mut record = Expanding::new(alloc, watched)?;
-    serve_recorded::<T, P, R, _, _, _, M>(
+    serve_recorded::<T, P, R, _, _, _, _, M>(
         rt,
         call,
         config,
         &beginning,
         words,
-        watch,
+        beside,
         &mut record,
         printer,
         complaints,
@@ -464,13 +534,13 @@ pub fn serve_file<
     let stated = stated_in(rt, call.config.as_str())?;
     let config = config_of_bytes(alloc, stated.bytes.as_slice())?;
     let words: StdRng = rand::make_rng(rt)?;
-    let watch = watch_of(rt, call, &stated)?;
+    let beside = beside_of(rt, call, &stated)?;
     let Some(place) = &call.record else {
-        return serve_unrecorded::<T, P, R, _, _, M>(
-            rt, call, &config, &stated, words, watch, printer, complaints,
+        return serve_unrecorded::<T, P, R, _, _, _, M>(
+            rt, call, &config, &stated, words, beside, printer, complaints,
         );
     };
-    serve_placed::<T, P, R, I, _, _, M>(
-        rt, call, place, &config, &stated, words, watch, seen, input, printer, complaints,
+    serve_placed::<T, P, R, I, _, _, _, M>(
+        rt, call, place, &config, &stated, words, beside, seen, input, printer, complaints,
     )
 }

@@ -3,3 +3,4 @@ pub mod Shown
 pub mod Stood
 pub mod Timed
 pub mod Printing
+pub mod PrintingSources

@@ -15,6 +15,8 @@ use Rattle.sip_listener.specs.Heard.{Heard, Tells, heard_of}
 use Rattle.sip_retell.proofs.Hearing.{told_both}
 use Rattle.sip_days.specs.declared.call.Call.{Call}
 use Rattle.sipd_calls.specs.declared.notation.Notation.{Notation}
+use Rattle.sipd_sources.specs.Table.{sources_text}
+use Rattle.sipd_sources.specs.Told.{Known}
 use Rattle.sipd_standing.specs.Standing.{standing_text}
 use Rattle.sipd_exit.specs.declared.exit.Exit.{Exit}
 use Rattle.sipd_exit.specs.declared.exit.Exit.TheVariants.{Memory}
@@ -135,6 +137,11 @@ pub on_clock : (form : Option Notation) (at : ℕ) (shown calls : List Call) (co
 on_clock form at shown calls config own text is same h =
     h ∙ ap (λ (c : Config). standing_text form c.offset at shown) is ∙ ap (λ (l : List Call). standing_text form own.offset at l) same
 
+-- the addresses on the clock of a server
+pub addresses_on_clock : (form : Option Notation) (at : ℕ) (known : Known) (config own : Config) (text : List ℕ) → config ≡ own
+    → text ≡ sources_text form config.offset at known → text ≡ sources_text form own.offset at known
+addresses_on_clock form at known config own text is h = h ∙ ap (λ (c : Config). sources_text form c.offset at known) is
+
 -- ---- in a file
 
 table_any : (table : DayTable) (form : Option Notation) (head : RecordHead) (named : Option (Bor Stated)) (has_failed : Type 0) (asked asked_then : Option
@@ -144,6 +151,8 @@ table_any : (table : DayTable) (form : Option Notation) (head : RecordHead) (nam
 table_any tables.Phones form head named has_failed asked asked_then behind time clock text taken offset h =
     by_any_reader _ _ _ _ _ head named has_failed asked asked_then behind time clock text taken offset h
 table_any tables.Standing form head named has_failed asked asked_then behind time clock text taken offset h =
+    by_any_reader _ _ _ _ _ head named has_failed asked asked_then behind time clock text taken offset h
+table_any (tables.Sources filter) form head named has_failed asked asked_then behind time clock text taken offset h =
     by_any_reader _ _ _ _ _ head named has_failed asked asked_then behind time clock text taken offset h
 
 table_by : (end : Option Exit) (table : DayTable) (form : Option Notation) (head : RecordHead) (named : Option (Bor Stated)) (has_failed : Type 0)

@@ -1,5 +1,5 @@
--- What a record says of a time: who was registered then, and which calls stood.
-use Rattle.std.specs.Prelude.{◌≡◌, ⊤, ℕ, ℤ, List, [], ◌++◌, Option, None, Some, option_map, unwrap_or}
+-- What a record says of a time: who was registered then, which calls stood, and what each address did up to it.
+use Rattle.std.specs.Prelude.{◌≡◌, ⊤, ℕ, ℤ, List, [], ◌++◌, Option, None, Some, option_map, unwrap_or, length}
 use Rattle.std.specs.Borrow.{Bor}
 use Rattle.sip_config_types.specs.declared.config.Config.{Config}
 use Rattle.sip_model.specs.state.declared.server.Server.{Server}
@@ -17,8 +17,10 @@ use Rattle.sip_days.specs.Calls.{calls_of}
 use Rattle.sip_days.specs.Hearing.{adds_calls}
 use Rattle.sip_days.specs.Phones.{adds_phones, phones_of}
 use Rattle.sipd_calls.specs.declared.notation.Notation.{Notation}
+use Rattle.sipd_sources.specs.Table.{sources_text}
+use Rattle.sipd_sources.specs.Told.{Known, adds_sources, none as no_sources, sources_of}
 use Rattle.sipd_standing.specs.PhoneTable.{phones_text}
-use Rattle.sipd_standing.specs.Standing.{standing_text}
+use Rattle.sipd_standing.specs.Standing.{standing_text, tables_text}
 use Rattle.sipd_exit.specs.declared.exit.Exit.{Exit}
 use Rattle.sipd_exit.specs.declared.files.Stated.{Stated}
 use Rattle.sipd_old_record.specs.Own.{unread}
@@ -82,19 +84,28 @@ pub record IsDayAt {L : Type 0} (hears refuses : L → Heard → L → Type 0) (
   pub offset_is : offset ≡ server_then.config.offset
   pub text_is : text ≡ text_of server_then standing.state moment kept
 
--- ---- the two tables
+-- ---- the three tables
 
 -- who is registered with a server
 abbrev pub phones_in : Option Notation → Server → ProxyState → ℕ → List Registered → List ℕ
 phones_in form server state at rows = phones_text form server state at rows
 
--- the calls that ring or are talked
+-- the calls that ring or are talked, and how full the tables of the server are
 abbrev pub calls_in : Option Notation → Server → ProxyState → ℕ → List Call → List ℕ
-calls_in form server state at rows = standing_text form server.config.offset at rows
+calls_in form server state at rows =
+    standing_text form server.config.offset at rows ++ tables_text form (length state.requests) (length state.dialogs)
+
+-- the addresses from which datagrams came
+abbrev pub sources_in : Option Notation → Server → ProxyState → ℕ → Known → List ℕ
+sources_in form server state at known = sources_text form server.config.offset at known
 
 -- how a listener to registrations stands behind a step that it doesn't take: nothing is known
 abbrev pub forgets_phones : List Registered → Heard → List Registered → Type 0
 forgets_phones old step new = ⊤
+
+-- nor is of one to addresses
+abbrev pub forgets_sources : Known → Heard → Known → Type 0
+forgets_sources old step new = ⊤
 
 -- the text of a table
 abbrev pub IsTableAt : DayTable → Option Notation → RecordHead → Option (Bor Stated) → Type 0 → Option ℕ → Option ℕ → Option (List ℕ) → Option ℕ → Option ℤ
@@ -103,6 +114,9 @@ IsTableAt tables.Phones form head named has_failed asked asked_then behind time 
     IsDayAt adds_phones forgets_phones [] phones_of (phones_in form) head named has_failed asked asked_then behind time clock text taken offset end
 IsTableAt tables.Standing form head named has_failed asked asked_then behind time clock text taken offset end =
     IsDayAt adds_calls forgets [] calls_of (calls_in form) head named has_failed asked asked_then behind time clock text taken offset end
+IsTableAt (tables.Sources filter) form head named has_failed asked asked_then behind time clock text taken offset end =
+    IsDayAt adds_sources forgets_sources (no_sources filter) (sources_of filter) (sources_in form) head named has_failed asked asked_then behind time clock
+    text taken offset end
 
 -- ---- a record in a file
 

@@ -7,3 +7,4 @@ pub mod Days
 pub mod Standing
 pub mod DayAt
 pub mod Printed
+pub mod PrintedSources

@@ -43,7 +43,7 @@ impl<'c> Drop for Showing<'c> {
 }
 
 /// Complains of a record without a configuration, for which no file is named.
-pub(crate) fn complain_of_older<C: Write>(exit: Exit, complaints: &mut C) -> Exit {
+pub fn complain_of_older<C: Write>(exit: Exit, complaints: &mut C) -> Exit {
     if let Exit::BareRecord = &exit {
         let _ = writeln!(
             complaints,

@@ -4,9 +4,11 @@ ghost use Rattle.std.specs.Option.{option_copied};
 ghost use Rattle.sipd_days.specs.Choosing as Definitions;
 
 use crate::said::time_said;
-use sipd_arguments::ChosenCalls;
+use sip_uri::ip_of;
+use sipd_arguments::{ChosenCalls, ChosenSources};
 use sipd_calls::{CallFilter, Notation};
 use sipd_exit::Exit;
+use sipd_sources::SourceFilter;
 use std::alloc::Global;
 
 /// How something is written that is asked for as comma-separated values or as objects of JSON: a table for people, where it is neither.
@@ -70,4 +72,35 @@ pub(crate) fn choice_of<'c>(alloc: Global, chosen: &'c ChosenCalls) -> Result<Ca
         from: bytes_of(&chosen.from),
         challenged: chosen.challenged,
     })
+}
+
+/// How the program ends where a word is no address.
+fn no_address(alloc: Global, text: &str) -> Exit {
+    match format!(in alloc; "no address: {text}: it is four numbers with dots, as 192.0.2.7") {
+        Ok(text) => Exit::Question(text),
+        Err(_) => Exit::Memory,
+    }
+}
+
+/// The address that is said, if one is. `Question`, where a word is no address; `Memory`.
+fn address_in(alloc: Global, said: &Option<String>) -> Result<Option<[u8; 4]>, Exit>
+    ensures { IfOk result (λ ip. ip ≡ Definitions.address_in (option_map string_bytes said.now)) }
+{
+    let Some(text) = said else {
+        return Ok(None);
+    };
+    match ip_of(text.as_bytes()) {
+        Some(ip) => Ok(Some(ip)),
+        None => Err(no_address(alloc, text.as_str())),
+    }
+}
+
+/// Which datagrams are to be counted. `Question`, where a word is no time or no address; `Memory`.
+pub(crate) fn filter_of(alloc: Global, chosen: &ChosenSources) -> Result<SourceFilter, Exit>
+    ensures { IfOk result (Definitions.IsFilter chosen.now) }
+{
+    let since = time_in(alloc, &chosen.since)?;
+    let until = time_in(alloc, &chosen.until)?;
+    let from = address_in(alloc, &chosen.from)?;
+    Ok(SourceFilter { since, until, from })
 }

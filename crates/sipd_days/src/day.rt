@@ -14,7 +14,7 @@ use std::rt::{Clock, Files};
 /// where it lacks events.
 ///
 /// `seen`: whether somebody looks at standard error, where it is said then how far it is.
-pub(crate) fn open_day<'p, R: Files + Clock + Eprint + AllocGlobal, C: Write>(
+pub fn open_day<'p, R: Files + Clock + Eprint + AllocGlobal, C: Write>(
     rt: &'p R,
     path: &'p str,
     seen: bool,
@@ -34,7 +34,7 @@ pub(crate) fn open_day<'p, R: Files + Clock + Eprint + AllocGlobal, C: Write>(
 }
 
 /// How the program ends where a record wasn't told to its end: at that line of its file.
-pub(crate) fn exit_of_day<R: Files + Clock + Eprint + AllocGlobal>(
+pub fn exit_of_day<R: Files + Clock + Eprint + AllocGlobal>(
     exit: Exit,
     events: &Expanding<Watched<'_, R, Unsealing<BufReader<R::File>>>>,
 ) -> Exit {

@@ -14,6 +14,7 @@ use sip_record_omitted::Expanding;
 use sip_record_sealed::Unsealing;
 use sip_timers::Timers;
 use sipd_arguments::TimeCall;
+use sipd_calls::Notation;
 use sipd_exit::{Exit, print};
 use sipd_old_record::{OldRecord, named_file};
 use sipd_progress::Watched;
@@ -45,22 +46,23 @@ fn in_file<R: Files + Clock + Eprint + AllocGlobal>(
 }
 
 /// A table of the record in a file, at a time of a clock, or of that of the configuration with which it begins, where none is given; at its end,
-/// where no time is.
-fn table_in<T: Timers, P: Rules, R: Files + Clock + Eprint + AllocGlobal, C: Write>(
+/// where no time is. A record that holds no configuration has that of a file.
+pub(crate) fn table_in_file<T: Timers, P: Rules, R: Files + Clock + Eprint + AllocGlobal, C: Write>(
     rt: &R,
     table: DayTable,
-    call: &TimeCall,
+    path: &str,
+    config: Option<&str>,
+    form: Option<Notation>,
     time: Option<u64>,
     clock: Option<DayClock>,
     seen: bool,
     complaints: &mut C,
 ) -> Result<DayAt, Exit>
     requires { IfSome time (λ t. t < 2 ^ 50) }
-    ensures { IfOk result (λ day. WasTableIf table (Chosen.form_of call.now.csv call.now.json) time (option_map (λ c. c.ahead) clock) day.text day.taken.ahead day.in_force.ahead day.end) }
+    ensures { IfOk result (λ day. WasTableIf table form time (option_map (λ c. c.ahead) clock) day.text day.taken.ahead day.in_force.ahead day.end) }
 {
-    let named = named_file(rt, call.config.as_ref().map(String::as_str))?;
-    let OldRecord { head, mut events } = open_day(rt, call.file.as_str(), seen, complaints)?;
-    let form = form_of(call.csv, call.json);
+    let named = named_file(rt, config)?;
+    let OldRecord { head, mut events } = open_day(rt, path, seen, complaints)?;
     match table_of::<T, P, _>(
         rt.alloc(),
         table,
@@ -74,6 +76,34 @@ fn table_in<T: Timers, P: Rules, R: Files + Clock + Eprint + AllocGlobal, C: Wri
         Ok(day) => Ok(in_file(day, &events)),
         Err(exit) => Err(complain_of_older(exit_of_day(exit, &events), complaints)),
     }
+}
+
+/// The same of the record that is asked for.
+fn table_in<T: Timers, P: Rules, R: Files + Clock + Eprint + AllocGlobal, C: Write>(
+    rt: &R,
+    table: DayTable,
+    call: &TimeCall,
+    time: Option<u64>,
+    clock: Option<DayClock>,
+    seen: bool,
+    complaints: &mut C,
+) -> Result<DayAt, Exit>
+    requires { IfSome time (λ t. t < 2 ^ 50) }
+    ensures { IfOk result (λ day. WasTableIf table (Chosen.form_of call.now.csv call.now.json) time (option_map (λ c. c.ahead) clock) day.text day.taken.ahead day.in_force.ahead day.end) }
+{
+    let config = call.config.as_ref().map(String::as_str);
+    let form = form_of(call.csv, call.json);
+    table_in_file::<T, P, R, C>(
+        rt,
+        table,
+        call.file.as_str(),
+        config,
+        form,
+        time,
+        clock,
+        seen,
+        complaints,
+    )
 }
 
 /// The same by the clock that is in force then: where that isn't the clock with which the record begins, it is told once more.

@@ -41,20 +41,24 @@ impl DeviceFault {
             _ => DeviceFault::Other,
         }
     }
+
+    /// What is said of it, in a line; nothing of any other.
+    fn words(self) -> &'static str {
+        match self {
+            DeviceFault::PortTaken => "sipd: port taken\n",
+            DeviceFault::NoSuchAddress => "sipd: no such address\n",
+            DeviceFault::NoRightToPort => "sipd: no right to the port\n",
+            DeviceFault::NoFile => "sipd: no file\n",
+            DeviceFault::NoRightToRead => "sipd: no right to read\n",
+            DeviceFault::DiskFull => "sipd: disk full\n",
+            DeviceFault::OutputClosed => "sipd: output closed\n",
+            DeviceFault::Other => "",
+        }
+    }
 }
 
-/// What is said of it, in a line; nothing of any other.
 impl fmt::Display for DeviceFault {
     fn fmt<W: fmt::Write>(&self, f: &mut fmt::Formatter<W>) -> fmt::Result {
-        match self {
-            DeviceFault::PortTaken => writeln!(f, "sipd: port taken"),
-            DeviceFault::NoSuchAddress => writeln!(f, "sipd: no such address"),
-            DeviceFault::NoRightToPort => writeln!(f, "sipd: no right to the port"),
-            DeviceFault::NoFile => writeln!(f, "sipd: no file"),
-            DeviceFault::NoRightToRead => writeln!(f, "sipd: no right to read"),
-            DeviceFault::DiskFull => writeln!(f, "sipd: disk full"),
-            DeviceFault::OutputClosed => writeln!(f, "sipd: output closed"),
-            DeviceFault::Other => Ok(()),
-        }
+        f.write_str(self.words())
     }
 }

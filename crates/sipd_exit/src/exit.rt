@@ -77,6 +77,37 @@ impl Exit {
             Exit::OtherDecision => 6,
         }
     }
+
+    /// What is complained about where no value is told with it; nothing of any other.
+    fn words(&self) -> &'static str {
+        match self {
+            Exit::Memory => "sipd: memory",
+            Exit::NoRecord => "sipd: no record",
+            Exit::OtherConfiguration => "sipd: the record was made with another configuration",
+            Exit::BareRecord => "sipd: the record doesn't hold its configuration",
+            Exit::Missing => "sipd: a record is missing, or was changed",
+            Exit::OtherFrame => "sipd: a server that runs can't take it",
+            Exit::PipedRecord => {
+                "sipd: the record to go on from is a pipe: what comes through one is --resume -"
+            }
+            Exit::NewRecord => {
+                "sipd: the record can't be made: its file is there already, or its folder isn't, or may not be written, or has no hard links"
+            }
+            Exit::NoShorter => "sipd: no shorter record leads where it does",
+            Exit::Recording => "sipd: the record can't be written",
+            Exit::Unexpected => "sipd: the policy isn't as expected",
+            Exit::OtherPolicy => "sipd: the policy changes",
+            Exit::OtherDecision => "sipd: the decision isn't as expected",
+            Exit::Usage(_)
+            | Exit::Configuration(_)
+            | Exit::LongConfiguration
+            | Exit::Script(_)
+            | Exit::Device(_)
+            | Exit::Stack { .. }
+            | Exit::Question(_)
+            | Exit::Changed(_) => "",
+        }
+    }
 }
 
 /// What is complained about. Of a fault of the system with a name two lines: that, and `sipd: device`.
@@ -84,43 +115,23 @@ impl fmt::Display for Exit {
     fn fmt<W: fmt::Write>(&self, f: &mut fmt::Formatter<W>) -> fmt::Result {
         match self {
             Exit::Usage(text) => write!(f, "{}", text.trim_end()),
+            Exit::Device(fault) => write!(f, "{fault}sipd: device"),
+            Exit::Stack { bytes, needed } => write!(
+                f,
+                "sipd: the stack may have {bytes} bytes, and {needed} are needed: ulimit -s, or LimitSTACK of the unit\nsipd: memory"
+            ),
+            Exit::Question(text) => write!(f, "sipd: {text}"),
             Exit::Configuration(number) => write!(f, "sipd: configuration refused {number}"),
             Exit::LongConfiguration => write!(
                 f,
                 "sipd: configuration refused: it has more than {MOST_BYTES} bytes"
             ),
             Exit::Script(line) => write!(f, "sipd: script line {line}"),
-            Exit::Device(fault) => write!(f, "{fault}sipd: device"),
-            Exit::Memory => write!(f, "sipd: memory"),
-            Exit::Stack { bytes, needed } => write!(
-                f,
-                "sipd: the stack may have {bytes} bytes, and {needed} are needed: ulimit -s, or LimitSTACK of the unit\nsipd: memory"
-            ),
-            Exit::Question(text) => write!(f, "sipd: {text}"),
-            Exit::NoRecord => write!(f, "sipd: no record"),
-            Exit::OtherConfiguration => {
-                write!(f, "sipd: the record was made with another configuration")
-            }
-            Exit::BareRecord => write!(f, "sipd: the record doesn't hold its configuration"),
             Exit::Changed(line) => write!(
                 f,
                 "sipd: the record was changed: its line {line} has the digest of other bytes"
             ),
-            Exit::Missing => write!(f, "sipd: a record is missing, or was changed"),
-            Exit::OtherFrame => write!(f, "sipd: a server that runs can't take it"),
-            Exit::PipedRecord => write!(
-                f,
-                "sipd: the record to go on from is a pipe: what comes through one is --resume -"
-            ),
-            Exit::NewRecord => write!(
-                f,
-                "sipd: the record can't be made: its file is there already, or its folder isn't, or may not be written, or has no hard links"
-            ),
-            Exit::NoShorter => write!(f, "sipd: no shorter record leads where it does"),
-            Exit::Recording => write!(f, "sipd: the record can't be written"),
-            Exit::Unexpected => write!(f, "sipd: the policy isn't as expected"),
-            Exit::OtherPolicy => write!(f, "sipd: the policy changes"),
-            Exit::OtherDecision => write!(f, "sipd: the decision isn't as expected"),
+            _ => f.write_str(self.words()),
         }
     }
 }

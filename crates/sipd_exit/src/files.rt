@@ -16,10 +16,19 @@ use std::fs;
 use std::rt::Files;
 
 /// The file that states a configuration, and its SHA-256.
-#[derive(Drop)]
 pub struct Stated {
     pub bytes: Bytes,
     pub digest: [u8; 32],
+}
+
+/// Written out, so that it is proved once and not wherever one is dropped.
+impl Drop for Stated {
+    fn drop(self) {
+        let Stated {
+            bytes: _,
+            digest: _,
+        } = self;
+    }
 }
 
 impl Stated {

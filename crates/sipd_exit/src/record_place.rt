@@ -19,7 +19,6 @@ pub enum RecordSync {
 }
 
 /// Where the record of a server is made.
-#[derive(Drop)]
 pub enum RecordPlace {
     /// In a new file, going on from the record of another one where that is named.
     File {
@@ -28,4 +27,14 @@ pub enum RecordPlace {
     },
     /// In a new file of this folder, named by the time, going on from the newest record there.
     Folder(String),
+}
+
+/// Written out, so that it is proved once and not wherever one is dropped.
+impl Drop for RecordPlace {
+    fn drop(self) {
+        match self {
+            RecordPlace::File { path: _, resume: _ } => {}
+            RecordPlace::Folder(_) => {}
+        }
+    }
 }

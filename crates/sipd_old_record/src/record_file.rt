@@ -18,7 +18,6 @@ const OWNERS: u32 = 0o600;
 const HALF_MINUTE: u128 = 30_000;
 
 /// The file of a record, into which events are written behind what it holds.
-#[derive(Drop)]
 pub struct RecordFile<'a, R: Files> {
     rt: &'a R,
     /// By which name its file is found.
@@ -45,6 +44,27 @@ pub struct RecordFile<'a, R: Files> {
     ends_line: bool,
     /// Whether it was seen that its name doesn't find them.
     lost: bool,
+}
+
+/// Written out, so that it is proved once and not wherever one is dropped.
+impl<'a, R: Files> Drop for RecordFile<'a, R> {
+    fn drop(self) {
+        let RecordFile {
+            rt: _,
+            path: _,
+            file: _,
+            marks: _,
+            written: _,
+            sealed: _,
+            sealed_at: _,
+            sealed_as: _,
+            sync: _,
+            synced: _,
+            digesting: _,
+            ends_line: _,
+            lost: _,
+        } = self;
+    }
 }
 
 /// A new file for its owner alone, which is written at its end; one that is there is never written over.

@@ -9,7 +9,6 @@ use std::{fs, io};
 
 /// A reader that gives what another one gives, and says on standard error how far it is, where somebody looks on: at most once a second by
 /// the monotonic clock, and not in the first one.
-#[derive(Drop)]
 pub struct Watched<'a, Q, R> {
     rt: &'a Q,
     pub reader: R,
@@ -20,6 +19,20 @@ pub struct Watched<'a, Q, R> {
     /// When it began, where somebody looks on.
     start: Option<Instant>,
     pace: Pace,
+}
+
+/// Written out, so that it is proved once and not wherever one is dropped.
+impl<'a, Q, R: Drop> Drop for Watched<'a, Q, R> {
+    fn drop(self) {
+        let Watched {
+            rt: _,
+            reader: _,
+            what: _,
+            whole: _,
+            start: _,
+            pace: _,
+        } = self;
+    }
 }
 
 impl<'a, Q: Clock, R> Watched<'a, Q, R> {

@@ -8,7 +8,6 @@ use std::io::ErrorKind;
 use std::rt::Files;
 
 /// What is known of a record from which a start may go on.
-#[derive(Drop)]
 pub struct Followed {
     /// What the new one says of it, if anything.
     pub follows: Option<Follows>,
@@ -16,6 +15,17 @@ pub struct Followed {
     pub is_unclosed: bool,
     /// Whether it held no digest before.
     pub was_unsealed: bool,
+}
+
+/// Written out, so that it is proved once and not wherever one is dropped.
+impl Drop for Followed {
+    fn drop(self) {
+        let Followed {
+            follows: _,
+            is_unclosed: _,
+            was_unsealed: _,
+        } = self;
+    }
 }
 
 impl Followed {

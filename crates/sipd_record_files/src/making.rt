@@ -17,19 +17,35 @@ use std::rt::{Clock, Files};
 use std::{fs, io};
 
 /// A file that a start makes, which has the name of a part until all that it is to begin with stands in it.
-#[derive(Drop)]
 pub struct NewFile {
     pub path: String,
     pub part: String,
 }
 
+/// Written out, so that it is proved once and not wherever one is dropped.
+impl Drop for NewFile {
+    fn drop(self) {
+        let NewFile { path: _, part: _ } = self;
+    }
+}
+
 /// The files of a start that records: the new record; a copy of the configuration, in a folder of records; and the record from which
 /// the server goes on, if there is one.
-#[derive(Drop)]
 pub struct RecordFiles {
     pub record: NewFile,
     pub copy: Option<NewFile>,
     pub old: Option<String>,
+}
+
+/// Written out, so that it is proved once and not wherever one is dropped.
+impl Drop for RecordFiles {
+    fn drop(self) {
+        let RecordFiles {
+            record: _,
+            copy: _,
+            old: _,
+        } = self;
+    }
 }
 
 /// A copy of a text.

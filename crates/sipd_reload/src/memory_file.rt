@@ -18,13 +18,24 @@ use std::marker::Model;
 
 /// A file over memory: each time that its stamp is asked for it shows the next state of a list, at the end the last one again; it is gone where
 /// there is none. It tells what it answered, while there is memory for that.
-#[derive(Drop)]
 pub struct MemoryFile {
     alloc: Global,
     states: Vec<FileState>,
     /// How many of these it has shown.
     shown: usize,
     told: Option<Vec<FileAnswer>>,
+}
+
+/// Written out, so that it is proved once and not wherever one is dropped.
+impl Drop for MemoryFile {
+    fn drop(self) {
+        let MemoryFile {
+            alloc: _,
+            states: _,
+            shown: _,
+            told: _,
+        } = self;
+    }
 }
 
 impl Model for MemoryFile {

@@ -1,6 +1,7 @@
 pub mod Ends
 pub mod Dates
 pub mod Additions
+pub mod Placing
 pub mod Counting
 pub mod Reported
 pub mod DayNumbers

@@ -1,7 +1,8 @@
 -- The lines of an input, what of them is an audit line, and what a report is asked for.
-use Rattle.std.specs.Prelude.{ℕ, ◌==◌, Bool, true, false, ◌&&◌, ◌||◌, not, nat_le, if◌then◌else◌, List, [], ◌∷◌, length, take, map, filter, Option, Some, None}
-use Rattle.std.specs.Prelude.{option_map, is_none}
-use Rattle.std.specs.List.{filter_map}
+use Rattle.std.specs.Prelude.{ℕ, ◌==◌, Bool, true, false, ◌&&◌, ◌||◌, not, nat_le, nat_eq, if◌then◌else◌, List, [], ◌∷◌, length, take, drop, map, filter, Option, Some, None}
+use Rattle.std.specs.Prelude.{option_map, is_none, codes, count_by}
+use Rattle.std.specs.List.{filter_map, starts_with}
+use Rattle.std.specs.Option.{option_or}
 use Rattle.std.specs.Str.{bytes_eq}
 use Rattle.sip_audit.specs.declared.record.Record.{Record}
 use Rattle.sip_audit.specs.declared.record.AuditOutcome.{AuditOutcome}
@@ -23,9 +24,30 @@ lines_of (b ∷ bs) = if b == 10 then [] ∷ lines_of bs else in_first b (lines_
 abbrev pub fronts_of : List ℕ → List (List ℕ)
 fronts_of bytes = map (take 200001) (lines_of bytes)
 
+-- what journalctl ends with what it writes in front of a line
+abbrev pub mark : List ℕ
+mark = codes "]: "
+
+-- how each line begins that the server writes on standard error
+abbrev pub own_front : List ℕ
+own_front = codes "sipd: "
+
 -- the record of a line of at most 200,000 bytes; a longer line is no audit line
 abbrev pub entry_of : List ℕ → Option Record
 entry_of line = if nat_le (length line) 200000 then record_of line else None
+
+-- what stands behind the first `]: ` of a line, which ends what journalctl writes in front of it; nothing where none stands there
+abbrev pub behind_prefix : List ℕ → List ℕ
+behind_prefix [] = []
+behind_prefix (b ∷ bs) = if starts_with nat_eq (b ∷ bs) mark then drop 3 (b ∷ bs) else behind_prefix bs
+
+-- the record that a line of at most 200,000 bytes tells, as it stands or behind what journalctl writes in front of it
+abbrev pub told_by : List ℕ → Option Record
+told_by line = if nat_le (length line) 200000 then option_or (record_of line) (record_of (behind_prefix line)) else None
+
+-- whether a line is one that the server writes on standard error, as it stands or behind what journalctl writes in front of it
+abbrev pub is_servers_own : List ℕ → Bool
+is_servers_own line = starts_with nat_eq line own_front || starts_with nat_eq (behind_prefix line) own_front
 
 -- whether something stands in a line
 abbrev pub is_filled : List ℕ → Bool
@@ -35,6 +57,10 @@ is_filled (b ∷ bs) = true
 -- whether a line is none: something stands in it, and it is no audit line
 abbrev pub is_no_entry : List ℕ → Bool
 is_no_entry line = is_filled line && is_none (entry_of line)
+
+-- whether a line is foreign: something stands in it, it tells no record, and the server doesn't write it on standard error either
+abbrev pub is_foreign : List ℕ → Bool
+is_foreign line = is_filled line && (is_none (told_by line) && not (is_servers_own line))
 
 -- the rule that decided; 0 is that none matched, and at a challenge none decided
 abbrev pub ruling_of : AuditOutcome → Option ℕ
@@ -62,11 +88,42 @@ is_by_rule None ruling = true
 is_by_rule (Some wanted) None = false
 is_by_rule (Some wanted) (Some rule) = rule == wanted
 
+-- whether a credential was asked for
+abbrev pub is_challenge : AuditOutcome → Bool
+is_challenge (Challenge status) = true
+is_challenge (Deny rule) = false
+is_challenge (Sent rule targets) = false
+is_challenge (Answer rule status) = false
+
+-- the word of what became of a request, as its audit line has it
+abbrev pub outcome_word : AuditOutcome → List ℕ
+outcome_word (Challenge status) = codes "challenge"
+outcome_word (Deny rule) = codes "deny"
+outcome_word (Sent rule targets) = codes "sent"
+outcome_word (Answer rule status) = codes "answer"
+
+-- whether an outcome has the word that is asked for; where none is, it is any but a challenge
+abbrev pub is_of_outcome : Option (List ℕ) → AuditOutcome → Bool
+is_of_outcome None outcome = not (is_challenge outcome)
+is_of_outcome (Some word) outcome = bytes_eq (outcome_word outcome) word
+
+-- whether a record is of the user, by the rule and denied, as far as that is asked for
+abbrev pub meets : Query → Record → Bool
+meets q r =
+    is_of_user (option_map (λ name. name.now) q.user) r.who && is_by_rule q.rule (ruling_of r.outcome) && (not q.denied || is_denial r.outcome)
+
 -- whether a record is asked for
 abbrev pub is_asked : Query → Record → Bool
-is_asked q r =
-    is_of_user (option_map (λ name. name.now) q.user) r.who && is_by_rule q.rule (ruling_of r.outcome) && (not q.denied || is_denial r.outcome)
+is_asked q r = meets q r && is_of_outcome (option_map (λ word. word.now) q.outcome) r.outcome
+
+-- whether a record is left out for being a challenge alone, where no outcome is asked for
+abbrev pub is_left_out : Query → Record → Bool
+is_left_out q r = meets q r && (is_none q.outcome && is_challenge r.outcome)
+
+-- how many records of some lines are left out
+abbrev pub left_of : Query → List (List ℕ) → ℕ
+left_of q lines = count_by (is_left_out q) (filter_map told_by lines)
 
 -- the records of some lines that are asked for, in their order
 abbrev pub asked_of : Query → List (List ℕ) → List Record
-asked_of q lines = filter (is_asked q) (filter_map entry_of lines)
+asked_of q lines = filter (is_asked q) (filter_map told_by lines)

@@ -16,12 +16,17 @@ fn push_title(text: &mut Bytes, title: &[u8]) -> Result<(), AllocError>
     text.push(b'\n')
 }
 
-/// Adds totals under a title.
-fn push_totals(text: &mut Bytes, title: &[u8], totals: &Totals) -> Result<(), AllocError>
+/// Adds totals under a title, in order.
+fn push_totals(
+    alloc: Global,
+    text: &mut Bytes,
+    title: &[u8],
+    totals: &Totals,
+) -> Result<(), AllocError>
     ensures { OnOk result (text.new ≡ text.old ++ Definitions.totals_text title.now totals.now) }
 {
     push_title(text, title)?;
-    totals.push_lines(text)
+    totals.push_lines(alloc, text)
 }
 
 /// Adds how many lines there are.
@@ -31,6 +36,7 @@ fn push_counts(text: &mut Bytes, tally: &Tally) -> Result<(), AllocError>
     push_title(text, b"lines")?;
     push_total(text, b"in all", tally.filled)?;
     push_total(text, b"in the table", tally.asked)?;
+    push_total(text, b"challenges, left out", tally.left_out)?;
     push_total(text, b"no audit lines", tally.none)
 }
 
@@ -41,9 +47,9 @@ pub(crate) fn ending_text(alloc: Global, form: Form, tally: &Tally) -> Result<By
     let mut text = Bytes::new(alloc);
     match form {
         Form::Table => {
-            push_totals(&mut text, b"by user", &tally.users)?;
-            push_totals(&mut text, b"by rule", &tally.rules)?;
-            push_totals(&mut text, b"by outcome", &tally.outcomes)?;
+            push_totals(alloc, &mut text, b"by user", &tally.users)?;
+            push_totals(alloc, &mut text, b"by rule", &tally.rules)?;
+            push_totals(alloc, &mut text, b"by outcome", &tally.outcomes)?;
             push_counts(&mut text, tally)?;
             text.extend(tally.shown.as_slice())?;
         }

@@ -4,10 +4,10 @@ ghost use Rattle.sipd_report.specs.Calendar.{date_of};
 ghost use Rattle.sipd_report.specs.Cells.{row_text, field_text};
 ghost use Rattle.sipd_report.specs.Examples.{answered};
 ghost use Rattle.sipd_report.specs.Rows.{cells_of};
-ghost use Rattle.sipd_report.specs.Entries.{lines_of, is_by_rule, is_of_user, is_denial, ruling_of};
+ghost use Rattle.sipd_report.specs.Entries.{lines_of, behind_prefix, is_servers_own, is_by_rule, is_of_user, is_denial, ruling_of};
 ghost use Rattle.sipd_report.specs.Times.{offset_text, shown_seconds};
 ghost use Rattle.sip_audit.specs.declared.record.AuditOutcome.TheVariants.{Challenge, Deny, Answer};
-ghost use Rattle.sipd_report.specs.Totals.{totals_of};
+ghost use Rattle.sipd_report.specs.Totals.{totals_of, in_order};
 
 /// Dates by their number of days since 1 January 1970.
 pub fn dates()
@@ -38,9 +38,24 @@ pub fn csv_field()
     ensures plain { field_text (codes "a b") ≡ codes "a b" }
 {}
 
+/// What stands behind what journalctl writes in front of a line, and which lines the server writes on standard error.
+pub fn journal()
+    ensures behind { behind_prefix (codes "Nov 30 10:00:00 host sipd[123]: 17 7") ≡ codes "17 7" }
+    ensures none { behind_prefix (codes "17 7 INVITE alice bob@[2001:db8::1]") ≡ [] }
+    ensures own { is_servers_own (codes "sipd: serving") ≡ true }
+    ensures own_behind { is_servers_own (codes "Nov 30 10:00:00 host sipd[123]: sipd: serving") ≡ true }
+    ensures other { is_servers_own (codes "Nov 30 10:00:00 host systemd[1]: Started sipd.service") ≡ false }
+{}
+
 /// Totals, each text at its first place.
 pub fn totals()
     ensures { totals_of (codes "b" ∷ codes "a" ∷ codes "b" ∷ []) ≡ (codes "b", 2) ∷ (codes "a", 1) ∷ [] }
+{}
+
+/// Totals in order: the greatest count first, equal ones by their texts, of which a shorter one that begins alike stands first.
+pub fn order_of_totals()
+    ensures { in_order ((codes "bob", 2) ∷ (codes "-", 2) ∷ (codes "al", 1) ∷ (codes "bo", 2) ∷ (codes "carol", 7) ∷ [])
+        ≡ (codes "carol", 7) ∷ (codes "-", 2) ∷ (codes "bo", 2) ∷ (codes "bob", 2) ∷ (codes "al", 1) ∷ [] }
 {}
 
 /// Which lines there are: an empty one is one, and the last may have no LF.

@@ -22,6 +22,8 @@ pub struct Query<'q> {
     pub rule: Option<u32>,
     /// Those alone that policy denied.
     pub denied: bool,
+    /// The word of what became of a request, as its audit line has it; any but a challenge, where none is said.
+    pub outcome: Option<&'q [u8]>,
     /// How many minutes the office's clock is ahead of UTC.
     pub offset: i16,
     /// The form.
@@ -33,9 +35,23 @@ impl Query<'_> {
     pub(crate) fn asks_for(&self, record: &Record) -> bool
         ensures { result ≡ Definitions.is_asked self.now «record».now }
     {
+        self.is_met_by(record) && is_of_outcome(self.outcome, record.outcome)
+    }
+
+    /// Whether a record is of the user, by the rule and denied, as far as that is asked for.
+    fn is_met_by(&self, record: &Record) -> bool
+        ensures { result ≡ Definitions.meets self.now «record».now }
+    {
         is_of_user(self.user, &record.who)
             && is_by_rule(self.rule, ruling_of(record.outcome))
             && (!self.denied || is_denial(record.outcome))
+    }
+
+    /// Whether a record is left out for being a challenge alone, where no outcome is asked for.
+    pub(crate) fn leaves_out(&self, record: &Record) -> bool
+        ensures { result ≡ Definitions.is_left_out self.now «record».now }
+    {
+        self.is_met_by(record) && self.outcome.is_none() && is_challenge(record.outcome)
     }
 }
 
@@ -73,6 +89,45 @@ fn is_by_rule(wanted: Option<u32>, ruling: Option<u32>) -> bool
     match ruling {
         Some(rule) => rule == wanted,
         None => false,
+    }
+}
+
+fn is_challenge(outcome: AuditOutcome) -> bool
+    ensures { result ≡ Definitions.is_challenge outcome }
+{
+    match outcome {
+        AuditOutcome::Challenge { status: _ } => true,
+        AuditOutcome::Deny { rule: _ } => false,
+        AuditOutcome::Sent {
+            rule: _,
+            targets: _,
+        } => false,
+        AuditOutcome::Answer { rule: _, status: _ } => false,
+    }
+}
+
+/// The word of what became of a request, as its audit line has it.
+fn outcome_word(outcome: AuditOutcome) -> &'static [u8]
+    ensures { result.now ≡ Definitions.outcome_word outcome }
+{
+    match outcome {
+        AuditOutcome::Challenge { status: _ } => b"challenge",
+        AuditOutcome::Deny { rule: _ } => b"deny",
+        AuditOutcome::Sent {
+            rule: _,
+            targets: _,
+        } => b"sent",
+        AuditOutcome::Answer { rule: _, status: _ } => b"answer",
+    }
+}
+
+/// Whether an outcome has the word that is asked for; any but a challenge has, where none is.
+fn is_of_outcome(wanted: Option<&[u8]>, outcome: AuditOutcome) -> bool
+    ensures { result ≡ Definitions.is_of_outcome (option_map (λ word. word.now) wanted.entry) outcome }
+{
+    match wanted {
+        Some(word) => same_bytes(outcome_word(outcome), word),
+        None => !is_challenge(outcome),
     }
 }
 

@@ -12,7 +12,7 @@ ghost use Rattle.sipd_report.specs.Steps.{TakesLine};
 
 use crate::cells::{heading, row_text};
 use crate::ending::ending_text;
-use crate::entry::entry_of;
+use crate::entry::told_by;
 use crate::error::ReportError;
 use crate::lines::next_front;
 use crate::query::{Form, Query};
@@ -24,11 +24,13 @@ use sip_text::Bytes;
 use std::alloc::{AllocError, Global};
 
 /// Writes what an audit says: the names of the columns, then a row for each record that is asked for, in its order, and in
-/// a table how often each user, rule and outcome came among these, in the order in which they came first, how many lines there
-/// are in which something stands, how many are rows and how many are no audit lines, and the first 20 of these, each
-/// with its number and its first 120 bytes, a point for each that doesn't print. A line is ended by LF, the last one perhaps
-/// not; one of more than 200,000 bytes is no audit line. Times are those of a clock `offset` minutes ahead of UTC; where
-/// that would be before 1970, the start of 1970. Keeps one line, and each user, rule and outcome that came.
+/// a table how often each user, rule and outcome came among these, the greatest count first and equal ones in the order of
+/// their texts, how many lines there are in which something stands, how many are rows, how many challenges are left out, since
+/// no outcome is asked for, and how many are no audit lines, and the first 20 of these, each with its number and its first 120
+/// bytes, a point for each that doesn't print. A line may begin with what journalctl writes in front of it, up to its first
+/// `]: `; one that the server writes on standard error is neither an audit line nor counted as none. A line is ended by LF, the
+/// last one perhaps not; one of more than 200,000 bytes is no audit line. Times are those of a clock `offset` minutes ahead of
+/// UTC; where that would be before 1970, the start of 1970. Keeps one line, and each user, rule and outcome that came.
 ///
 /// Answers how many lines are no audit lines, which CSV doesn't tell; all is handed on then. Refusals: `NoMemory`; `Read`, where
 /// the reader fails or was asked 4,294,967,295 times; `Write`. What was written before a refusal stays: a front of the report,
@@ -111,12 +113,21 @@ fn take_line<W: TellingWriter>(
         return Ok(());
     }
     tally.add_filled();
-    match entry_of(alloc, line)? {
+    match told_by(alloc, line)? {
         Some(record) => take_record(alloc, query, &record, tally, output),
         None => {
-            tally.add_no_entry(line)?;
+            tally.add_untold(line)?;
             Ok(())
         }
+    }
+}
+
+/// Counts a record that isn't asked for, if it is left out.
+fn add_unasked(query: &Query<'_>, record: &Record, tally: &mut Tally)
+    ensures { tally.new ≡ Definitions.with_unasked query.now «record».now tally.old }
+{
+    if query.leaves_out(record) {
+        tally.add_left_out();
     }
 }
 
@@ -142,6 +153,7 @@ fn take_record<W: TellingWriter>(
         (GaveUp (W.has_failed output.new) (W.called output.new))) }
 {
     if !query.asks_for(record) {
+        add_unasked(query, record, tally);
         return Ok(());
     }
     tally.add_record(alloc, record)?;

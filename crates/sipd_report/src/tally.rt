@@ -6,6 +6,7 @@ ghost use Rattle.sipd_report.specs.Rows;
 ghost use Rattle.sipd_report.specs.Steps as Definitions;
 ghost use Rattle.sipd_report.specs.Totals.{one_more};
 
+use crate::entry::is_servers_own;
 use crate::query::ruling_of;
 use crate::row::{put_outcome_kind, put_ruling};
 use crate::totals::Totals;
@@ -30,6 +31,8 @@ pub(crate) struct Tally {
     pub filled: u64,
     /// Those whose record is asked for.
     pub asked: u64,
+    /// Those whose record is left out, since no challenge is asked for.
+    pub left_out: u64,
     /// Those that are no audit lines.
     pub none: u64,
     /// The first of these, as they are shown.
@@ -46,6 +49,7 @@ impl Drop for Tally {
             lines: _,
             filled: _,
             asked: _,
+            left_out: _,
             none: _,
             shown: _,
         } = self;
@@ -64,6 +68,7 @@ impl Tally {
             lines: 0,
             filled: 0,
             asked: 0,
+            left_out: 0,
             none: 0,
             shown: Bytes::new(alloc),
         }
@@ -83,8 +88,15 @@ impl Tally {
         self.filled = self.filled.saturating_add(1);
     }
 
-    /// It is no audit line.
-    pub(crate) fn add_no_entry(&mut self, line: &[u8]) -> Result<(), AllocError>
+    /// Its record is left out.
+    pub(crate) fn add_left_out(&mut self)
+        ensures { self.new ≡ Definitions.with_left_out self.old }
+    {
+        self.left_out = self.left_out.saturating_add(1);
+    }
+
+    /// It is foreign.
+    fn add_no_entry(&mut self, line: &[u8]) -> Result<(), AllocError>
         ensures { OnOk result (self.new ≡ Definitions.with_no_entry line.now self.old) }
     {
         if self.none < SHOWN {
@@ -92,6 +104,16 @@ impl Tally {
         }
         self.none = self.none.saturating_add(1);
         Ok(())
+    }
+
+    /// It tells no record.
+    pub(crate) fn add_untold(&mut self, line: &[u8]) -> Result<(), AllocError>
+        ensures { OnOk result (self.new ≡ Definitions.with_untold line.now self.old) }
+    {
+        if is_servers_own(line) {
+            return Ok(());
+        }
+        self.add_no_entry(line)
     }
 
     /// Its record is asked for.

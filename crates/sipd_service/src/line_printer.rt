@@ -6,18 +6,20 @@ ghost use Rattle.sip_journal.specs.Recorder.{told};
 ghost use Rattle.sipd_exit.specs.Exits.{IsPrintFault};
 ghost use Rattle.sipd_service.specs.Exits;
 ghost use Rattle.sipd_service.specs.Printing.{serving_text, turns_text};
+ghost use Rattle.sipd_status.specs.Tally.{no_tally, tally_behind};
 
 use crate::printing::{print_records, serving_text, turns_text};
 use sip_audit::Record;
 use sip_loop::{AuditFault, AuditLog};
 use sip_uri::Addr;
 use sipd_exit::{DeviceFault, Exit, print};
+use sipd_status::Tally;
 use std::alloc::Global;
 use std::io::Write;
 
 /// What prints the lines of decisions on a writer, each whole, and hands them on before it answers. It has failed once memory ran
 /// out or the writer failed in that, and prints no line of decisions from then on. What it says of the server itself it prints whatever
-/// became of those lines, and a fault of that is told by its call alone.
+/// became of those lines, and a fault of that is told by its call alone. It counts the lines of decisions that it printed.
 #[derive(Drop)]
 pub struct LinePrinter<W: Write + Drop> {
     alloc: Global,
@@ -25,6 +27,8 @@ pub struct LinePrinter<W: Write + Drop> {
     pub has_failed: bool,
     /// How the writer failed.
     pub fault: DeviceFault,
+    /// What the lines come to that it printed.
+    pub tally: Tally,
 }
 
 impl<W: Write + Drop> LinePrinter<W> {
@@ -32,12 +36,14 @@ impl<W: Write + Drop> LinePrinter<W> {
     pub fn new(alloc: Global, output: W) -> Self
         ensures output { result.output ≡ output }
         ensures has_failed { result.has_failed ≡ false }
+        ensures tally { result.tally ≡ no_tally }
     {
         LinePrinter {
             alloc,
             output,
             has_failed: false,
             fault: DeviceFault::Other,
+            tally: Tally::new(),
         }
     }
 
@@ -105,6 +111,8 @@ impl<W: Write + Drop> AuditLog for LinePrinter<W> {
         ensures failed { OnErr result (told self.new.has_failed (W.contents self.new.output) ≡ None) }
         ensures still { OnOk result (self.old.has_failed ≡ false) }
         ensures going { OnOk result (self.new.has_failed ≡ false) }
+        ensures tally { OnOk result (self.new.tally ≡ tally_behind records.now self.old.tally) }
+        ensures untold { OnErr result (self.new.tally ≡ self.old.tally) }
         ensures said { OnErr result (self.new.has_failed ≡ true) }
         ensures kept { self.old.has_failed ≡ true → (self.new ≡ self.old) × (result ≡ Err AuditFault.Device) }
         ensures told { IfErr result (λ why. self.old.has_failed ≡ false → Exits.IsTold why self.new.fault) }
@@ -113,7 +121,10 @@ impl<W: Write + Drop> AuditLog for LinePrinter<W> {
             return Err(AuditFault::Device);
         }
         match print_records(self.alloc, records, &mut self.output) {
-            Ok(()) => Ok(()),
+            Ok(()) => {
+                self.tally.add(records);
+                Ok(())
+            }
             Err(exit) => Err(self.fail(&exit)),
         }
     }

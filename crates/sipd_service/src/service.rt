@@ -14,7 +14,8 @@ ghost use Rattle.sipd_service.specs.Turns.{AreTurns, EndsCounted, EndsEarly, End
 use crate::line_printer::LinePrinter;
 use crate::next_record::NextRecord;
 use crate::reloading::reload;
-use crate::unheard_lines::tell_unheard;
+use crate::status_turn::{SizedJournal, keep_status};
+use crate::unheard_lines::{count_unheard, tell_unheard};
 use rand_core::Rng;
 use sip_audit::Record;
 use sip_guard::Guard;
@@ -29,6 +30,7 @@ use sip_uri::Addr;
 use sipd_exit::{DeviceFault, Exit};
 use sipd_old_record::{Unrecorded, WatchedJournal};
 use sipd_reload::{Watch, WatchedFile};
+use sipd_status::{Status, StatusPlace};
 use std::alloc::Global;
 use std::io::Write;
 
@@ -49,6 +51,7 @@ pub struct Service<
     X: NextRecord<T, P, J>,
     N: Rng + Drop,
     F: WatchedFile,
+    S: StatusPlace,
 > {
     pub engine: Engine<T, P>,
     pub link: Guard<L, C>,
@@ -66,6 +69,8 @@ pub struct Service<
     /// The bytes of the configuration with which it began.
     pub stated: Bytes,
     pub said: Said,
+    /// What is kept for those who look on, where that is asked for.
+    pub status: Option<Status<S>>,
 }
 
 /// Where it serves, what was decided before and may not have been printed, and how many turns there are; as many as come where none
@@ -84,6 +89,8 @@ pub struct Said {
     pub fault: bool,
     /// When it was last said what wasn't heard, in milliseconds.
     pub unheard: u64,
+    /// Of how many datagrams that weren't heard it was said.
+    pub told: u64,
     /// When the journal was last looked at, in milliseconds.
     pub looked: u64,
 }
@@ -94,6 +101,7 @@ impl Said {
         Said {
             fault: false,
             unheard: 0,
+            told: 0,
             looked: 0,
         }
     }
@@ -228,28 +236,31 @@ fn say_unheard<L: Link, C: Clock, M: Write>(
     if now.saturating_sub(said.unheard) < MINUTE {
         return;
     }
+    let count = count_unheard(link);
     if tell_unheard(link, complaints) {
         said.unheard = now;
+        said.told = said.told.saturating_add(count);
     }
 }
 
 /// Looks at the journal, lets a new record be begun, and lets the configuration change; then waits for a datagram until something is due, and lets the server do one
-/// turn, in which it prints its records. Complains about a record that can't be written, and about what wasn't heard. Where a change
-/// can't be told to the journal, there is no turn.
+/// turn, in which it prints its records. Complains about a record that can't be written, and about what wasn't heard. What is kept for those
+/// who look on is kept behind the turn. Where a change can't be told to the journal, there is no turn.
 fn do_turn<
     T: Timers,
     P: Rules,
     L: Link,
     C: Clock,
-    J: WatchedJournal,
+    J: WatchedJournal + SizedJournal,
     X: NextRecord<T, P, J>,
     N: Rng + Drop,
     F: WatchedFile,
+    S: StatusPlace,
     O: Write + Drop,
     M: Write,
 >(
     alloc: Global,
-    service: &mut Service<T, P, L, C, J, X, N, F>,
+    service: &mut Service<T, P, L, C, J, X, N, F, S>,
     printer: &mut LinePrinter<O>,
     complaints: &mut M,
 ) -> Result<(), Exit>
@@ -309,6 +320,17 @@ fn do_turn<
     );
     say_fault(&mut service.journal, &mut service.said, complaints);
     say_unheard(&mut service.link, &mut service.said, now, complaints);
+    keep_status(
+        alloc,
+        &mut service.status,
+        service.engine.next_number(),
+        &service.link,
+        &service.journal,
+        &printer.tally,
+        service.said.told,
+        now,
+        complaints,
+    );
     match served {
         Ok(_) => Ok(()),
         Err(e) => Err(exit_of_serve(e, printer.fault())),
@@ -321,15 +343,16 @@ fn do_turns<
     P: Rules,
     L: Link,
     C: Clock,
-    J: WatchedJournal,
+    J: WatchedJournal + SizedJournal,
     X: NextRecord<T, P, J>,
     N: Rng + Drop,
     F: WatchedFile,
+    S: StatusPlace,
     O: Write + Drop,
     M: Write,
 >(
     alloc: Global,
-    service: &mut Service<T, P, L, C, J, X, N, F>,
+    service: &mut Service<T, P, L, C, J, X, N, F, S>,
     turns: u64,
     printer: &mut LinePrinter<O>,
     complaints: &mut M,
@@ -380,15 +403,16 @@ fn serve_on<
     P: Rules,
     L: Link,
     C: Clock,
-    J: WatchedJournal,
+    J: WatchedJournal + SizedJournal,
     X: NextRecord<T, P, J>,
     N: Rng + Drop,
     F: WatchedFile,
+    S: StatusPlace,
     O: Write + Drop,
     M: Write,
 >(
     alloc: Global,
-    service: &mut Service<T, P, L, C, J, X, N, F>,
+    service: &mut Service<T, P, L, C, J, X, N, F, S>,
     served: &Serving<'_>,
     turns: u64,
     printer: &mut LinePrinter<O>,
@@ -421,15 +445,16 @@ fn serve_counted<
     P: Rules,
     L: Link,
     C: Clock,
-    J: WatchedJournal,
+    J: WatchedJournal + SizedJournal,
     X: NextRecord<T, P, J>,
     N: Rng + Drop,
     F: WatchedFile,
+    S: StatusPlace,
     O: Write + Drop,
     M: Write,
 >(
     alloc: Global,
-    service: &mut Service<T, P, L, C, J, X, N, F>,
+    service: &mut Service<T, P, L, C, J, X, N, F, S>,
     served: &Serving<'_>,
     turns: u32,
     printer: &mut LinePrinter<O>,
@@ -472,15 +497,16 @@ pub fn serve_turns<
     P: Rules,
     L: Link,
     C: Clock,
-    J: WatchedJournal,
+    J: WatchedJournal + SizedJournal,
     X: NextRecord<T, P, J>,
     N: Rng + Drop,
     F: WatchedFile,
+    S: StatusPlace,
     O: Write + Drop,
     M: Write,
 >(
     alloc: Global,
-    service: &mut Service<T, P, L, C, J, X, N, F>,
+    service: &mut Service<T, P, L, C, J, X, N, F, S>,
     served: &Serving<'_>,
     printer: &mut LinePrinter<O>,
     complaints: &mut M,

@@ -1,4 +1,5 @@
 ghost use Rattle.std.specs.Prelude.{◌≡◌};
+ghost use Rattle.sipd_service.specs.Statuses;
 
 use sip_guard::{Guard, Unheard};
 use sip_transport::{Clock, Link};
@@ -14,6 +15,16 @@ fn write_unheard<C: Write>(unheard: &Unheard, complaints: &mut C) {
         let _ = write!(complaints, " {count} of {a}.{b}.{c}.{d}");
     }
     let _ = writeln!(complaints, "");
+}
+
+/// How many datagrams weren't heard, of which it wasn't said yet.
+pub fn count_unheard<L: Link, C: Clock>(link: &Guard<L, C>) -> u64
+    ensures { result ≡ Statuses.unheard_in link.now.allowances }
+{
+    match link.unheard() {
+        Some(unheard) => unheard.total(),
+        None => 0,
+    }
 }
 
 /// Says how much of whom wasn't heard, and counts anew; whether something wasn't.

@@ -1,5 +1,5 @@
 -- The calls that ring or are talked at a moment.
-use Rattle.std.specs.Prelude.{ℕ, ℤ, ◌-◌, Bool, true, false, if◌then◌else◌, List, [], ◌∷◌, ◌++◌, codes, Option, None, Some, option_map}
+use Rattle.std.specs.Prelude.{ℕ, ℤ, ◌-◌, Bool, true, false, if◌then◌else◌, List, [], ◌∷◌, ◌++◌, codes, decimal, Option, None, Some, option_map}
 use Rattle.std.specs.List.{flat_map}
 use Rattle.sip_audit.specs.Lines.{who_text}
 use Rattle.sip_audit.specs.declared.record.AuditOutcome.{AuditOutcome}
@@ -100,3 +100,19 @@ head_in (Some notation) offset at = columns notation
 -- the calls that ring or are talked, on a clock that is so many minutes ahead of UTC
 abbrev pub standing_text : Option Notation → ℤ → ℕ → List Call → List ℕ
 standing_text form offset at calls = head_in form offset at ++ flat_map (if_standing form at) calls
+
+-- ---- how full the tables are
+
+-- a count behind its name, and what stands behind it
+abbrev pub count_text : List ℕ → ℕ → List ℕ → List ℕ
+count_text name count rest = name ++ decimal count ++ rest
+
+-- how many requests are open of the 1,024 that may be, and how many dialogs stand of the 4,096
+abbrev pub full_text : ℕ → ℕ → List ℕ
+full_text requests dialogs =
+    count_text (codes "open requests: ") requests (codes " of 1024; ") ++ count_text (codes "dialogs: ") dialogs (codes " of 4096\n")
+
+-- the same behind a table; programs get rows alone
+abbrev pub tables_text : Option Notation → ℕ → ℕ → List ℕ
+tables_text None requests dialogs = full_text requests dialogs
+tables_text (Some notation) requests dialogs = []

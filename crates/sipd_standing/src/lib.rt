@@ -21,4 +21,4 @@ mod standing;
 mod table;
 
 pub use phone_table::phones_text;
-pub use table::standing_text;
+pub use table::{standing_text, tables_text};

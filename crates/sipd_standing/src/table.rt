@@ -190,3 +190,37 @@ pub fn standing_text(
     push_all(alloc, &mut out, form, at, calls)?;
     Ok(out)
 }
+
+/// Adds a count behind its name, and what stands behind it.
+fn push_count(out: &mut Bytes, name: &[u8], count: u64, rest: &[u8]) -> Result<(), AllocError>
+    ensures { OnOk result (out.new ≡ out.old ++ Definitions.count_text name.now count rest.now) }
+{
+    out.extend(name)?;
+    out.push_decimal(count)?;
+    out.extend(rest)
+}
+
+/// How many requests are open, and how many dialogs stand, of how many that may be.
+fn full_text(alloc: Global, requests: u64, dialogs: u64) -> Result<Bytes, AllocError>
+    ensures { IfOk result (λ text. text ≡ Definitions.full_text requests dialogs) }
+{
+    let mut out = Bytes::new(alloc);
+    push_count(&mut out, b"open requests: ", requests, b" of 1024; ")?;
+    push_count(&mut out, b"dialogs: ", dialogs, b" of 4096\n")?;
+    Ok(out)
+}
+
+/// The same, a line behind the table; programs get rows alone.
+pub fn tables_text(
+    alloc: Global,
+    form: Option<Notation>,
+    requests: usize,
+    dialogs: usize,
+) -> Result<Bytes, AllocError>
+    ensures { IfOk result (λ text. text ≡ Definitions.tables_text form requests dialogs) }
+{
+    match form {
+        None => full_text(alloc, requests as u64, dialogs as u64),
+        Some(_) => Ok(Bytes::new(alloc)),
+    }
+}

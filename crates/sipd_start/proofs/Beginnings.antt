@@ -10,16 +10,16 @@ use Rattle.sip_event.specs.declared.event.StepOut.{StepOut}
 use Rattle.sip_model.specs.state.declared.server.Server.{Server}
 use Rattle.sip_model.specs.TimerOrder.{Standing, first_standing}
 use Rattle.sip_model.specs.state.State.{first_state}
-use Rattle.sip_replay.specs.resume.run.engine.Engine.{Engine}
-use Rattle.sip_replay.specs.resume.run.engine.engine_time.proxy.Proxy.{Secrets, secrets_of}
-use Rattle.sip_replay.specs.resume.run.Due.{standing_of}
-use Rattle.sip_replay.proofs.of_standings.{standing_is}
+use Rattle.sip_resume.specs.run.engine.Engine.{Engine}
+use Rattle.sip_resume.specs.run.engine.engine_time.proxy.Proxy.{Secrets, secrets_of}
+use Rattle.sip_resume.specs.run.Due.{standing_of}
+use Rattle.sip_resume.proofs.of_standings.{standing_is}
 use Rattle.sip_journal.specs.Record.{NotesConfiguration}
 use Rattle.sip_journal.specs.declared.record_head.RecordHead.{RecordHead}
 use Rattle.sip_journal.specs.declared.record_mark.RecordMark.TheVariants.{Whole}
 use Rattle.sip_replay_script.specs.Lines.{Reading, pending}
-use Rattle.sip_replay.specs.resume.Outputs.{Outputs}
-use Rattle.sip_replay.specs.resume.Whole.{IsRecordResumed}
+use Rattle.sip_resume.specs.Outputs.{Outputs}
+use Rattle.sip_resume.specs.Whole.{IsRecordResumed}
 use Rattle.sipd_old_record.specs.OldRecord.{SaysHead}
 use Rattle.sipd_start.specs.Begins.{IsServerOf, StartsAnew, Written, TakesOld, LeadsTo, GoesOn, GoesOnFrom, IsFileNotResumed, IsLeftBehind, GoesOnFromFile, Begins}
 use Rattle.sipd_start.specs.Boots.{boot_again}
@@ -222,6 +222,14 @@ alike_in_files bytes digest one other left right state state_then lines lines_th
 pub goes_alike : (bytes digest : List ℕ) (server : Server) (state : Standing) (lines : ℕ) (last : Option StepOut)
     → LeadsAlike bytes digest server state lines last → GoesOnAlike bytes digest server state last
 goes_alike bytes digest server state lines last h = record { lines = lines; leads = h }
+
+-- the same of what it is taken apart to
+pub goes_alike_apart : (bytes digest : List ℕ) (led engine : Engine) (lines : ℕ) (last_of last : Option StepOut) → engine ≡ led → last ≡ last_of
+    → LeadsAlike bytes digest led.server (standing_of led) lines last_of → GoesOnAlike bytes digest engine.server (standing_of engine) last
+goes_alike_apart bytes digest led engine lines last_of last is same h =
+    subst (λ (e : Engine). GoesOnAlike bytes digest e.server (standing_of e) last) (sym is)
+    (subst (λ (l : Option StepOut). GoesOnAlike bytes digest led.server (standing_of led) l) (sym same)
+    (goes_alike bytes digest led.server (standing_of led) lines last_of h))
 
 pub begins_again : (named : Option (List ℕ)) (old : List ℕ) (input : Option (List ℕ)) (F : Type 0) (before now : Option ℕ) (bytes digest : List ℕ)
     (words left : Stream) (server : Server) (state : Standing) (secrets : Secrets) (last : Option StepOut) → named ≡ Some old

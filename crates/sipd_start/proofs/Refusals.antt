@@ -21,10 +21,10 @@ use Rattle.sip_replay_script.specs.Lines.{IsSpent, Reading, is_end, pending}
 use Rattle.sip_segment_config.specs.Stops.{ReadStops}
 use Rattle.sip_segment_config.specs.declared.stop.SegmentStop.{SegmentStop}
 use Rattle.sip_segment_config.specs.declared.stop.SegmentStop.TheVariants as segments
-use Rattle.sip_replay.specs.resume.Outputs.{Outputs}
-use Rattle.sip_replay.specs.resume.Whole.{IsRecordResumed, IsRecordUnresumed, KeepsFrame, RecordStops, config_behind}
-use Rattle.sip_replay.specs.resume.declared.record_error.RecordError.{RecordError}
-use Rattle.sip_replay.specs.resume.declared.record_error.RecordError.TheVariants as resuming
+use Rattle.sip_resume.specs.Outputs.{Outputs}
+use Rattle.sip_resume.specs.Whole.{IsRecordResumed, IsRecordUnresumed, KeepsFrame, RecordStops, config_behind}
+use Rattle.sip_resume.specs.declared.record_error.RecordError.{RecordError}
+use Rattle.sip_resume.specs.declared.record_error.RecordError.TheVariants as resuming
 use Rattle.sipd_exit.specs.Exits.{exit_of_kind, fault_of}
 use Rattle.sip_config.specs.values.declared.error.ConfigError.{ConfigError}
 use Rattle.sip_config.specs.Stated.{States, StatesNone}

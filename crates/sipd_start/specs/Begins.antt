@@ -5,14 +5,14 @@ use Rattle.sip_event.specs.declared.event.Boot.{Boot}
 use Rattle.sip_event.specs.declared.event.StepOut.{StepOut}
 use Rattle.sip_model.specs.state.declared.server.Server.{Server}
 use Rattle.sip_model.specs.TimerOrder.{Standing, first_standing}
-use Rattle.sip_replay.specs.resume.run.engine.engine_time.proxy.Proxy.{Secrets, secrets_of}
+use Rattle.sip_resume.specs.run.engine.engine_time.proxy.Proxy.{Secrets, secrets_of}
 use Rattle.sip_journal.specs.declared.record_head.RecordHead.{RecordHead}
 use Rattle.sip_journal.specs.declared.record_mark.RecordMark.{RecordMark}
 use Rattle.sip_journal.specs.declared.record_mark.RecordMark.TheVariants.{Whole, Broken, Left}
 use Rattle.sip_journal.specs.Record.{NotesConfiguration}
-use Rattle.sip_replay.specs.resume.Outputs.{Outputs}
-use Rattle.sip_replay.specs.resume.Whole.{IsRecordResumed, IsRecordUnresumed}
-use Rattle.sip_replay.specs.resume.declared.record_error.RecordError.{RecordError}
+use Rattle.sip_resume.specs.Outputs.{Outputs}
+use Rattle.sip_resume.specs.Whole.{IsRecordResumed, IsRecordUnresumed}
+use Rattle.sip_resume.specs.declared.record_error.RecordError.{RecordError}
 use Rattle.sip_config.specs.Stated.{States}
 use Rattle.sip_replay_script.specs.Lines.{Reading, pending}
 use Rattle.sipd_exit.specs.declared.exit.Exit.{Exit}

@@ -1,5 +1,5 @@
 -- A record that was made shorter, and leads where the whole one leads.
-use Rattle.std.specs.Prelude.{◌≡◌, ℕ, List, Option}
+use Rattle.std.specs.Prelude.{ℕ, List, Option}
 use Rattle.sip_event.specs.declared.event.StepOut.{StepOut}
 use Rattle.sip_model.specs.SameAhead.{SameAhead}
 use Rattle.sip_model.specs.TimerOrder.{Standing}

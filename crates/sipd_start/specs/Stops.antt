@@ -4,8 +4,8 @@ use Rattle.sip_config.specs.Stated.{States}
 use Rattle.sip_config_change.specs.declared.key.FrameKey.{FrameKey}
 use Rattle.sip_config_change.specs.Frame.{frame_key_of}
 use Rattle.sip_config_types.specs.declared.config.Config.{Config}
-use Rattle.sip_replay.specs.resume.declared.record_error.RecordError.{RecordError}
-use Rattle.sip_replay.specs.resume.declared.record_error.RecordError.TheVariants as resuming
+use Rattle.sip_resume.specs.declared.record_error.RecordError.{RecordError}
+use Rattle.sip_resume.specs.declared.record_error.RecordError.TheVariants as resuming
 use Rattle.sip_segment_config.specs.declared.stop.SegmentStop.{SegmentStop}
 use Rattle.sip_segment_config.specs.declared.stop.SegmentStop.TheVariants as segments
 use Rattle.sipd_exit.specs.Files.{IsRefusedWith}

@@ -1,9 +1,9 @@
 //! How a server that records begins: anew, or from where an older record leads; and what becomes of that record and of the new one.
 //! The files are made in `making`, the older record is taken in `taking`.
 ghost use Rattle.std.specs.Prelude.{◌≡◌, false, ℕ, List, Option, option_map, string_bytes, Err, IfErr, IfNone, IfOk, IfSome, None, Ok, OnErr};
-ghost use Rattle.sip_replay.specs.resume.run.Due.{standing_of};
+ghost use Rattle.sip_resume.specs.run.Due.{standing_of};
 ghost use Rattle.sip_replay_script.specs.Lines.{pending};
-ghost use Rattle.sip_replay.specs.resume.run.engine.engine_time.proxy.Proxy.{secrets_of};
+ghost use Rattle.sip_resume.specs.run.engine.engine_time.proxy.Proxy.{secrets_of};
 ghost use Rattle.sipd_boot.specs.Boots.{behind_boot};
 ghost use Rattle.sipd_exit.specs.declared.exit.Exit.TheVariants.{PipedRecord};
 ghost use Rattle.sipd_exit.specs.declared.record_place.RecordFault.TheVariants.{GoOn};
@@ -17,7 +17,7 @@ ghost use Rattle.sipd_record_files.specs.Unmade.{IsUnmade};
 ghost use Rattle.sipd_start.specs.Stops.{EndsStart};
 ghost use Rattle.sipd_start.specs.declared.not_resumed.StartStop.TheVariants as Ended;
 
-use crate::compacting::{Led, Shorter, make_shorter};
+use crate::compacting::{Shorter, make_shorter};
 use crate::not_resumed::{NotResumed, StartStop, unread};
 use crate::old_lines::{OldBeginning, OldLines};
 use crate::opening::{InFile, boot_again, open_old, read_old};
@@ -27,9 +27,9 @@ use sip_event::{Boot, StepOut};
 use sip_journal::{NoJournal, RecordHead, RecordMark, Recorder};
 use sip_policy::Rules;
 use sip_record_sealed::Follows;
-use sip_replay::resume::Resumed;
-use sip_replay::resume::engine::Engine;
 use sip_replay_script::TellingReader;
+use sip_resume::Resumed;
+use sip_resume::engine::Engine;
 use sip_text::same_bytes;
 use sip_timers::Timers;
 use sipd_boot::{new_boot, secret};
@@ -409,7 +409,7 @@ fn begin_from<'a, T: Timers, P: Rules, R: Files + AllocGlobal, I: TellingReader>
 }
 
 /// A server that goes on from a shorter record than that of a file, which is the new record; it has its name then.
-#[tactic(auto, using(crate::proofs::Beginnings::goes_alike))]
+#[tactic(auto, using(crate::proofs::Beginnings::goes_alike_apart))]
 fn begin_shorter<'a, T: Timers, P: Rules, R: Files + Clock + Eprint + AllocGlobal>(
     beginning: &Beginning<'a, R>,
     old: &str,
@@ -439,7 +439,7 @@ fn begin_shorter<'a, T: Timers, P: Rules, R: Files + Clock + Eprint + AllocGloba
         recorder,
         lines,
     } = shorter;
-    let Led { engine, last, .. } = led;
+    let (engine, last) = led.into_parts();
     let begun = Begun {
         engine,
         recorder: Some(name(beginning, recorder)?),

@@ -3,13 +3,11 @@
 ghost use Rattle.std.specs.Prelude.{◌≡◌, IfOk, OnOk};
 ghost use Rattle.sip_journal.specs.declared.record_mark.RecordMark.TheVariants as Marks;
 ghost use Rattle.sip_model.specs.SameAhead.{SameAhead};
-ghost use Rattle.sip_replay.specs.resume.run.Due.{standing_of};
-ghost use Rattle.sip_replay.specs.resume.run.engine.engine_time.proxy.Proxy.{secrets_of};
+ghost use Rattle.sip_resume.specs.run.Due.{standing_of};
+ghost use Rattle.sip_resume.specs.run.engine.engine_time.proxy.Proxy.{secrets_of};
 ghost use Rattle.sipd_start.specs.Begins.{GoesOn, GoesOnFrom, IsServerOf};
 ghost use Rattle.sipd_start.specs.Shorter.{IsLedByFile, LeadsAlike};
 
-use crate::choosing::{Choice, Choosing};
-use crate::keeping::Keeping;
 use crate::not_resumed::{NotResumed, StartStop};
 use crate::old_lines::{OldBeginning, OldLines};
 use crate::opening::{InFile, boot_again, open_old, read_old};
@@ -20,19 +18,20 @@ use sip_event::StepOut;
 use sip_journal::{Journal, NoJournal, RecordHead, RecordMark, Recorder};
 use sip_policy::Rules;
 use sip_record_sealed::Follows;
-use sip_replay::resume::Resumed;
-use sip_replay::resume::engine::Engine;
 use sip_replay_script::TellingReader;
+use sip_resume::Resumed;
+use sip_resume::engine::Engine;
 use sip_timers::Timers;
 use sipd_boot::secret;
 use sipd_exit::{Exit, RecordFault, RecordPlace, RecordSync, Stated};
 use sipd_old_record::{RecordFile, head_in};
-use sipd_record_files::{RecordFiles, check_free, make_part, name_part, place_of, remove_part};
+use sipd_record_files::{
+    Choice, Choosing, Keeping, RecordFiles, check_free, make_part, name_part, place_of, remove_part,
+};
 use std::io::Write;
 use std::rt::{Clock, Files};
 
 /// A server to which a record leads.
-#[derive(Drop)]
 pub(crate) struct Led<T: Timers, P: Rules> {
     pub(crate) engine: Engine<T, P>,
     /// The word that its first line says.
@@ -41,6 +40,34 @@ pub(crate) struct Led<T: Timers, P: Rules> {
     pub(crate) lines: u64,
     /// The last step of it.
     pub(crate) last: Option<StepOut>,
+}
+
+/// Written out, so that it is proved once and not wherever one is dropped.
+impl<T: Timers, P: Rules> Drop for Led<T, P> {
+    fn drop(self) {
+        let Led {
+            engine: _,
+            word: _,
+            lines: _,
+            last: _,
+        } = self;
+    }
+}
+
+impl<T: Timers, P: Rules> Led<T, P> {
+    /// The server, and the last step of the record.
+    pub(crate) fn into_parts(self) -> (Engine<T, P>, Option<StepOut>)
+        ensures engine { result.0 ≡ self.engine }
+        ensures last { result.1 ≡ self.last }
+    {
+        let Led {
+            engine,
+            word: _,
+            lines: _,
+            last,
+        } = self;
+        (engine, last)
+    }
 }
 
 /// A record that may be made shorter: what its first line says, the server to which it leads, and what the shorter one has.
@@ -204,7 +231,7 @@ pub(crate) fn rewrite<'a, R: Files + Clock + Eprint + AllocGlobal>(
     choice: Choice,
     follows: Option<&Follows>,
 ) -> Result<Recorder<RecordFile<'a, R>>, StartStop> {
-    let Choice { chosen, digest } = choice;
+    let (chosen, digest) = choice.into_parts();
     let shorter = RecordHead {
         mark: RecordMark::Whole,
         word: head.word,
@@ -212,7 +239,7 @@ pub(crate) fn rewrite<'a, R: Files + Clock + Eprint + AllocGlobal>(
         digest,
     };
     let recorder = make_part(rt, files, &shorter, stated, fault, follows)?;
-    let mut keeping = Keeping::new(rt.alloc(), recorder, chosen.choices);
+    let mut keeping = Keeping::new(rt.alloc(), recorder, chosen.into_choices());
     let mut reader = read_old(rt, old, false)?;
     write_chosen(rt, stated, &mut reader, &mut keeping)?;
     let mut recorder = keeping.into_recorder();

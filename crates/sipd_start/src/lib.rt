@@ -2,15 +2,13 @@
 //! whether the process may have the stack that it needs.
 //!
 //! - Used: `sipd_command`, before it serves, while it does, and for `compact`.
-//! - Not here: the serving; the numbers of a start (`sipd_boot`); the files of its record (`sipd_record_files`), what stands in a record
+//! - Not here: the serving; the numbers of a start (`sipd_boot`); the files of its record and what is chosen for a shorter one (`sipd_record_files`), what stands in a record
 //!   (`sip_journal`), and the first line of an older one (`sipd_old_record`).
 //! - Tried: `tests/serve.py`, `tests/faults.py`, `tests/turns.py`; `test_server`.
 #![tactic(auto)]
 
 mod beginning;
-mod choosing;
 mod compacting;
-mod keeping;
 mod next_record;
 mod not_resumed;
 mod old_lines;

@@ -4,7 +4,6 @@ ghost use Rattle.std.specs.Prelude.{◌≡◌, IfOk, OnOk};
 ghost use Rattle.sip_config.specs.Stated.{States};
 ghost use Rattle.sip_model.specs.SameAhead.{SameAhead};
 
-use crate::choosing::{Choice, Choosing};
 use crate::compacting::{Led, lead_part, rewrite};
 use crate::not_resumed::StartStop;
 use crate::old_lines::{OldBeginning, OldLines};
@@ -14,14 +13,15 @@ use crate::telling::tell_rest;
 use sip_journal::{RecordHead, Recorder};
 use sip_policy::Rules;
 use sip_record_sealed::Follows;
-use sip_replay::resume::engine::Engine;
 use sip_replay_script::TellingReader;
+use sip_resume::engine::Engine;
 use sip_text::Bytes;
 use sip_timers::Timers;
 use sipd_exit::{Exit, RecordFault, RecordPlace, RecordSync, Stated};
 use sipd_old_record::{RecordFile, head_in};
 use sipd_record_files::{
-    RecordFiles, copy_of, follows_of, name_part, place_of, remove_old, remove_part,
+    Choice, Choosing, RecordFiles, copy_of, follows_of, name_part, place_of, remove_old,
+    remove_part,
 };
 use std::alloc::AllocError;
 use std::io::Write;
@@ -51,7 +51,6 @@ pub struct LastRecord<'a> {
 }
 
 /// A folder of records, in which a server begins the next one.
-#[derive(Drop)]
 pub struct RecordFolder<'a, R> {
     rt: &'a R,
     place: RecordPlace,
@@ -62,6 +61,20 @@ pub struct RecordFolder<'a, R> {
     keep: u32,
     /// The secret of the tables of a server to which a record leads.
     keys: u128,
+}
+
+/// Written out, so that it is proved once and not wherever one is dropped.
+impl<'a, R> Drop for RecordFolder<'a, R> {
+    fn drop(self) {
+        let RecordFolder {
+            rt: _,
+            place: _,
+            fault: _,
+            sync: _,
+            keep: _,
+            keys: _,
+        } = self;
+    }
 }
 
 /// Tells what chooses of a record all that it holds, which a server wrote under the configuration in force.
@@ -234,7 +247,7 @@ impl<'a, R: Files + Clock + Eprint + AllocGlobal> RecordFolder<'a, R> {
         let path = copy_of(self.rt, files.record.path.as_str())?;
         let recorder = self.write(last, stated, files, engine.moment())?;
         let led = self.lead(stated, files, engine)?;
-        let Led { engine: next, .. } = led;
+        let (next, _) = led.into_parts();
         Ok(NextInFolder {
             engine: next,
             recorder,

@@ -6,7 +6,7 @@ ghost use Rattle.sipd_start.specs.declared.not_resumed.StartStop.TheVariants.{Ex
 use crate::opening::InFile;
 use sip_config::ConfigError;
 use sip_config_change::FrameKey;
-use sip_replay::resume::RecordError;
+use sip_resume::RecordError;
 use sip_segment_config::SegmentStop;
 use sipd_exit::{DeviceFault, Exit};
 use sipd_old_record::line_of_file;

@@ -1,8 +1,8 @@
 //! How the record of a file is opened that is gone on from, and a server as its first line says.
 ghost use Rattle.std.specs.Prelude.{◌≡◌, IfErr, IfOk};
 ghost use Rattle.sip_model.specs.TimerOrder.{first_standing};
-ghost use Rattle.sip_replay.specs.resume.run.Due.{standing_of};
-ghost use Rattle.sip_replay.specs.resume.run.engine.engine_time.proxy.Proxy.{secrets_of};
+ghost use Rattle.sip_resume.specs.run.Due.{standing_of};
+ghost use Rattle.sip_resume.specs.run.engine.engine_time.proxy.Proxy.{secrets_of};
 ghost use Rattle.sipd_old_record.specs.OldRecord.{IsSystemFault};
 ghost use Rattle.sipd_start.specs.Boots.{boot_again};
 ghost use Rattle.sipd_record_files.specs.Unmade.{IsUnmade};
@@ -13,7 +13,7 @@ use sip_journal::RecordHead;
 use sip_policy::Rules;
 use sip_record_omitted::Expanding;
 use sip_record_sealed::Unsealing;
-use sip_replay::resume::engine::Engine;
+use sip_resume::engine::Engine;
 use sip_timers::Timers;
 use sipd_exit::Exit;
 use sipd_old_record::open_file;

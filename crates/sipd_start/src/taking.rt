@@ -1,7 +1,7 @@
 //! What is taken of an older record: the configuration with which it begins, its events, and at last the file's own configuration.
 //! Why it may not be gone on from is said in `not_resumed`.
 ghost use Rattle.std.specs.Prelude.{◌≡◌, IfErr, IfNone, IfOk, IfSome, None, Some, OnErr, OnOk};
-ghost use Rattle.sip_replay.specs.resume.run.Due.{standing_of};
+ghost use Rattle.sip_resume.specs.run.Due.{standing_of};
 ghost use Rattle.sip_config.specs.Stated.{States};
 ghost use Rattle.sip_config_change.specs.Frame.{frame_key_of};
 ghost use Rattle.sip_config_change.specs.declared.key.FrameKey.{FrameKey};
@@ -24,10 +24,10 @@ use sip_config_change::laws::frame_is_place_and_realm;
 use sip_config_types::Config;
 use sip_journal::{Journal, JournalFault, RecordHead};
 use sip_policy::Rules;
-use sip_replay::resume::engine::{ChangeError, Engine};
-use sip_replay::resume::{Resumed, resume_record};
 use sip_replay_print::NoSink;
 use sip_replay_script::{ScriptLines, TellingReader};
+use sip_resume::engine::{ChangeError, Engine};
+use sip_resume::{Resumed, resume_record};
 use sip_segment_config::RecordedConfig;
 use sip_text::Buffer;
 use sip_timers::Timers;

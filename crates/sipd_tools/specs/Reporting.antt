@@ -35,6 +35,7 @@ pub record AsksFor (call : ReportCall) (ahead : ℤ) (query : Query) : Type 0 wh
   pub user : option_copied query.user ≡ option_map string_bytes call.user
   pub rule : query.rule ≡ call.rule
   pub denied : query.denied ≡ call.denied
+  pub outcome : option_copied query.outcome ≡ option_map string_bytes call.outcome
   pub offset : query.offset ≡ ahead
   pub form : query.form ≡ form_of call.csv
 

@@ -237,6 +237,7 @@ fn query_of(call: &ReportCall, offset: i16) -> Query<'_>
         user: name_of(&call.user),
         rule: call.rule,
         denied: call.denied,
+        outcome: name_of(&call.outcome),
         offset,
         form: form_of(call.csv),
     }

@@ -53,58 +53,58 @@ fn tell_of<R: Print + AllocGlobal>(rt: &R, name: &str, tried: Tried) -> io::Resu
     tell(rt, name, tried.holds(rt.alloc()))
 }
 
-fn tell_of_calls<R: Print + AllocGlobal>(rt: &R) -> io::Result<()> {
-    tell_of(
-        rt,
+/// What is tried, by its name, in the order in which it is told.
+const CALLS: &[(&str, Tried)] = &[
+    (
         "binding_of_a_register",
         Tried::Calls(1, calls::BINDING_OF_A_REGISTER),
-    )?;
-    tell_of(rt, "printed_error", Tried::PrintedError)?;
-    tell_of(
-        rt,
+    ),
+    ("printed_error", Tried::PrintedError),
+    (
         "change_keeps_what_stands",
         Tried::Calls(1, calls::CHANGE_KEEPS_WHAT_STANDS),
-    )?;
-    tell_of(
-        rt,
+    ),
+    (
         "another_realm_is_refused",
         Tried::Calls(1, calls::ANOTHER_REALM_IS_REFUSED),
-    )?;
-    tell_of(rt, "engines_go_on_alike", Tried::Alike(alike::ALIKE))
-}
+    ),
+    ("engines_go_on_alike", Tried::Alike(alike::ALIKE)),
+];
 
-fn tell_of_devices<R: Print + AllocGlobal>(rt: &R) -> io::Result<()> {
-    tell_of(
-        rt,
+const DEVICES: &[(&str, Tried)] = &[
+    (
         "time_and_number_limits",
         Tried::Calls(TOO_LARGE - 1, calls::TIME_AND_NUMBER_LIMITS),
-    )?;
-    tell_of(rt, "failing_reads", Tried::Replays(replays::FAILING_READS))?;
-    tell_of(
-        rt,
-        "failing_writes",
-        Tried::Replays(replays::FAILING_WRITES),
-    )
-}
+    ),
+    ("failing_reads", Tried::Replays(replays::FAILING_READS)),
+    ("failing_writes", Tried::Replays(replays::FAILING_WRITES)),
+];
 
-fn tell_of_refusals<R: Print + AllocGlobal>(rt: &R) -> io::Result<()> {
-    tell_of(rt, "refused_inside_deliver", Tried::RefusedInsideDeliver)?;
-    tell_of(rt, "refused_inside_replay", Tried::RefusedInsideReplay)?;
-    tell_of(rt, "refused_first_lines", Tried::RefusedFirstLines)?;
-    tell_of(rt, "many_registers", Tried::ManyRegisters)?;
-    tell_of(rt, "runs_are_listed", Tried::RunsAreListed)
-}
+const REFUSALS: &[(&str, Tried)] = &[
+    ("refused_inside_deliver", Tried::RefusedInsideDeliver),
+    ("refused_inside_replay", Tried::RefusedInsideReplay),
+    ("refused_first_lines", Tried::RefusedFirstLines),
+    ("many_registers", Tried::ManyRegisters),
+    ("runs_are_listed", Tried::RunsAreListed),
+];
 
-fn tell_of_configurations<R: Print + AllocGlobal>(rt: &R) -> io::Result<()> {
-    tell_of(rt, "configurations_written", Tried::ConfigurationsWritten)?;
-    tell_of(rt, "configurations_read", Tried::ConfigurationsRead)?;
-    tell_of(rt, "configurations_refused", Tried::ConfigurationsRefused)
+const CONFIGURATIONS: &[(&str, Tried)] = &[
+    ("configurations_written", Tried::ConfigurationsWritten),
+    ("configurations_read", Tried::ConfigurationsRead),
+    ("configurations_refused", Tried::ConfigurationsRefused),
+];
+
+fn tell_each<R: Print + AllocGlobal>(rt: &R, cases: &[(&str, Tried)]) -> io::Result<()> {
+    for (name, tried) in cases {
+        tell_of(rt, name, *tried)?;
+    }
+    Ok(())
 }
 
 /// Tells of each case whether it held. A new one is a line in one of these; a table of them all takes the proof more steps than it has.
 pub fn tell_all<R: Print + AllocGlobal>(rt: &R) -> io::Result<()> {
-    tell_of_calls(rt)?;
-    tell_of_devices(rt)?;
-    tell_of_refusals(rt)?;
-    tell_of_configurations(rt)
+    for cases in [CALLS, DEVICES, REFUSALS, CONFIGURATIONS] {
+        tell_each(rt, cases)?;
+    }
+    Ok(())
 }

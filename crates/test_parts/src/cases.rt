@@ -125,74 +125,83 @@ fn tell_rows<R: Print + AllocGlobal>(rt: &R, name: &str, rows: &[Row]) -> io::Re
     tell(rt, name, all_hold(rt.alloc(), rows))
 }
 
-fn tell_texts<R: Print + AllocGlobal>(rt: &R) -> io::Result<()> {
-    tell_rows(rt, "tokens", text::TOKENS)?;
-    tell_rows(rt, "bad_escape_printed", &[Row::BadEscapePrinted])
-}
+/// What is tried, by its name, in the order in which it is told.
+const TEXTS: &[(&str, &[Row])] = &[
+    ("tokens", text::TOKENS),
+    ("bad_escape_printed", &[Row::BadEscapePrinted]),
+];
 
-fn tell_uris<R: Print + AllocGlobal>(rt: &R) -> io::Result<()> {
-    tell_rows(rt, "texts_of_uris", uri::TEXTS_OF_URIS)?;
-    tell_rows(rt, "plain_places", uri::PLAIN_PLACES)?;
-    tell_rows(rt, "scheme_printed", &[Row::SchemePrinted])?;
-    tell_rows(rt, "uri_equality", equality::URI_EQUALITY)?;
-    tell_rows(rt, "many_parameters", &[Row::ManyParameters])
-}
+const URIS: &[(&str, &[Row])] = &[
+    ("texts_of_uris", uri::TEXTS_OF_URIS),
+    ("plain_places", uri::PLAIN_PLACES),
+    ("scheme_printed", &[Row::SchemePrinted]),
+    ("uri_equality", equality::URI_EQUALITY),
+    ("many_parameters", &[Row::ManyParameters]),
+];
 
-fn tell_headers<R: Print + AllocGlobal>(rt: &R) -> io::Result<()> {
-    tell_rows(rt, "addresses", header::ADDRESSES)?;
-    tell_rows(rt, "places_in_brackets", header::PLACES_IN_BRACKETS)
-}
+const HEADERS: &[(&str, &[Row])] = &[
+    ("addresses", header::ADDRESSES),
+    ("places_in_brackets", header::PLACES_IN_BRACKETS),
+];
 
-fn tell_messages<R: Print + AllocGlobal>(rt: &R) -> io::Result<()> {
-    tell_rows(rt, "read_seen_and_written", message::READ_SEEN_AND_WRITTEN)?;
-    tell_rows(rt, "parts_of_the_datagram", &[Row::PartsOfTheDatagram])?;
-    tell_rows(rt, "refusals", message::REFUSALS)
-}
+const MESSAGES: &[(&str, &[Row])] = &[
+    ("read_seen_and_written", message::READ_SEEN_AND_WRITTEN),
+    ("parts_of_the_datagram", &[Row::PartsOfTheDatagram]),
+    ("refusals", message::REFUSALS),
+];
 
-fn tell_proofs<R: Print + AllocGlobal>(rt: &R) -> io::Result<()> {
-    tell_rows(rt, "md5_vectors", digest::MD5_VECTORS)?;
-    tell_rows(rt, "both_answers", &[Row::BothAnswers])?;
-    tell_rows(rt, "first_for_the_realm", &[Row::FirstForTheRealm])?;
-    tell_rows(rt, "nonces_full", &[Row::NoncesFull])
-}
+const PROOFS: &[(&str, &[Row])] = &[
+    ("md5_vectors", digest::MD5_VECTORS),
+    ("both_answers", &[Row::BothAnswers]),
+    ("first_for_the_realm", &[Row::FirstForTheRealm]),
+    ("nonces_full", &[Row::NoncesFull]),
+];
 
-fn tell_tables<R: Print + AllocGlobal>(rt: &R) -> io::Result<()> {
-    tell_rows(rt, "dialogs_full", &[Row::DialogsFull])?;
-    tell_rows(rt, "updates", &[Row::Updates])?;
-    tell_rows(
-        rt,
-        "address_table",
-        &[Row::AddressTable, Row::NoMemoryPrinted],
-    )
-}
+const TABLES: &[(&str, &[Row])] = &[
+    ("dialogs_full", &[Row::DialogsFull]),
+    ("updates", &[Row::Updates]),
+    ("address_table", &[Row::AddressTable, Row::NoMemoryPrinted]),
+];
 
-fn tell_answers<R: Print + AllocGlobal>(rt: &R) -> io::Result<()> {
-    tell_rows(rt, "ranks", best::RANKS)?;
-    tell_rows(rt, "reasons", reply::REASONS)?;
-    tell_rows(rt, "lines_are_kept", audit::LINES_ARE_KEPT)?;
-    tell_rows(rt, "bad_lines", audit::BAD_LINES)
-}
+const ANSWERS: &[(&str, &[Row])] = &[
+    ("ranks", best::RANKS),
+    ("reasons", reply::REASONS),
+    ("lines_are_kept", audit::LINES_ARE_KEPT),
+    ("bad_lines", audit::BAD_LINES),
+];
 
-fn tell_edits<R: Print + AllocGlobal>(rt: &R) -> io::Result<()> {
-    tell_rows(rt, "ack_of_a_response", &[Row::AckOfAResponse])?;
-    tell_rows(rt, "record_route", &[Row::RecordRoute])
-}
+const EDITS: &[(&str, &[Row])] = &[
+    ("ack_of_a_response", &[Row::AckOfAResponse]),
+    ("record_route", &[Row::RecordRoute]),
+];
 
-fn tell_configurations<R: Print + AllocGlobal>(rt: &R) -> io::Result<()> {
-    tell_rows(rt, "examples_are_read", config::EXAMPLES_ARE_READ)?;
-    tell_rows(rt, "bad_values", config::BAD_VALUES)?;
-    tell_rows(rt, "printed_refusals", &[Row::PrintedRefusals])
+const CONFIGURATIONS: &[(&str, &[Row])] = &[
+    ("examples_are_read", config::EXAMPLES_ARE_READ),
+    ("bad_values", config::BAD_VALUES),
+    ("printed_refusals", &[Row::PrintedRefusals]),
+];
+
+fn tell_each<R: Print + AllocGlobal>(rt: &R, cases: &[(&str, &[Row])]) -> io::Result<()> {
+    for (name, rows) in cases {
+        tell_rows(rt, name, rows)?;
+    }
+    Ok(())
 }
 
 /// Each case: its name, and whether it held.
 pub fn tell_all<R: Print + AllocGlobal>(rt: &R) -> io::Result<()> {
-    tell_texts(rt)?;
-    tell_uris(rt)?;
-    tell_headers(rt)?;
-    tell_messages(rt)?;
-    tell_proofs(rt)?;
-    tell_tables(rt)?;
-    tell_answers(rt)?;
-    tell_edits(rt)?;
-    tell_configurations(rt)
+    for cases in [
+        TEXTS,
+        URIS,
+        HEADERS,
+        MESSAGES,
+        PROOFS,
+        TABLES,
+        ANSWERS,
+        EDITS,
+        CONFIGURATIONS,
+    ] {
+        tell_each(rt, cases)?;
+    }
+    Ok(())
 }

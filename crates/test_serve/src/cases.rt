@@ -35,75 +35,56 @@ fn tell_of<R: Print + AllocGlobal + Net>(rt: &R, name: &str, tried: Tried) -> io
     tell(rt, name, tried.holds(rt, rt.alloc()))
 }
 
-fn tell_of_sends<R: Print + AllocGlobal + Net>(rt: &R) -> io::Result<()> {
-    tell_of(
-        rt,
-        "both_sends_fail",
-        Tried::Served(serving::BOTH_SENDS_FAIL),
-    )?;
-    tell_of(
-        rt,
+/// What is tried, by its name, in the order in which it is told.
+const SENDS: &[(&str, Tried)] = &[
+    ("both_sends_fail", Tried::Served(serving::BOTH_SENDS_FAIL)),
+    (
         "trying_send_fails",
         Tried::Served(serving::TRYING_SEND_FAILS),
-    )?;
-    tell_of(
-        rt,
-        "final_send_fails",
-        Tried::Served(serving::FINAL_SEND_FAILS),
-    )?;
-    tell_of(
-        rt,
+    ),
+    ("final_send_fails", Tried::Served(serving::FINAL_SEND_FAILS)),
+    (
         "copy_fails_beside_another",
         Tried::Served(serving::COPY_FAILS_BESIDE_ANOTHER),
-    )
-}
+    ),
+];
 
-fn tell_of_clocks<R: Print + AllocGlobal + Net>(rt: &R) -> io::Result<()> {
-    tell_of(rt, "closed_log", Tried::Served(serving::CLOSED_LOG))?;
-    tell_of(rt, "full_record", Tried::Served(serving::FULL_RECORD))?;
-    tell_of(rt, "receive_fails", Tried::Served(serving::RECEIVE_FAILS))
-}
+const CLOCKS: &[(&str, Tried)] = &[
+    ("closed_log", Tried::Served(serving::CLOSED_LOG)),
+    ("full_record", Tried::Served(serving::FULL_RECORD)),
+    ("receive_fails", Tried::Served(serving::RECEIVE_FAILS)),
+];
 
-fn tell_of_records<R: Print + AllocGlobal + Net>(rt: &R) -> io::Result<()> {
-    tell_of(rt, "numbers_worn", Tried::Served(serving::NUMBERS_WORN))?;
-    tell_of(
-        rt,
-        "clock_goes_back",
-        Tried::Served(serving::CLOCK_GOES_BACK),
-    )?;
-    tell_of(rt, "clock_jumps", Tried::Served(serving::CLOCK_JUMPS))?;
-    tell_of(rt, "call_goes_on", Tried::CallGoesOn)
-}
+const RECORDS: &[(&str, Tried)] = &[
+    ("numbers_worn", Tried::Served(serving::NUMBERS_WORN)),
+    ("clock_goes_back", Tried::Served(serving::CLOCK_GOES_BACK)),
+    ("clock_jumps", Tried::Served(serving::CLOCK_JUMPS)),
+    ("call_goes_on", Tried::CallGoesOn),
+];
 
-fn tell_of_damages<R: Print + AllocGlobal + Net>(rt: &R) -> io::Result<()> {
-    tell_of(rt, "cut_record", Tried::Records(records::CUT_RECORD))?;
-    tell_of(
-        rt,
-        "damaged_record",
-        Tried::Records(records::DAMAGED_RECORD),
-    )?;
-    tell_of(rt, "damaged_dot", Tried::Records(records::DAMAGED_DOT))
-}
+const DAMAGES: &[(&str, Tried)] = &[
+    ("cut_record", Tried::Records(records::CUT_RECORD)),
+    ("damaged_record", Tried::Records(records::DAMAGED_RECORD)),
+    ("damaged_dot", Tried::Records(records::DAMAGED_DOT)),
+];
 
-fn tell_of_loopback<R: Print + AllocGlobal + Net>(rt: &R) -> io::Result<()> {
-    tell_of(
-        rt,
-        "changed_record",
-        Tried::Records(records::CHANGED_RECORD),
-    )?;
-    tell_of(rt, "loopback", Tried::Legs(loopback::LOOPBACK))?;
-    tell_of(
-        rt,
-        "call_on_loopback",
-        Tried::Legs(loopback::CALL_ON_LOOPBACK),
-    )
+const LOOPBACK: &[(&str, Tried)] = &[
+    ("changed_record", Tried::Records(records::CHANGED_RECORD)),
+    ("loopback", Tried::Legs(loopback::LOOPBACK)),
+    ("call_on_loopback", Tried::Legs(loopback::CALL_ON_LOOPBACK)),
+];
+
+fn tell_each<R: Print + AllocGlobal + Net>(rt: &R, cases: &[(&str, Tried)]) -> io::Result<()> {
+    for (name, tried) in cases {
+        tell_of(rt, name, *tried)?;
+    }
+    Ok(())
 }
 
 /// Tells of each case whether it held. A new one is a line in one of these; a table of them all takes the proof more steps than it has.
 pub fn tell_all<R: Print + AllocGlobal + Net>(rt: &R) -> io::Result<()> {
-    tell_of_sends(rt)?;
-    tell_of_clocks(rt)?;
-    tell_of_records(rt)?;
-    tell_of_damages(rt)?;
-    tell_of_loopback(rt)
+    for cases in [SENDS, CLOCKS, RECORDS, DAMAGES, LOOPBACK] {
+        tell_each(rt, cases)?;
+    }
+    Ok(())
 }

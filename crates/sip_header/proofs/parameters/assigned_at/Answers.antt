@@ -6,7 +6,6 @@ use Rattle.sip_header.proofs.parameters.assigned_at.Goals as goal
 pub returns : goal.returns
 returns c =
     let mark : c.split_token.result.1.now ≡ 61 ∷ c.in-Some-eq61-default.given.now = search rules in
-    assigned_begins c.args.text.now c.split_token.result.0.now c.split_token.result.1.now c.in-Some-eq61-default.given.now c.split_token-2.result.0.now
-    c.split_token-2.result.1.now (option_map (λ y. y.now) c.in_ok-behind.behind)
-    c.split_token.ensures.token c.split_token.ensures.rest (sym c.is_empty.ensures ∙ c.if-is_empty.false) mark c.split_token-2.ensures.token c.split_token-2.ensures.rest
-    (sym c.is_empty-2.ensures ∙ c.if-is_empty-2.false) c.in_ok-behind.ensures
+    assigned_begins c.args.text.now c.split_token.result.0.now c.split_token.result.1.now c.in-Some-eq61-default.given.now c.in_ok-value.value.now
+    c.in_ok-value.last.now (option_map (λ y. y.now) c.in_ok-behind.behind)
+    c.split_token.ensures.token c.split_token.ensures.rest (sym c.is_empty.ensures ∙ c.if-is_empty.false) mark c.in_ok-value.ensures c.in_ok-behind.ensures

@@ -1,29 +1,34 @@
 use Rattle.std.proofs.lemmas.Result.{IfOk-weaker}
-use Rattle.sipd_arguments.proofs.Building.{placed}
+use Rattle.sipd_arguments.specs.CommandLine.{check_command, replay_command, compact_command, serve_command, decide_command, matrix_command, report_command}
+use Rattle.sipd_arguments.specs.CommandLine.{user_command, calls_command, phones_command, now_command, trace_command, ladder_command, sources_command}
 use Rattle.sipd_arguments.proofs.commands.commands.Goals as goal
 
 pub returns : goal.returns
 returns c =
-    IfOk-weaker c.subcommand-11.result _ _ (λ r h. placed _ _ _ _ r
-    (placed _ _ _ _ _
-    (placed _ _ _ _ _
-    (placed _ _ _ _ _
-    (placed _ _ _ _ _
-    (placed _ _ _ _ _
-    (placed _ _ _ _ _
-    (placed _ _ _ _ _
-    (placed _ _ _ _ _
-    (placed _ _ _ _ _
-    (placed _ _ _ _ _
-    c.program.ensures
-    (c.ended.ensures _ c.in_ok-check_command.ensures) c.in_ok-subcommand.ensures)
-    (c.ended-2.ensures _ c.in_ok-replay_command.ensures) c.in_ok-subcommand-2.ensures)
-    (c.ended-3.ensures _ c.in_ok-compact_command.ensures) c.in_ok-subcommand-3.ensures)
-    (c.ended-4.ensures _ c.in_ok-serve_command.ensures) c.in_ok-subcommand-4.ensures)
-    (c.ended-5.ensures _ c.in_ok-decide_command.ensures) c.in_ok-subcommand-5.ensures)
-    (c.ended-6.ensures _ c.in_ok-matrix_command.ensures) c.in_ok-subcommand-6.ensures)
-    (c.ended-7.ensures _ c.in_ok-report_command.ensures) c.in_ok-subcommand-7.ensures)
-    (c.ended-8.ensures _ c.in_ok-user_command.ensures) c.in_ok-subcommand-8.ensures)
-    (c.ended-9.ensures _ c.in_ok-calls_command.ensures) c.in_ok-subcommand-9.ensures)
-    (c.ended-10.ensures _ c.in_ok-phones_command.ensures) c.in_ok-subcommand-10.ensures)
-    (c.ended-11.ensures _ c.in_ok-now_command.ensures) h) c.subcommand-11.ensures
+    IfOk-weaker c.with_command-14.result _ _ (λ r h. h) (c.with_command-14.ensures _ sources_command
+    (c.in_ok-known-13.ensures _ ladder_command
+    (c.in_ok-known-12.ensures _ trace_command
+    (c.in_ok-known-11.ensures _ now_command
+    (c.in_ok-known-10.ensures _ phones_command
+    (c.in_ok-known-9.ensures _ calls_command
+    (c.in_ok-known-8.ensures _ user_command
+    (c.in_ok-known-7.ensures _ report_command
+    (c.in_ok-known-6.ensures _ matrix_command
+    (c.in_ok-known-5.ensures _ decide_command
+    (c.in_ok-known-4.ensures _ serve_command
+    (c.in_ok-known-3.ensures _ compact_command
+    (c.in_ok-known-2.ensures _ replay_command
+    (c.in_ok-known.ensures _ check_command c.program-known.ensures c.check_command.ensures)
+    c.replay_command.ensures)
+    c.compact_command.ensures)
+    c.serve_command.ensures)
+    c.decide_command.ensures)
+    c.matrix_command.ensures)
+    c.report_command.ensures)
+    c.user_command.ensures)
+    c.calls_command.ensures)
+    c.phones_command.ensures)
+    c.now_command.ensures)
+    c.trace_command.ensures)
+    c.ladder_command.ensures)
+    c.sources_command.ensures)

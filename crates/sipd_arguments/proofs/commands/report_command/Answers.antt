@@ -8,7 +8,8 @@ use Rattle.sipd_arguments.proofs.commands.report_command.Goals as goal
 
 pub returns : goal.returns
 returns c =
-    IfOk-weaker c.arg-5.result _ _ (λ r h. added _ _ r _ _
+    IfOk-weaker c.arg-6.result _ _ (λ r h. added _ _ r _ _
+    (added _ _ _ _ _
     (added _ _ _ _ _
     (added _ _ _ _ _
     (added _ _ _ _ _
@@ -19,4 +20,5 @@ returns c =
     c.in_ok-arg-2.ensures c.option.ensures.rule c.option.ensures.local)
     c.in_ok-arg-3.ensures c.rule_argument.ensures.rule c.rule_argument.ensures.local)
     c.in_ok-arg-4.ensures c.flag.ensures.rule c.flag.ensures.local)
-    h c.flag-2.ensures.rule c.flag-2.ensures.local) c.arg-5.ensures
+    c.in_ok-arg-5.ensures c.outcome_argument.ensures.rule c.outcome_argument.ensures.local)
+    h c.flag-2.ensures.rule c.flag-2.ensures.local) c.arg-6.ensures

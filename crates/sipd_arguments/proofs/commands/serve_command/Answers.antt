@@ -9,7 +9,8 @@ use Rattle.sipd_arguments.proofs.commands.serve_command.Goals as goal
 
 pub returns : goal.returns
 returns c =
-    IfOk-weaker c.arg-10.result _ _ (λ r h. added _ _ r _ _
+    IfOk-weaker c.arg-11.result _ _ (λ r h. added _ _ r _ _
+    (added _ _ _ _ _
     (added _ _ _ _ _
     (added _ _ _ _ _
     (added _ _ _ _ _
@@ -30,4 +31,5 @@ returns c =
     c.in_ok-arg-7.ensures c.keep_argument.ensures.rule c.keep_argument.ensures.local)
     c.in_ok-arg-8.ensures c.sync_argument.ensures.rule c.sync_argument.ensures.local)
     c.in_ok-arg-9.ensures c.per_source_argument.ensures.rule c.per_source_argument.ensures.local)
-    h c.flag.ensures.rule c.flag.ensures.local) c.arg-10.ensures
+    c.in_ok-arg-10.ensures c.status_argument.ensures.rule c.status_argument.ensures.local)
+    h c.flag.ensures.rule c.flag.ensures.local) c.arg-11.ensures

@@ -10,6 +10,7 @@ returns c = record {
   file = refl;
   reload = refl;
   no_reload = refl;
+  status = refl;
   ends = refl;
   goes_on = refl;
   days = refl;

@@ -1,9 +1,4 @@
-use Rattle.std.specs.Prelude.{option_map}
-use Rattle.sipd_days.specs.Choosing.{form_of}
-use Rattle.sipd_days.proofs.Timed.{in_its_file}
 use Rattle.sipd_days.proofs.moments.table_in.Goals as goal
 
-pub returns-in-Ok : goal.returns-in-Ok
-returns-in-Ok g c =
-    in_its_file c.in-Ok.day c.in_file.result c.args.table (form_of c.args.call.now.csv c.args.call.now.json) c.args.time (option_map (λ k. k.ahead) c.args.clock) c.in_file.ensures.text
-    c.in_file.ensures.taken c.in_file.ensures.in_force c.in_file.ensures.end (rw c.form_of-form.ensures at c.in-Ok.ensures)
+pub returns : goal.returns
+returns g c = rw c.form_of-form.ensures at c.table_in_file.ensures

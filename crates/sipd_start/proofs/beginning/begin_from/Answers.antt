@@ -1,4 +1,4 @@
-use Rattle.sip_replay.specs.resume.run.Due.{standing_of}
+use Rattle.sip_resume.specs.run.Due.{standing_of}
 use Rattle.sipd_start.proofs.Refusals.{stopped_behind_so, unread_so}
 use Rattle.sipd_start.proofs.WholeRecords.{went_on_whole}
 use Rattle.sipd_start.proofs.beginning.begin_from.Goals as goal

@@ -1,4 +1,4 @@
-use Rattle.sip_replay.specs.resume.run.Due.{standing_of}
+use Rattle.sip_resume.specs.run.Due.{standing_of}
 use Rattle.sipd_start.proofs.Beginnings.{went_on, secrets_drawn}
 use Rattle.sipd_start.proofs.Refusals.{not_gone_on_so}
 use Rattle.sipd_start.proofs.beginning.go_on.Goals as goal

@@ -1,4 +1,4 @@
-use Rattle.sip_replay.specs.resume.run.Due.{standing_of}
+use Rattle.sip_resume.specs.run.Due.{standing_of}
 use Rattle.sipd_start.proofs.Beginnings.{goes_on_after}
 use Rattle.sipd_start.proofs.compacting.lead.Goals as goal
 

@@ -1,6 +1,6 @@
 use Rattle.std.proofs.lemmas.Result.{err_from_is_err_and}
 use Rattle.sip_replay_script.specs.Lines.{pending}
-use Rattle.sip_replay.specs.resume.run.Due.{standing_of}
+use Rattle.sip_resume.specs.run.Due.{standing_of}
 use Rattle.sipd_start.proofs.Refusals.{stops_at, under_exits}
 use Rattle.sipd_start.proofs.taking.take_old.Goals as goal
 

@@ -45,3 +45,18 @@ returns-in_err-take_parts-clause-filled c =
     (fault_here c.args.self.now.length c.args.next.line c.args.next.after _ c.in_err-take_parts.field-0.0 (sym c.is_fold_line.ensures ∙ c.if-is_fold_line.false)
     (named_field c.args.next.line.now c.args.next.name.now c.args.next.value.now c.requires.named c.requires.text ∙ field_same _ _ _ _ refl (sym c.in-Some.ensures.value))
     c.in_err-take_parts.ensures)
+
+pub returns-then-not-is_full-clause-filled : goal.returns-then-not-is_full-clause-filled
+returns-then-not-is_full-clause-filled c =
+    rw c.apart-then-not-is_full.ensures
+    (line_taken c.args.self.now c.take_seen.new.self c.args.next.line c.args.next.after _ (sym c.is_fold_line.ensures ∙ c.if-is_fold_line.false)
+    (named_field c.args.next.line.now c.args.next.name.now c.args.next.value.now c.requires.named c.requires.text ∙ field_same _ _ _ _ refl (sym c.in-Some.ensures.value))
+    c.in_ok-take_seen.ensures)
+
+pub returns-in_err-take_seen-clause-filled : goal.returns-in_err-take_seen-clause-filled
+returns-in_err-take_seen-clause-filled c =
+    let p = err_from_is_err_and c.from_residual-in_err-take_seen.result c.from_residual-in_err-take_seen.ensures.1 in
+    rw (p.1, p.2)
+    (fault_here c.args.self.now.length c.args.next.line c.args.next.after _ c.in_err-take_seen.field-0.0 (sym c.is_fold_line.ensures ∙ c.if-is_fold_line.false)
+    (named_field c.args.next.line.now c.args.next.name.now c.args.next.value.now c.requires.named c.requires.text ∙ field_same _ _ _ _ refl (sym c.in-Some.ensures.value))
+    c.in_err-take_seen.ensures)

@@ -1,0 +1,46 @@
+-- What `sources` prints.
+use Rattle.std.proofs.Common.{◌≡◌, add-one, sym, subst, ℕ, ◌+◌, ℤ, Result, Ok, Err, List, Option, None}
+use Rattle.std.specs.Prelude.{OnOk, length}
+use Rattle.std.specs.Io.KnownBytes.{Appends}
+use Rattle.sipd_arguments.specs.declared.call.SourcesCall.{SourcesCall}
+use Rattle.sipd_calls.specs.declared.notation.Notation.{Notation}
+use Rattle.sipd_exit.specs.declared.exit.Exit.{Exit}
+use Rattle.sipd_sources.specs.declared.filter.SourceFilter.{SourceFilter}
+use Rattle.sipd_days.specs.Choosing.{IsFilter, form_of}
+use Rattle.sipd_days.specs.DayAt.{WasTableIf}
+use Rattle.sipd_days.specs.PrintedSources.{PrintsColumns, PrintsEach, PrintsOne, PrintsSources}
+use Rattle.sipd_days.specs.declared.day_at.DayTable.TheVariants as tables
+
+-- a record's addresses
+pub prints_one : {X : Type 0} (result : Result X Exit) (form : Option Notation) (filter : SourceFilter) (text : List ℕ) (taken offset : ℤ) (end : Option Exit)
+    (old new : Option (List ℕ)) → WasTableIf (tables.Sources filter) form None None text taken offset end → Appends old new text
+    → OnOk result (end ≡ None) → OnOk result (PrintsOne form filter old new)
+prints_one (Ok x) form filter text taken offset end old new was printed whole = record {
+  text = text;
+  taken = taken;
+  offset = offset;
+  was = subst (λ (e : Option Exit). WasTableIf (tables.Sources filter) form None None text taken offset e) whole was;
+  printed = printed;
+}
+prints_one (Err e) form filter text taken offset end old new was printed whole = tt
+
+-- one record more
+pub prints_further : (form : Option Notation) (filter : SourceFilter) (count : ℕ) (old between new : Option (List ℕ))
+    → PrintsEach form filter count old between → PrintsOne form filter between new → PrintsEach form filter (count + 1) old new
+prints_further form filter count old between new others last =
+    subst (λ (n : ℕ). PrintsEach form filter n old new) (sym (add-one count)) (record { between = between; others = others; last = last })
+
+-- names, and then the records
+pub prints_sources : {X : Type 0} (result : Result X Exit) (call : SourcesCall) (form : Option Notation) (filter : SourceFilter) (count : ℕ)
+    (old between new : Option (List ℕ)) → form ≡ form_of call.csv call.json → IsFilter call.chosen filter → count ≡ length call.records.items
+    → PrintsColumns form old between → OnOk result (PrintsEach form filter count between new) → OnOk result (PrintsSources call old new)
+prints_sources (Ok x) call form filter count old between new is chosen many names records = record {
+  filter = filter;
+  between = between;
+  chosen = chosen;
+  names = subst (λ (f : Option Notation). PrintsColumns f old between) is names;
+  records =
+      subst (λ (f : Option Notation). PrintsEach f filter (length call.records.items) between new) is
+      (subst (λ (n : ℕ). PrintsEach form filter n between new) many records);
+}
+prints_sources (Err e) call form filter count old between new is chosen many names records = tt

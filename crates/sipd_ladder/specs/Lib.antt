@@ -1,0 +1,4 @@
+pub mod Saying
+pub mod Hearing
+pub mod Drawing
+pub mod Table

@@ -1,0 +1,5 @@
+pub mod Growing
+pub mod Judged
+pub mod Keys
+pub mod Asking
+pub mod Counting

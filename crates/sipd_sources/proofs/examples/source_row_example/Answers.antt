@@ -1,0 +1,19 @@
+use Rattle.std.proofs.Common.{refl}
+use Rattle.std.specs.Fmt.{digits}
+use Rattle.sipd_report.specs.Calendar.{day_behind}
+use Rattle.sipd_sources.proofs.examples.source_row_example.Goals as goal
+
+pub returns-clause-head : goal.returns-clause-head
+returns-clause-head c = refl
+
+pub returns-clause-row : goal.returns-clause-row
+unfolding digits day_behind
+returns-clause-row c = refl
+
+pub returns-clause-csv : goal.returns-clause-csv
+unfolding digits day_behind
+returns-clause-csv c = refl
+
+pub returns-clause-json : goal.returns-clause-json
+unfolding digits day_behind
+returns-clause-json c = refl

@@ -1,0 +1,10 @@
+pub mod Source
+pub mod Filter
+pub mod Claims
+pub mod Asked
+pub mod Told
+pub mod Ranking
+pub mod Cells
+pub mod Program
+pub mod Table
+pub mod Example

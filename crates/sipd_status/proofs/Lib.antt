@@ -1,0 +1,2 @@
+mod MemoryLines
+mod Trying

@@ -1,0 +1,4 @@
+pub mod Days
+pub mod Traces
+pub mod Ladders
+pub mod Numbers
