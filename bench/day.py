@@ -3,8 +3,8 @@
 what `sipd serve --record` would have written of so many phones, each of which registers again every 600 seconds and is bound for 1,200, and
 of so many calls, most of them between 8:00 and 18:00.
 
-It is a record as a start or `sipd replay --record` takes one: its first line, the configuration, and a line for each event, the datagrams in
-hexadecimal. A phone asks with the nonce that it has, which is older than 300 seconds by then, is told that it is stale, and answers the new
+It is a record as a start or `sipd replay --record` takes one: its first line, the configuration, and a line for each event, the datagrams as
+`serve` writes them. A phone asks with the nonce that it has, which is older than 300 seconds by then, is told that it is stale, and answers the new
 one. A call is an INVITE that is challenged, its ACK, the INVITE with the answer, a 180 and a 200 of the phone, ACK, and after the talk a
 BYE of either side and its 200; some ring until they are cancelled, some are declined, and one of two hundred stands for hours, refreshed every
 900 seconds. `time` lines stand where a timer fired that ends a transaction (nobody is slow enough here for something to go again), and where
@@ -26,6 +26,12 @@ REALM, DOMAIN, HOST, PORT = "day", "day.example", "sip.day.example", 5060
 WORD, FIRST, MIDNIGHT = 0x2F6B1D, 1, 1_795_647_600_000
 AGAIN, BOUND = 600_000, 1200
 AGENT = [line for line in YEALINK if not line.startswith("Allow-Events")]
+
+
+def text_of(data):
+    """A datagram's bytes as a line `text` has them (docs/SCRIPTS.md)."""
+    named = {13: "\\r", 10: "\\n", 92: "\\\\"}
+    return "".join(named.get(byte) or (chr(byte) if 32 <= byte < 127 else f"\\{byte:02x}") for byte in data)
 
 
 def key_of(user):
@@ -82,7 +88,7 @@ class Day:
         length = sum(len(line) + 2 for line in body)
         more = ["Content-Type: application/sdp"] if body else []
         data = "".join(f"{line}\r\n" for line in (*lines, *more, f"Content-Length: {length}", "", *body)).encode()
-        self.write("datagram", f"hex {self.now} {phone.place} {word:032x} {data.hex()}\n")
+        self.write("datagram", f"text {self.now} {phone.place} {word:032x} {text_of(data)}\n")
         self.turn = self.now
         return self.number, f"{word:032x}"
 

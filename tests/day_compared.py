@@ -4,6 +4,7 @@ import collections
 import datetime
 import math
 import re
+from xml.etree import ElementTree
 
 from day_phones import PORT, SERVER, done
 from program import ended, read
@@ -19,6 +20,7 @@ FIELDS = {
     "from_tag": "sip.from.tag", "to_tag": "sip.to.tag", "to_user": "sip.to.user", "branch": "sip.Via.branch", "contacts": "sip.Contact",
     "user": "sip.auth.username", "response": "sip.auth.digest.response", "uri_user": "sip.r-uri.user", "uri_host": "sip.r-uri.host",
 }  # fmt: skip
+SVG = "{http://www.w3.org/2000/svg}"
 failures = []
 
 
@@ -263,8 +265,16 @@ def rungs_of(packets):
         yield round(packet.at - packets[0].at, 3), packet.method or str(packet.status), again
 
 
+def drawn(text):
+    """The arrows of a drawing, as a reader of XML has them."""
+    for row in ElementTree.fromstring(text).iter(f"{SVG}g"):
+        if "note" not in row.get("class").split():
+            time, label = (it.text for it in row.iter(f"{SVG}text"))
+            yield float(time.removesuffix(" s")), label.split(" ")[0], label.endswith(" again")
+
+
 def compared_ladders(day, told, seen):
-    """(5) The ladder of each call has an arrow for each packet, at the moment that the trace says."""
+    """(5) The ladder of each call has an arrow for each packet, at the moment that the trace says, and so has its drawing."""
     counts = collections.Counter(packet.call for packet in seen if packet.call)
     arrows = again = 0
     for call, count in counts.items():
@@ -274,6 +284,9 @@ def compared_ladders(day, told, seen):
         arrows, again = arrows + len(ours), again + sum(it[2] for it in ours)
         if (status, complaints, len(ours)) != (0, "", count) or ours != theirs:
             say("a ladder has an arrow for each packet of its call", False, (call, status, complaints, count, ours, theirs))
+        status, text, complaints = ended("ladder", "--svg", "--record", day.record, "--", call)
+        if (status, complaints) != (0, "") or list(drawn(text)) != theirs:
+            say("so has its drawing", False, (call, status, complaints, text))
     say(f"the ladders of {len(counts)} Call-IDs have {arrows} arrows, {again} of them again, one for each packet", arrows == sum(counts.values()) > 0)
 
 

@@ -21,6 +21,8 @@ KINDS = {
     "sipd_decisions_total": "counter",
     "sipd_wrong_credentials_total": "counter",
     "sipd_unheard_datagrams_total": "counter",
+    "sipd_open_requests": "gauge",
+    "sipd_dialogs": "gauge",
     "sipd_record_bytes": "gauge",
     "sipd_memory_bytes": "gauge",
 }
@@ -88,6 +90,7 @@ def counts(folder):
     numbers = later(path)
     assert decided(numbers) == [4, 0, 0, 2], numbers
     assert numbers["sipd_wrong_credentials_total"] == 1 and numbers["sipd_unheard_datagrams_total"] == 0, numbers
+    assert numbers["sipd_open_requests"] == 6 and numbers["sipd_dialogs"] == 0, numbers
     assert 1000 < numbers["sipd_record_bytes"] <= os.stat(recorded).st_size and numbers["sipd_memory_bytes"] > 1 << 20, numbers
     later(path)
     assert 9 < time.monotonic() - before < 25, "not each ten seconds"

@@ -1,5 +1,5 @@
 #!/usr/bin/env python3
-"""Makes the stored runs `damaged_datagrams_*` and `size_limits` of crates/test_server/data, those of a record, and those of its calls, as captures and diagrams, too, by rules of its own.
+"""Makes the stored runs `damaged_datagrams_*` and `size_limits` of crates/test_server/data, those of a record, and those of its calls, as captures, diagrams and a drawing, too, by rules of its own.
 
 Says whether the stored files are what it makes; with the word `write` writes them; with `script NAME` or `print NAME`
 prints the script of a run, or what `sipd replay` must print of it, whole, so that a difference can be looked at.
@@ -22,6 +22,7 @@ import os
 import re
 import struct
 import sys
+from xml.etree import ElementTree
 
 DATA = os.path.join(os.path.dirname(os.path.abspath(__file__)), "..", "crates", "test_server", "data")
 WORD = f"{1:032x}"
@@ -853,18 +854,64 @@ def of_traces(key):
     yield "trace_over_a_file.status", b"4\n"
 
 
-def drawn(row):
-    """A row of a diagram of three lines: what was decided or happened, or an arrow in one of its two gaps, with a word in the middle."""
+def drawn(row, others=1):
+    """A row of a diagram of so many lines more than two: what was decided or happened, or an arrow in one of its gaps, with a word in the middle."""
     if isinstance(row, str):
         return " " * 12 + "│" + " " * 29 + f"│ {row:28}│\n"
     after, gap, rightward, word = row
     left = (25 - len(word)) // 2
     arrow = "─" * left + f" {word} " + "─" * (25 - len(word) - left)
     arrow = "─" + arrow + "▶" if rightward else "◀" + arrow + "─"
-    gaps = [" " * 29, " " * 29]
+    gaps = [" " * 29] * (1 + others)
     gaps[gap] = arrow
     time = f"{after // 1000}.{after % 1000:03}"
     return f"{time:>8}    │" + "│".join(gaps) + "│\n"
+
+
+def drawing(title, addresses, names, rows):
+    """The drawing of the rows of a diagram. Places are 230 apart, the first 230 left of the server, which is at 360; rows are 26 apart."""
+    look = read_look()
+    columns = [130, *(360 + 230 * place for place in range(1, len(addresses)))]
+    width, height = 240 + 230 * len(addresses), 100 + 26 * len(rows)
+    parts = [f'<svg xmlns="http://www.w3.org/2000/svg" width="{width}" height="{height}']
+    parts += [look, f'<text x="8" y="20" class="title">{title}</text>\n']
+    for at, name, address in zip([360, *columns], ["sipd", *names], ["", *addresses]):
+        parts.append(f'<text x="{at}" y="50" class="name">{name}</text><text x="{at}" y="66" class="place">{address}</text>')
+        parts.append(f'<path class="line" d="M{at} 74V{height}"/>\n')
+    for row, it in enumerate(rows):
+        place = f'transform="translate(0 {100 + 26 * row})"'
+        if isinstance(it, str):
+            kind = "note done" if it.startswith("rule") else "note"
+            parts.append(f'<g class="{kind}" {place}><rect x="210" y="-14" width="300" height="20" rx="4"/><text x="360" y="0">{it}</text></g>\n')
+            continue
+        after, gap, rightward, word = it
+        left, right = (130, 360) if gap == 0 else (360, 590)
+        kind = {"1": "trying", "4": "refused"}.get(word[0], "request")
+        path = f"M{left} 0H{right - 2}m-8 -4l8 4l-8 4z" if rightward else f"M{right} 0H{left + 2}m8 -4l-8 4l8 4z"
+        parts.append(f'<g class="{kind}" {place}><text x="8" y="4" class="time">{after // 1000}.{after % 1000:03} s</text>')
+        parts.append(f'<path d="{path}"/><text x="{245 + 230 * gap}" y="-5">{word}</text></g>\n')
+    text = "".join([*parts, "</svg>\n"])
+    assert len(ElementTree.fromstring(text).findall("{http://www.w3.org/2000/svg}g")) == len(rows)
+    return text
+
+
+def read_look():
+    """How a drawing looks is nothing to be known by another rule: it is what the definition has."""
+    path = os.path.join(DATA, "..", "..", "sipd_ladder_picture", "specs", "Picture.antt")
+    with open(path, encoding="utf-8") as file:
+        text = file.read()
+    literals = re.findall(r'codes "((?:[^"\\]|\\.)*)"', text[text.index("look =\n") : text.index("-- how wide")])
+    return "".join(literals).replace("\\n", "\n").replace('\\"', '"')
+
+
+def of_a_short_request(head, sample):
+    """A MESSAGE of whose five bytes three came has a row in front of its 400, which has the reason that RFC 3261 21.4.1 has."""
+    short = INVITE.replace(b"INVITE", b"MESSAGE").replace(b"Content-Length: 0", b"Content-Length: 5") + b"abc"
+    yield "ladder_of_a_short_request.record", head + held(sample) + recorded(1, short, port=5070)
+    rows = [(0, 0, True, "MESSAGE"), (0, 0, False, "400 Bad Request (MESSAG")]
+    diagram = "call k1, 1970-01-01 00:00:01.000 (UTC+00:00)\n\n" + " " * 40 + "sipd\n" + " " * 5 + "127.0.0.1:5070\n"
+    yield "ladder_of_a_short_request.args", "ladder\nk1\n--record\nladder_of_a_short_request.record\n"
+    yield "ladder_of_a_short_request.out", diagram + "".join(drawn(row, 0) for row in rows)
 
 
 def of_ladders():
@@ -877,8 +924,11 @@ def of_ladders():
     for after in (2500, 3500, 5500, 9500, 13_500):
         rows += ["timer", (after, 0, False, "486 Busy Here again")]
     head = "call k3, 1970-01-01 00:01:20.000 (UTC+00:00)\n\n"
+    title = head.strip()
     head += " " * 40 + "sipd" + " " * 26 + "help\n" + " " * 5 + "127.0.0.1:5070" + " " * 46 + "127.0.0.1:5082\n"
     diagram = head + "".join(map(drawn, rows))
+    yield "ladder_as_a_drawing.args", "ladder\n7\n--svg\n--record\ncalls_of_a_day.record\n"
+    yield "ladder_as_a_drawing.out", drawing(title, ["127.0.0.1:5070", "127.0.0.1:5082"], ["", "help"], rows)
     for name, whom in (("ladder_of_a_number", "7"), ("ladder_of_a_call", "k3")):
         yield f"{name}.args", f"ladder\n{whom}\n--record\ncalls_of_a_day.record\n"
         yield f"{name}.out", diagram
@@ -935,6 +985,7 @@ def of_records():
     yield from of_calls(head, sample, key)
     yield from of_sources(head, sample, key)
     yield from of_ladders()
+    yield from of_a_short_request(head, sample)
     yield "check_against_a_record.args", "check\n--config\ncheck_sample.toml\n--against\nreplay_of_a_changed_record.record\n"
     yield "check_against_a_record.out", "user Mufasa has another a1\na server that runs can take it\n"
 

@@ -24,21 +24,21 @@ fn algorithm_of(name: &Option<Value<'_>>) -> Option<Algorithm>
     None
 }
 
-/// The quality of protection that credentials name, if what they name is one that is taken (RFC 2617 3.2.2). It is taken out of
-/// them, so that they stay whole, and are dropped at once, wherever they aren't enough.
-fn protection_of<'v>(c: &mut Credentials<'v>) -> Option<Option<Quality<'v>>>
-    ensures said { result ≡ protection_of c.old.qop c.old.nc c.old.cnonce }
-    ensures kept { (c.new.username ≡ c.old.username) × (c.new.nonce ≡ c.old.nonce) × (c.new.uri ≡ c.old.uri) × (c.new.response ≡ c.old.response) }
+/// The quality of protection that credentials name, if what they name is one that is taken (RFC 2617 3.2.2).
+fn protection_of<'v>(
+    qop: Option<Value<'v>>,
+    nc: Option<Value<'v>>,
+    cnonce: Option<Value<'v>>,
+) -> Option<Option<Quality<'v>>>
+    ensures { result ≡ protection_of qop.entry nc.entry cnonce.entry }
 {
-    let Some(qop) = &c.qop else {
+    let Some(qop) = qop else {
         return Some(None);
     };
     if !same_bytes(qop.as_slice(), b"auth") {
         return None;
     }
-    let nc = c.nc.take()?;
-    let cnonce = c.cnonce.take()?;
-    Some(Some(Quality::new(nc, cnonce)))
+    Some(Some(Quality::new(nc?, cnonce?)))
 }
 
 /// Whether an algorithm has the quality of protection that it needs (RFC 7616 3.4).
@@ -51,24 +51,27 @@ fn is_protected(algorithm: Algorithm, protection: &Option<Quality<'_>>) -> bool
     }
 }
 
-/// A claim with all its parts, which are taken out of credentials, or none.
+/// A claim with all its parts, or none.
 fn claim_with<'v>(
     method: &'v [u8],
     algorithm: Algorithm,
     protection: Option<Quality<'v>>,
-    c: &mut Credentials<'v>,
+    name: Option<Value<'v>>,
+    nonce: Option<Value<'v>>,
+    uri: Option<Value<'v>>,
+    response: Option<Value<'v>>,
 ) -> Option<Claim<'v>>
-    ensures { result ≡ claim_with method.now algorithm protection.entry c.old.username c.old.nonce c.old.uri c.old.response }
+    ensures { result ≡ claim_with method.now algorithm protection.entry name.entry nonce.entry uri.entry response.entry }
 {
     let count = nonce_count(protection_in(&protection));
     Some(Claim {
-        name: c.username.take()?,
+        name: name?,
         algorithm,
         method,
-        uri: c.uri.take()?,
-        nonce: c.nonce.take()?,
+        uri: uri?,
+        nonce: nonce?,
         protection,
-        response: c.response.take()?,
+        response: response?,
         count,
     })
 }
@@ -77,11 +80,12 @@ fn claim_with<'v>(
 pub(crate) fn claim_of<'v>(method: &'v [u8], c: Credentials<'v>) -> Option<Claim<'v>>
     ensures { result ≡ claim_of method.now c.entry }
 {
-    let mut c = c;
     let algorithm = algorithm_of(&c.algorithm)?;
-    let protection = protection_of(&mut c)?;
+    let protection = protection_of(c.qop, c.nc, c.cnonce)?;
     if !is_protected(algorithm, &protection) {
         return None;
     }
-    claim_with(method, algorithm, protection, &mut c)
+    claim_with(
+        method, algorithm, protection, c.username, c.nonce, c.uri, c.response,
+    )
 }

@@ -7,3 +7,5 @@ pub mod Unchanged
 pub mod Places
 pub mod Telling
 pub mod PhonesGrowing
+pub mod Among
+pub mod PhonesBound

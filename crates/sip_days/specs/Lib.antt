@@ -7,3 +7,4 @@ pub mod Days
 pub mod ExampleCalls
 pub mod Phones
 pub mod ExamplePhones
+pub mod WhoRegistered

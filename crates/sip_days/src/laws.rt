@@ -1,6 +1,11 @@
-ghost use Rattle.std.specs.Prelude.{◌≡◌, ◌++◌, [], ◌∷◌, List, filter, map};
+ghost use Rattle.std.specs.Prelude.{◌≡◌, ◌≢◌, ◌≤◌, ◌++◌, [], ◌∷◌, ℕ, true, List, filter, map, count_by};
+ghost use Rattle.std.specs.List.{AllByRecursion};
+ghost use Rattle.sip_uri.specs.declared.aor.Aor.{Aor};
+ghost use Rattle.sip_location.specs.Binding.{live};
 ghost use Rattle.sip_model.specs.state.declared.server.Server.{Server};
-ghost use Rattle.sip_model.specs.Run.{Link};
+ghost use Rattle.sip_model.specs.state.declared.proxy_state.ProxyState.{ProxyState};
+ghost use Rattle.sip_model.specs.state.State.{first_state};
+ghost use Rattle.sip_model.specs.Run.{IsChain, Link};
 ghost use Rattle.sip_model.specs.Access.{Access};
 ghost use Rattle.sip_listener.specs.Heard.{Heard, Tells, heard_of};
 ghost use Rattle.sip_days.specs.declared.call.Call.{Call};
@@ -8,7 +13,11 @@ ghost use Rattle.sip_days.specs.Calls.{calls_of, decisions_of, is_invite};
 ghost use Rattle.sip_days.specs.Days.{asked_in};
 ghost use Rattle.sip_days.specs.Hearing.{adds_calls, calls_with};
 ghost use Rattle.sip_days.specs.declared.registered.Registered.{Registered};
-ghost use Rattle.sip_days.specs.Phones.{adds_phones, phones_of, phones_with};
+ghost use Rattle.sip_days.specs.Phones.{adds_phones, is_of, phones_of, phones_with};
+ghost use Rattle.sip_days.specs.WhoRegistered.{WasRegistered, is_among};
+
+use sip_location::laws::other_addresses_are_untouched;
+use sip_model::histories::{moment_rises, records_are_of_verdicts};
 
 /// Each INVITE that a day records has exactly one call, in their order, and that call has its record: who was proven, what was asked
 /// for, and by which rule it was decided.
@@ -35,4 +44,27 @@ pub fn phones_grow_by_a_step()
     ensures more { (day : List Heard) (step : Heard)
         → phones_of (day ++ step ∷ []) ≡ phones_with step.config.offset step.event step.out.records (phones_of day) }
     ensures told { (rows : List Registered) (history : List Link) → Tells adds_phones [] rows history → rows ≡ phones_of (heard_of history) }
+{}
+
+/// No registered phone is left out: each address of record with a binding that lives in the state behind a history, then or later, is among
+/// the addresses of what is told of it (RFC 3261 10.3).
+pub fn each_binding_has_its_phone()
+    ensures { (server : Server) (first : ℕ) (history : List Link) (last : ProxyState) → IsChain server (first_state first) history last
+        → (aor : Aor) (at : ℕ) → last.moment ≤ at → live aor at last.bindings ≢ [] → is_among aor (phones_of (heard_of history)) ≡ true }
+{
+    other_addresses_are_untouched();
+    moment_rises();
+    records_are_of_verdicts();
+}
+
+/// And none else is: each was registered in a step of a lawful history, by a REGISTER with a Contact that a rule let through and of which
+/// bindings were made, for that address, at that moment, from there.
+pub fn each_phone_was_registered()
+    ensures { (server : Server) (history : List Link) → Access server history
+        → AllByRecursion (WasRegistered server history) (phones_of (heard_of history)) }
+{}
+
+/// None is there twice, so that each binding is shown once.
+pub fn each_phone_is_there_once()
+    ensures { (day : List Heard) (aor : Aor) → count_by (is_of aor) (phones_of day) ≤ 1 }
 {}

@@ -19,7 +19,6 @@ const MOST_PASSED: u64 = 64;
 /// A link over a link, which hands on what comes within the allowance of its source, an IP address, or from one of those that are
 /// heard always, and counts the rest. It keeps 4,096 sources at most, none of those that are heard always; a datagram of one that
 /// finds no room is handed on. Phones behind one address share its allowance.
-#[derive(Drop)]
 pub struct Guard<L: Link, C: Clock> {
     link: L,
     clock: C,
@@ -29,6 +28,20 @@ pub struct Guard<L: Link, C: Clock> {
     failures: u64,
     /// Of whom the datagram is that the last receive handed on.
     last: Option<Addr>,
+}
+
+/// Written out, so that it is proved once and not wherever one is dropped.
+impl<L: Link, C: Clock> Drop for Guard<L, C> {
+    fn drop(self) {
+        let Guard {
+            link: _,
+            clock: _,
+            allowances: _,
+            receives: _,
+            failures: _,
+            last: _,
+        } = self;
+    }
 }
 
 impl<L: Link, C: Clock> Model for Guard<L, C> {

@@ -24,6 +24,7 @@ const USUAL_LENGTH: usize = 1024;
 
 /// What Digest credentials say (RFC 2617 3.2.2), without quotes: parts of what was read, but for quoted text with
 /// a `\`. Nothing is checked but their form.
+#[derive(Drop)]
 pub struct Credentials<'a> {
     pub username: Option<Value<'a>>,
     pub realm: Option<Value<'a>>,
@@ -34,23 +35,6 @@ pub struct Credentials<'a> {
     pub qop: Option<Value<'a>>,
     pub nc: Option<Value<'a>>,
     pub cnonce: Option<Value<'a>>,
-}
-
-/// Written out, so that it is proved once and not wherever one is dropped.
-impl<'a> Drop for Credentials<'a> {
-    fn drop(self) {
-        let Credentials {
-            username: _,
-            realm: _,
-            nonce: _,
-            uri: _,
-            response: _,
-            algorithm: _,
-            qop: _,
-            nc: _,
-            cnonce: _,
-        } = self;
-    }
 }
 
 /// A name and what its value says.

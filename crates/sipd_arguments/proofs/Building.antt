@@ -1,5 +1,5 @@
 -- What is built of commands and their options.
-use Rattle.std.proofs.Common.{◌≡◌, [], ◌∷◌, ◌++◌, true, false, ◌||◌, Option, None, Some, refl, ◌∙◌, ap, ap₂}
+use Rattle.std.proofs.Common.{◌≡◌, true, false, ◌||◌, Option, None, Some, refl, ◌∙◌, ap, ap₂}
 use Rattle.std.specs.Prelude.{IsSomeAnd}
 use Rattle.clap.specs.Lexer.{usize_max}
 use Rattle.clap.specs.declared.builder.action.ArgAction.TheVariants.{Append}
@@ -10,7 +10,7 @@ use Rattle.clap.specs.declared.builder.command.Command.{Command}
 use Rattle.clap.specs.declared.builder.command.Command.TheViews.{out-Command}
 use Rattle.clap.proofs.OnLiterals.{clap_on_literals}
 use Rattle.sipd_arguments.specs.CommandLine.{needed, program, several}
-use Rattle.sipd_arguments.specs.Commands.{IsCommand}
+use Rattle.sipd_arguments.specs.Commands.{IsCommand, more}
 
 pub needed_rule : (old new : Arg) (r : Rule) → new ≡ record old { required = true } → rule_of old ≡ r → rule_of new ≡ needed r
 needed_rule old new r is rule = ap rule_of is ∙ ap needed rule
@@ -31,10 +31,6 @@ pub several_rule : (old ranged new : Arg) (r : Rule) → ranged ≡ record old {
 several_rule old ranged new r ranges from acts rule = several_by old ranged new r ranged.num_vals ranges from acts rule
 
 -- ---- commands
-
--- a shape with one more option
-abbrev pub more : Shape → Rule → Shape
-more s r = record s { rules = s.rules ++ r ∷ [] }
 
 pub begun : (c : Command) (name : Text) → app_of c ≡ new_app name → (out-Command c).has_globals ≡ false → IsCommand (new_app name).top c
 begun c name app local = record { app = app; local = local }

@@ -26,6 +26,7 @@ use Rattle.sipd_arguments.specs.declared.call.DecideCall.TheVariants.{Question, 
 use Rattle.sipd_arguments.specs.declared.call.QuestionCall.{QuestionCall}
 use Rattle.sipd_arguments.specs.declared.call.MatrixCall.{MatrixCall}
 use Rattle.sipd_arguments.specs.declared.call.ReportCall.{ReportCall}
+use Rattle.sipd_arguments.specs.declared.call.ChosenLines.{ChosenLines}
 use Rattle.sipd_arguments.specs.declared.call.UserCall.{UserCall}
 use Rattle.sipd_arguments.specs.declared.call.CallsCall.{CallsCall}
 use Rattle.sipd_arguments.specs.declared.call.ChosenCalls.{ChosenCalls}
@@ -127,10 +128,22 @@ matrix_command = command (codes "matrix")
     ∷ flag (codes "html")
     ∷ [])
 
+-- a command with the options that say which lines of a log are shown
+abbrev pub sifting : Shape → Shape
+sifting s = record s {
+  rules =
+      s.rules ++ (option (codes "since") ∷ []) ++ (option (codes "until") ∷ []) ++ (option (codes "user") ∷ []) ++ (option (codes "target") ∷ [])
+      ++ (number_from 0 4294967295 (option (codes "rule")) ∷ []) ++ (flag (codes "denied") ∷ []) ++ (option (codes "outcome") ∷ []);
+}
+
 abbrev pub report_command : Shape
 report_command = command (codes "report")
     (option (codes "config")
+    ∷ several (option (codes "record"))
+    ∷ option (codes "since")
+    ∷ option (codes "until")
     ∷ option (codes "user")
+    ∷ option (codes "target")
     ∷ number_from 0 4294967295 (option (codes "rule"))
     ∷ flag (codes "denied")
     ∷ option (codes "outcome")
@@ -203,7 +216,12 @@ trace_command = command (codes "trace")
     ∷ [])
 
 abbrev pub ladder_command : Shape
-ladder_command = command (codes "ladder") (needed (several (option (codes "record"))) ∷ option (codes "config") ∷ word (codes "CALL") 1 ∷ [])
+ladder_command = command (codes "ladder")
+    (needed (several (option (codes "record")))
+    ∷ option (codes "config")
+    ∷ flag (codes "svg")
+    ∷ word (codes "CALL") 1
+    ∷ [])
 
 -- a command with the options that say which datagrams are counted
 abbrev pub counting : Shape → Shape
@@ -356,13 +374,21 @@ pub record IsMatrix (rows : List Row) (call : MatrixCall) : Type 0 where
   pub csv : call.csv ≡ is_on (codes "csv") rows
   pub html : call.html ≡ is_on (codes "html") rows
 
+-- which lines of `report`
+pub record IsChosenIn (rows : List Row) (chosen : ChosenLines) : Type 0 where
+  pub since : option_map string_bytes chosen.since ≡ text_at (codes "since") rows
+  pub until : option_map string_bytes chosen.until ≡ text_at (codes "until") rows
+  pub user : option_map string_bytes chosen.user ≡ text_at (codes "user") rows
+  pub target : option_map string_bytes chosen.target ≡ text_at (codes "target") rows
+  pub rule : chosen.rule ≡ number_at 32 (codes "rule") rows
+  pub denied : chosen.denied ≡ is_on (codes "denied") rows
+  pub outcome : option_map string_bytes chosen.outcome ≡ text_at (codes "outcome") rows
+
 -- `report`
 pub record IsReport (rows : List Row) (call : ReportCall) : Type 0 where
   pub config : option_map string_bytes call.config ≡ text_at (codes "config") rows
-  pub user : option_map string_bytes call.user ≡ text_at (codes "user") rows
-  pub rule : call.rule ≡ number_at 32 (codes "rule") rows
-  pub denied : call.denied ≡ is_on (codes "denied") rows
-  pub outcome : option_map string_bytes call.outcome ≡ text_at (codes "outcome") rows
+  pub records : map string_bytes call.records.items ≡ texts_at (codes "record") rows
+  pub chosen : IsChosenIn rows call.chosen
   pub csv : call.csv ≡ is_on (codes "csv") rows
 
 -- `user`
@@ -410,6 +436,7 @@ pub record IsLadder (rows : List Row) (call : LadderCall) : Type 0 where
   pub records : map string_bytes call.records.items ≡ texts_at (codes "record") rows
   pub config : option_map string_bytes call.config ≡ text_at (codes "config") rows
   pub of_call : string_bytes call.call ≡ needed_text (codes "CALL") rows
+  pub svg : call.svg ≡ is_on (codes "svg") rows
 
 -- which datagrams of `sources`
 pub record IsChosenOf (rows : List Row) (chosen : ChosenSources) : Type 0 where

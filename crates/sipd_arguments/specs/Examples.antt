@@ -55,6 +55,7 @@ pub record AreLines : Type 0 where
   pub now : faults_in (line (codes "now" ∷ codes "--record" ∷ codes "a" ∷ codes "b" ∷ [])) ≡ kinds.UnknownArgument ∷ []
   pub trace : faults_in (line (codes "trace" ∷ codes "7" ∷ codes "--record" ∷ codes "a" ∷ codes "b" ∷ codes "--pcap" ∷ codes "c" ∷ codes "--hide" ∷ [])) ≡ []
   pub no_capture : faults_in (line (codes "trace" ∷ codes "--record" ∷ codes "a" ∷ [])) ≡ kinds.MissingRequiredArgument ∷ []
+  pub drawn : faults_in (line (codes "ladder" ∷ codes "7" ∷ codes "--record" ∷ codes "a" ∷ codes "--svg" ∷ [])) ≡ []
   pub ladder : faults_in (line (codes "ladder" ∷ codes "7" ∷ codes "--record" ∷ codes "a" ∷ [])) ≡ []
   pub counted : faults_in (line (codes "sources" ∷ codes "--record" ∷ codes "a" ∷ codes "b" ∷ codes "--from" ∷ codes "192.0.2.7" ∷ [])) ≡ []
   pub unproven : faults_in (line (codes "sources" ∷ codes "--record" ∷ codes "a" ∷ codes "--user" ∷ codes "carol" ∷ [])) ≡ kinds.UnknownArgument ∷ []

@@ -3,7 +3,6 @@
 use sipd_exit::{RecordFault, RecordPlace, RecordSync};
 
 /// What is to be done.
-#[derive(Drop)]
 pub enum ProgramCall {
     Check(CheckCall),
     Replay(ReplayCall),
@@ -19,6 +18,28 @@ pub enum ProgramCall {
     Trace(TraceCall),
     Ladder(LadderCall),
     Sources(SourcesCall),
+}
+
+/// Written out, so that it is proved once and not wherever one is dropped.
+impl Drop for ProgramCall {
+    fn drop(self) {
+        match self {
+            ProgramCall::Check(_) => {}
+            ProgramCall::Replay(_) => {}
+            ProgramCall::Compact(_) => {}
+            ProgramCall::Serve(_) => {}
+            ProgramCall::Decide(_) => {}
+            ProgramCall::Matrix(_) => {}
+            ProgramCall::Report(_) => {}
+            ProgramCall::User(_) => {}
+            ProgramCall::Calls(_) => {}
+            ProgramCall::Phones(_) => {}
+            ProgramCall::Now(_) => {}
+            ProgramCall::Trace(_) => {}
+            ProgramCall::Ladder(_) => {}
+            ProgramCall::Sources(_) => {}
+        }
+    }
 }
 
 /// `check`: a configuration is checked.
@@ -134,18 +155,33 @@ pub struct MatrixCall {
 /// `report`: audit lines on standard input are made a table.
 #[derive(Drop)]
 pub struct ReportCall {
-    /// The file of the configuration whose time of day it is; UTC where none is named.
+    /// The file of the configuration whose time of day it is where no record says one; UTC where none is named.
     pub config: Option<String>,
+    /// The files of the records that say how the office's clock was set, in their order.
+    pub records: Vec<String>,
+    /// Which lines are shown.
+    pub chosen: ChosenLines,
+    /// Whether comma-separated values are printed.
+    pub csv: bool,
+}
+
+/// Which lines of a log are shown.
+#[derive(Drop)]
+pub struct ChosenLines {
+    /// The time from which on lines are shown, as it is said; all are where none is said.
+    pub since: Option<String>,
+    /// The time before which they are.
+    pub until: Option<String>,
     /// The user whose lines are shown; everybody's where none is named.
     pub user: Option<String>,
+    /// For whom they are.
+    pub target: Option<String>,
     /// The rule whose lines are shown; all where none is named.
     pub rule: Option<u32>,
     /// Whether denials alone are shown.
     pub denied: bool,
     /// The word of what became of a request whose lines are shown; those of any but a challenge where none is said.
     pub outcome: Option<String>,
-    /// Whether comma-separated values are printed.
-    pub csv: bool,
 }
 
 /// `user`: the table of a user, whose password is on standard input.
@@ -175,8 +211,10 @@ pub struct CallsCall {
     pub json: bool,
 }
 
+/// Lets a text go. It stands apart, so that several are let go one by one, and not each case of them beside each of the others.
+fn let_go(_text: Option<String>) {}
+
 /// Which calls of recorded days are shown.
-#[derive(Drop)]
 pub struct ChosenCalls {
     /// The time from which on calls are shown, as it is said; all are where none is said.
     pub since: Option<String>,
@@ -190,6 +228,25 @@ pub struct ChosenCalls {
     pub from: Option<String>,
     /// Whether those that were asked for a credential are shown, too.
     pub challenged: bool,
+}
+
+/// Written out, so that it is proved once and not wherever one is dropped.
+impl Drop for ChosenCalls {
+    fn drop(self) {
+        let ChosenCalls {
+            since,
+            until,
+            user,
+            target,
+            from,
+            challenged: _,
+        } = self;
+        let_go(since);
+        let_go(until);
+        let_go(user);
+        let_go(target);
+        let_go(from);
+    }
 }
 
 /// `phones` and `now`: how a recorded day stood at a time.
@@ -222,7 +279,7 @@ pub struct TraceCall {
     pub hide: bool,
 }
 
-/// `ladder`: a call of recorded days as a diagram.
+/// `ladder`: a call of recorded days as a diagram, or as a drawing.
 #[derive(Drop)]
 pub struct LadderCall {
     /// The files of the records, in their order.
@@ -231,6 +288,8 @@ pub struct LadderCall {
     pub config: Option<String>,
     /// The number of a datagram, or a Call-ID.
     pub call: String,
+    /// Whether a drawing is printed in place of text.
+    pub svg: bool,
 }
 
 /// `sources`: what each address did from which datagrams came on recorded days.
@@ -249,7 +308,6 @@ pub struct SourcesCall {
 }
 
 /// Which datagrams of recorded days are counted.
-#[derive(Drop)]
 pub struct ChosenSources {
     /// The time from which on they are, as it is said; all are where none is said.
     pub since: Option<String>,
@@ -257,4 +315,14 @@ pub struct ChosenSources {
     pub until: Option<String>,
     /// The address from which they came.
     pub from: Option<String>,
+}
+
+/// Written out, so that it is proved once and not wherever one is dropped.
+impl Drop for ChosenSources {
+    fn drop(self) {
+        let ChosenSources { since, until, from } = self;
+        let_go(since);
+        let_go(until);
+        let_go(from);
+    }
 }

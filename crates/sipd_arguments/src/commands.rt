@@ -1,10 +1,10 @@
 //! The command line of the program: its commands, their options and their help, and what a line is complained about.
 //! What a line asks for is read in `matches`.
 ghost use Rattle.std.specs.Prelude.{◌≡◌, false, map, codes, IfOk, string_bytes};
-ghost use Rattle.clap.specs.Words.{App, Shape, app_of, kind_of, rule_of, with_subcommand};
+ghost use Rattle.clap.specs.Words.{App, Rule, Shape, app_of, kind_of, rule_of, with_subcommand};
 ghost use Rattle.sipd_arguments.specs.CommandLine as Definitions;
 ghost use Rattle.sipd_arguments.specs.CommandLine.{EndsExactly, no_commands};
-ghost use Rattle.sipd_arguments.specs.Commands.{Answers, IsCommand};
+ghost use Rattle.sipd_arguments.specs.Commands.{Answers, IsCommand, more};
 
 use crate::call::ProgramCall;
 use crate::endings;
@@ -85,18 +85,31 @@ fn config_argument<'a>(alloc: Global) -> Arg<'a>
     option(alloc, "config", "FILE", "The configuration file")
 }
 
+/// A command with one option more, if it was made. It stands apart, so that a command of many options has one way through it.
+fn with_option<'a>(
+    command: Result<Command<'a>, AllocError>,
+    option: Arg<'a>,
+) -> Result<Command<'a>, AllocError>
+    ensures { (shape : Shape) (rule : Rule) → IfOk command.entry (IsCommand shape) → rule_of option.entry ≡ rule → option.entry.global ≡ false
+        → IfOk result (IsCommand (more shape rule)) }
+{
+    match command {
+        Ok(command) => command.arg(option),
+        Err(e) => Err(e),
+    }
+}
+
 fn check_command<'a>(alloc: Global) -> Result<Command<'a>, AllocError>
     ensures { IfOk result (IsCommand Definitions.check_command) }
 {
     let show = "Print what was understood, or what is wrong and where";
     let against = "Tell what a change from this file or record would do";
     let expect = "Tell which lines of this file the policy isn't as";
-    Command::new(alloc, "check")
-        .about("Checks a configuration")
-        .arg(config_argument(alloc).required(true))?
-        .arg(flag(alloc, "show", show))?
-        .arg(option(alloc, "against", "OLD", against))?
-        .arg(option(alloc, "expect", "FILE", expect))
+    let check = Command::new(alloc, "check").about("Checks a configuration");
+    let check = with_option(Ok(check), config_argument(alloc).required(true));
+    let check = with_option(check, flag(alloc, "show", show));
+    let check = with_option(check, option(alloc, "against", "OLD", against));
+    with_option(check, option(alloc, "expect", "FILE", expect))
 }
 
 /// `--record PATH`, of a record that is there, or of a folder of them.
@@ -122,11 +135,14 @@ fn replay_command<'a>(alloc: Global) -> Result<Command<'a>, AllocError>
 fn compact_command<'a>(alloc: Global) -> Result<Command<'a>, AllocError>
     ensures { IfOk result (IsCommand Definitions.compact_command) }
 {
-    Command::new(alloc, "compact")
-        .about("Makes a shorter record that leads where another one does")
-        .arg(config_argument(alloc).required(true))?
-        .arg(word(alloc, "OLD", 1, "The record"))?
-        .arg(word(alloc, "NEW", 2, "The file of the shorter one"))
+    let about = "Makes a shorter record that leads where another one does";
+    let compact = Command::new(alloc, "compact").about(about);
+    let compact = with_option(Ok(compact), config_argument(alloc).required(true));
+    let compact = with_option(compact, word(alloc, "OLD", 1, "The record"));
+    with_option(
+        compact,
+        word(alloc, "NEW", 2, "The file of the shorter one"),
+    )
 }
 
 /// `--turns N`.
@@ -214,19 +230,18 @@ fn serve_command<'a>(alloc: Global) -> Result<Command<'a>, AllocError>
     ensures { IfOk result (IsCommand Definitions.serve_command) }
 {
     let reload = "Take the configuration anew when its file changes";
-    Command::new(alloc, "serve")
-        .about("Serves at the address of a configuration")
-        .arg(config_argument(alloc).required(true))?
-        .arg(turns_argument(alloc))?
-        .arg(record_argument(alloc))?
-        .arg(records_argument(alloc))?
-        .arg(record_fault_argument(alloc))?
-        .arg(resume_argument(alloc))?
-        .arg(keep_argument(alloc))?
-        .arg(sync_argument(alloc))?
-        .arg(per_source_argument(alloc))?
-        .arg(status_argument(alloc))?
-        .arg(flag(alloc, "reload", reload))
+    let serve = Command::new(alloc, "serve").about("Serves at the address of a configuration");
+    let serve = with_option(Ok(serve), config_argument(alloc).required(true));
+    let serve = with_option(serve, turns_argument(alloc));
+    let serve = with_option(serve, record_argument(alloc));
+    let serve = with_option(serve, records_argument(alloc));
+    let serve = with_option(serve, record_fault_argument(alloc));
+    let serve = with_option(serve, resume_argument(alloc));
+    let serve = with_option(serve, keep_argument(alloc));
+    let serve = with_option(serve, sync_argument(alloc));
+    let serve = with_option(serve, per_source_argument(alloc));
+    let serve = with_option(serve, status_argument(alloc));
+    with_option(serve, flag(alloc, "reload", reload))
 }
 
 /// `--minute M`.
@@ -244,15 +259,17 @@ fn decide_command<'a>(alloc: Global) -> Result<Command<'a>, AllocError>
     let user = "The proven user; nobody, if not given";
     let log = "Tell which requests of the log on standard input would be decided otherwise";
     let expect = "End with status 6 unless this is decided: allow, deny or challenge";
-    Command::new(alloc, "decide")
-        .about("Tells which rule would decide, and where a call would go")
-        .arg(config_argument(alloc).required(true))?
-        .arg(option(alloc, "user", "NAME", user))?
-        .arg(minute_argument(alloc))?
-        .arg(option(alloc, "expect", "WORD", expect))?
-        .arg(flag(alloc, "log", log))?
-        .arg(spare_word(alloc, "METHOD", 1, "A method, or register or list"))?
-        .arg(spare_word(alloc, "TARGET", 2, "USER@HOST or a SIP URI"))
+    let about = "Tells which rule would decide, and where a call would go";
+    let decide = Command::new(alloc, "decide").about(about);
+    let decide = with_option(Ok(decide), config_argument(alloc).required(true));
+    let decide = with_option(decide, option(alloc, "user", "NAME", user));
+    let decide = with_option(decide, minute_argument(alloc));
+    let decide = with_option(decide, option(alloc, "expect", "WORD", expect));
+    let decide = with_option(decide, flag(alloc, "log", log));
+    let method = spare_word(alloc, "METHOD", 1, "A method, or register or list");
+    let target = spare_word(alloc, "TARGET", 2, "USER@HOST or a SIP URI");
+    let decide = with_option(decide, method);
+    with_option(decide, target)
 }
 
 /// `--method M`.
@@ -268,13 +285,14 @@ fn matrix_command<'a>(alloc: Global) -> Result<Command<'a>, AllocError>
     ensures { IfOk result (IsCommand Definitions.matrix_command) }
 {
     let against = "Tell the cells alone that change from this file or record";
-    Command::new(alloc, "matrix")
-        .about("Prints who may ask for whom, by which rule, as a table that is all of it")
-        .arg(config_argument(alloc).required(true))?
-        .arg(method_argument(alloc))?
-        .arg(option(alloc, "against", "OLD", against))?
-        .arg(flag(alloc, "csv", "Comma-separated values"))?
-        .arg(flag(alloc, "html", "A page of HTML that needs no other file"))
+    let about = "Prints who may ask for whom, by which rule, as a table that is all of it";
+    let matrix = Command::new(alloc, "matrix").about(about);
+    let matrix = with_option(Ok(matrix), config_argument(alloc).required(true));
+    let matrix = with_option(matrix, method_argument(alloc));
+    let matrix = with_option(matrix, option(alloc, "against", "OLD", against));
+    let matrix = with_option(matrix, flag(alloc, "csv", "Comma-separated values"));
+    let html = flag(alloc, "html", "A page of HTML that needs no other file");
+    with_option(matrix, html)
 }
 
 /// `--rule ID`.
@@ -295,17 +313,30 @@ fn outcome_argument<'a>(alloc: Global) -> Arg<'a>
     option(alloc, "outcome", "WORD", help)
 }
 
+/// The options that say which lines of a log are shown.
+fn sifting<'a>(alloc: Global, command: Command<'a>) -> Result<Command<'a>, AllocError>
+    ensures { (shape : Shape) → IsCommand shape command.entry → IfOk result (IsCommand (Definitions.sifting shape)) }
+{
+    command
+        .arg(option(alloc, "since", "TIME", "Lines from this time on"))?
+        .arg(option(alloc, "until", "TIME", "Lines before this time"))?
+        .arg(option(alloc, "user", "NAME", "Lines of this user"))?
+        .arg(option(alloc, "target", "WHOM", "Lines for this USER or USER@HOST"))?
+        .arg(rule_argument(alloc))?
+        .arg(flag(alloc, "denied", "Denials alone"))?
+        .arg(outcome_argument(alloc))
+}
+
 fn report_command<'a>(alloc: Global) -> Result<Command<'a>, AllocError>
     ensures { IfOk result (IsCommand Definitions.report_command) }
 {
-    Command::new(alloc, "report")
+    let set = "Records that say how the office's clock was set, in their order";
+    let clocked = Command::new(alloc, "report")
         .about("Makes a table of audit lines from standard input")
         .arg(config_argument(alloc))?
-        .arg(option(alloc, "user", "NAME", "Lines of this user"))?
-        .arg(rule_argument(alloc))?
-        .arg(flag(alloc, "denied", "Denials alone"))?
-        .arg(outcome_argument(alloc))?
-        .arg(flag(alloc, "csv", "Comma-separated values"))
+        .arg(days_argument(alloc).help(set))?;
+    let sifted = sifting(alloc, clocked)?;
+    sifted.arg(flag(alloc, "csv", "Comma-separated values"))
 }
 
 /// `--realm R`.
@@ -329,12 +360,12 @@ fn sha256_argument<'a>(alloc: Global) -> Arg<'a>
 fn user_command<'a>(alloc: Global) -> Result<Command<'a>, AllocError>
     ensures { IfOk result (IsCommand Definitions.user_command) }
 {
-    Command::new(alloc, "user")
-        .about("Makes a user's table, with the password from standard input")
-        .arg(word(alloc, "NAME", 1, "The user"))?
-        .arg(config_argument(alloc))?
-        .arg(realm_argument(alloc))?
-        .arg(sha256_argument(alloc))
+    let about = "Makes a user's table, with the password from standard input";
+    let user = Command::new(alloc, "user").about(about);
+    let user = with_option(Ok(user), word(alloc, "NAME", 1, "The user"));
+    let user = with_option(user, config_argument(alloc));
+    let user = with_option(user, realm_argument(alloc));
+    with_option(user, sha256_argument(alloc))
 }
 
 /// `--record FILE ..`, of records that are there.
@@ -370,12 +401,16 @@ fn challenged_argument<'a>(alloc: Global) -> Arg<'a>
 fn choosing<'a>(alloc: Global, command: Command<'a>) -> Result<Command<'a>, AllocError>
     ensures { (shape : Shape) → IsCommand shape command.entry → IfOk result (IsCommand (Definitions.choosing shape)) }
 {
-    command
-        .arg(option(alloc, "since", "TIME", "Calls from this time on"))?
-        .arg(option(alloc, "until", "TIME", "Calls before this time"))?
-        .arg(option(alloc, "user", "NAME", "Calls of this proven user"))?
-        .arg(option(alloc, "target", "WHOM", "Calls to this USER or USER@HOST"))?
-        .arg(option(alloc, "from", "ADDRESS", "Calls from this IP or IP:PORT"))
+    let since = option(alloc, "since", "TIME", "Calls from this time on");
+    let until = option(alloc, "until", "TIME", "Calls before this time");
+    let user = option(alloc, "user", "NAME", "Calls of this proven user");
+    let target = option(alloc, "target", "WHOM", "Calls to this USER or USER@HOST");
+    let from = option(alloc, "from", "ADDRESS", "Calls from this IP or IP:PORT");
+    let command = with_option(Ok(command), since);
+    let command = with_option(command, until);
+    let command = with_option(command, user);
+    let command = with_option(command, target);
+    with_option(command, from)
 }
 
 /// The options that say for which programs something is written.
@@ -429,10 +464,9 @@ fn at_argument<'a>(alloc: Global) -> Arg<'a>
 fn at_a_time<'a>(alloc: Global, command: Command<'a>) -> Result<Command<'a>, AllocError>
     ensures { (shape : Shape) → IsCommand shape command.entry → IfOk result (IsCommand (Definitions.at_a_time shape)) }
 {
-    command
-        .arg(one_day_argument(alloc).required(true))?
-        .arg(old_config_argument(alloc))?
-        .arg(at_argument(alloc))
+    let command = with_option(Ok(command), one_day_argument(alloc).required(true));
+    let command = with_option(command, old_config_argument(alloc));
+    with_option(command, at_argument(alloc))
 }
 
 fn phones_command<'a>(alloc: Global) -> Result<Command<'a>, AllocError>
@@ -468,7 +502,12 @@ fn trace_command<'a>(alloc: Global) -> Result<Command<'a>, AllocError>
     let call = "The datagram's number or the Call-ID of a call; all, if not given";
     let pcap = "The new file of the capture; - is standard output";
     let hide = "Write x in the place of credentials and bodies";
-    let told = of_days(alloc, Command::new(alloc, "trace").about(about))?;
+    let told = of_days(
+        alloc,
+        Command::new(alloc, "trace")
+            .about(about)
+            .override_usage(endings::TRACE_LINES),
+    )?;
     told.arg(option(alloc, "pcap", "OUT", pcap).required(true))?
         .arg(flag(alloc, "hide", hide))?
         .arg(spare_word(alloc, "CALL", 1, call))
@@ -478,19 +517,28 @@ fn ladder_command<'a>(alloc: Global) -> Result<Command<'a>, AllocError>
     ensures { IfOk result (IsCommand Definitions.ladder_command) }
 {
     let about = "Draws a call of recorded days: who sent what to whom, and what was decided";
+    let svg = "Print a drawing of SVG in place of text";
     let call = "The datagram's number, or the Call-ID";
-    let told = of_days(alloc, Command::new(alloc, "ladder").about(about))?;
-    told.arg(word(alloc, "CALL", 1, call))
+    let told = of_days(
+        alloc,
+        Command::new(alloc, "ladder")
+            .about(about)
+            .override_usage(endings::LADDER_LINES),
+    )?;
+    told.arg(flag(alloc, "svg", svg))?
+        .arg(word(alloc, "CALL", 1, call))
 }
 
 /// The options that say which datagrams are counted.
 fn counting<'a>(alloc: Global, command: Command<'a>) -> Result<Command<'a>, AllocError>
     ensures { (shape : Shape) → IsCommand shape command.entry → IfOk result (IsCommand (Definitions.counting shape)) }
 {
-    command
-        .arg(option(alloc, "since", "TIME", "Datagrams from this time on"))?
-        .arg(option(alloc, "until", "TIME", "Datagrams before this time"))?
-        .arg(option(alloc, "from", "ADDRESS", "Datagrams from this IP"))
+    let since = option(alloc, "since", "TIME", "Datagrams from this time on");
+    let until = option(alloc, "until", "TIME", "Datagrams before this time");
+    let from = option(alloc, "from", "ADDRESS", "Datagrams from this IP");
+    let command = with_option(Ok(command), since);
+    let command = with_option(command, until);
+    with_option(command, from)
 }
 
 fn sources_command<'a>(alloc: Global) -> Result<Command<'a>, AllocError>
@@ -536,26 +584,41 @@ fn with_command<'a>(
     }
 }
 
+/// The same of a program that may not have been made, so that a program of many commands has one way through it.
+fn and_command<'a>(
+    program: Result<Command<'a>, AllocError>,
+    command: Result<Command<'a>, AllocError>,
+    text: &'a str,
+) -> Result<Command<'a>, AllocError>
+    ensures { (app : App) (shape : Shape) → IfOk program.entry (λ p. app_of p ≡ app) → IfOk command.entry (IsCommand shape)
+        → IfOk result (λ c. app_of c ≡ with_subcommand app shape) }
+{
+    match program {
+        Ok(program) => with_command(program, command, text),
+        Err(e) => Err(e),
+    }
+}
+
 /// The commands that the program knows. None of their options is tied to another, and none has a list of words: of such commands alone the
 /// parse says of each line whether it takes it. What doesn't stand together is looked at behind it (`Misuse`).
 fn commands<'a>(alloc: Global) -> Result<Command<'a>, AllocError>
     ensures { IfOk result (λ c. app_of c ≡ Definitions.program) }
 {
     let known = program(alloc);
-    let known = with_command(known, check_command(alloc), endings::CHECK)?;
-    let known = with_command(known, replay_command(alloc), endings::REPLAY)?;
-    let known = with_command(known, compact_command(alloc), endings::COMPACT)?;
-    let known = with_command(known, serve_command(alloc), endings::SERVE)?;
-    let known = with_command(known, decide_command(alloc), endings::DECIDE)?;
-    let known = with_command(known, matrix_command(alloc), endings::MATRIX)?;
-    let known = with_command(known, report_command(alloc), endings::REPORT)?;
-    let known = with_command(known, user_command(alloc), endings::USER)?;
-    let known = with_command(known, calls_command(alloc), endings::CALLS)?;
-    let known = with_command(known, phones_command(alloc), endings::PHONES)?;
-    let known = with_command(known, now_command(alloc), endings::NOW)?;
-    let known = with_command(known, trace_command(alloc), endings::TRACE)?;
-    let known = with_command(known, ladder_command(alloc), endings::LADDER)?;
-    with_command(known, sources_command(alloc), endings::SOURCES)
+    let known = and_command(Ok(known), check_command(alloc), endings::CHECK);
+    let known = and_command(known, replay_command(alloc), endings::REPLAY);
+    let known = and_command(known, compact_command(alloc), endings::COMPACT);
+    let known = and_command(known, serve_command(alloc), endings::SERVE);
+    let known = and_command(known, decide_command(alloc), endings::DECIDE);
+    let known = and_command(known, matrix_command(alloc), endings::MATRIX);
+    let known = and_command(known, report_command(alloc), endings::REPORT);
+    let known = and_command(known, user_command(alloc), endings::USER);
+    let known = and_command(known, calls_command(alloc), endings::CALLS);
+    let known = and_command(known, phones_command(alloc), endings::PHONES);
+    let known = and_command(known, now_command(alloc), endings::NOW);
+    let known = and_command(known, trace_command(alloc), endings::TRACE);
+    let known = and_command(known, ladder_command(alloc), endings::LADDER);
+    and_command(known, sources_command(alloc), endings::SOURCES)
 }
 
 /// Why a command line isn't taken, or the text that it asks for.

@@ -1,4 +1,4 @@
-//! What stands at the end of a command's help: how it may be called, how it ends, and which page has more.
+//! What stands at the end of a command's help: how it may be called, how it ends, and which page has more; and how lines of two are written.
 
 pub(crate) const PROGRAM: &str = "\
 Ends with 0 done, 1 usage, no answer, or a policy that changes, 2 configuration, or a policy that isn't as expected, 3 script or record, 4 device, 5 memory, 6 another decision.
@@ -35,8 +35,9 @@ Ends with 0 done, 1 where a cell changes, usage or no such method, 2 configurati
 More: docs/CONFIGURATION.md";
 
 pub(crate) const REPORT: &str = "\
-Example: journalctl -u sipd -o cat | sipd report --config office.toml --denied
-Ends with 0 done, 1 usage, 2 configuration, 4 device, 5 memory.
+TIME is a date, as 2026-10-14, or with a time of day, as 2026-10-14T06:30, on the office's clock.
+Example: journalctl -u sipd -o cat | sipd report --config office.toml --since 2026-10-14 --denied
+Ends with 0 done, 1 usage or no such time, 2 configuration, 3 no record, or a damaged one, 4 device, 5 memory.
 More: docs/OPERATING.md";
 
 pub(crate) const CALLS: &str = "\
@@ -57,11 +58,21 @@ Example: sipd now --record /var/lib/sipd/records/1795638404213.record
 Ends with 0 done, 1 usage or no such time, 2 configuration, 3 damaged record behind what came before, 4 device, 5 memory.
 More: docs/OPERATING.md";
 
+/// How a line of `trace` is written, as of `ladder`.
+pub(crate) const TRACE_LINES: &str = "\
+sipd trace [OPTIONS] --record <FILE>... --pcap <OUT> [CALL]
+       sipd trace [OPTIONS] --record <FILE>... --pcap <OUT> -- <CALL>  (put -- before one that begins with -)";
+
 pub(crate) const TRACE: &str = "\
 CALL in front of --record: the number of a line of the log or of sipd calls, or a Call-ID.
 Example: sipd trace 4711 --record /var/lib/sipd/records/1795638404213.record --pcap call.pcap --hide
 Ends with 0 done, 1 usage, 2 configuration, 3 damaged record behind what came before, 4 device, or OUT is there, 5 memory.
 More: docs/OPERATING.md";
+
+/// How a line of `ladder` is written: a Call-ID that begins with `-` would be taken for an option, and the refusal says how to give it.
+pub(crate) const LADDER_LINES: &str = "\
+sipd ladder [OPTIONS] --record <FILE>... <CALL>
+       sipd ladder [OPTIONS] --record <FILE>... -- <CALL>  (put -- before one that begins with -)";
 
 pub(crate) const LADDER: &str = "\
 CALL in front of --record: the number of a line of the log or of sipd calls, or a Call-ID.

@@ -15,9 +15,9 @@ mod misuse;
 mod summary;
 
 pub use call::{
-    CallsCall, CheckCall, ChosenCalls, ChosenSources, CompactCall, DecideCall, ExpectedDecision,
-    LadderCall, MatrixCall, ProgramCall, QuestionCall, ReplayCall, ReportCall, ServeCall,
-    SourcesCall, TimeCall, TraceCall, UserCall,
+    CallsCall, CheckCall, ChosenCalls, ChosenLines, ChosenSources, CompactCall, DecideCall,
+    ExpectedDecision, LadderCall, MatrixCall, ProgramCall, QuestionCall, ReplayCall, ReportCall,
+    ServeCall, SourcesCall, TimeCall, TraceCall, UserCall,
 };
 pub use commands::{Parsed, parse};
 pub use summary::summary_of;

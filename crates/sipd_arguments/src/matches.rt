@@ -3,12 +3,12 @@ ghost use Rattle.std.specs.Prelude.{◌≡◌, Some, None, codes, map, IfErr, If
 ghost use Rattle.clap.specs.Words.{found_of, rows_of, subcommand_rows_of};
 ghost use Rattle.sipd_arguments.specs.CommandLine as Definitions;
 ghost use Rattle.sipd_arguments.specs.CommandLine.{IsCall, IsCallOf, IsPlace};
-ghost use Rattle.sipd_arguments.specs.Commands.{IsWhy};
+ghost use Rattle.sipd_arguments.specs.Commands.{IsFitCall, IsUnfit, IsWhy};
 
 use crate::call::{
-    CallsCall, CheckCall, ChosenCalls, ChosenSources, CompactCall, DecideCall, ExpectedDecision,
-    LadderCall, MatrixCall, ProgramCall, QuestionCall, ReplayCall, ReportCall, ServeCall,
-    SourcesCall, TimeCall, TraceCall, UserCall,
+    CallsCall, CheckCall, ChosenCalls, ChosenLines, ChosenSources, CompactCall, DecideCall,
+    ExpectedDecision, LadderCall, MatrixCall, ProgramCall, QuestionCall, ReplayCall, ReportCall,
+    ServeCall, SourcesCall, TimeCall, TraceCall, UserCall,
 };
 use crate::misuse::Misuse;
 use clap::ArgMatches;
@@ -111,35 +111,39 @@ fn is_on(matches: &ArgMatches<'_>, name: &str) -> bool
     matches.get_one::<bool>(name).unwrap_or(false)
 }
 
-fn check_call(alloc: Global, matches: &ArgMatches<'_>) -> Result<CheckCall, AllocError>
-    ensures { IfOk result (Definitions.IsCheck (rows_of (found_of matches.now))) }
+fn check_call(alloc: Global, matches: &ArgMatches<'_>) -> Result<ProgramCall, Uncalled>
+    ensures call { IfOk result (IsFitCall (codes "check") (rows_of (found_of matches.now))) }
+    ensures refused { IfErr result (IsUnfit (codes "check") (rows_of (found_of matches.now))) }
 {
-    Ok(CheckCall {
+    Ok(ProgramCall::Check(CheckCall {
         config: needed_text(alloc, matches, "config")?,
         show: is_on(matches, "show"),
         against: text_of(alloc, matches, "against")?,
         expect: text_of(alloc, matches, "expect")?,
-    })
+    }))
 }
 
-fn replay_call(alloc: Global, matches: &ArgMatches<'_>) -> Result<ReplayCall, AllocError>
-    ensures { IfOk result (Definitions.IsReplay (rows_of (found_of matches.now))) }
+fn replay_call(alloc: Global, matches: &ArgMatches<'_>) -> Result<ProgramCall, Uncalled>
+    ensures call { IfOk result (IsFitCall (codes "replay") (rows_of (found_of matches.now))) }
+    ensures refused { IfErr result (IsUnfit (codes "replay") (rows_of (found_of matches.now))) }
 {
     let config = text_of(alloc, matches, "config")?;
-    Ok(match text_of(alloc, matches, "record")? {
+    let call = match text_of(alloc, matches, "record")? {
         Some(path) => ReplayCall::Record { config, path },
         None => ReplayCall::Script { config },
-    })
+    };
+    Ok(ProgramCall::Replay(call))
 }
 
-fn compact_call(alloc: Global, matches: &ArgMatches<'_>) -> Result<CompactCall, AllocError>
-    ensures { IfOk result (Definitions.IsCompact (rows_of (found_of matches.now))) }
+fn compact_call(alloc: Global, matches: &ArgMatches<'_>) -> Result<ProgramCall, Uncalled>
+    ensures call { IfOk result (IsFitCall (codes "compact") (rows_of (found_of matches.now))) }
+    ensures refused { IfErr result (IsUnfit (codes "compact") (rows_of (found_of matches.now))) }
 {
-    Ok(CompactCall {
+    Ok(ProgramCall::Compact(CompactCall {
         config: needed_text(alloc, matches, "config")?,
         old: needed_text(alloc, matches, "OLD")?,
         new: needed_text(alloc, matches, "NEW")?,
-    })
+    }))
 }
 
 /// What becomes of the server where its record can't be written, if it is a word that is known.
@@ -278,12 +282,12 @@ fn record_words(matches: &ArgMatches<'_>) -> Result<RecordWords, Misuse>
 }
 
 /// How phones are served.
-fn serve_call(alloc: Global, matches: &ArgMatches<'_>) -> Result<ServeCall, Uncalled>
-    ensures call { IfOk result (λ call. Definitions.IsServe (rows_of (found_of matches.now)) call × (Definitions.serve_misuse (rows_of (found_of matches.now)) ≡ None)) }
-    ensures refused { IfErr result (IsWhy (Definitions.serve_misuse (rows_of (found_of matches.now)))) }
+fn serve_call(alloc: Global, matches: &ArgMatches<'_>) -> Result<ProgramCall, Uncalled>
+    ensures call { IfOk result (IsFitCall (codes "serve") (rows_of (found_of matches.now))) }
+    ensures refused { IfErr result (IsUnfit (codes "serve") (rows_of (found_of matches.now))) }
 {
     let words = record_words(matches)?;
-    Ok(ServeCall {
+    Ok(ProgramCall::Serve(ServeCall {
         config: needed_text(alloc, matches, "config")?,
         turns: number_of(matches, "turns"),
         record: record_place(alloc, matches)?,
@@ -293,7 +297,7 @@ fn serve_call(alloc: Global, matches: &ArgMatches<'_>) -> Result<ServeCall, Unca
         per_source: number_of(matches, "per-source"),
         status: text_of(alloc, matches, "status")?,
         reload: is_on(matches, "reload"),
-    })
+    }))
 }
 
 /// The decision that a word means, if it is one that is known.
@@ -373,16 +377,17 @@ fn question_call(
     })
 }
 
-fn decide_call(alloc: Global, matches: &ArgMatches<'_>) -> Result<DecideCall, Uncalled>
-    ensures call { IfOk result (λ call. Definitions.IsDecide (rows_of (found_of matches.now)) call × (Definitions.decide_misuse (rows_of (found_of matches.now)) ≡ None)) }
-    ensures refused { IfErr result (IsWhy (Definitions.decide_misuse (rows_of (found_of matches.now)))) }
+fn decide_call(alloc: Global, matches: &ArgMatches<'_>) -> Result<ProgramCall, Uncalled>
+    ensures call { IfOk result (IsFitCall (codes "decide") (rows_of (found_of matches.now))) }
+    ensures refused { IfErr result (IsUnfit (codes "decide") (rows_of (found_of matches.now))) }
 {
     let expect = expected(matches)?;
     if is_on(matches, "log") {
         let config = needed_text(alloc, matches, "config")?;
-        return Ok(DecideCall::Log { config });
+        return Ok(ProgramCall::Decide(DecideCall::Log { config }));
     }
-    Ok(DecideCall::Question(question_call(alloc, matches, expect)?))
+    let question = question_call(alloc, matches, expect)?;
+    Ok(ProgramCall::Decide(DecideCall::Question(question)))
 }
 
 /// Why these options of `matrix` don't stand together: what is told has one form.
@@ -404,35 +409,48 @@ fn matrix_misuse(matches: &ArgMatches<'_>) -> Option<Misuse>
     None
 }
 
-fn matrix_call(alloc: Global, matches: &ArgMatches<'_>) -> Result<MatrixCall, Uncalled>
-    ensures call { IfOk result (λ call. Definitions.IsMatrix (rows_of (found_of matches.now)) call
-        × (Definitions.matrix_misuse (rows_of (found_of matches.now)) ≡ None)) }
-    ensures refused { IfErr result (IsWhy (Definitions.matrix_misuse (rows_of (found_of matches.now)))) }
+fn matrix_call(alloc: Global, matches: &ArgMatches<'_>) -> Result<ProgramCall, Uncalled>
+    ensures call { IfOk result (IsFitCall (codes "matrix") (rows_of (found_of matches.now))) }
+    ensures refused { IfErr result (IsUnfit (codes "matrix") (rows_of (found_of matches.now))) }
 {
     if let Some(why) = matrix_misuse(matches) {
         return Err(Uncalled::Misused(why));
     }
     let against = text_of(alloc, matches, "against")?;
-    Ok(MatrixCall {
+    Ok(ProgramCall::Matrix(MatrixCall {
         config: needed_text(alloc, matches, "config")?,
         method: text_of(alloc, matches, "method")?,
         against,
         csv: is_on(matches, "csv"),
         html: is_on(matches, "html"),
-    })
+    }))
 }
 
-fn report_call(alloc: Global, matches: &ArgMatches<'_>) -> Result<ReportCall, AllocError>
-    ensures { IfOk result (Definitions.IsReport (rows_of (found_of matches.now))) }
+/// Which lines are to be shown.
+fn chosen_lines(alloc: Global, matches: &ArgMatches<'_>) -> Result<ChosenLines, AllocError>
+    ensures { IfOk result (Definitions.IsChosenIn (rows_of (found_of matches.now))) }
 {
-    Ok(ReportCall {
-        config: text_of(alloc, matches, "config")?,
+    Ok(ChosenLines {
+        since: text_of(alloc, matches, "since")?,
+        until: text_of(alloc, matches, "until")?,
         user: text_of(alloc, matches, "user")?,
+        target: text_of(alloc, matches, "target")?,
         rule: number_of(matches, "rule"),
         denied: is_on(matches, "denied"),
         outcome: text_of(alloc, matches, "outcome")?,
-        csv: is_on(matches, "csv"),
     })
+}
+
+fn report_call(alloc: Global, matches: &ArgMatches<'_>) -> Result<ProgramCall, Uncalled>
+    ensures call { IfOk result (IsFitCall (codes "report") (rows_of (found_of matches.now))) }
+    ensures refused { IfErr result (IsUnfit (codes "report") (rows_of (found_of matches.now))) }
+{
+    Ok(ProgramCall::Report(ReportCall {
+        config: text_of(alloc, matches, "config")?,
+        records: texts_of(alloc, matches, "record")?,
+        chosen: chosen_lines(alloc, matches)?,
+        csv: is_on(matches, "csv"),
+    }))
 }
 
 /// Why these options of `user` don't stand together.
@@ -449,19 +467,19 @@ fn user_misuse(matches: &ArgMatches<'_>) -> Option<Misuse>
     None
 }
 
-fn user_call(alloc: Global, matches: &ArgMatches<'_>) -> Result<UserCall, Uncalled>
-    ensures call { IfOk result (λ call. Definitions.IsUser (rows_of (found_of matches.now)) call × (Definitions.user_misuse (rows_of (found_of matches.now)) ≡ None)) }
-    ensures refused { IfErr result (IsWhy (Definitions.user_misuse (rows_of (found_of matches.now)))) }
+fn user_call(alloc: Global, matches: &ArgMatches<'_>) -> Result<ProgramCall, Uncalled>
+    ensures call { IfOk result (IsFitCall (codes "user") (rows_of (found_of matches.now))) }
+    ensures refused { IfErr result (IsUnfit (codes "user") (rows_of (found_of matches.now))) }
 {
     if let Some(why) = user_misuse(matches) {
         return Err(Uncalled::Misused(why));
     }
-    Ok(UserCall {
+    Ok(ProgramCall::User(UserCall {
         name: needed_text(alloc, matches, "NAME")?,
         config: text_of(alloc, matches, "config")?,
         realm: text_of(alloc, matches, "realm")?,
         sha256: is_on(matches, "sha256"),
-    })
+    }))
 }
 
 /// Why these options don't stand together: what is written has one form.
@@ -501,14 +519,14 @@ fn asked_calls(alloc: Global, matches: &ArgMatches<'_>) -> Result<CallsCall, All
     })
 }
 
-fn calls_call(alloc: Global, matches: &ArgMatches<'_>) -> Result<CallsCall, Uncalled>
-    ensures call { IfOk result (λ call. Definitions.IsCalls (rows_of (found_of matches.now)) call × (Definitions.forms_misuse (rows_of (found_of matches.now)) ≡ None)) }
-    ensures refused { IfErr result (IsWhy (Definitions.forms_misuse (rows_of (found_of matches.now)))) }
+fn calls_call(alloc: Global, matches: &ArgMatches<'_>) -> Result<ProgramCall, Uncalled>
+    ensures call { IfOk result (IsFitCall (codes "calls") (rows_of (found_of matches.now))) }
+    ensures refused { IfErr result (IsUnfit (codes "calls") (rows_of (found_of matches.now))) }
 {
     if let Some(why) = forms_misuse(matches) {
         return Err(Uncalled::Misused(why));
     }
-    Ok(asked_calls(alloc, matches)?)
+    Ok(ProgramCall::Calls(asked_calls(alloc, matches)?))
 }
 
 /// Which day is asked for, and at which time.
@@ -524,38 +542,53 @@ fn asked_time(alloc: Global, matches: &ArgMatches<'_>) -> Result<TimeCall, Alloc
     })
 }
 
-fn time_call(alloc: Global, matches: &ArgMatches<'_>) -> Result<TimeCall, Uncalled>
-    ensures call { IfOk result (λ call. Definitions.IsTime (rows_of (found_of matches.now)) call × (Definitions.forms_misuse (rows_of (found_of matches.now)) ≡ None)) }
-    ensures refused { IfErr result (IsWhy (Definitions.forms_misuse (rows_of (found_of matches.now)))) }
+/// `phones`.
+fn phones_call(alloc: Global, matches: &ArgMatches<'_>) -> Result<ProgramCall, Uncalled>
+    ensures call { IfOk result (IsFitCall (codes "phones") (rows_of (found_of matches.now))) }
+    ensures refused { IfErr result (IsUnfit (codes "phones") (rows_of (found_of matches.now))) }
 {
     if let Some(why) = forms_misuse(matches) {
         return Err(Uncalled::Misused(why));
     }
-    Ok(asked_time(alloc, matches)?)
+    Ok(ProgramCall::Phones(asked_time(alloc, matches)?))
+}
+
+/// `now`.
+fn now_call(alloc: Global, matches: &ArgMatches<'_>) -> Result<ProgramCall, Uncalled>
+    ensures call { IfOk result (IsFitCall (codes "now") (rows_of (found_of matches.now))) }
+    ensures refused { IfErr result (IsUnfit (codes "now") (rows_of (found_of matches.now))) }
+{
+    if let Some(why) = forms_misuse(matches) {
+        return Err(Uncalled::Misused(why));
+    }
+    Ok(ProgramCall::Now(asked_time(alloc, matches)?))
 }
 
 /// Which days are asked for as a capture, and where it goes.
-fn trace_call(alloc: Global, matches: &ArgMatches<'_>) -> Result<TraceCall, AllocError>
-    ensures { IfOk result (Definitions.IsTrace (rows_of (found_of matches.now))) }
+fn trace_call(alloc: Global, matches: &ArgMatches<'_>) -> Result<ProgramCall, Uncalled>
+    ensures call { IfOk result (IsFitCall (codes "trace") (rows_of (found_of matches.now))) }
+    ensures refused { IfErr result (IsUnfit (codes "trace") (rows_of (found_of matches.now))) }
 {
-    Ok(TraceCall {
+    Ok(ProgramCall::Trace(TraceCall {
         records: texts_of(alloc, matches, "record")?,
         config: text_of(alloc, matches, "config")?,
         call: text_of(alloc, matches, "CALL")?,
         pcap: needed_text(alloc, matches, "pcap")?,
         hide: is_on(matches, "hide"),
-    })
+    }))
 }
 
 /// Which call of which days is asked for.
-fn ladder_call(alloc: Global, matches: &ArgMatches<'_>) -> Result<LadderCall, AllocError>
-    ensures { IfOk result (Definitions.IsLadder (rows_of (found_of matches.now))) }
+fn ladder_call(alloc: Global, matches: &ArgMatches<'_>) -> Result<ProgramCall, Uncalled>
+    ensures call { IfOk result (IsFitCall (codes "ladder") (rows_of (found_of matches.now))) }
+    ensures refused { IfErr result (IsUnfit (codes "ladder") (rows_of (found_of matches.now))) }
 {
-    Ok(LadderCall {
+    Ok(ProgramCall::Ladder(LadderCall {
         records: texts_of(alloc, matches, "record")?,
         config: text_of(alloc, matches, "config")?,
         call: needed_text(alloc, matches, "CALL")?,
-    })
+        svg: is_on(matches, "svg"),
+    }))
 }
 
 /// Which datagrams are to be counted.
@@ -582,14 +615,14 @@ fn asked_sources(alloc: Global, matches: &ArgMatches<'_>) -> Result<SourcesCall,
     })
 }
 
-fn sources_call(alloc: Global, matches: &ArgMatches<'_>) -> Result<SourcesCall, Uncalled>
-    ensures call { IfOk result (λ call. Definitions.IsSources (rows_of (found_of matches.now)) call × (Definitions.forms_misuse (rows_of (found_of matches.now)) ≡ None)) }
-    ensures refused { IfErr result (IsWhy (Definitions.forms_misuse (rows_of (found_of matches.now)))) }
+fn sources_call(alloc: Global, matches: &ArgMatches<'_>) -> Result<ProgramCall, Uncalled>
+    ensures call { IfOk result (IsFitCall (codes "sources") (rows_of (found_of matches.now))) }
+    ensures refused { IfErr result (IsUnfit (codes "sources") (rows_of (found_of matches.now))) }
 {
     if let Some(why) = forms_misuse(matches) {
         return Err(Uncalled::Misused(why));
     }
-    Ok(asked_sources(alloc, matches)?)
+    Ok(ProgramCall::Sources(asked_sources(alloc, matches)?))
 }
 
 /// What a command with its options asks for.
@@ -598,20 +631,20 @@ fn call_named(alloc: Global, name: &str, matches: &ArgMatches<'_>) -> Result<Pro
     ensures refused { IfErr result (IsWhy (Definitions.misuse_in name.now (rows_of (found_of matches.now)))) }
 {
     match name {
-        "check" => Ok(ProgramCall::Check(check_call(alloc, matches)?)),
-        "replay" => Ok(ProgramCall::Replay(replay_call(alloc, matches)?)),
-        "compact" => Ok(ProgramCall::Compact(compact_call(alloc, matches)?)),
-        "serve" => Ok(ProgramCall::Serve(serve_call(alloc, matches)?)),
-        "decide" => Ok(ProgramCall::Decide(decide_call(alloc, matches)?)),
-        "matrix" => Ok(ProgramCall::Matrix(matrix_call(alloc, matches)?)),
-        "report" => Ok(ProgramCall::Report(report_call(alloc, matches)?)),
-        "user" => Ok(ProgramCall::User(user_call(alloc, matches)?)),
-        "calls" => Ok(ProgramCall::Calls(calls_call(alloc, matches)?)),
-        "phones" => Ok(ProgramCall::Phones(time_call(alloc, matches)?)),
-        "now" => Ok(ProgramCall::Now(time_call(alloc, matches)?)),
-        "trace" => Ok(ProgramCall::Trace(trace_call(alloc, matches)?)),
-        "ladder" => Ok(ProgramCall::Ladder(ladder_call(alloc, matches)?)),
-        "sources" => Ok(ProgramCall::Sources(sources_call(alloc, matches)?)),
+        "check" => check_call(alloc, matches),
+        "replay" => replay_call(alloc, matches),
+        "compact" => compact_call(alloc, matches),
+        "serve" => serve_call(alloc, matches),
+        "decide" => decide_call(alloc, matches),
+        "matrix" => matrix_call(alloc, matches),
+        "report" => report_call(alloc, matches),
+        "user" => user_call(alloc, matches),
+        "calls" => calls_call(alloc, matches),
+        "phones" => phones_call(alloc, matches),
+        "now" => now_call(alloc, matches),
+        "trace" => trace_call(alloc, matches),
+        "ladder" => ladder_call(alloc, matches),
+        "sources" => sources_call(alloc, matches),
         _ => Err(Uncalled::Misused(Misuse::NoCommand)),
     }
 }

@@ -7,11 +7,12 @@ use Rattle.sip_days.specs.declared.call.Call.{Call}
 use Rattle.sip_days.specs.Results.{result_of, ring_of, talk_of}
 use Rattle.sipd_report.specs.Calendar.{date_of}
 use Rattle.sipd_report.specs.Cells.{padded}
+use Rattle.sipd_report.specs.Chosen.{user_text}
 use Rattle.sipd_report.specs.Times.{offset_text}
 use Rattle.sipd_calls.specs.declared.cells.OfficeClock.{OfficeClock}
 use Rattle.sipd_calls.specs.Choices.{began}
 use Rattle.sipd_calls.specs.Moments.{start_text}
-use Rattle.sipd_calls.specs.Words.{result_text, ring_text, ruled_text, side_text, talk_text, user_text}
+use Rattle.sipd_calls.specs.Words.{result_text, ring_text, ruled_text, side_text, talk_text}
 
 -- a cell that others follow
 abbrev pub cell : ℕ → List ℕ → List ℕ

@@ -1,50 +1,24 @@
 -- Which calls are shown.
-use Rattle.std.specs.Prelude.{ℕ, Bool, true, false, ◌&&◌, ◌||◌, not, nat_le, nat_lt, if◌then◌else◌, List, [], Option, None, Some, option_map}
+use Rattle.std.specs.Prelude.{ℕ, Bool, true, false, ◌&&◌, ◌||◌, not, if◌then◌else◌, List, [], Option, None, Some, option_map}
 use Rattle.std.specs.Str.{bytes_eq}
 use Rattle.sip_uri.specs.declared.addr.Addr.{Addr}
-use Rattle.sip_uri.specs.declared.aor.Aor.{Aor}
 use Rattle.sip_uri.specs.Addresses.{addr_text, ip_text}
-use Rattle.sip_audit.specs.declared.record.AuditOutcome.{AuditOutcome}
-use Rattle.sip_audit.specs.declared.record.AuditOutcome.TheVariants as outcomes
-use Rattle.sip_audit.specs.Lines.{target_text}
 use Rattle.sip_days.specs.declared.call.Call.{Call}
-use Rattle.sipd_report.specs.Entries.{is_of_user}
+use Rattle.sipd_report.specs.Chosen.{is_of_target, is_within}
+use Rattle.sipd_report.specs.Entries.{is_challenge, is_of_user}
 use Rattle.sipd_report.specs.Times.{shown_seconds}
 use Rattle.sipd_calls.specs.declared.choice.CallFilter.{CallFilter}
-use Rattle.sipd_calls.specs.Words.{user_text}
 
 -- ---- when
-
-abbrev pub is_since : Option ℕ → ℕ → Bool
-is_since None second = true
-is_since (Some since) second = nat_le since second
-
-abbrev pub is_before : Option ℕ → ℕ → Bool
-is_before None second = true
-is_before (Some until) second = nat_lt second until
 
 -- when a call began, in seconds since 1970 began, on the office's clock
 abbrev pub began : Call → ℕ
 began call = shown_seconds call.decision.at call.offset
 
 abbrev pub is_in_time : CallFilter → Call → Bool
-is_in_time choice call = is_since choice.since (began call) && is_before choice.until (began call)
+is_in_time choice call = is_within choice.since choice.until (began call)
 
--- ---- who, whom and from where
-
-abbrev pub is_challenge : AuditOutcome → Bool
-is_challenge (outcomes.Challenge status) = true
-is_challenge (outcomes.Deny rule) = false
-is_challenge (outcomes.Sent rule targets) = false
-is_challenge (outcomes.Answer rule status) = false
-
--- a text says an address of record, or its user alone
-abbrev pub says_aor : List ℕ → Aor → Bool
-says_aor text aor = bytes_eq text (target_text aor) || bytes_eq text (user_text aor)
-
-abbrev pub is_of_target : Option (List ℕ) → Aor → Bool
-is_of_target None aor = true
-is_of_target (Some text) aor = says_aor text aor
+-- ---- from where
 
 -- a text says an address, or its IP alone
 abbrev pub says_addr : List ℕ → Addr → Bool

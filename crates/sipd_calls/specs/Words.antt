@@ -1,10 +1,8 @@
 -- The words of a call's cells.
 use Rattle.std.specs.Prelude.{ℕ, Bool, true, false, List, [], codes, decimal, Option, None, Some}
-use Rattle.std.specs.List.{flat_map}
-use Rattle.sip_uri.specs.declared.aor.Aor.{Aor}
 use Rattle.sip_audit.specs.declared.record.AuditOutcome.{AuditOutcome}
 use Rattle.sip_audit.specs.declared.record.AuditOutcome.TheVariants as outcomes
-use Rattle.sip_audit.specs.Lines.{rule_text, user_byte_text}
+use Rattle.sip_audit.specs.Lines.{rule_text}
 use Rattle.sip_days.specs.declared.call_result.CallResult.{CallResult}
 use Rattle.sip_days.specs.declared.call_result.CallResult.TheVariants.{Open, Answered, Busy, NoAnswer, Cancelled, Denied, Challenged, Other}
 use Rattle.sipd_calls.specs.Moments.{length_text, seconds_of}
@@ -19,10 +17,6 @@ result_text Cancelled = codes "cancelled"
 result_text Denied = codes "denied"
 result_text Challenged = codes "unproven"
 result_text (Other status) = decimal status
-
--- the user who was called
-abbrev pub user_text : Aor → List ℕ
-user_text aor = flat_map user_byte_text aor.user
 
 -- the rule that decided, with the minute of the day where it has a window; none at a challenge
 abbrev pub ruled_text : AuditOutcome → Option ℕ → Option (List ℕ)

@@ -3,11 +3,10 @@ ghost use Rattle.std.specs.Prelude.{◌≡◌, IfOk, option_map};
 ghost use Rattle.sipd_calls.specs.Choices as Definitions;
 
 use crate::words::began;
-use sip_audit::AuditOutcome;
 use sip_days::Call;
-use sip_text::{Bytes, same_bytes};
-use sip_uri::{Addr, Aor, addr_text, ip_text};
-use sipd_report::{is_of_user, push_user, put_target};
+use sip_text::same_bytes;
+use sip_uri::{Addr, addr_text, ip_text};
+use sipd_report::{is_challenge, is_of_target, is_of_user, is_within};
 use std::alloc::{AllocError, Global};
 
 /// Which calls are shown: those that meet all of what is given. Times are in seconds since 1970 began, on the office's clock.
@@ -25,63 +24,6 @@ pub struct CallFilter<'q> {
     pub from: Option<&'q [u8]>,
     /// Those that were asked for a credential, too.
     pub challenged: bool,
-}
-
-/// Whether a second is the one that is given, or later; any is, where none is given.
-fn is_since(since: Option<u64>, second: u64) -> bool
-    ensures { result ≡ Definitions.is_since since second }
-{
-    match since {
-        Some(since) => since <= second,
-        None => true,
-    }
-}
-
-/// Whether it is before the one that is given.
-fn is_before(until: Option<u64>, second: u64) -> bool
-    ensures { result ≡ Definitions.is_before until second }
-{
-    match until {
-        Some(until) => second < until,
-        None => true,
-    }
-}
-
-fn is_challenge(outcome: AuditOutcome) -> bool
-    ensures { result ≡ Definitions.is_challenge outcome }
-{
-    match outcome {
-        AuditOutcome::Challenge { status: _ } => true,
-        AuditOutcome::Deny { rule: _ } => false,
-        AuditOutcome::Sent {
-            rule: _,
-            targets: _,
-        } => false,
-        AuditOutcome::Answer { rule: _, status: _ } => false,
-    }
-}
-
-/// Whether a text says an address of record, or its user.
-fn says_aor(alloc: Global, text: &[u8], aor: &Aor) -> Result<bool, AllocError>
-    ensures { IfOk result (λ is. is ≡ Definitions.says_aor text.now aor.now) }
-{
-    let mut user = Bytes::new(alloc);
-    push_user(&mut user, aor.user.as_slice())?;
-    let mut whole = Bytes::new(alloc);
-    put_target(&mut whole, aor)?;
-    if same_bytes(text, whole.as_slice()) {
-        return Ok(true);
-    }
-    Ok(same_bytes(text, user.as_slice()))
-}
-
-fn is_of_target(alloc: Global, wanted: Option<&[u8]>, aor: &Aor) -> Result<bool, AllocError>
-    ensures { IfOk result (λ is. is ≡ Definitions.is_of_target (option_map (λ text. text.now) wanted.entry) aor.now) }
-{
-    match wanted {
-        Some(text) => says_aor(alloc, text, aor),
-        None => Ok(true),
-    }
 }
 
 /// Whether a text says an address, or its IP.
@@ -120,8 +62,7 @@ impl CallFilter<'_> {
     fn is_in_time(&self, call: &Call) -> bool
         ensures { result ≡ Definitions.is_in_time self.now call.now }
     {
-        let second = began(call);
-        is_since(self.since, second) && is_before(self.until, second)
+        is_within(self.since, self.until, began(call))
     }
 
     /// Whether that is so, and its caller is asked for.

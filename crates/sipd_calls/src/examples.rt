@@ -1,6 +1,7 @@
 ghost use Rattle.std.specs.Prelude.{◌≡◌, ◌++◌, [], ◌∷◌, Some, true, false, codes, pos};
 ghost use Rattle.sipd_calls.specs.Cells.{call_row};
-ghost use Rattle.sipd_calls.specs.Choices.{is_from, is_of_target, is_shown};
+ghost use Rattle.sipd_calls.specs.Choices.{is_from, is_shown};
+ghost use Rattle.sipd_report.specs.Chosen.{is_of_target};
 ghost use Rattle.sipd_calls.specs.Example.{anyone, carols_call};
 ghost use Rattle.sipd_calls.specs.Program.{call_text};
 ghost use Rattle.sipd_calls.specs.Table.{table_text};

@@ -1,4 +1,3 @@
-pub mod Sums
 pub mod Shown
 pub mod Stood
 pub mod Timed

@@ -10,7 +10,8 @@ use Rattle.sipd_calls.specs.declared.choice.CallFilter.{CallFilter}
 use Rattle.sipd_calls.specs.declared.notation.Notation.{Notation}
 use Rattle.sipd_exit.specs.declared.exit.Exit.{Exit}
 use Rattle.sipd_exit.specs.declared.files.Stated.{Stated}
-use Rattle.sipd_days.specs.Choosing.{IsChoice, form_of, time_in}
+use Rattle.sipd_days.specs.Choosing.{IsChoice, form_of}
+use Rattle.sipd_report.specs.Said.{time_in}
 use Rattle.sipd_days.specs.DayAt.{IsByClock}
 use Rattle.sipd_days.specs.Days.{IsDay}
 use Rattle.sipd_days.specs.Printed.{PrintsCalls, PrintsDay, PrintsNames, PrintsRecords, PrintsTable, WasDayIf}

@@ -25,7 +25,7 @@ use Rattle.sipd_old_record.specs.Own.{unread}
 use Rattle.sipd_days.proofs.Shown.{RunsAreLawful}
 use Rattle.sipd_days.specs.Days.{IsNoDay}
 use Rattle.sipd_days.specs.DayAt.{IsByClock, OnOwnClock, OnOtherClock, IsDayAt, IsTableAt, IsTold, KeepsAll, KeepsTo, WasTableIf}
-use Rattle.sipd_days.specs.Said.{moment_at}
+use Rattle.sipd_report.specs.Said.{moment_at}
 use Rattle.sipd_days.specs.Standing.{Reaches, StandsThere}
 use Rattle.sipd_days.specs.Tellings.{IsBegun}
 use Rattle.sipd_days.specs.declared.day_at.DayAt.{DayAt}

@@ -8,15 +8,11 @@ use Rattle.sipd_calls.specs.declared.choice.CallFilter.{CallFilter}
 use Rattle.sipd_calls.specs.declared.notation.Notation.{Notation}
 use Rattle.sipd_calls.specs.declared.notation.Notation.TheVariants.{Csv, Json}
 use Rattle.sipd_sources.specs.declared.filter.SourceFilter.{SourceFilter}
-use Rattle.sipd_days.specs.Said.{time_said}
+use Rattle.sipd_report.specs.Said.{time_in}
 
 -- how something is written; none is a table
 abbrev pub form_of : Bool → Bool → Option Notation
 form_of csv json = if csv then Some Csv else if json then Some Json else None
-
--- the time that is said, if one is
-abbrev pub time_in : Option (List ℕ) → Option ℕ
-time_in said = option_and_then time_said said
 
 -- which calls are asked for
 pub record IsChoice (chosen : ChosenCalls) (choice : CallFilter) : Type 0 where

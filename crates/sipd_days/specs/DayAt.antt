@@ -26,7 +26,7 @@ use Rattle.sipd_exit.specs.declared.files.Stated.{Stated}
 use Rattle.sipd_old_record.specs.Own.{unread}
 use Rattle.sipd_old_record.specs.FirstConfiguration.{BeginsWith}
 use Rattle.sipd_days.specs.Days.{forgets}
-use Rattle.sipd_days.specs.Said.{moment_at}
+use Rattle.sipd_report.specs.Said.{moment_at}
 use Rattle.sipd_days.specs.Standing.{Reaches, StandsBefore, StandsThere}
 use Rattle.sipd_days.specs.declared.day_at.DayTable.{DayTable}
 use Rattle.sipd_days.specs.declared.day_at.DayTable.TheVariants as tables

@@ -1,5 +1,3 @@
-pub mod Said
-pub mod Examples
 pub mod Exits
 pub mod Tellings
 pub mod Choosing

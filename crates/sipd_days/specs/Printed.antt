@@ -10,7 +10,8 @@ use Rattle.sipd_calls.specs.declared.notation.Notation.{Notation}
 use Rattle.sipd_calls.specs.Program.{names_text}
 use Rattle.sipd_exit.specs.declared.exit.Exit.{Exit}
 use Rattle.sipd_exit.specs.declared.files.Stated.{Stated}
-use Rattle.sipd_days.specs.Choosing.{IsChoice, form_of, time_in}
+use Rattle.sipd_days.specs.Choosing.{IsChoice, form_of}
+use Rattle.sipd_report.specs.Said.{time_in}
 use Rattle.sipd_days.specs.DayAt.{IsByClock}
 use Rattle.sipd_days.specs.Days.{IsDay}
 use Rattle.sipd_days.specs.declared.day_at.DayTable.{DayTable}

@@ -2,12 +2,13 @@
 ghost use Rattle.std.specs.Prelude.{◌≡◌, ◌<◌, ◌^◌, IfOk, IfSome, option_map, string_bytes};
 ghost use Rattle.std.specs.Option.{option_copied};
 ghost use Rattle.sipd_days.specs.Choosing as Definitions;
+ghost use Rattle.sipd_report.specs.Said;
 
-use crate::said::time_said;
 use sip_uri::ip_of;
 use sipd_arguments::{ChosenCalls, ChosenSources};
 use sipd_calls::{CallFilter, Notation};
 use sipd_exit::Exit;
+use sipd_report::{no_time, time_said};
 use sipd_sources::SourceFilter;
 use std::alloc::Global;
 
@@ -25,10 +26,8 @@ pub(crate) fn form_of(csv: bool, json: bool) -> Option<Notation>
 }
 
 /// How the program ends where a word is no time.
-fn no_time(alloc: Global, text: &str) -> Exit {
-    match format!(in alloc;
-        "no time: {text}: it is a date, as 2026-10-14, or with a time of day, as 2026-10-14T06:30"
-    ) {
+fn exit_of_time(alloc: Global, text: &str) -> Exit {
+    match no_time(alloc, text) {
         Ok(text) => Exit::Question(text),
         Err(_) => Exit::Memory,
     }
@@ -36,7 +35,7 @@ fn no_time(alloc: Global, text: &str) -> Exit {
 
 /// The time that is said, if one is. `Question`, where a word is no time; `Memory`.
 pub(crate) fn time_in(alloc: Global, said: &Option<String>) -> Result<Option<u64>, Exit>
-    ensures said { IfOk result (λ time. time ≡ Definitions.time_in (option_map string_bytes said.now)) }
+    ensures said { IfOk result (λ time. time ≡ Said.time_in (option_map string_bytes said.now)) }
     ensures small { IfOk result (λ time. IfSome time (λ t. t < 2 ^ 50)) }
 {
     let Some(text) = said else {
@@ -44,7 +43,7 @@ pub(crate) fn time_in(alloc: Global, said: &Option<String>) -> Result<Option<u64
     };
     match time_said(text.as_bytes()) {
         Some(second) => Ok(Some(second)),
-        None => Err(no_time(alloc, text.as_str())),
+        None => Err(exit_of_time(alloc, text.as_str())),
     }
 }
 

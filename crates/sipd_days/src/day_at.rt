@@ -11,7 +11,7 @@ ghost use Rattle.sipd_days.specs.Days.{forgets, IsNoDay};
 ghost use Rattle.sipd_standing.specs.Standing.{standing_text};
 ghost use Rattle.sipd_days.specs.DayAt as Definitions;
 ghost use Rattle.sipd_days.specs.DayAt.{forgets_phones, forgets_sources, IsTableAt, IsTold, WasTableIf};
-ghost use Rattle.sipd_days.specs.Said.{moment_at};
+ghost use Rattle.sipd_report.specs.Said.{moment_at};
 ghost use Rattle.sipd_days.specs.declared.day_at.DayTable.TheVariants as Tables;
 
 use crate::standing::{DayClock, stand_at};

@@ -5,17 +5,15 @@
 //! - Used: `sipd_command`; `sipd_traces` opens and tells records as it does.
 //! - Not here: how the steps of a record are told (`sip_retell`), with which configuration one begins (`sipd_old_record`), what a call is
 //!   (`sip_days`), what an address did (`sipd_sources`), and how all of it is written (there, `sipd_calls`, `sipd_standing`).
-//! - Tried: worked times in `src/examples.rt`, as contracts that compute; `test_server`.
+//! - Tried: `test_server`.
 #![tactic(auto)]
 
 mod calls;
 mod choosing;
 mod day;
 mod day_at;
-pub mod examples;
 mod exits;
 mod moments;
-mod said;
 mod showing;
 mod sources;
 mod standing;

@@ -11,7 +11,6 @@ use std::alloc::{AllocError, AllocFailed};
 use std::{fmt, io};
 
 /// Why the program stops.
-#[derive(Drop)]
 pub enum Exit {
     /// The command line is none that it knows; the text says how to call it.
     Usage(String),
@@ -54,6 +53,36 @@ pub enum Exit {
     OtherPolicy,
     /// A decision isn't as it is expected to be.
     OtherDecision,
+}
+
+/// Written out, so that it is proved once and not wherever one is dropped.
+impl Drop for Exit {
+    fn drop(self) {
+        match self {
+            Exit::Usage(_) | Exit::Question(_) => {}
+            Exit::Configuration(_) => {}
+            Exit::Script(_) | Exit::Changed(_) => {}
+            Exit::Device(_) => {}
+            Exit::Stack {
+                bytes: _,
+                needed: _,
+            } => {}
+            Exit::LongConfiguration
+            | Exit::Memory
+            | Exit::NoRecord
+            | Exit::OtherConfiguration
+            | Exit::BareRecord
+            | Exit::Missing
+            | Exit::OtherFrame
+            | Exit::PipedRecord
+            | Exit::NewRecord
+            | Exit::NoShorter
+            | Exit::Recording
+            | Exit::Unexpected
+            | Exit::OtherPolicy
+            | Exit::OtherDecision => {}
+        }
+    }
 }
 
 impl Exit {

@@ -1,11 +1,13 @@
 -- What a datagram of a call says in a word or two.
-use Rattle.std.specs.Prelude.{ℕ, ◌&&◌, nat_lt, if◌then◌else◌, List, [], ◌++◌, map, codes, decimal, Option, None, Some}
+use Rattle.std.specs.Prelude.{ℕ, ◌&&◌, nat_lt, if◌then◌else◌, List, [], ◌++◌, map, codes, decimal, Option, None, Some, Result, Ok, Err}
 use Rattle.std.specs.Option.{option_and_then}
 use Rattle.std.specs.Result.{result_ok}
 use Rattle.std.specs.Str.{byte, bytes_eq}
 use Rattle.sip_message_form.specs.declared.message.Start.{Start}
 use Rattle.sip_message_form.specs.declared.message.Start.TheVariants.{Request, Status}
 use Rattle.sip_message_form.specs.declared.message.Message.{Message}
+use Rattle.sip_message_form.specs.declared.error.ReadError.{ReadError}
+use Rattle.sip_message_form.specs.declared.error.ReadError.TheVariants as Refusal
 use Rattle.sip_header.specs.CoreFields.{core_of}
 use Rattle.sip_header.specs.declared.core_fields.CoreFields.{CoreFields}
 use Rattle.sip_audit.specs.Lines.{rule_text}
@@ -44,9 +46,20 @@ word_if call_id m core = if bytes_eq core.call_id call_id then Some (word_with m
 abbrev pub word_said : List ℕ → Message → Option (List ℕ)
 word_said call_id m = option_and_then (word_if call_id m) (result_ok (core_of m))
 
+-- The message that is read of bytes: a whole one, or one of whose body fewer bytes came than its length says (RFC 3261 18.3), since a request of
+-- that kind is answered, and its answer is of the call.
+abbrev pub message_in : Result Message ReadError → Option Message
+message_in (Ok m) = Some m
+message_in (Err (Refusal.ShortBody m)) = Some m
+message_in (Err Refusal.NoMemory) = None
+message_in (Err Refusal.NotSip) = None
+message_in (Err Refusal.BadField) = None
+message_in (Err Refusal.TooLong) = None
+message_in (Err Refusal.TooManyFields) = None
+
 -- what bytes say of a call
 abbrev pub word_in : List ℕ → List ℕ → Option (List ℕ)
-word_in call_id bytes = option_and_then (word_said call_id) (result_ok (reading_of bytes))
+word_in call_id bytes = option_and_then (word_said call_id) (message_in (reading_of bytes))
 
 -- ---- what was decided
 

@@ -24,7 +24,7 @@ const TO_LEFT: &[u8] = b"\xe2\x97\x80";
 
 /// An arrow between the server and a place: 0 is left of the server, every other one is right of it.
 #[derive(Clone, Copy)]
-pub(crate) struct Arrow {
+pub struct Arrow {
     pub place: usize,
     pub rightward: bool,
 }
@@ -96,7 +96,7 @@ fn push_labeled(out: &mut Bytes, word: &[u8]) -> Result<(), AllocError>
 }
 
 /// At most so many of the first bytes of a text.
-pub(crate) fn cut(text: &[u8], most: usize) -> &[u8]
+pub fn cut(text: &[u8], most: usize) -> &[u8]
     ensures { result.now ≡ take most text.now }
 {
     if text.len() <= most {
@@ -164,8 +164,8 @@ pub(crate) fn push_three_digits(out: &mut Bytes, number: u64) -> Result<(), Allo
     out.push_decimal(number % 10)
 }
 
-/// Adds seconds and milliseconds.
-fn push_seconds(out: &mut Bytes, milliseconds: u64) -> Result<(), AllocError>
+/// Adds seconds and milliseconds. `AllocError` is the only refusal.
+pub fn push_seconds(out: &mut Bytes, milliseconds: u64) -> Result<(), AllocError>
     ensures { OnOk result (out.new ≡ out.old ++ Definitions.seconds_text milliseconds) }
 {
     out.push_decimal(milliseconds / 1000)?;

@@ -1,8 +1,8 @@
 //! What a datagram of a call says, and what was decided of it, in a word or two.
-ghost use Rattle.std.specs.Prelude.{◌≡◌, ◌≢◌, ◌++◌, map, IfOk, OnOk};
+ghost use Rattle.std.specs.Prelude.{◌≡◌, ◌≢◌, ◌++◌, map, Err, IfOk, OnOk};
+ghost use Rattle.std.specs.Option.{option_and_then};
 ghost use Rattle.std.specs.Result.{result_ok};
 ghost use Rattle.sip_header.specs.CoreFields as Cores;
-ghost use Rattle.sip_message.specs.Reading.{reading_of};
 ghost use Rattle.sip_message_form.specs.ViewStart.{start_seen};
 ghost use Rattle.sip_message_form.specs.declared.error.ReadError.TheVariants.{NoMemory};
 ghost use Rattle.sipd_ladder.specs.Saying as Definitions;
@@ -32,8 +32,8 @@ fn plain(byte: u8) -> u8
     if byte > 31 && byte < 127 { byte } else { b'?' }
 }
 
-/// Adds a text so.
-pub(crate) fn push_plain(out: &mut Bytes, text: &[u8]) -> Result<(), AllocError>
+/// Adds a text so. `AllocError` is the only refusal.
+pub fn push_plain(out: &mut Bytes, text: &[u8]) -> Result<(), AllocError>
     ensures { OnOk result (out.new ≡ out.old ++ map Definitions.plain text.now) }
 {
     for byte in text {
@@ -112,34 +112,26 @@ fn word_said(alloc: Global, call_id: &[u8], message: &View<'_>) -> Result<Option
     }
 }
 
-/// Bytes say no whole message; want of memory alone is a refusal.
-fn unread(error: &ViewError<'_>) -> Result<(), AllocError>
-    ensures { OnOk result (error.now ≢ NoMemory) }
+/// What a message says of a call of whose body not all came; nothing, where bytes are refused otherwise. Want of memory alone is a refusal.
+fn word_of_short(
+    alloc: Global,
+    call_id: &[u8],
+    error: &ViewError<'_>,
+) -> Result<Option<Bytes>, AllocError>
+    ensures said { IfOk result (λ word. word ≡ option_and_then (Definitions.word_said call_id.now) (Definitions.message_in (Err error.now))) }
+    ensures memory { OnOk result (error.now ≢ NoMemory) }
 {
     match error.refusal() {
+        ViewRefusal::ShortBody(message) => word_said(alloc, call_id, message),
         ViewRefusal::NoMemory => Err(AllocError),
-        ViewRefusal::ShortBody(_)
-        | ViewRefusal::NotSip
+        ViewRefusal::NotSip
         | ViewRefusal::BadField
         | ViewRefusal::TooLong
-        | ViewRefusal::TooManyFields => Ok(()),
+        | ViewRefusal::TooManyFields => Ok(None),
     }
 }
 
-/// The message that bytes say, if they say a whole one.
-fn message_in<'a>(alloc: Global, bytes: &'a [u8]) -> Result<Option<View<'a>>, AllocError>
-    ensures { IfOk result (λ message. message ≡ result_ok (reading_of bytes.now)) }
-{
-    match view(alloc, bytes) {
-        Ok(message) => Ok(Some(message)),
-        Err(error) => {
-            unread(&error)?;
-            Ok(None)
-        }
-    }
-}
-
-/// What bytes say of a call, if they say a message of it.
+/// What bytes say of a call, if they say a message of it, whether its body is whole or not.
 pub(crate) fn word_in(
     alloc: Global,
     call_id: &[u8],
@@ -147,9 +139,9 @@ pub(crate) fn word_in(
 ) -> Result<Option<Bytes>, AllocError>
     ensures { IfOk result (λ word. word ≡ Definitions.word_in call_id.now bytes.now) }
 {
-    match message_in(alloc, bytes)? {
-        Some(message) => word_said(alloc, call_id, &message),
-        None => Ok(None),
+    match view(alloc, bytes) {
+        Ok(message) => word_said(alloc, call_id, &message),
+        Err(error) => word_of_short(alloc, call_id, &error),
     }
 }
 

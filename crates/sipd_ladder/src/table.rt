@@ -24,8 +24,8 @@ fn place_at(addr: Addr, places: &[Addr]) -> Option<usize>
     places.iter().position(|known| is_same_addr(*known, addr))
 }
 
-/// The place of an address.
-fn place_of(addr: Addr, places: &[Addr]) -> usize
+/// The place of an address; the first one, if it has none.
+pub fn place_of(addr: Addr, places: &[Addr]) -> usize
     ensures { result ≡ Definitions.place_of addr places.now }
 {
     match place_at(addr, places) {
@@ -67,8 +67,8 @@ fn add_rung(places: &mut Items<Addr>, rung: &Rung) -> Result<(), AllocError>
     add_kind(places, &rung.kind)
 }
 
-/// The addresses that rungs name, in the order in which they come.
-fn places_of(alloc: Global, rungs: &[Rung]) -> Result<Items<Addr>, AllocError>
+/// The addresses that rungs name, in the order in which they come. `AllocError` is the only refusal.
+pub fn places_of(alloc: Global, rungs: &[Rung]) -> Result<Items<Addr>, AllocError>
     ensures { IfOk result (λ places. places ≡ Definitions.places_of rungs.now) }
 {
     let mut places = Items::new(alloc);
@@ -89,8 +89,8 @@ fn name_if<'n>(found: &'n [u8], named: &'n AddrName, addr: Addr) -> &'n [u8]
     }
 }
 
-/// The user who was proven last from an address.
-fn name_of<'n>(names: &'n [AddrName], addr: Addr) -> &'n [u8]
+/// The user who was proven last from an address; nothing where none was.
+pub fn name_of<'n>(names: &'n [AddrName], addr: Addr) -> &'n [u8]
     ensures { result.now ≡ Definitions.name_of names.now addr }
 {
     let mut found: &'n [u8] = b"";
@@ -100,7 +100,8 @@ fn name_of<'n>(names: &'n [AddrName], addr: Addr) -> &'n [u8]
     found
 }
 
-fn inward(place: usize) -> Arrow
+/// An arrow from a place to the server.
+pub fn inward(place: usize) -> Arrow
     ensures { result ≡ Definitions.inward place }
 {
     Arrow {
@@ -109,15 +110,16 @@ fn inward(place: usize) -> Arrow
     }
 }
 
-fn outward(place: usize) -> Arrow
+/// One from the server to a place.
+pub fn outward(place: usize) -> Arrow
     ensures { result ≡ Definitions.outward place }
 {
     let rightward = if place == 0 { false } else { true };
     Arrow { place, rightward }
 }
 
-/// A word that fits, with a mark where a message came or went again.
-fn label(alloc: Global, again: bool, word: &[u8]) -> Result<Bytes, AllocError>
+/// A word that fits, with a mark where a message came or went again. `AllocError` is the only refusal.
+pub fn label(alloc: Global, again: bool, word: &[u8]) -> Result<Bytes, AllocError>
     ensures { IfOk result (λ text. text ≡ Definitions.label again word.now) }
 {
     if again {
@@ -361,8 +363,8 @@ fn push_zone(out: &mut Bytes, first: &Rung) -> Result<(), AllocError>
     out.push(b')')
 }
 
-/// Adds the moment of a rung, and on which clock.
-fn push_moment(out: &mut Bytes, first: &Rung) -> Result<(), AllocError>
+/// Adds the moment of a rung, and on which clock. `AllocError` is the only refusal.
+pub fn push_moment(out: &mut Bytes, first: &Rung) -> Result<(), AllocError>
     ensures { OnOk result (out.new ≡ out.old ++ Definitions.moment_text first.now.place.offset first.now.at) }
 {
     push_clock(out, first)?;
@@ -371,7 +373,8 @@ fn push_moment(out: &mut Bytes, first: &Rung) -> Result<(), AllocError>
     push_zone(out, first)
 }
 
-fn push_call(out: &mut Bytes, call_id: &[u8]) -> Result<(), AllocError>
+/// Adds of which call it is. `AllocError` is the only refusal.
+pub fn push_call(out: &mut Bytes, call_id: &[u8]) -> Result<(), AllocError>
     ensures { OnOk result (out.new ≡ out.old ++ Definitions.call_text call_id.now) }
 {
     out.extend(b"call ")?;
@@ -409,6 +412,13 @@ fn first_names(names: &[AddrName], known: usize) -> &[AddrName]
     &names[..known]
 }
 
+/// Those who were proven by the last rung.
+pub fn names_by<'n>(names: &'n [AddrName], rungs: &[Rung]) -> &'n [AddrName]
+    ensures { result.now ≡ take (Definitions.known_behind 0 rungs.now) names.now }
+{
+    first_names(names, known_of(rungs))
+}
+
 /// The diagram of rungs, the first of which stands at this moment.
 fn diagram_from(
     alloc: Global,
@@ -422,7 +432,7 @@ fn diagram_from(
     let places = places_of(alloc, rungs)?;
     let mut out = Bytes::new(alloc);
     push_title(&mut out, call_id, first)?;
-    let known = first_names(names, known_of(rungs));
+    let known = names_by(names, rungs);
     push_heads(alloc, &mut out, known, places.as_slice())?;
     push_rungs(alloc, &mut out, first.at, places.as_slice(), rungs)?;
     Ok(out)

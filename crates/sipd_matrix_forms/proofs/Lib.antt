@@ -1,5 +1,4 @@
 pub mod Written
 pub mod Lines
 pub mod Counted
-pub mod Escapes
 pub mod Destined

@@ -1,7 +1,7 @@
 -- A table as one file of HTML that needs no other: no script, nothing of the net, and no text of the configuration that is markup.
-use Rattle.std.specs.Prelude.{ℕ, Bool, true, false, ◌&&◌, ◌||◌, ◌==◌, nat_eq, if◌then◌else◌, List, [], ◌∷◌, ◌++◌, codes, Option, Some, None}
-use Rattle.std.specs.List.{flat_map, list_any, starts_with}
-use Rattle.std.specs.Str.{byte, bytes_eq}
+use Rattle.std.specs.Prelude.{ℕ, false, if◌then◌else◌, List, ◌++◌, codes, Option, Some, None}
+use Rattle.std.specs.List.{flat_map}
+use Rattle.std.specs.Str.{bytes_eq}
 use Rattle.sip_policy.specs.declared.operation.Operation.{Operation}
 use Rattle.sip_config_types.specs.declared.config.Config.{Config}
 use Rattle.sip_matrix.specs.declared.column.Column.{Column}
@@ -9,36 +9,9 @@ use Rattle.sip_matrix.specs.declared.table.PolicyTable.{PolicyTable}
 use Rattle.sip_matrix.specs.Table.{table_of}
 use Rattle.sipd_matrix.specs.Cells.{cell_text, numbers_of}
 use Rattle.sipd_matrix.specs.Text.{clock_text, end_of, foot, legend, member_text, title}
+use Rattle.sipd_report.specs.Html.{escaped}
 use Rattle.sipd_matrix_forms.specs.Csv.{own_at}
 use Rattle.sipd_matrix_forms.specs.Outcome.{place_at, verdict_at}
-
--- ---- texts
-
--- a byte of a text: what could be markup is written by its name or number
-abbrev pub escaped_byte : ℕ → List ℕ
-escaped_byte b =
-    if b == byte "&" then codes "&amp;"
-    else (if b == byte "<" then codes "&lt;"
-    else (if b == byte ">" then codes "&gt;"
-    else (if b == byte "\"" then codes "&quot;"
-    else (if b == byte "'" then codes "&#39;" else b ∷ []))))
-
-abbrev pub escaped : List ℕ → List ℕ
-escaped text = flat_map escaped_byte text
-
--- whether a byte begins or ends a tag or an attribute
-abbrev pub is_markup : ℕ → Bool
-is_markup b = b == byte "<" || (b == byte ">" || (b == byte "\"" || b == byte "'"))
-
--- whether one of the five names or numbers stands in front
-abbrev pub begins_reference : List ℕ → Bool
-begins_reference text =
-    list_any (starts_with nat_eq text) (codes "amp;" ∷ codes "lt;" ∷ codes "gt;" ∷ codes "quot;" ∷ codes "#39;" ∷ [])
-
--- whether such a one stands behind each `&`
-abbrev pub are_references : List ℕ → Bool
-are_references [] = true
-are_references (b ∷ bs) = (if b == byte "&" then begins_reference bs else true) && are_references bs
 
 -- ---- cells
 

@@ -13,6 +13,7 @@ use sip_text::{Bytes, Items, same_bytes};
 use sipd_matrix::{
     end_of, numbers_of, put_cell, put_clock, put_foot, put_legend, put_members, put_title,
 };
+use sipd_report::put_escaped;
 use std::alloc::{AllocError, Global};
 
 /// Before all texts: nothing may be loaded or run, and how cells are coloured.
@@ -26,35 +27,6 @@ const PAGE_BEGIN: &[u8] = b"\
     .allow, .via { background: #d8f0d8; }\n.deny { background: #f4d0d0; }\n\
     .challenge { background: #f8f0c8; }\n.nobody { background: #e0e0e0; }\n\
     </style>\n</head>\n<body>\n";
-
-/// Adds a byte of a text.
-fn put_escaped_byte(text: &mut Bytes, byte: u8) -> Result<(), AllocError>
-    ensures { OnOk result (text.new ≡ text.old ++ Definitions.escaped_byte byte) }
-{
-    if byte == b'&' {
-        text.extend(b"&amp;")
-    } else if byte == b'<' {
-        text.extend(b"&lt;")
-    } else if byte == b'>' {
-        text.extend(b"&gt;")
-    } else if byte == b'"' {
-        text.extend(b"&quot;")
-    } else if byte == b'\'' {
-        text.extend(b"&#39;")
-    } else {
-        text.push(byte)
-    }
-}
-
-/// Adds a text, in which what could be markup is written by its name or number.
-fn put_escaped(text: &mut Bytes, more: &[u8]) -> Result<(), AllocError>
-    ensures { OnOk result (text.new ≡ text.old ++ Definitions.escaped more.now) }
-{
-    for byte in more {
-        put_escaped_byte(text, *byte)?;
-    }
-    Ok(())
-}
 
 /// The kind of a cell.
 fn kind_of<'a>(verdict: &'a [u8], place: &[u8]) -> &'a [u8]

@@ -1,5 +1,5 @@
-ghost use Rattle.std.specs.Prelude.{◌≡◌, ℕ, ◌<◌, ◌++◌, true, false, List, Option, count_by};
-ghost use Rattle.std.specs.List.{flat_map, list_any};
+ghost use Rattle.std.specs.Prelude.{◌≡◌, ℕ, ◌<◌, ◌++◌, true, List, Option, count_by};
+ghost use Rattle.std.specs.List.{flat_map};
 ghost use Rattle.sip_uri.specs.declared.aor.Aor.{Aor};
 ghost use Rattle.sip_policy.specs.declared.decision.Decision.{Decision};
 ghost use Rattle.sip_policy.specs.declared.operation.Operation.{Operation};
@@ -14,7 +14,6 @@ ghost use Rattle.sipd_matrix.specs.Cells.{mark_of, number_at, number_of};
 ghost use Rattle.sipd_matrix_forms.specs.Cells.{Cell, cells_of, is_of};
 ghost use Rattle.sipd_matrix_forms.specs.Destinations.{place_by, sign_by};
 ghost use Rattle.sipd_matrix_forms.specs.Outcome.{place_of};
-ghost use Rattle.sipd_matrix_forms.specs.Html.{are_references, escaped, is_markup};
 ghost use Rattle.sipd_matrix_forms.specs.Csv.{csv_of, header, line_of, own_at};
 
 /// Each question, of nobody or a configured user, for whatever address at whatever minute of the day, is of exactly one cell.
@@ -44,12 +43,6 @@ pub fn places_are_the_destinations()
     ensures place { (config : Config) (operation : Operation) (aor : Aor) (decision : Decision)
         → place_of operation config.hops (is_users_address config.users config.own.domains aor) decision
         ≡ place_by config.hops (destination_of config operation aor decision) }
-{}
-
-/// No byte of an escaped text can begin or end a tag or an attribute, and each `&` in it begins one of five names or numbers.
-pub fn no_text_is_markup()
-    ensures marks { (text : List ℕ) → list_any is_markup (escaped text) ≡ false }
-    ensures references { (text : List ℕ) → are_references (escaped text) ≡ true }
 {}
 
 /// Behind the names of the fields there is a line for each cell, and no other.

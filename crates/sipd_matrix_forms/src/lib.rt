@@ -4,8 +4,8 @@
 //! - Not here: which cells there are (`sip_matrix`), the table as text (`sipd_matrix`), and one question (`sipd_ask`).
 //! - Tried: worked examples in `src/examples.rt`, as contracts that compute.
 //!
-//! That each cell has one line, each question one cell, that a cell says where a request goes as `decide` does, and that no text of a
-//! configuration is markup, is said in `laws`.
+//! That each cell has one line, each question one cell, and that a cell says where a request goes as `decide` does, is said in `laws`; that
+//! no text of a configuration is markup, in those of `sipd_report`.
 #![tactic(auto)]
 
 mod csv;

@@ -140,7 +140,7 @@ pub fn at_line_of_file(exit: Exit, more: u64, fewer: u64) -> Exit
     ensures { result ≡ at_line_of_file more fewer exit }
 {
     match exit {
-        Exit::Script(line) => Exit::Script(line.saturating_sub(more).saturating_add(fewer)),
+        Exit::Script(line, ..) => Exit::Script(line.saturating_sub(more).saturating_add(fewer)),
         exit => exit,
     }
 }

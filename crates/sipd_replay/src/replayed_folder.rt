@@ -122,13 +122,13 @@ impl<'a, R: Files + Clock + Eprint + AllocGlobal> ReplayedFolder<'a, R> {
     ) -> Result<(), Exit> {
         let path = self.path;
         match exit {
-            Exit::Changed(line) => {
+            Exit::Changed(line, ..) => {
                 let _ = writeln!(
                     complaints,
                     "sipd: {path}: {number}.record was changed: its line {line} has the digest of other bytes"
                 );
             }
-            Exit::Script(line) => {
+            Exit::Script(line, ..) => {
                 let _ = writeln!(
                     complaints,
                     "sipd: {path}: {number}.record is damaged from its line {line} on"

@@ -13,14 +13,13 @@ use Rattle.sip_audit.specs.Lines.{who_text}
 use Rattle.sip_audit.specs.declared.record.Record.{Record}
 use Rattle.sip_audit.specs.Reading.{record_of, parts_of}
 use Rattle.sipd_report.specs.declared.query.Query.{Query}
-use Rattle.sipd_report.specs.Cells.{row_text}
 use Rattle.sip_audit.specs.declared.record.AuditOutcome.{AuditOutcome}
 use Rattle.sip_audit.specs.declared.record.AuditOutcome.TheVariants.{Challenge, Deny, Sent, Answer}
 use Rattle.sipd_report.specs.Entries.{is_challenge, is_left_out, is_of_outcome, left_of, meets}
 use Rattle.sipd_report.specs.Entries.{told_by, is_asked, is_filled, is_servers_own, is_foreign, asked_of, ruling_of}
-use Rattle.sipd_report.specs.Rows.{cells_of, ruling_text, outcome_kind}
+use Rattle.sipd_report.specs.Rows.{ruling_text, outcome_kind}
 use Rattle.sipd_report.specs.Totals.{capped, one_more, totals_of}
-use Rattle.sipd_report.specs.Report.{no_entries, no_entry_text, tally_from, tally_of, rows_text}
+use Rattle.sipd_report.specs.Report.{no_entries, no_entry_text, row_of, tally_from, tally_of, rows_text}
 use Rattle.sipd_report.specs.Steps.{after_line, with_line, with_filled, with_left_out, with_no_entry, with_record, with_entry, line_text, entry_text}
 
 -- ---- counts that are capped
@@ -241,8 +240,8 @@ entry_row : (q : Query) (entry : Option Record) → rows_text q (asked_from q en
 entry_row q None = refl
 entry_row q (Some r) = by (is_asked q r)
   where
-    by : (b : Bool) → rows_text q (if b then r ∷ [] else []) ≡ (if b then row_text q.form (cells_of q.form q.offset r) else [])
-    by true = append-nil (row_text q.form (cells_of q.form q.offset r))
+    by : (b : Bool) → rows_text q (if b then r ∷ [] else []) ≡ (if b then row_of q r else [])
+    by true = append-nil (row_of q r)
     by false = refl
 
 line_row : (q : Query) (line : List ℕ) → rows_text q (asked_from q (told_by line)) ≡ line_text q line
@@ -252,5 +251,5 @@ line_row q (b ∷ bs) = entry_row q (told_by (b ∷ bs))
 pub rows_more : (q : Query) (lines : List (List ℕ)) (line : List ℕ) → rows_text q (asked_of q (lines ++ line ∷ [])) ≡ rows_text q (asked_of q lines) ++ line_text q line
 rows_more q lines line =
     ap (rows_text q) (asked_more q lines line ∙ ap (λ l. asked_of q lines ++ l) (asked_line q line))
-    ∙ flat_map-append (λ r. row_text q.form (cells_of q.form q.offset r)) (asked_of q lines) (asked_from q (told_by line))
+    ∙ flat_map-append (row_of q) (asked_of q lines) (asked_from q (told_by line))
     ∙ ap (λ l. rows_text q (asked_of q lines) ++ l) (line_row q line)

@@ -1,11 +1,14 @@
 pub mod Ends
 pub mod Dates
+pub mod Sums
 pub mod Additions
 pub mod Placing
 pub mod Counting
 pub mod Reported
 pub mod DayNumbers
 pub mod Totaling
+pub mod LineTexts
 pub mod Fields
 pub mod Fronts
 pub mod Refused
+pub mod Escapes

@@ -10,10 +10,9 @@ use Rattle.sipd_report.specs.declared.query.Query.{Query}
 use Rattle.sipd_report.specs.declared.tally.Tally.{Tally}
 use Rattle.sipd_report.specs.Cells.{row_text, column_names}
 use Rattle.sipd_report.specs.Entries.{fronts_of, asked_of, told_by, is_asked}
-use Rattle.sipd_report.specs.Rows.{cells_of}
 use Rattle.sip_replay_script.specs.Lines.{Reading, pending, IsOver}
 use Rattle.sipd_report.specs.Lines.{GivesFront}
-use Rattle.sipd_report.specs.Report.{tally_of, rows_text, ending_text, report_text}
+use Rattle.sipd_report.specs.Report.{tally_of, row_of, rows_text, ending_text, report_text}
 use Rattle.sipd_report.specs.Refusals.{BeginsWith, WritesRows, WritesPart, IsRefused, TextStops, StopsAtLine, LineStops}
 use Rattle.sipd_report.specs.Steps.{line_text}
 use Rattle.sipd_report.proofs.Counting.{rows_more}
@@ -26,7 +25,7 @@ use Rattle.sip_replay_script.proofs.Fronts.{front_second, front_all, front_none}
 rows_both : (q : Query) (done rest : List (List ℕ)) → rows_text q (asked_of q (done ++ rest)) ≡ rows_text q (asked_of q done) ++ rows_text q (asked_of q rest)
 rows_both q done rest =
     ap (rows_text q) (ap (filter (is_asked q)) (filter_map-append told_by done rest) ∙ filter-append (is_asked q) (filter_map told_by done) (filter_map told_by rest))
-    ∙ flat_map-append (λ r. row_text q.form (cells_of q.form q.offset r)) (asked_of q done) (asked_of q rest)
+    ∙ flat_map-append (row_of q) (asked_of q done) (asked_of q rest)
 
 -- the names of the columns, and the rows of some lines
 abbrev table_of : Query → List (List ℕ) → List ℕ

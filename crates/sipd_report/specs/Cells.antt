@@ -46,7 +46,7 @@ last_cell_text Csv text = field_text text ++ 13 ∷ 10 ∷ []
 -- a row
 abbrev pub row_text : Form → Cells → List ℕ
 row_text form c =
-    cell_text form 19 c.time ++ cell_text form 8 c.number ++ cell_text form 9 c.method ++ cell_text form 16 c.user ++ cell_text form 32 c.target
+    cell_text form 25 c.time ++ cell_text form 8 c.number ++ cell_text form 9 c.method ++ cell_text form 16 c.user ++ cell_text form 32 c.target
     ++ cell_text form 9 c.operation ++ cell_text form 6 c.rule ++ cell_text form 14 c.outcome ++ last_cell_text form c.minute
 
 -- the names of the columns

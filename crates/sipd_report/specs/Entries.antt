@@ -1,5 +1,5 @@
 -- The lines of an input, what of them is an audit line, and what a report is asked for.
-use Rattle.std.specs.Prelude.{ℕ, ◌==◌, Bool, true, false, ◌&&◌, ◌||◌, not, nat_le, nat_eq, if◌then◌else◌, List, [], ◌∷◌, length, take, drop, map, filter, Option, Some, None}
+use Rattle.std.specs.Prelude.{ℕ, ℤ, ◌==◌, Bool, true, false, ◌&&◌, ◌||◌, not, nat_le, nat_eq, if◌then◌else◌, List, [], ◌∷◌, length, take, drop, map, filter, Option, Some, None}
 use Rattle.std.specs.Prelude.{option_map, is_none, codes, count_by}
 use Rattle.std.specs.List.{filter_map, starts_with}
 use Rattle.std.specs.Option.{option_or}
@@ -9,6 +9,9 @@ use Rattle.sip_audit.specs.declared.record.AuditOutcome.{AuditOutcome}
 use Rattle.sip_audit.specs.declared.record.AuditOutcome.TheVariants.{Challenge, Deny, Sent, Answer}
 use Rattle.sip_audit.specs.Reading.{record_of}
 use Rattle.sipd_report.specs.declared.query.Query.{Query}
+use Rattle.sipd_report.specs.Chosen.{is_of_target, is_within}
+use Rattle.sipd_report.specs.Times.{shown_seconds}
+use Rattle.sipd_report.specs.Zones.{offset_at}
 
 -- a byte in front of the first of some lines; without one it begins a line
 abbrev pub in_first : ℕ → List (List ℕ) → List (List ℕ)
@@ -107,10 +110,22 @@ abbrev pub is_of_outcome : Option (List ℕ) → AuditOutcome → Bool
 is_of_outcome None outcome = not (is_challenge outcome)
 is_of_outcome (Some word) outcome = bytes_eq (outcome_word outcome) word
 
+-- how many minutes the office's clock was ahead of UTC at a record's moment
+abbrev pub offset_of : Query → Record → ℤ
+offset_of q r = offset_at q.zones.now q.offset r.at
+
+-- whether a record is within the times that are asked for, on that clock
+abbrev pub is_in_time : Query → Record → Bool
+is_in_time q r = is_within q.since q.until (shown_seconds r.at (offset_of q r))
+
 -- whether a record is of the user, by the rule and denied, as far as that is asked for
-abbrev pub meets : Query → Record → Bool
-meets q r =
+abbrev pub is_decided_so : Query → Record → Bool
+is_decided_so q r =
     is_of_user (option_map (λ name. name.now) q.user) r.who && is_by_rule q.rule (ruling_of r.outcome) && (not q.denied || is_denial r.outcome)
+
+-- whether that is so, and it is of the times and for whom it is asked for
+abbrev pub meets : Query → Record → Bool
+meets q r = is_decided_so q r && is_in_time q r && is_of_target (option_map (λ text. text.now) q.target) r.target
 
 -- whether a record is asked for
 abbrev pub is_asked : Query → Record → Bool

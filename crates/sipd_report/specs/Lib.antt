@@ -1,5 +1,8 @@
 pub mod Calendar
 pub mod Times
+pub mod Said
+pub mod Zones
+pub mod Chosen
 pub mod Cells
 pub mod Entries
 pub mod Rows
@@ -8,4 +11,6 @@ pub mod Lines
 pub mod Report
 pub mod Steps
 pub mod Examples
+pub mod SaidTimes
 pub mod Refusals
+pub mod Html

@@ -10,7 +10,7 @@ use Rattle.sipd_report.specs.declared.query.Form.TheVariants.{Table, Csv}
 use Rattle.sipd_report.specs.declared.query.Query.{Query}
 use Rattle.sipd_report.specs.declared.tally.Tally.{Tally}
 use Rattle.sipd_report.specs.Cells.{padded, row_text, column_names}
-use Rattle.sipd_report.specs.Entries.{fronts_of, asked_of, left_of, ruling_of, is_filled, is_foreign}
+use Rattle.sipd_report.specs.Entries.{fronts_of, asked_of, left_of, offset_of, ruling_of, is_filled, is_foreign}
 use Rattle.sipd_report.specs.Rows.{cells_of, ruling_text, outcome_kind}
 use Rattle.sipd_report.specs.Totals.{capped, totals_of, in_order}
 
@@ -75,9 +75,13 @@ ending_text Table t =
     totals_text (codes "by user") t.users ++ totals_text (codes "by rule") t.rules ++ totals_text (codes "by outcome") t.outcomes ++ counts_text t ++ t.shown
 ending_text Csv t = []
 
+-- the row of a record, by the clock of its moment
+abbrev pub row_of : Query → Record → List ℕ
+row_of q r = row_text q.form (cells_of q.form (offset_of q r) r)
+
 -- the rows of some records
 abbrev pub rows_text : Query → List Record → List ℕ
-rows_text q records = flat_map (λ r. row_text q.form (cells_of q.form q.offset r)) records
+rows_text q records = flat_map (row_of q) records
 
 -- the report of some bytes: the names of the columns, a row for each record that is asked for, and what is counted
 abbrev pub report_text : Query → List ℕ → List ℕ

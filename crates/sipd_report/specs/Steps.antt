@@ -5,11 +5,10 @@ use Rattle.sip_audit.specs.Lines.{who_text}
 use Rattle.sip_audit.specs.declared.record.Record.{Record}
 use Rattle.sipd_report.specs.declared.query.Query.{Query}
 use Rattle.sipd_report.specs.declared.tally.Tally.{Tally}
-use Rattle.sipd_report.specs.Cells.{row_text}
 use Rattle.sipd_report.specs.Entries.{told_by, is_asked, is_left_out, is_filled, is_servers_own, ruling_of}
-use Rattle.sipd_report.specs.Rows.{cells_of, ruling_text, outcome_kind}
+use Rattle.sipd_report.specs.Rows.{ruling_text, outcome_kind}
 use Rattle.sipd_report.specs.Totals.{capped, one_more}
-use Rattle.sipd_report.specs.Report.{numbered_text}
+use Rattle.sipd_report.specs.Report.{numbered_text, row_of}
 use Rattle.sip_replay_script.specs.Lines.{Reading}
 use Rattle.sipd_report.specs.Lines.{GivesLine}
 
@@ -68,7 +67,7 @@ after_line q line t = if is_filled line then with_entry q line (told_by line) (w
 
 -- a row, if the record is asked for
 abbrev pub record_text : Query → Record → List ℕ
-record_text q r = if is_asked q r then row_text q.form (cells_of q.form q.offset r) else []
+record_text q r = if is_asked q r then row_of q r else []
 
 abbrev pub entry_text : Query → Option Record → List ℕ
 entry_text q None = []

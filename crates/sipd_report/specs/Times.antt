@@ -36,10 +36,14 @@ shown_seconds at offset =
 abbrev pub dated_text : ℕ → ℕ → List ℕ
 dated_text mark seconds = date_text (date_of (seconds / 86400)) ++ (mark ∷ []) ++ clock_text (seconds % 86400)
 
--- date and time of day; for programs as ISO 8601 has them, with the offset
+-- what stands between date and time of day; for programs as ISO 8601 has it
+abbrev pub mark_of : Form → ℕ
+mark_of Table = byte " "
+mark_of Csv = byte "T"
+
+-- date and time of day, and the offset of the clock that shows them
 abbrev pub moment_text : Form → ℤ → ℕ → List ℕ
-moment_text Table offset seconds = dated_text (byte " ") seconds
-moment_text Csv offset seconds = dated_text (byte "T") seconds ++ offset_text offset
+moment_text form offset seconds = dated_text (mark_of form) seconds ++ offset_text offset
 
 -- a moment as such a clock shows it
 abbrev pub time_text : Form → ℤ → ℕ → List ℕ

@@ -159,10 +159,10 @@ fn push_request(
     method: &[u8],
     user: &[u8],
 ) -> Result<(), AllocError>
-    ensures { OnOk result (row.new ≡ row.old ++ Definitions.cell_text form 19 time.now ++ Definitions.cell_text form 8 number.now
+    ensures { OnOk result (row.new ≡ row.old ++ Definitions.cell_text form 25 time.now ++ Definitions.cell_text form 8 number.now
         ++ Definitions.cell_text form 9 method.now ++ Definitions.cell_text form 16 user.now) }
 {
-    push_cell(row, form, 19, time)?;
+    push_cell(row, form, 25, time)?;
     push_cell(row, form, 8, number)?;
     push_cell(row, form, 9, method)?;
     push_cell(row, form, 16, user)

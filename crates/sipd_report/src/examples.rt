@@ -2,10 +2,13 @@ ghost use Rattle.std.specs.Prelude.{◌≡◌, Some, None, true, false, pos, neg
 ghost use Rattle.sipd_report.specs.declared.query.Form.TheVariants.{Table, Csv};
 ghost use Rattle.sipd_report.specs.Calendar.{date_of};
 ghost use Rattle.sipd_report.specs.Cells.{row_text, field_text};
-ghost use Rattle.sipd_report.specs.Examples.{answered};
+ghost use Rattle.sipd_report.specs.Examples.{answered, office_of_2026};
+ghost use Rattle.sipd_report.specs.SaidTimes.{AreTimes, AreNoTimes, AreMoments};
+ghost use Rattle.sipd_report.specs.Chosen.{is_of_target, is_within};
 ghost use Rattle.sipd_report.specs.Rows.{cells_of};
 ghost use Rattle.sipd_report.specs.Entries.{lines_of, behind_prefix, is_servers_own, is_by_rule, is_of_user, is_denial, ruling_of};
-ghost use Rattle.sipd_report.specs.Times.{offset_text, shown_seconds};
+ghost use Rattle.sipd_report.specs.Times.{offset_text, shown_seconds, time_text};
+ghost use Rattle.sipd_report.specs.Zones.{offset_at};
 ghost use Rattle.sip_audit.specs.declared.record.AuditOutcome.TheVariants.{Challenge, Deny, Answer};
 ghost use Rattle.sipd_report.specs.Totals.{totals_of, in_order};
 
@@ -28,7 +31,7 @@ pub fn csv_row()
 /// A row of a table, there.
 pub fn table_row()
     ensures { row_text Table (cells_of Table (pos 60) answered)
-        ≡ codes "2026-11-27 14:03:36  7         INVITE     alice             help@host.com                     send       4       answer 480      08:00" ++ 10 ∷ [] }
+        ≡ codes "2026-11-27 14:03:36+01:00  7         INVITE     alice             help@host.com                     send       4       answer 480      08:00" ++ 10 ∷ [] }
 {}
 
 /// Fields that are quoted, and one that isn't.
@@ -79,4 +82,33 @@ pub fn offsets()
     ensures behind { offset_text (negsuc 89) ≡ codes "-01:30" }
     ensures ahead { offset_text (pos 345) ≡ codes "+05:45" }
     ensures start { shown_seconds 3600000 (negsuc 119) ≡ 0 }
+{}
+
+/// Dates and times that are said, with the seconds since 1970 began, as `date -u +%s` gives them.
+pub fn said_times()
+    ensures times { AreTimes }
+    ensures none { AreNoTimes }
+    ensures moments { AreMoments }
+{}
+
+/// A line is within times from the second on that it shows, 14:03:36 an hour ahead of UTC, and not from a later one on; it is before a later
+/// one, and not before that; and whom it was for is said with or without the host.
+pub fn choice()
+    ensures since { is_within (Some 1795788216) None (shown_seconds answered.at (pos 60)) ≡ true }
+    ensures later { is_within (Some 1795788217) None (shown_seconds answered.at (pos 60)) ≡ false }
+    ensures until { is_within None (Some 1795788217) (shown_seconds answered.at (pos 60)) ≡ true }
+    ensures not_before { is_within None (Some 1795788216) (shown_seconds answered.at (pos 60)) ≡ false }
+    ensures user { is_of_target (Some (codes "help")) answered.target ≡ true }
+    ensures whole { is_of_target (Some (codes "help@host.com")) answered.target ≡ true }
+    ensures other { is_of_target (Some (codes "hel")) answered.target ≡ false }
+{}
+
+/// A clock that is set from two hours ahead of UTC to one, where that comes into force at 1:00 UTC on 25 October 2026: what it is ahead in front
+/// of the first zone, in the one of summer, a millisecond before the change, and from then on.
+pub fn clock_set_back()
+    ensures front { offset_at office_of_2026 (pos 0) 1774745999999 ≡ pos 0 }
+    ensures summer { offset_at office_of_2026 (pos 0) 1774746000000 ≡ pos 120 }
+    ensures before { offset_at office_of_2026 (pos 0) 1792889999999 ≡ pos 120 }
+    ensures behind { offset_at office_of_2026 (pos 0) 1792890000000 ≡ pos 60 }
+    ensures row { time_text Table (offset_at office_of_2026 (pos 0) 1792886400000) 1792886400000 ≡ codes "2026-10-25 02:00:00+02:00" }
 {}

@@ -5,8 +5,7 @@ ghost use Rattle.sip_replay_script.specs.Devices.{later, GaveUp, IsAsked};
 ghost use Rattle.sip_replay_script.specs.Lines.{IsOver, IsSpent};
 ghost use Rattle.sipd_report.specs.Cells;
 ghost use Rattle.sipd_report.specs.Refusals.{IsRefused, LineStops, TextStops};
-ghost use Rattle.sipd_report.specs.Report.{Reports, ending_text as ending_text_of};
-ghost use Rattle.sipd_report.specs.Rows.{cells_of};
+ghost use Rattle.sipd_report.specs.Report.{Reports, ending_text as ending_text_of, row_of};
 ghost use Rattle.sipd_report.specs.Steps as Definitions;
 ghost use Rattle.sipd_report.specs.Steps.{TakesLine};
 
@@ -29,8 +28,9 @@ use std::alloc::{AllocError, Global};
 /// no outcome is asked for, and how many are no audit lines, and the first 20 of these, each with its number and its first 120
 /// bytes, a point for each that doesn't print. A line may begin with what journalctl writes in front of it, up to its first
 /// `]: `; one that the server writes on standard error is neither an audit line nor counted as none. A line is ended by LF, the
-/// last one perhaps not; one of more than 200,000 bytes is no audit line. Times are those of a clock `offset` minutes ahead of
-/// UTC; where that would be before 1970, the start of 1970. Keeps one line, and each user, rule and outcome that came.
+/// last one perhaps not; one of more than 200,000 bytes is no audit line. Times are those of the office's clock as it was set at
+/// that moment (`Query::zones`), with its offset; where that would be before 1970, the start of 1970. Keeps one line, and each
+/// user, rule and outcome that came.
 ///
 /// Answers how many lines are no audit lines, which CSV doesn't tell; all is handed on then. Refusals: `NoMemory`; `Read`, where
 /// the reader fails or was asked 4,294,967,295 times; `Write`. What was written before a refusal stays: a front of the report,
@@ -96,6 +96,7 @@ fn take_next<I: TellingReader, W: TellingWriter>(
 }
 
 /// Counts a line, and writes its row if its record is asked for.
+#[tactic(auto, using(crate::proofs::LineTexts::of_its_record))]
 fn take_line<W: TellingWriter>(
     alloc: Global,
     query: &Query<'_>,
@@ -123,19 +124,26 @@ fn take_line<W: TellingWriter>(
 }
 
 /// Counts a record that isn't asked for, if it is left out.
-fn add_unasked(query: &Query<'_>, record: &Record, tally: &mut Tally)
-    ensures { tally.new ≡ Definitions.with_unasked query.now «record».now tally.old }
+fn add_unasked(
+    alloc: Global,
+    query: &Query<'_>,
+    record: &Record,
+    tally: &mut Tally,
+) -> Result<(), AllocError>
+    ensures { OnOk result (tally.new ≡ Definitions.with_unasked query.now «record».now tally.old) }
 {
-    if query.leaves_out(record) {
+    if query.leaves_out(alloc, record)? {
         tally.add_left_out();
     }
+    Ok(())
 }
 
 /// The row of a record.
 fn record_row(alloc: Global, query: &Query<'_>, record: &Record) -> Result<Bytes, AllocError>
-    ensures { IfOk result (λ row. row ≡ Cells.row_text query.now.form (cells_of query.now.form query.now.offset «record».now)) }
+    ensures { IfOk result (λ row. row ≡ row_of query.now «record».now) }
 {
-    let cells = cells_of(alloc, query.form, query.offset, record)?;
+    let offset = query.offset_of(record);
+    let cells = cells_of(alloc, query.form, offset, record)?;
     row_text(alloc, query.form, &cells)
 }
 
@@ -152,8 +160,8 @@ fn take_record<W: TellingWriter>(
     ensures stopped { IfErr result (TextStops (W.contents output.old) (W.contents output.new) (Definitions.record_text query.now «record».now)
         (GaveUp (W.has_failed output.new) (W.called output.new))) }
 {
-    if !query.asks_for(record) {
-        add_unasked(query, record, tally);
+    if !query.asks_for(alloc, record)? {
+        add_unasked(alloc, query, record, tally)?;
         return Ok(());
     }
     tally.add_record(alloc, record)?;

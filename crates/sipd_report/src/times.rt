@@ -1,4 +1,5 @@
-//! How a report writes a moment: date and time of day on a clock that is so many minutes ahead of UTC.
+//! How a report writes a moment: date and time of day on a clock that is so many minutes ahead of UTC; and the moment at which such a clock
+//! shows them.
 ghost use Rattle.std.specs.Prelude.{◌≡◌, ◌<◌, ◌^◌, ◌++◌, ◌∷◌, OnOk};
 ghost use Rattle.sipd_report.specs.Times as Definitions;
 
@@ -95,18 +96,23 @@ pub fn push_dated(text: &mut Bytes, mark: u8, seconds: u64) -> Result<(), AllocE
     push_clock_behind(text, mark, seconds % DAY)
 }
 
-/// Adds such seconds as a form has them.
+/// What stands between date and time of day.
+fn mark_of(form: Form) -> u8
+    ensures { result ≡ Definitions.mark_of form }
+{
+    match form {
+        Form::Table => b' ',
+        Form::Csv => b'T',
+    }
+}
+
+/// Adds such seconds as a form has them, with the offset of their clock.
 fn push_moment(text: &mut Bytes, form: Form, offset: i16, seconds: u64) -> Result<(), AllocError>
     requires { seconds < 2 ^ 60 }
     ensures { OnOk result (text.new ≡ text.old ++ Definitions.moment_text form offset seconds) }
 {
-    match form {
-        Form::Table => push_dated(text, b' ', seconds),
-        Form::Csv => {
-            push_dated(text, b'T', seconds)?;
-            push_offset(text, offset)
-        }
-    }
+    push_dated(text, mark_of(form), seconds)?;
+    push_offset(text, offset)
 }
 
 /// Adds a moment, in milliseconds since 1970 began in UTC.

@@ -2,6 +2,7 @@
 use Rattle.std.specs.Prelude.{ℕ, ◌+◌, ◌-◌, ◌^◌, ◌==◌, min, if◌then◌else◌, Option, Some, None, option_map}
 use Rattle.sip_guard.specs.Guard.{AllowanceState}
 use Rattle.sip_guard.specs.Unheard.{UnheardCounts}
+use Rattle.sipd_service.specs.declared.status_turn.ServerCounts.{ServerCounts}
 use Rattle.sipd_status.specs.declared.numbers.StatusNumbers.{StatusNumbers}
 use Rattle.sipd_status.specs.declared.tally.Judged.{Judged}
 use Rattle.sipd_status.specs.declared.tally.Proof.{Proof}
@@ -29,12 +30,14 @@ abbrev pub proof_of_last : ℕ → Option Judged → Option Proof
 proof_of_last next None = None
 proof_of_last next (Some judged) = proof_if_last next judged
 
--- the numbers of a server: of what was printed, of how many that weren't heard it was said, and of how many not yet
-abbrev pub numbers_of : Tally → ℕ → ℕ → ℕ → Option ℕ → Option ℕ → StatusNumbers
-numbers_of tally wrong told unheard record_bytes memory_bytes = record {
+-- the numbers of a server: of what was printed, how full its tables are, of how many that weren't heard it was said, and of how many not yet
+abbrev pub numbers_of : Tally → ServerCounts → ℕ → ℕ → ℕ → Option ℕ → Option ℕ → StatusNumbers
+numbers_of tally counts wrong told unheard record_bytes memory_bytes = record {
   decisions = tally.decisions;
   wrong = wrong;
   unheard = capped_sum told unheard;
+  open_requests = counts.open_requests;
+  dialogs = counts.dialogs;
   record_bytes = record_bytes;
   memory_bytes = memory_bytes;
 }

@@ -14,7 +14,7 @@ ghost use Rattle.sipd_service.specs.Turns.{AreTurns, EndsCounted, EndsEarly, End
 use crate::line_printer::LinePrinter;
 use crate::next_record::NextRecord;
 use crate::reloading::reload;
-use crate::status_turn::{SizedJournal, keep_status};
+use crate::status_turn::{SizedJournal, counts_of, keep_status};
 use crate::unheard_lines::{count_unheard, tell_unheard};
 use rand_core::Rng;
 use sip_audit::Record;
@@ -41,7 +41,6 @@ const MINUTE: u64 = 60_000;
 const SECOND: u64 = 1000;
 
 /// A server, and what drives it.
-#[derive(Drop)]
 pub struct Service<
     T: Timers,
     P: Rules,
@@ -71,6 +70,40 @@ pub struct Service<
     pub said: Said,
     /// What is kept for those who look on, where that is asked for.
     pub status: Option<Status<S>>,
+}
+
+/// Lets a watch go. It stands apart, so that its cases don't stand beside those of all else that a service has.
+fn let_go<F: WatchedFile>(_watch: Option<Watch<F>>) {}
+
+/// Written out, so that it is proved once and not wherever one is dropped.
+impl<
+    T: Timers,
+    P: Rules,
+    L: Link,
+    C: Clock,
+    J: WatchedJournal,
+    X: NextRecord<T, P, J>,
+    N: Rng + Drop,
+    F: WatchedFile,
+    S: StatusPlace,
+> Drop for Service<T, P, L, C, J, X, N, F, S> {
+    fn drop(self) {
+        let Service {
+            engine: _,
+            link: _,
+            journal: _,
+            clock: _,
+            words: _,
+            watch,
+            port: _,
+            path: _,
+            next: _,
+            stated: _,
+            said: _,
+            status: _,
+        } = self;
+        let_go(watch);
+    }
 }
 
 /// Where it serves, what was decided before and may not have been printed, and how many turns there are; as many as come where none
@@ -323,7 +356,7 @@ fn do_turn<
     keep_status(
         alloc,
         &mut service.status,
-        service.engine.next_number(),
+        counts_of(&service.engine),
         &service.link,
         &service.journal,
         &printer.tally,

@@ -1,11 +1,14 @@
 //! What is kept behind each turn for those who look on: who gave passwords, and the numbers of the server.
-ghost use Rattle.std.specs.Prelude.{◌≡◌, false, IfSome};
+ghost use Rattle.std.specs.Prelude.{◌≡◌, false, length, IfSome};
 ghost use Rattle.sipd_service.specs.Statuses;
 ghost use Rattle.sipd_status.specs.Book.{is_due};
 
 use crate::unheard_lines::count_unheard;
 use sip_guard::Guard;
 use sip_journal::{NoJournal, Recorder};
+use sip_loop::engine::Engine;
+use sip_policy::Rules;
+use sip_timers::Timers;
 use sip_transport::{Clock, Link};
 use sipd_old_record::RecordFile;
 use sipd_status::{Judged, Proof, Status, StatusBook, StatusNumbers, StatusPlace, Tally};
@@ -33,6 +36,30 @@ impl<'a, R: Files + rt::Clock> SizedJournal for Recorder<RecordFile<'a, R>> {
         } else {
             Some(self.writer.size())
         }
+    }
+}
+
+/// What a server counts at a moment.
+#[derive(Clone, Copy)]
+pub(crate) struct ServerCounts {
+    /// The number of the next datagram.
+    pub next: u64,
+    /// How many requests are open.
+    pub open_requests: u64,
+    /// How many dialogs stand in the table of them.
+    pub dialogs: u64,
+}
+
+/// What a server counts now.
+pub(crate) fn counts_of<T: Timers, P: Rules>(engine: &Engine<T, P>) -> ServerCounts
+    ensures next { result.next ≡ engine.now.state.next }
+    ensures requests { result.open_requests ≡ length engine.now.state.requests }
+    ensures dialogs { result.dialogs ≡ length engine.now.state.dialogs }
+{
+    ServerCounts {
+        next: engine.next_number(),
+        open_requests: engine.open_count() as u64,
+        dialogs: engine.dialog_count() as u64,
     }
 }
 
@@ -77,18 +104,21 @@ fn say_tries<M: Write>(alloc: Global, book: &mut StatusBook, now: u64, complaint
 /// The numbers of a server.
 fn numbers_of(
     tally: &Tally,
+    counts: ServerCounts,
     wrong: u64,
     told: u64,
     unheard: u64,
     record_bytes: Option<u64>,
     memory_bytes: Option<u64>,
 ) -> StatusNumbers
-    ensures { result ≡ Statuses.numbers_of tally.now wrong told unheard record_bytes memory_bytes }
+    ensures { result ≡ Statuses.numbers_of tally.now counts wrong told unheard record_bytes memory_bytes }
 {
     StatusNumbers {
         decisions: tally.decisions,
         wrong,
         unheard: told.saturating_add(unheard),
+        open_requests: counts.open_requests,
+        dialogs: counts.dialogs,
         record_bytes,
         memory_bytes,
     }
@@ -113,7 +143,7 @@ fn write_status<S: StatusPlace, M: Write>(
 pub(crate) fn keep_status<S: StatusPlace, L: Link, C: Clock, J: SizedJournal, M: Write>(
     alloc: Global,
     status: &mut Option<Status<S>>,
-    next: u64,
+    counts: ServerCounts,
     link: &Guard<L, C>,
     journal: &J,
     tally: &Tally,
@@ -128,7 +158,7 @@ pub(crate) fn keep_status<S: StatusPlace, L: Link, C: Clock, J: SizedJournal, M:
         return;
     };
     let is_due = status.book.is_due(now);
-    note_turn(alloc, &mut status.book, next, link, tally.judged);
+    note_turn(alloc, &mut status.book, counts.next, link, tally.judged);
     say_tries(alloc, &mut status.book, now, complaints);
     if !is_due {
         return;
@@ -137,6 +167,7 @@ pub(crate) fn keep_status<S: StatusPlace, L: Link, C: Clock, J: SizedJournal, M:
     let unheard = count_unheard(link);
     let numbers = numbers_of(
         tally,
+        counts,
         status.book.wrong,
         told,
         unheard,

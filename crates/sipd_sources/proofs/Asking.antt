@@ -3,7 +3,7 @@ use Rattle.std.proofs.Common.{◌≡◌, ℕ, Bool, List, Option, ◌∙◌, ap}
 use Rattle.std.specs.Prelude.{◌&&◌, not, is_some}
 use Rattle.sip_audit.specs.declared.record.Record.{Record}
 use Rattle.sip_event.specs.declared.packet.Packet.{Packet}
-use Rattle.sipd_calls.specs.Choices.{is_challenge}
+use Rattle.sipd_report.specs.Entries.{is_challenge}
 use Rattle.sipd_sources.specs.declared.asked.Asked.{Asked}
 use Rattle.sipd_sources.specs.Asked.{asked_by, name_by}
 use Rattle.sipd_sources.specs.Claims.{answers_stale, given_in}

@@ -3,3 +3,5 @@ pub mod Judged
 pub mod Keys
 pub mod Asking
 pub mod Counting
+pub mod Addresses
+pub mod Owning

@@ -4,7 +4,7 @@ use Rattle.sip_audit.specs.declared.record.AuditOperation.{AuditOperation}
 use Rattle.sip_audit.specs.declared.record.AuditOperation.TheVariants as operations
 use Rattle.sip_audit.specs.declared.record.Record.{Record}
 use Rattle.sip_event.specs.declared.packet.Packet.{Packet}
-use Rattle.sipd_calls.specs.Choices.{is_challenge}
+use Rattle.sipd_report.specs.Entries.{is_challenge}
 use Rattle.sipd_sources.specs.declared.asked.Asked.{Asked}
 use Rattle.sipd_sources.specs.Claims.{answers_stale, given_in}
 

@@ -8,3 +8,4 @@ pub mod Cells
 pub mod Program
 pub mod Table
 pub mod Example
+pub mod Own

@@ -1,13 +1,13 @@
 //! What a datagram asked for, and how it proved that.
 ghost use Rattle.std.specs.Prelude.{◌≡◌, ◌&&◌, not, IfOk};
-ghost use Rattle.sipd_calls.specs.Choices as Chosen;
 ghost use Rattle.sipd_sources.specs.Asked as Definitions;
 ghost use Rattle.sipd_sources.specs.Claims as Claims;
 
 use crate::claims::{answers_stale, given_in};
-use sip_audit::{AuditOperation, AuditOutcome, Record};
+use sip_audit::{AuditOperation, Record};
 use sip_event::{Packet, StepOut};
 use sip_text::Bytes;
+use sipd_report::is_challenge;
 use std::alloc::{AllocError, Global};
 
 /// What came of a datagram: whether it was asked for a credential, was proven by one, and gave a wrong one, and which name it tried, if it
@@ -40,20 +40,6 @@ fn nothing() -> Asked
         proven: false,
         wrong: false,
         name: None,
-    }
-}
-
-fn is_challenge(outcome: AuditOutcome) -> bool
-    ensures { result ≡ Chosen.is_challenge outcome }
-{
-    match outcome {
-        AuditOutcome::Challenge { status: _ } => true,
-        AuditOutcome::Deny { rule: _ } => false,
-        AuditOutcome::Sent {
-            rule: _,
-            targets: _,
-        } => false,
-        AuditOutcome::Answer { rule: _, status: _ } => false,
     }
 }
 

@@ -1,11 +1,10 @@
 //! Which datagrams are counted.
 ghost use Rattle.std.specs.Prelude.{◌≡◌};
-ghost use Rattle.sipd_calls.specs.Choices as Chosen;
 ghost use Rattle.sipd_sources.specs.Filter as Definitions;
 
 use crate::source::SourceMoment;
 use sip_text::same_bytes;
-use sipd_report::shown_seconds;
+use sipd_report::{is_within, shown_seconds};
 
 /// Which datagrams are counted: those that meet all of what is given. Times are in seconds since 1970 began, on the office's clock.
 #[derive(Clone, Copy)]
@@ -16,26 +15,6 @@ pub struct SourceFilter {
     pub until: Option<u64>,
     /// From this address.
     pub from: Option<[u8; 4]>,
-}
-
-/// Whether a second is the one that is given, or later; any is, where none is given.
-fn is_since(since: Option<u64>, second: u64) -> bool
-    ensures { result ≡ Chosen.is_since since second }
-{
-    match since {
-        Some(since) => since <= second,
-        None => true,
-    }
-}
-
-/// Whether it is before the one that is given.
-fn is_before(until: Option<u64>, second: u64) -> bool
-    ensures { result ≡ Chosen.is_before until second }
-{
-    match until {
-        Some(until) => second < until,
-        None => true,
-    }
 }
 
 /// Whether an address is the one that is given.
@@ -54,7 +33,7 @@ impl SourceFilter {
         ensures { result ≡ Definitions.is_in_time self moment }
     {
         let second = shown_seconds(moment.at, moment.offset);
-        is_since(self.since, second) && is_before(self.until, second)
+        is_within(self.since, self.until, second)
     }
 
     /// Whether a datagram is counted that came from an address at a moment.

@@ -7,7 +7,7 @@ use Rattle.sip_location.specs.declared.binding.Binding.{Binding}
 use Rattle.sip_days.specs.declared.registered.Registered.{Registered}
 use Rattle.sipd_calls.specs.Moments.{length_text, start_text}
 use Rattle.sipd_calls.specs.Cells.{cell}
-use Rattle.sipd_calls.specs.Words.{user_text}
+use Rattle.sipd_report.specs.Chosen.{user_text}
 
 -- the names of the columns
 abbrev pub names : List ℕ

@@ -13,7 +13,7 @@ use Rattle.sip_days.specs.Results.{result_of}
 use Rattle.sipd_calls.specs.Moments.{length_text, seconds_of, start_text, title}
 use Rattle.sipd_calls.specs.declared.notation.Notation.{Notation}
 use Rattle.sipd_calls.specs.Cells.{cell, number_cell, rule_cell}
-use Rattle.sipd_calls.specs.Words.{user_text}
+use Rattle.sipd_report.specs.Chosen.{user_text}
 use Rattle.sipd_standing.specs.declared.standing.Standing.{Standing}
 use Rattle.sipd_standing.specs.declared.standing.Standing.TheVariants.{Rings, Talked}
 use Rattle.sipd_standing.specs.Program.{columns, object_text}

@@ -238,7 +238,7 @@ fn settle<'a, R: Files + AllocGlobal>(
     };
     remove_part(beginning.rt, &beginning.place);
     match (exit, beginning.fault) {
-        (Exit::Recording, RecordFault::GoOn) => Ok(None),
+        (Exit::Recording { .. }, RecordFault::GoOn) => Ok(None),
         (exit, _) => Err(exit),
     }
 }
@@ -469,7 +469,7 @@ fn try_shorter<'a, T: Timers, P: Rules, R: Files + Clock + Eprint + AllocGlobal,
         Err(stop) => stop,
     };
     remove_part(beginning.rt, &beginning.place);
-    if let StartStop::Exits(Exit::NoShorter) = stop {
+    if let StartStop::Exits(Exit::NoShorter { .. }) = stop {
         let _ = writeln!(
             complaints,
             "sipd: {old} couldn't be made shorter: all that it holds is kept"

@@ -110,8 +110,8 @@ pub fn unread(exit: Exit) -> StartStop
     ensures { result ≡ Stops.unread exit }
 {
     match exit {
-        Exit::NoRecord => StartStop::NotResumed(NotResumed::NoRecord),
-        Exit::Device(_) => StartStop::NotResumed(NotResumed::Unreadable),
+        Exit::NoRecord { .. } => StartStop::NotResumed(NotResumed::NoRecord),
+        Exit::Device(..) => StartStop::NotResumed(NotResumed::Unreadable),
         exit => StartStop::Exits(exit),
     }
 }

@@ -9,6 +9,8 @@ numbers = record {
   decisions = record { challenged = 3; denied = 1; sent = 12; answered = 7 };
   wrong = 2;
   unheard = 0;
+  open_requests = 2;
+  dialogs = 5;
   record_bytes = None;
   memory_bytes = None;
 }
@@ -27,6 +29,12 @@ numbers_text =
     ++ codes "# HELP sipd_unheard_datagrams_total Datagrams since the start beyond what is heard of their source.\n"
     ++ codes "# TYPE sipd_unheard_datagrams_total counter\n"
     ++ codes "sipd_unheard_datagrams_total 0\n"
+    ++ codes "# HELP sipd_open_requests Requests that are open, of 1024 that may be.\n"
+    ++ codes "# TYPE sipd_open_requests gauge\n"
+    ++ codes "sipd_open_requests 2\n"
+    ++ codes "# HELP sipd_dialogs Dialogs that stand, of 4096 that may.\n"
+    ++ codes "# TYPE sipd_dialogs gauge\n"
+    ++ codes "sipd_dialogs 5\n"
 
 abbrev pub scanner : List ℕ
 scanner = 192 ∷ 0 ∷ 2 ∷ 151 ∷ []

@@ -36,6 +36,12 @@ turned_away_text n =
     ++ number_text (codes "sipd_unheard_datagrams_total") (codes "counter")
     (codes "Datagrams since the start beyond what is heard of their source.") n.unheard
 
+-- how full the tables are
+abbrev pub tables_text : StatusNumbers → List ℕ
+tables_text n =
+    number_text (codes "sipd_open_requests") (codes "gauge") (codes "Requests that are open, of 1024 that may be.") n.open_requests
+    ++ number_text (codes "sipd_dialogs") (codes "gauge") (codes "Dialogs that stand, of 4096 that may.") n.dialogs
+
 -- what is held
 abbrev pub held_text : StatusNumbers → List ℕ
 held_text n =
@@ -44,4 +50,4 @@ held_text n =
 
 -- all of them
 abbrev pub status_text : StatusNumbers → List ℕ
-status_text n = decisions_text n.decisions ++ turned_away_text n ++ held_text n
+status_text n = decisions_text n.decisions ++ turned_away_text n ++ tables_text n ++ held_text n

@@ -14,6 +14,10 @@ pub struct StatusNumbers {
     pub wrong: u64,
     /// How many datagrams weren't heard.
     pub unheard: u64,
+    /// How many requests are open.
+    pub open_requests: u64,
+    /// How many dialogs stand in the table of them.
+    pub dialogs: u64,
     /// How many bytes the record has, where there is one.
     pub record_bytes: Option<u64>,
     /// How many bytes of memory are the process's, where that is known.
@@ -130,6 +134,28 @@ fn turned_away_text(alloc: Global, numbers: &StatusNumbers) -> Result<Bytes, All
     Ok(out)
 }
 
+/// How full the tables are.
+fn tables_text(alloc: Global, numbers: &StatusNumbers) -> Result<Bytes, AllocError>
+    ensures { IfOk result (λ text. text ≡ Definitions.tables_text numbers.now) }
+{
+    let mut out = Bytes::new(alloc);
+    push_number(
+        &mut out,
+        b"sipd_open_requests",
+        b"gauge",
+        b"Requests that are open, of 1024 that may be.",
+        numbers.open_requests,
+    )?;
+    push_number(
+        &mut out,
+        b"sipd_dialogs",
+        b"gauge",
+        b"Dialogs that stand, of 4096 that may.",
+        numbers.dialogs,
+    )?;
+    Ok(out)
+}
+
 /// Adds what is held.
 fn push_held(out: &mut Bytes, numbers: &StatusNumbers) -> Result<(), AllocError>
     ensures { OnOk result (out.new ≡ out.old ++ Definitions.held_text numbers.now) }
@@ -155,6 +181,8 @@ pub fn status_text(alloc: Global, numbers: &StatusNumbers) -> Result<Bytes, Allo
     let mut out = decisions_text(alloc, &numbers.decisions)?;
     let turned_away = turned_away_text(alloc, numbers)?;
     out.extend(turned_away.as_slice())?;
+    let tables = tables_text(alloc, numbers)?;
+    out.extend(tables.as_slice())?;
     push_held(&mut out, numbers)?;
     Ok(out)
 }

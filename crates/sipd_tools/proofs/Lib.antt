@@ -1,2 +1,3 @@
 pub mod LastOnes
 pub mod Checked
+pub mod Clocked

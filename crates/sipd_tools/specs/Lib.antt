@@ -1,5 +1,6 @@
 pub mod Ends
 pub mod Against
+pub mod Clocks
 pub mod Checks
 pub mod Reporting
 pub mod Deciding

@@ -1,5 +1,5 @@
 -- What `report` asks for, and prints.
-use Rattle.std.specs.Prelude.{◌≡◌, ℕ, ℤ, pos, Bool, true, false, List, Option, Some, None, option_map, string_bytes}
+use Rattle.std.specs.Prelude.{◌≡◌, ℕ, ℤ, pos, Bool, true, false, List, length, Option, Some, None, option_map, string_bytes}
 use Rattle.std.specs.Option.{option_copied}
 use Rattle.sip_config_types.specs.declared.config.Config.{Config}
 use Rattle.sipd_arguments.specs.declared.call.ReportCall.{ReportCall}
@@ -13,7 +13,10 @@ use Rattle.sipd_report.specs.declared.query.Form.TheVariants.{Table, Csv}
 use Rattle.sipd_report.specs.declared.query.Query.{Query}
 use Rattle.sipd_report.specs.Refusals.{IsRefused}
 use Rattle.sipd_report.specs.Report.{Reports}
+use Rattle.sipd_report.specs.Said.{time_in}
+use Rattle.sipd_report.specs.declared.zone.Zone.{Zone}
 use Rattle.sipd_tools.specs.Against.{IsStated}
+use Rattle.sipd_tools.specs.Clocks.{HasZonesOf}
 
 -- how the program ends where a report can't be made, or what a log asked can't be told
 abbrev pub exit_of_report : ReportError → Exit
@@ -30,13 +33,17 @@ abbrev pub IsOffset : {A : Type 0} → Option A → ℤ → Type 0
 IsOffset None ahead = ahead ≡ pos 0
 IsOffset (Some path) ahead = (config : Config) × IsStated config × (ahead ≡ config.offset)
 
--- what a call asks for, by a clock that is so far ahead of UTC
-pub record AsksFor (call : ReportCall) (ahead : ℤ) (query : Query) : Type 0 where
-  pub user : option_copied query.user ≡ option_map string_bytes call.user
-  pub rule : query.rule ≡ call.rule
-  pub denied : query.denied ≡ call.denied
-  pub outcome : option_copied query.outcome ≡ option_map string_bytes call.outcome
+-- what a call asks for, by a clock that is so far ahead of UTC, and from the moments of some zones on as these say
+pub record AsksFor (call : ReportCall) (ahead : ℤ) (zones : List Zone) (query : Query) : Type 0 where
+  pub since : query.since ≡ time_in (option_map string_bytes call.chosen.since)
+  pub until : query.until ≡ time_in (option_map string_bytes call.chosen.until)
+  pub user : option_copied query.user ≡ option_map string_bytes call.chosen.user
+  pub target : option_copied query.target ≡ option_map string_bytes call.chosen.target
+  pub rule : query.rule ≡ call.chosen.rule
+  pub denied : query.denied ≡ call.chosen.denied
+  pub outcome : option_copied query.outcome ≡ option_map string_bytes call.chosen.outcome
   pub offset : query.offset ≡ ahead
+  pub zones_are : query.zones.now ≡ zones
   pub form : query.form ≡ form_of call.csv
 
 -- a front of a report was printed, and it ends as that refusal does
@@ -45,11 +52,13 @@ pub record EndsReporting (query : Query) (input old new : Option (List ℕ)) (re
   pub refused : IsRefused query input old new reader_stopped writer_stopped why
   pub same : exit ≡ exit_of_report why
 
--- the report of an input was printed, of what is asked for
+-- the report of an input was printed, of what is asked for, by the clock as a configuration and the records say that it was set
 pub record MakesReport (call : ReportCall) (input old new : Option (List ℕ)) : Type 0 where
   pub ahead : ℤ
+  pub zones : List Zone
   pub query : Query
   pub none : ℕ
   pub clock : IsOffset call.config ahead
-  pub asked : AsksFor call ahead query
+  pub zones_said : HasZonesOf (length call.records.items) zones
+  pub asked : AsksFor call ahead zones query
   pub reports : Reports query input old new none

@@ -20,7 +20,7 @@ use std::io::{Read, Write};
 use std::rt::Files;
 
 /// How the program ends where the last configuration of a record isn't read; one that is refused is as that of a file is.
-fn exit_of_last(stop: SegmentStop) -> Exit
+pub(crate) fn exit_of_last(stop: SegmentStop) -> Exit
     ensures { result ≡ Against.exit_of_last stop }
 {
     match stop {
@@ -120,7 +120,7 @@ fn config_at<R: Files + AllocGlobal>(rt: &R, path: &str) -> Result<Config, Exit>
     }
     match open_any_record(rt, rt.alloc(), path) {
         Ok(record) => last_in(rt.alloc(), record),
-        Err(Exit::NoRecord) => config_of(rt, Some(path)),
+        Err(Exit::NoRecord { .. }) => config_of(rt, Some(path)),
         Err(exit) => Err(exit),
     }
 }

@@ -9,6 +9,7 @@
 #![tactic(auto)]
 
 mod against;
+mod clocks;
 mod deciding;
 mod expectations;
 mod tools;

@@ -10,6 +10,7 @@ ghost use Rattle.sipd_exit.specs.declared.exit.Exit.TheVariants.{OtherFrame, Oth
 ghost use Rattle.sipd_ask.specs.Question;
 ghost use Rattle.sipd_ask.specs.Show;
 ghost use Rattle.sipd_report.specs.Report.{Reports};
+ghost use Rattle.sipd_report.specs.Said;
 ghost use Rattle.sipd_tools.specs.Against.{ChangesPolicy, KeepsPolicy, TellsChange};
 ghost use Rattle.sipd_tools.specs.Checks.{Checks, EndsChecking, EndsTelling, EndsUnderstanding, EndsWithin, IsReadAs, IsUnderstood};
 ghost use Rattle.sipd_tools.specs.Checks.{Shows, ShowsWrong, Tells, TellsAndHolds};
@@ -21,6 +22,7 @@ ghost use Rattle.sipd_tools.specs.UserTables;
 ghost use Rattle.sipd_tools.specs.UserTables.{AddsUser, MakesUser, MakesUserAlone};
 
 use crate::against::before_of;
+use crate::clocks::zones_in;
 use crate::expectations::{hold, lines_in};
 use sip_config::ConfigError;
 use sip_config_types::Config;
@@ -38,7 +40,7 @@ use sipd_exit::{DeviceFault, Exit, bytes_in, config_of, config_of_bytes, print};
 use sipd_matrix::matrix_text;
 use sipd_matrix_changes::changes_text;
 use sipd_matrix_forms::{csv_text, html_text};
-use sipd_report::{Form, Query, ReportError, report};
+use sipd_report::{Form, Query, ReportError, Zone, no_time, report, time_said};
 use std::alloc::{AllocError, Global};
 use std::io::{Read, Write};
 use std::rt::Files;
@@ -209,7 +211,7 @@ pub fn matrix<R: Files + AllocGlobal, W: Write, C: Write>(
     Ok(())
 }
 
-/// The time of day of a report: that of a configuration, or UTC.
+/// The time of day of a report where no record says one: that of a configuration, or UTC.
 fn offset_of<R: Files + AllocGlobal>(rt: &R, path: &Option<String>) -> Result<i16, Exit>
     ensures { IfOk result (IsOffset path.now) }
 {
@@ -229,18 +231,51 @@ fn form_of(csv: bool) -> Form
     if csv { Form::Csv } else { Form::Table }
 }
 
-/// What a call asks for, by a clock that is so many minutes ahead of UTC.
-fn query_of(call: &ReportCall, offset: i16) -> Query<'_>
-    ensures { AsksFor call.now offset result }
-{
-    Query {
-        user: name_of(&call.user),
-        rule: call.rule,
-        denied: call.denied,
-        outcome: name_of(&call.outcome),
-        offset,
-        form: form_of(call.csv),
+/// How the program ends where a word is no time.
+fn exit_of_time(alloc: Global, text: &str) -> Exit {
+    match no_time(alloc, text) {
+        Ok(text) => Exit::Question(text),
+        Err(_) => Exit::Memory,
     }
+}
+
+/// The time that is said, if one is. `Question`, where a word is no time; `Memory`.
+fn time_in(alloc: Global, said: &Option<String>) -> Result<Option<u64>, Exit>
+    ensures { IfOk result (λ time. time ≡ Said.time_in (option_map string_bytes said.now)) }
+{
+    let Some(text) = said else {
+        return Ok(None);
+    };
+    match time_said(text.as_bytes()) {
+        Some(second) => Ok(Some(second)),
+        None => Err(exit_of_time(alloc, text.as_str())),
+    }
+}
+
+/// What a call asks for, by a clock that is so many minutes ahead of UTC, and from the moments of some zones on as these say.
+fn query_of<'c>(
+    alloc: Global,
+    call: &'c ReportCall,
+    offset: i16,
+    zones: &'c [Zone],
+) -> Result<Query<'c>, Exit>
+    ensures { IfOk result (AsksFor call.now offset zones.now) }
+{
+    let chosen = &call.chosen;
+    let since = time_in(alloc, &chosen.since)?;
+    let until = time_in(alloc, &chosen.until)?;
+    Ok(Query {
+        since,
+        until,
+        user: name_of(&chosen.user),
+        target: name_of(&chosen.target),
+        rule: chosen.rule,
+        denied: chosen.denied,
+        outcome: name_of(&chosen.outcome),
+        offset,
+        zones,
+        form: form_of(call.csv),
+    })
 }
 
 /// Prints the report of the audit lines of the input, and says how many lines are none.
@@ -279,7 +314,8 @@ pub fn make_report<R: Files + AllocGlobal, I: Read, W: Write, C: Write>(
     ensures { OnOk result (MakesReport call.now (I.remaining input.old) (W.contents output.old) (W.contents output.new)) }
 {
     let offset = offset_of(rt, &call.config)?;
-    let query = query_of(call, offset);
+    let zones = zones_in(rt, call.records.as_slice())?;
+    let query = query_of(rt.alloc(), call, offset, zones.as_slice())?;
     let none = print_report(rt.alloc(), &query, input, output)?;
     complain_of_lines(call.csv, none, complaints);
     Ok(())

@@ -1,5 +1,5 @@
 -- Records that are told, seen by what a listener keeps.
-use Rattle.std.proofs.Common.{◌≡◌, ◌∙◌, ap, subst, arith, ℕ, zero, suc, ◌+◌, Result, Ok, Err, List, [], ◌∷◌, Option, None}
+use Rattle.std.proofs.Common.{◌≡◌, ◌∙◌, ap, subst, arith, ℕ, Bool, zero, suc, ◌+◌, Result, Ok, Err, List, [], ◌∷◌, Option, None}
 use Rattle.std.specs.Prelude.{OnOk}
 use Rattle.std.specs.Borrow.{Bor}
 use Rattle.std.specs.Io.KnownBytes.{Appends, Keeps}
@@ -16,11 +16,10 @@ use Rattle.sipd_exit.specs.declared.exit.Exit.{Exit}
 use Rattle.sipd_exit.specs.declared.files.Stated.{Stated}
 use Rattle.sipd_capture.specs.declared.choice.CaptureChoice.{CaptureChoice}
 use Rattle.sipd_days.specs.Tellings.{IsBegun, IsToldOn}
-use Rattle.sipd_ladder.specs.Table.{ladder_text}
 use Rattle.sipd_ladder.specs.declared.hearing.Ladder.{Ladder}
 use Rattle.sipd_traces.specs.Days.{TellsDay, TellsFiles}
 use Rattle.sipd_capture.specs.Headers.{file_head}
-use Rattle.sipd_traces.specs.Ladders.{AddsRungs, IsUnheard, PrintsLadder}
+use Rattle.sipd_traces.specs.Ladders.{AddsRungs, IsUnheard, PrintsLadder, shown_ladder}
 use Rattle.sipd_traces.specs.Traces.{TracesStep, WritesCapture, adds_frames}
 
 -- ---- a record
@@ -219,15 +218,15 @@ captured first begun told choice_of contents (Ok x) count new same head days kep
 }
 captured first begun told choice_of contents (Err e) count new same head days kept_then = tt
 
--- a diagram that was printed
-pub laddered : {L : Type 0} (first told : L) (inner : L → Ladder) (result : Result Unit Exit) (count : ℕ) (old new : Option (List ℕ))
+-- a ladder that was printed
+pub laddered : {L : Type 0} (first told : L) (inner : L → Ladder) (result : Result Unit Exit) (svg : Bool) (count : ℕ) (old new : Option (List ℕ))
     → IsUnheard (inner first) → OnOk result (TellsFiles (hears_in inner AddsRungs) count first told)
-    → Appends old new (ladder_text (inner told).call_id (inner told).names (inner told).rungs) → OnOk result (PrintsLadder count old new)
-laddered first told inner (Ok x) count old new unheard days printed = record {
+    → Appends old new (shown_ladder svg (inner told)) → OnOk result (PrintsLadder svg count old new)
+laddered first told inner (Ok x) svg count old new unheard days printed = record {
   first = inner first;
   unheard = unheard;
   ladder = inner told;
   days = seen_files inner AddsRungs count first told days;
   printed = printed;
 }
-laddered first told inner (Err e) count old new unheard days printed = tt
+laddered first told inner (Err e) svg count old new unheard days printed = tt

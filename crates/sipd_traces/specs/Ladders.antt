@@ -1,10 +1,11 @@
 -- A call of recorded days.
-use Rattle.std.specs.Prelude.{◌≡◌, ℕ, List, [], ◌∷◌, Option}
+use Rattle.std.specs.Prelude.{◌≡◌, ℕ, Bool, if◌then◌else◌, List, [], ◌∷◌, Option}
 use Rattle.std.specs.Io.KnownBytes.{Appends}
 use Rattle.sip_listener.specs.Heard.{Heard}
 use Rattle.sipd_ladder.specs.Hearing.{names_with, place_at, rungs_with}
 use Rattle.sipd_ladder.specs.Table.{ladder_text}
 use Rattle.sipd_ladder.specs.declared.hearing.Ladder.{Ladder}
+use Rattle.sipd_ladder_picture.specs.Picture.{drawing}
 use Rattle.sipd_traces.specs.Days.{TellsFiles}
 
 -- a ladder hears a step
@@ -30,10 +31,15 @@ pub record IsUnheard (ladder : Ladder) : Type 0 where
   pub rungs : ladder.rungs ≡ []
   pub names : ladder.names ≡ []
 
--- the diagram of a call of so many records was printed
-pub record PrintsLadder (count : ℕ) (old new : Option (List ℕ)) : Type 0 where
+-- a ladder as a drawing, or as text
+abbrev pub shown_ladder : Bool → Ladder → List ℕ
+shown_ladder svg ladder =
+    if svg then drawing ladder.call_id ladder.names ladder.rungs else ladder_text ladder.call_id ladder.names ladder.rungs
+
+-- a call of so many records was printed so
+pub record PrintsLadder (svg : Bool) (count : ℕ) (old new : Option (List ℕ)) : Type 0 where
   pub first : Ladder
   pub unheard : IsUnheard first
   pub ladder : Ladder
   pub days : TellsFiles AddsRungs count first ladder
-  pub printed : Appends old new (ladder_text ladder.call_id ladder.names ladder.rungs)
+  pub printed : Appends old new (shown_ladder svg ladder)

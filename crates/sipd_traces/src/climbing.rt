@@ -1,18 +1,19 @@
-//! The command `ladder`: a call of recorded days as a diagram.
-ghost use Rattle.std.specs.Prelude.{◌≡◌, length, OnOk};
+//! The command `ladder`: a call of recorded days as a diagram, or as a drawing.
+ghost use Rattle.std.specs.Prelude.{◌≡◌, length, IfOk, OnOk};
 ghost use Rattle.std.specs.Io.KnownBytes.{Appends};
-ghost use Rattle.sipd_ladder.specs.Table.{ladder_text};
-ghost use Rattle.sipd_traces.specs.Ladders.{PrintsLadder};
+ghost use Rattle.sipd_traces.specs.Ladders.{PrintsLadder, shown_ladder};
 
 use crate::climber::Climber;
 use crate::files::tell_files;
 use crate::naming::{call_id_of, reading_of};
 use sip_policy::Rules;
+use sip_text::Bytes;
 use sip_timers::Timers;
 use sipd_arguments::LadderCall;
 use sipd_exit::{Exit, print};
 use sipd_ladder::Ladder;
-use std::alloc::Global;
+use sipd_ladder_picture::picture;
+use std::alloc::{AllocError, Global};
 use std::io::Write;
 use std::rt::{Clock, Files};
 
@@ -24,16 +25,32 @@ fn nothing_of(alloc: Global, call: &str) -> Exit {
     }
 }
 
-/// Prints a diagram.
-fn print_ladder<W: Write>(alloc: Global, ladder: &Ladder, output: &mut W) -> Result<(), Exit>
-    ensures { OnOk result (Appends (W.contents output.old) (W.contents output.new) (ladder_text ladder.now.call_id ladder.now.names ladder.now.rungs)) }
+/// A ladder as text, or as a drawing.
+fn ladder_shown(alloc: Global, svg: bool, ladder: &Ladder) -> Result<Bytes, AllocError>
+    ensures { IfOk result (λ text. text ≡ shown_ladder svg ladder.now) }
 {
-    let text = ladder.text(alloc)?;
+    if svg {
+        picture(alloc, ladder)
+    } else {
+        ladder.text(alloc)
+    }
+}
+
+/// Prints it.
+fn print_ladder<W: Write>(
+    alloc: Global,
+    svg: bool,
+    ladder: &Ladder,
+    output: &mut W,
+) -> Result<(), Exit>
+    ensures { OnOk result (Appends (W.contents output.old) (W.contents output.new) (shown_ladder svg ladder.now)) }
+{
+    let text = ladder_shown(alloc, svg, ladder)?;
     print(text.as_slice(), output)
 }
 
-/// Prints a call of recorded days as a diagram; one of which they have nothing is no call. A record that is being written may be among them. Where
-/// one is damaged, what came before is in it, and the program ends as that says.
+/// Prints a call of recorded days as a diagram, or as a drawing; one of which they have nothing is no call. A record that is being written may be
+/// among them. Where one is damaged, what came before is in it, and the program ends as that says.
 ///
 /// `seen`: whether somebody looks at standard error, where it is said then how far it is.
 pub fn draw_ladder<
@@ -43,7 +60,7 @@ pub fn draw_ladder<
     W: Write,
     C: Write,
 >(rt: &R, call: &LadderCall, seen: bool, output: &mut W, complaints: &mut C) -> Result<(), Exit>
-    ensures { OnOk result (PrintsLadder (length call.now.records.items) (W.contents output.old) (W.contents output.new)) }
+    ensures { OnOk result (PrintsLadder call.now.svg (length call.now.records.items) (W.contents output.old) (W.contents output.new)) }
 {
     let alloc = rt.alloc();
     let records = call.records.as_slice();
@@ -58,6 +75,6 @@ pub fn draw_ladder<
         told?;
         return Err(nothing_of(alloc, call.call.as_str()));
     }
-    print_ladder(alloc, &climber.ladder, output)?;
+    print_ladder(alloc, call.svg, &climber.ladder, output)?;
     told
 }

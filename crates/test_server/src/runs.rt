@@ -6,9 +6,6 @@ mod run;
 
 use run::{ScriptAgreement, agreement_of, steps_agree};
 use std::io;
-use std::net::Net;
-use std::random::RandomSource;
-use std::rt::{Clock, Files};
 use test_forms::names::names_in;
 
 /// How many runs there are, and how many of them agree.
@@ -32,8 +29,8 @@ impl Count {
 }
 
 /// Counts what a script comes to, and prints where it doesn't agree.
-fn count_script<R: Print>(
-    rt: &R,
+fn count_script(
+    rt: &HostRuntime,
     name: &str,
     agreement: ScriptAgreement,
     on_lists: &mut Count,
@@ -52,8 +49,8 @@ fn count_script<R: Print>(
 
 /// Does a run, by the program and, where it has a script, on plain lists and on two servers; the name of one that doesn't agree
 /// is printed.
-fn do_run<R: Files + Net + Clock + RandomSource + Print + Eprint + AllocGlobal>(
-    rt: &R,
+fn do_run(
+    rt: &HostRuntime,
     name: &str,
     by_program: &mut Count,
     on_lists: &mut Count,
@@ -72,10 +69,7 @@ fn do_run<R: Files + Net + Clock + RandomSource + Print + Eprint + AllocGlobal>(
 
 /// Does these runs, and prints how many agree; then how many of those with a script do on plain lists of timers and rules, and
 /// behind how many two servers go on alike.
-fn tell_runs<R: Files + Net + Clock + RandomSource + Print + Eprint + AllocGlobal>(
-    rt: &R,
-    names: &[String],
-) -> io::Result<()> {
+fn tell_runs(rt: &HostRuntime, names: &[String]) -> io::Result<()> {
     let mut by_program = Count::new();
     let mut on_lists = Count::new();
     let mut alike = Count::new();
@@ -100,15 +94,13 @@ fn tell_runs<R: Files + Net + Clock + RandomSource + Print + Eprint + AllocGloba
 }
 
 /// Does every run of the folder.
-pub fn tell_all<
-    R: Files + Net + Clock + RandomSource + Print + Eprint + AllocGlobal + Clone + Drop,
->(rt: &R) -> io::Result<()> {
+pub fn tell_all(rt: &HostRuntime) -> io::Result<()> {
     let names = names_in(rt, ".")?;
     tell_runs(rt, names.as_slice())
 }
 
 /// Takes the steps of one run, and prints whether they agree.
-pub fn tell_steps<R: Files + Print + AllocGlobal>(rt: &R, name: &str) -> io::Result<()> {
+pub fn tell_steps(rt: &HostRuntime, name: &str) -> io::Result<()> {
     if steps_agree(rt, name) {
         println!(rt; "the steps of {name} agree")
     } else {

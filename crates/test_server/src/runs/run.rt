@@ -8,24 +8,16 @@ use sipd_arguments::{Parsed, ProgramCall, ReplayCall, parse};
 use sipd_command::{command, replay_script};
 use sipd_exit::{DeviceFault, Exit};
 use std::io::Write;
-use std::net::Net;
-use std::random::RandomSource;
-use std::rt::{Clock, Files};
 use test_engine::alike::leaves_alike;
 use test_engine::refusals::prints;
 use test_forms::stored::{agrees, file_of, input_of, script_of, words_of};
 
 /// Whether these words and this input give the output, the complaint and the status that a run's files say.
-fn gives<R: Files + Net + Clock + RandomSource + Eprint + AllocGlobal>(
-    rt: &R,
-    name: &str,
-    words: &[String],
-    script: &[u8],
-) -> bool {
+fn gives(rt: &HostRuntime, name: &str, words: &[String], script: &[u8]) -> bool {
     let mut input = script;
     let mut output = Vec::new(rt.alloc());
     let mut complaints = Vec::new(rt.alloc());
-    let status = command::<WheelTimers, IndexedRules, R, &[u8], Vec<u8>, Vec<u8>>(
+    let status = command::<WheelTimers, IndexedRules, HostRuntime, &[u8], Vec<u8>, Vec<u8>>(
         rt,
         words,
         false,
@@ -37,29 +29,27 @@ fn gives<R: Files + Net + Clock + RandomSource + Eprint + AllocGlobal>(
 }
 
 /// Replays a script as these words say, on plain lists of timers and rules; how the program would end.
-fn replay_on_lists<R: Files + AllocGlobal>(
-    rt: &R,
+fn replay_on_lists(
+    rt: &HostRuntime,
     words: &[String],
     script: &[u8],
     output: &mut Vec<u8>,
 ) -> Result<(), Exit> {
     let mut input = script;
-    match parse(rt.alloc(), words)? {
+    let parsed = parse(rt.alloc(), words)?;
+    match &parsed {
         Parsed::Call(ProgramCall::Replay(ReplayCall::Script { config })) => {
             let path = config.as_ref().map(String::as_str);
-            replay_script::<ListTimers, ListRules, R, &[u8], Vec<u8>>(rt, path, &mut input, output)
+            replay_script::<ListTimers, ListRules, HostRuntime, &[u8], Vec<u8>>(
+                rt, path, &mut input, output,
+            )
         }
         _ => Err(Exit::Device(DeviceFault::Other)),
     }
 }
 
 /// Whether the replay that these words ask for gives the same on plain lists of timers and rules.
-fn gives_on_lists<R: Files + AllocGlobal>(
-    rt: &R,
-    name: &str,
-    words: &[String],
-    script: &[u8],
-) -> bool {
+fn gives_on_lists(rt: &HostRuntime, name: &str, words: &[String], script: &[u8]) -> bool {
     let mut output = Vec::new(rt.alloc());
     let mut complaints = Vec::new(rt.alloc());
     let status = match replay_on_lists(rt, words, script, &mut output) {
@@ -88,8 +78,8 @@ pub struct Agreement {
 }
 
 /// What the script of a run comes to.
-fn script_agreement<R: Files + AllocGlobal>(
-    rt: &R,
+fn script_agreement(
+    rt: &HostRuntime,
     name: &str,
     words: &[String],
     script: &[u8],
@@ -101,10 +91,7 @@ fn script_agreement<R: Files + AllocGlobal>(
 }
 
 /// Whether a run agrees with its files.
-pub fn agreement_of<R: Files + Net + Clock + RandomSource + Eprint + AllocGlobal>(
-    rt: &R,
-    name: &str,
-) -> Agreement {
+pub fn agreement_of(rt: &HostRuntime, name: &str) -> Agreement {
     let Some(words) = words_of(rt, name) else {
         return Agreement {
             by_program: false,
@@ -124,7 +111,7 @@ pub fn agreement_of<R: Files + Net + Clock + RandomSource + Eprint + AllocGlobal
 }
 
 /// Whether the steps of a run with the sample's configuration, each taken by itself, print what its file says.
-pub fn steps_agree<R: Files + AllocGlobal>(rt: &R, name: &str) -> bool {
+pub fn steps_agree(rt: &HostRuntime, name: &str) -> bool {
     let Some(script) = file_of(rt, name, "script") else {
         return false;
     };

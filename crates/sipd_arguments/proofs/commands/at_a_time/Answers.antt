@@ -1,16 +1,15 @@
 use Rattle.std.proofs.Common.{◌∙◌, ap}
-use Rattle.std.proofs.lemmas.Result.{IfOk-weaker}
 use Rattle.clap.specs.declared.builder.arg.Arg.{Arg}
-use Rattle.sipd_arguments.proofs.Building.{added, needed_rule}
+use Rattle.sipd_arguments.proofs.Building.{needed_rule}
 use Rattle.sipd_arguments.proofs.commands.at_a_time.Goals as goal
 
 pub returns : goal.returns
 returns c shape is =
-    IfOk-weaker c.arg-3.result _ _ (λ r h. added _ _ r _ _
-    (added _ _ _ _ _
-    (added _ _ _ _ _
+    c.with_option.ensures _ _
+    (c.with_option-command-2.ensures _ _
+    (c.with_option-command.ensures _ _
     is
-    c.in_ok-arg.ensures (needed_rule _ _ _ c.required.ensures c.one_day_argument.ensures.rule)
+    (needed_rule _ _ _ c.required.ensures c.one_day_argument.ensures.rule)
     (ap (λ (x : Arg). x.global) c.required.ensures ∙ c.one_day_argument.ensures.local))
-    c.in_ok-arg-2.ensures c.old_config_argument.ensures.rule c.old_config_argument.ensures.local)
-    h c.at_argument.ensures.rule c.at_argument.ensures.local) c.arg-3.ensures
+    c.old_config_argument.ensures.rule c.old_config_argument.ensures.local)
+    c.at_argument.ensures.rule c.at_argument.ensures.local

@@ -1,20 +1,19 @@
 use Rattle.std.proofs.Common.{◌∙◌, ap, codes}
-use Rattle.std.proofs.lemmas.Result.{IfOk-weaker}
 use Rattle.clap.specs.Simple.{app_of_fields}
 use Rattle.clap.specs.declared.builder.arg.Arg.{Arg}
 use Rattle.clap.specs.declared.builder.command.Command.{Command}
 use Rattle.clap.specs.declared.builder.command.Command.TheOpen.{Command-F}
-use Rattle.sipd_arguments.proofs.Building.{begun, added, needed_rule}
+use Rattle.sipd_arguments.proofs.Building.{begun, needed_rule}
 use Rattle.sipd_arguments.proofs.commands.compact_command.Goals as goal
 
 pub returns : goal.returns
 returns c =
-    IfOk-weaker c.arg-3.result _ _ (λ r h. added _ _ r _ _
-    (added _ _ _ _ _
-    (added _ _ _ _ _
-    (begun _ (codes "compact") (ap app_of_fields c.about.ensures ∙ c.new.ensures.app) (ap (λ (f : Command-F Command). f.has_globals) c.about.ensures
+    c.with_option.ensures _ _
+    (c.with_option-compact-2.ensures _ _
+    (c.with_option-compact.ensures _ _
+    (begun _ (codes "compact") (ap app_of_fields c.about-compact.ensures ∙ c.new.ensures.app) (ap (λ (f : Command-F Command). f.has_globals) c.about-compact.ensures
     ∙ c.new.ensures.local))
-    c.in_ok-arg.ensures (needed_rule _ _ _ c.required.ensures c.config_argument.ensures.rule)
+    (needed_rule _ _ _ c.required.ensures c.config_argument.ensures.rule)
     (ap (λ (x : Arg). x.global) c.required.ensures ∙ c.config_argument.ensures.local))
-    c.in_ok-arg-2.ensures c.word.ensures.rule c.word.ensures.local)
-    h c.word-2.ensures.rule c.word-2.ensures.local) c.arg-3.ensures
+    c.word.ensures.rule c.word.ensures.local)
+    c.word-2.ensures.rule c.word-2.ensures.local

@@ -1,13 +1,11 @@
-use Rattle.std.proofs.lemmas.Result.{IfOk-weaker}
-use Rattle.sipd_arguments.proofs.Building.{added}
 use Rattle.sipd_arguments.proofs.commands.counting.Goals as goal
 
 pub returns : goal.returns
 returns c shape is =
-    IfOk-weaker c.arg-3.result _ _ (λ r h. added _ _ r _ _
-    (added _ _ _ _ _
-    (added _ _ _ _ _
+    c.with_option.ensures _ _
+    (c.with_option-command-2.ensures _ _
+    (c.with_option-command.ensures _ _
     is
-    c.in_ok-arg.ensures c.option.ensures.rule c.option.ensures.local)
-    c.in_ok-arg-2.ensures c.option-2.ensures.rule c.option-2.ensures.local)
-    h c.option-3.ensures.rule c.option-3.ensures.local) c.arg-3.ensures
+    c.option-since.ensures.rule c.option-since.ensures.local)
+    c.option-until.ensures.rule c.option-until.ensures.local)
+    c.option-from.ensures.rule c.option-from.ensures.local

@@ -13,7 +13,8 @@ returns c =
     (added _ _ _ _ _
     (added _ _ _ _ _
     (c.in_ok-told.ensures _
-    (begun _ (codes "trace") (ap app_of_fields c.about.ensures ∙ c.new.ensures.app) (ap (λ (f : Command-F Command). f.has_globals) c.about.ensures
+    (begun _ (codes "trace") (ap app_of_fields c.override_usage.ensures ∙ ap app_of_fields c.about.ensures ∙ c.new.ensures.app)
+    (ap (λ (f : Command-F Command). f.has_globals) c.override_usage.ensures ∙ ap (λ (f : Command-F Command). f.has_globals) c.about.ensures
     ∙ c.new.ensures.local)))
     c.in_ok-arg.ensures (needed_rule _ _ _ c.required.ensures c.option.ensures.rule)
     (ap (λ (x : Arg). x.global) c.required.ensures ∙ c.option.ensures.local))

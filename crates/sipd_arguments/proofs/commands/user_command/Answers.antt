@@ -1,19 +1,19 @@
 use Rattle.std.proofs.Common.{◌∙◌, ap, codes}
-use Rattle.std.proofs.lemmas.Result.{IfOk-weaker}
 use Rattle.clap.specs.Simple.{app_of_fields}
 use Rattle.clap.specs.declared.builder.command.Command.{Command}
 use Rattle.clap.specs.declared.builder.command.Command.TheOpen.{Command-F}
-use Rattle.sipd_arguments.proofs.Building.{begun, added}
+use Rattle.sipd_arguments.proofs.Building.{begun}
 use Rattle.sipd_arguments.proofs.commands.user_command.Goals as goal
 
 pub returns : goal.returns
 returns c =
-    IfOk-weaker c.arg-4.result _ _ (λ r h. added _ _ r _ _
-    (added _ _ _ _ _
-    (added _ _ _ _ _
-    (added _ _ _ _ _
-    (begun _ (codes "user") (ap app_of_fields c.about.ensures ∙ c.new.ensures.app) (ap (λ (f : Command-F Command). f.has_globals) c.about.ensures ∙ c.new.ensures.local))
-    c.in_ok-arg.ensures c.word.ensures.rule c.word.ensures.local)
-    c.in_ok-arg-2.ensures c.config_argument.ensures.rule c.config_argument.ensures.local)
-    c.in_ok-arg-3.ensures c.realm_argument.ensures.rule c.realm_argument.ensures.local)
-    h c.sha256_argument.ensures.rule c.sha256_argument.ensures.local) c.arg-4.ensures
+    c.with_option.ensures _ _
+    (c.with_option-user-3.ensures _ _
+    (c.with_option-user-2.ensures _ _
+    (c.with_option-user.ensures _ _
+    (begun _ (codes "user") (ap app_of_fields c.about-user.ensures ∙ c.new.ensures.app) (ap (λ (f : Command-F Command). f.has_globals) c.about-user.ensures
+    ∙ c.new.ensures.local))
+    c.word.ensures.rule c.word.ensures.local)
+    c.config_argument.ensures.rule c.config_argument.ensures.local)
+    c.realm_argument.ensures.rule c.realm_argument.ensures.local)
+    c.sha256_argument.ensures.rule c.sha256_argument.ensures.local

@@ -23,6 +23,7 @@ returns c = record {
   now = refl;
   trace = refl;
   no_capture = refl;
+  drawn = refl;
   ladder = refl;
   counted = refl;
   unproven = refl;

@@ -2,7 +2,7 @@ use Rattle.std.proofs.Common.{ℕ, List, ◌++◌, ◌∙◌, ap}
 use Rattle.std.specs.List.{flat_map}
 use Rattle.std.proofs.lemmas.Result.{on_ok_weaker}
 use Rattle.sip_audit.specs.Lines.{user_byte_text}
-use Rattle.sipd_calls.specs.Words.{user_text}
+use Rattle.sipd_report.specs.Chosen.{user_text}
 use Rattle.sipd_calls.proofs.Parts.{in_cell}
 use Rattle.sipd_calls.proofs.cells.push_called.Goals as goal
 

@@ -1,7 +1,7 @@
 use Rattle.std.specs.Prelude.{option_map}
 use Rattle.sip_run.specs.Due.{standing_of}
 use Rattle.sip_replay_script.specs.Lines.{pending}
-use Rattle.sipd_days.specs.Said.{moment_at}
+use Rattle.sipd_report.specs.Said.{moment_at}
 use Rattle.sipd_days.proofs.Stood.{there}
 use Rattle.sipd_days.proofs.standing.stand_at.Goals as goal
 

@@ -1,6 +1,6 @@
 use Rattle.std.proofs.Common.{codes}
 use Rattle.std.proofs.lemmas.Result.{on_ok_weaker}
-use Rattle.sipd_matrix_forms.specs.Html.{escaped}
+use Rattle.sipd_report.specs.Html.{escaped}
 use Rattle.sipd_matrix_forms.proofs.Written.{three_parts}
 use Rattle.sipd_matrix_forms.proofs.html.put_kind.Goals as goal
 

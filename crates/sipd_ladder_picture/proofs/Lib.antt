@@ -1,0 +1,4 @@
+pub mod Order
+pub mod Printable
+pub mod Adding
+pub mod Whole

@@ -1,0 +1,7 @@
+use Rattle.std.proofs.Common.{refl}
+use Rattle.std.specs.Fmt.{digits}
+use Rattle.sipd_ladder_picture.proofs.examples.line_example.Goals as goal
+
+pub returns : goal.returns
+unfolding digits
+returns c = refl

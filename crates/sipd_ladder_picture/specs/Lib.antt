@@ -1,0 +1,4 @@
+pub mod Kinds
+pub mod Parts
+pub mod Rows
+pub mod Picture

@@ -1,8 +1,0 @@
-use Rattle.std.proofs.Common.{◌≡◌, ◌++◌, take}
-use Rattle.std.specs.List.{flat_map}
-use Rattle.sipd_matrix_forms.specs.Html.{escaped_byte}
-use Rattle.sipd_matrix_forms.proofs.html.put_escaped.Given as goal
-
--- what is written so far
-abbrev pub invariant-loop-byte : goal.invariant-loop-byte
-invariant-loop-byte l = l.text ≡ l.fn.text ++ flat_map (escaped_byte) (take l.byte-index l.more)

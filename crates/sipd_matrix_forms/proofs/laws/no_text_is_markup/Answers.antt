@@ -1,8 +1,0 @@
-use Rattle.sipd_matrix_forms.proofs.Escapes.{no_markup, references}
-use Rattle.sipd_matrix_forms.proofs.laws.no_text_is_markup.Goals as goal
-
-pub returns-clause-marks : goal.returns-clause-marks
-returns-clause-marks c = no_markup
-
-pub returns-clause-references : goal.returns-clause-references
-returns-clause-references c = references
