@@ -124,12 +124,10 @@ def stored():
 
 
 def tried():
-    """What `test_server` tries: all that the gate compares, the steps of a script, and two kinds of timers and of rules beside each other."""
+    """What `test_server` tries: all that the gate compares, and the steps of a script."""
     crate, script = os.path.join(TOP, "crates", "test_server"), os.path.join(DATA, "registered")
     yield ["test_server"], DATA, read(os.path.join(crate, "stdin")), os.path.join(crate, "stdout"), 0
     yield ["test_server", "refusals"], DATA, read(script + ".script"), script + ".out", 0
-    for kinds in ("timers", "rules"):
-        yield ["test_server", "kinds", kinds, "1", "1000"], DATA, b"", None, 0
 
 
 def knock(port, config, is_over):

@@ -1,5 +1,5 @@
 #!/usr/bin/env python3
-"""Makes the stored runs `damaged_datagrams_*` and `size_limits` of crates/test_server/data, those of a record, and those of its calls, as captures, diagrams and a drawing, too, by rules of its own.
+"""Makes the stored runs `damaged_datagrams_*` and `size_limits` of crates/test_server/data, those of a record, and those of its calls, as captures, diagrams, a drawing and a page, too, by rules of its own.
 
 Says whether the stored files are what it makes; with the word `write` writes them; with `script NAME` or `print NAME`
 prints the script of a run, or what `sipd replay` must print of it, whole, so that a difference can be looked at.
@@ -645,6 +645,9 @@ def of_calls(head, sample, key):
     # help's binding lives for an hour from second 2 on; the answered call is talked from second 11 on; the last one rings from 01:01:35 on
     phone = "registered   contact                     left    since          from\n"
     call = "number since          caller       called               rule  state   for\n"
+    # A request stays open for 32 seconds (64 * T1, RFC 3261 17) behind its final answer. At second 62 the BYE comes, which nobody answers, so that it
+    # is answered with 408 at second 94, and the dialog stands; it and those of seconds 70, 80, 90, 95 and 97 are open at the end.
+    tables = "open requests: {} of 1024; dialogs: 1 of 4096\n".format
     for name, words, output in (
         (
             "phones_at_a_minute",
@@ -655,17 +658,17 @@ def of_calls(head, sample, key):
         (
             "now_at_a_minute",
             "now --at 1970-01-01T00:01",
-            "1970-01-01 00:01:00 UTC+00:00\n" + call + "3      01-01 00:00:11 -            help                 4     talks   0:49\n",
+            "1970-01-01 00:01:00 UTC+00:00\n" + call + "3      01-01 00:00:11 -            help                 4     talks   0:49\n" + tables(0),
         ),
         (
             "now_at_the_end",
             "now",
-            "1970-01-01 01:01:37 UTC+01:00\n" + call + "10     01-01 01:01:35 -            help                 4     rings   0:02\n",
+            "1970-01-01 01:01:37 UTC+01:00\n" + call + "10     01-01 01:01:35 -            help                 4     rings   0:02\n" + tables(6),
         ),
         (
             "now_by_a_later_clock",
             "now --at 1970-01-01T01:01:36",
-            "1970-01-01 01:01:36 UTC+01:00\n" + call + "10     01-01 01:01:35 -            help                 4     rings   0:01\n",
+            "1970-01-01 01:01:36 UTC+01:00\n" + call + "10     01-01 01:01:35 -            help                 4     rings   0:01\n" + tables(5),
         ),
         (
             "phones_as_values",
@@ -697,13 +700,24 @@ def of_calls(head, sample, key):
         yield f"{name}.out", output
     # at the moment of the last event in front of the damage no call stands
     yield "now_of_a_damaged_day.args", "now\n--record\ncalls_of_a_damaged_day.record\n--at\n1970-01-01T00:02\n"
-    yield "now_of_a_damaged_day.out", "1970-01-01 00:01:02 UTC+00:00\n" + call
+    yield "now_of_a_damaged_day.out", "1970-01-01 00:01:02 UTC+00:00\n" + call + tables(1)
     yield "now_of_a_damaged_day.err", f"sipd: script line {damaged.count(chr(10)) + 1}\n"
     yield "now_of_a_damaged_day.status", "3\n"
-    # another start went on from the first of these: each is told
+    # the second of these doesn't say that it follows the first: all of each is told, in one table
     yield "calls_of_two_records.args", "calls\n--record\ncalls_of_two_records.record\ncalls_of_a_day.record\n"
     yield "calls_of_two_records.record", head.replace("record ", "left   ", 1) + front
-    yield "calls_of_two_records.out", one + table
+    yield "calls_of_two_records.out", utc + DAY_ROWS[3] + shown + ahead + late + "calls: 6, answered: 2, talked: 1:42\n"
+    # and here it does: a call stands where the first one ends, and has one row; what came in front of that isn't told again
+    followed = sealed(head + front[: front.rindex("text 62000 ")])
+    following = f"follows calls_of_a_followed_day.record {followed[-65:-1]}\n"
+    yield "calls_of_a_followed_day.args", "calls\n--record\ncalls_of_a_followed_day.record\ncalls_of_a_following_day.record\n"
+    yield "calls_of_a_followed_day.record", followed.replace("record ", "left   ", 1)
+    yield "calls_of_a_following_day.record", head + following + front + others
+    yield "calls_of_a_followed_day.out", table
+    # alone it follows nothing that is told: all of it is
+    yield "calls_of_a_following_day.args", "calls\n--record\ncalls_of_a_following_day.record\n"
+    yield "calls_of_a_following_day.out", table
+    yield from of_a_page(followed[-65:-1], sha256(sample))
     yield "calls_since_no_time.args", "calls\n--record\ncalls_of_a_day.record\n--since\nyesterday\n"
     yield "calls_since_no_time.err", "sipd: no time: yesterday: it is a date, as 2026-10-14, or with a time of day, as 2026-10-14T06:30\n"
     yield "calls_since_no_time.status", "1\n"
@@ -712,7 +726,8 @@ def of_calls(head, sample, key):
 # ---- the addresses of a day
 
 # What happens. 192.0.2.7 is asked for a credential as Mufasa, proves it, comes back with it later, when its nonce was used so often, and proves it
-# again. 192.0.2.9 has an old password of alice's. 198.51.100.5 asks as 100, as 101, for vault, which rule 3 denies, and as 102, with a password.
+# again. 192.0.2.9 has an old password of alice's. 198.51.100.5 asks as 100, as 101 and, with a password, as 102, who are no users, so that no rule
+# would let even who is proven do that, and no credential is asked for; and for vault, which rule 3 denies.
 # From 203.0.113.1 something comes that is no message. The clock is an hour ahead from second 10 on.
 SOURCES_HEAD = "address         heard    asked  proven wrong names first          last\n"
 SOURCES_NAMES = "address,heard,asked,proven,wrong,names,first,last\r\n"
@@ -754,8 +769,8 @@ def of_sources(head, sample, key):
             "sources_of_a_day",
             "1970-01-01 01:00:12 UTC+01:00\n" + SOURCES_HEAD
             + "192.0.2.9       3        3      0      2     1     01-01 00:00:03 01-01 00:00:05\n"
-            + "198.51.100.5    4        3      0      1     3     01-01 00:00:06 01-01 00:00:09\n"
             + "192.0.2.7       4        2      2      0     1     01-01 00:00:01 01-01 01:00:11\n"
+            + "198.51.100.5    4        0      0      0     3     01-01 00:00:06 01-01 00:00:09\n"
             + "203.0.113.1     1        0      0      0     0     01-01 01:00:12 01-01 01:00:12\n",
             None,
             0,
@@ -765,7 +780,7 @@ def of_sources(head, sample, key):
             "sources_of_a_day --since 1970-01-01T00:00:05 --until 1970-01-01T00:00:09",
             "1970-01-01 01:00:12 UTC+01:00\n" + SOURCES_HEAD
             + "192.0.2.9       1        1      0      1     1     01-01 00:00:05 01-01 00:00:05\n"
-            + "198.51.100.5    3        2      0      0     2     01-01 00:00:06 01-01 00:00:08\n",
+            + "198.51.100.5    3        0      0      0     2     01-01 00:00:06 01-01 00:00:08\n",
             None,
             0,
         ),
@@ -804,6 +819,116 @@ def of_sources(head, sample, key):
         if why is not None:
             yield f"{name}.err", why
             yield f"{name}.status", f"{status}\n"
+
+
+# ---- the page of two days
+
+# The first ends while the call of the second 3 stands; the second goes on from it, and has of it what came by then. Each line of the log is one of both.
+PAGE_BEGIN = """\
+<!DOCTYPE html>
+<html lang="en">
+<head>
+<meta charset="utf-8">
+<meta http-equiv="Content-Security-Policy" content="default-src 'none'; style-src 'unsafe-inline'">
+<title>Recorded days</title>
+<style>
+body { font: 14px/1.45 sans-serif; margin: 2em auto; max-width: 82em; padding: 0 1em; color: #1f2328; }
+h2 { border-bottom: 1px solid #888; margin-top: 2em; word-break: break-all; }
+table { border-collapse: collapse; font-size: 13px; }
+th, td { border: 1px solid #d0d7de; padding: 0.2em 0.6em; text-align: left; }
+td.n { text-align: right; }
+pre, code { font-size: 12px; }
+pre { white-space: pre-wrap; word-break: break-all; }
+.allow, .via { background: #d8f0d8; }
+.deny { background: #f4d0d0; }
+.challenge { background: #f8f0c8; }
+.nobody { background: #e0e0e0; }
+p.allow, p.deny { padding: 0.6em 1em; font-weight: bold; }
+svg { max-width: 100%; height: auto; }
+svg text { font-size: 11px; fill: #57606a; }
+svg text.end { text-anchor: end; }
+svg path { fill: none; stroke: #d0d7de; }
+svg path.live { stroke: #0969da; stroke-width: 1.5; }
+</style>
+</head>
+<body>
+<h1>Recorded days</h1>
+"""
+PAGE_LOG = """\
+1000 1 REGISTER - help@host.com register - challenge 401
+2000 2 REGISTER help help@host.com register 1 answer 200
+3000 3 INVITE - help@host.com send 4 sent 1
+70000 6 INVITE - vault@host.com send 3 deny
+80000 7 INVITE - help@host.com send 4 sent 1
+90000 9 INVITE - alice@host.com send - challenge 407
+95000 10 INVITE - help@host.com send 4 sent 1
+97000 11 INVITE Mufasa alice@host.com send 6 answer 480
+"""
+PAGE_SOURCES = {
+    "calls_of_a_followed_day": "127.0.0.1,4,1,1,0,1,1970-01-01T00:00:01+00:00,1970-01-01T00:00:11+00:00",
+    "calls_of_a_following_day": "127.0.0.1,11,2,2,0,2,1970-01-01T00:00:01+00:00,1970-01-01T01:01:37+01:00",
+}
+# who may call whom by check_sample.toml
+PAGE_POLICY = """\
+<h1>INVITE, offset 0
+</h1>
+<pre>A rule&#39;s number, 0 for none, and what comes of it: + goes to the registrar or to
+the bindings, &gt; goes by a hop, - is denied, ? is asked for a proof, ! is allowed
+and reaches nobody; behind / for the asker&#39;s own address. U*@H are all that begin
+so, but those that have a line of their own or a longer beginning.
+</pre>
+<h2>0:00-24:00</h2>
+<table>
+<tr><th>nobody</th><th>Mufasa</th><th>alice</th><th>asks for</th></tr>
+<tr><td class="challenge">6?</td><td class="allow">6+</td><td class="allow">6+</td><td> Mufasa@host.com alice@host.com</td></tr>
+<tr><td class="allow">4+</td><td class="allow">4+</td><td class="allow">4+</td><td> help@host.com</td></tr>
+<tr><td class="challenge">6?</td><td class="nobody">6!</td><td class="nobody">6!</td><td> *@host.com</td></tr>
+<tr><td class="deny">3-</td><td class="deny">3-</td><td class="deny">3-</td><td> vault@host.com</td></tr>
+<tr><td class="challenge">5?</td><td class="via">5&gt;gw</td><td class="nobody">6!</td><td> 9*@host.com</td></tr>
+<tr><td class="deny">0-</td><td class="deny">0-</td><td class="deny">0-</td><td> any other host</td></tr>
+</table>
+<pre>
+as Mufasa ask: Mufasa, of staff
+as alice ask: alice help
+</pre>
+"""
+
+
+def page_table(name, names, lines, numbers):
+    """A table of lines of CSV, in which some columns are of numbers."""
+    rows = [[f'<td class="n">{cell}</td>' if at in numbers and cell else f"<td>{cell}</td>" for at, cell in enumerate(line.rstrip().split(","))] for line in lines]
+    head = "".join(f"<th>{column}</th>" for column in names)
+    return f"<h3>{name}</h3>\n<table>\n<tr>{head}</tr>\n" + "".join(f"<tr>{''.join(row)}</tr>\n" for row in rows) + "</table>\n"
+
+
+def page_section(name, seal, digest, denials, offset):
+    """What the page says of one of them, which is too short for a picture."""
+    facts = {"SHA-256 up to its last seal": seal, "SHA-256 of the configuration with which it begins": digest}
+    return (
+        f"<h2>{name}.record</h2>\n<table>\n"
+        + "".join(f"<tr><th>{what}</th><td><code>{value}</code></td></tr>\n" for what, value in facts.items())
+        + "</table>\n<h3>Addresses of record with a live binding</h3>\n"
+        + "<p>The record is too short for a picture: it is looked at every five minutes.</p>\n"
+        + page_table("Denied, by rule (0: none matched)", ["rule", "denied"], denials, [1])
+        + page_table("Addresses from which datagrams came", SOURCES_NAMES.rstrip().split(","), [PAGE_SOURCES[name]], range(1, 6))
+        + PAGE_POLICY.replace("offset 0\n", f"offset {offset}\n", 1)
+    )
+
+
+def of_a_page(seal, digest):
+    """The run of `page`, by the digests of the first day's end and of the configuration with which both begin."""
+    names = [*DAY_NAMES.split(",")[:7], "ring, ms", "talk, ms", "ended by", "Call-ID"]
+    calls = [line for number, line in DAY_LINES.items() if number != 9]
+    yield "page_of_a_followed_day.args", "page\n--record\ncalls_of_a_followed_day.record\ncalls_of_a_following_day.record\n--log\npage_of_a_followed_day.log\n"
+    yield "page_of_a_followed_day.log", PAGE_LOG
+    yield "page_of_a_followed_day.out", (
+        PAGE_BEGIN
+        + f'<p class="allow">The log comes out of the records again, byte for byte. Lines: {PAGE_LOG.count(chr(10))}</p>\n'
+        + page_table("Calls", names, calls, [0, 7, 8])
+        + page_section("calls_of_a_followed_day", seal, digest, [], 0)
+        + page_section("calls_of_a_following_day", "none: its end is not sealed", digest, ["3,1"], 60)
+        + "</body>\n</html>\n"
+    )
 
 
 # ---- what came and went

@@ -1,10 +1,11 @@
 #!/usr/bin/env python3
 """Tries how a server that serves turns from one record of its folder to the next: `tests/turns.py PROGRAM`, after `rt run` in crates/sipd.
 The office's midnight comes with the next minute, by the offset that its configuration states. A call stands, one rings and one is begun then:
-each goes on; both records replay what was printed; and the server starts again from the next one. Where that can't be begun, the server goes on
+each goes on; both records replay what was printed; the server starts again from the next one; and each of these calls has one row of all records. Where that can't be begun, the server goes on
 in the one that it has. Then a server is killed at each call of the system that it makes for a turn, by strace, where that is there: each start
 behind that finds every phone and every call. It takes some four minutes, and ends with 1 where something isn't so."""
 
+import json
 import os
 import re
 import shutil
@@ -63,6 +64,27 @@ def ends_sealed(path):
         return record.readlines()[-1].startswith("sealed ")
 
 
+def told(*words):
+    """What a command prints of records, line by line."""
+    done = subprocess.run([PROGRAM, *words], stdin=subprocess.DEVNULL, capture_output=True, text=True, timeout=60)
+    assert (done.returncode, done.stderr) == (0, ""), (words, done)
+    return done.stdout.splitlines()
+
+
+def one_history(records):
+    """The four calls of the folder have a row each, with how they ended, also those that stood or rang where a record ended; and what such a call sent is
+    drawn once."""
+    rows = [json.loads(line) for line in told("calls", "--record", records, "--json")]
+    assert [row["result"] for row in rows] == ["answered"] * 4 and all(row["ended_by"] == "caller" for row in rows), rows
+    numbers = [row["number"] for row in rows]
+    assert numbers == sorted(set(numbers)), numbers
+    files = [os.path.join(records, name) for name in made_in(records, "record")]
+    assert [json.loads(line) for line in told("calls", "--json", "--record", *files)] == rows
+    drawn = told("ladder", str(numbers[1]), "--record", records)
+    assert sum(" BYE " in line for line in drawn) == 2 and not any("again" in line for line in drawn), drawn
+    assert told("phones", "--record", records) == told("phones", "--record", files[-1])
+
+
 def turned(folder):
     """A call that stands and one that rings go on in the next record, and behind a start from that."""
     moment, offset = midnight(8)
@@ -97,6 +119,7 @@ def turned(folder):
     _, complaints = killed(server)
     assert complaints.startswith("sipd: goes on behind ") and "second" not in complaints, complaints
     assert len(made_in(records, "record")) == 3
+    one_history(records)
 
 
 def not_begun(folder):

@@ -35,6 +35,7 @@ use Rattle.sipd_arguments.specs.declared.call.TraceCall.{TraceCall}
 use Rattle.sipd_arguments.specs.declared.call.LadderCall.{LadderCall}
 use Rattle.sipd_arguments.specs.declared.call.SourcesCall.{SourcesCall}
 use Rattle.sipd_arguments.specs.declared.call.ChosenSources.{ChosenSources}
+use Rattle.sipd_arguments.specs.declared.call.PageCall.{PageCall}
 use Rattle.sipd_arguments.specs.declared.call.ExpectedDecision.{ExpectedDecision}
 use Rattle.sipd_arguments.specs.declared.call.ExpectedDecision.TheVariants.{Allow, Deny, Challenge}
 use Rattle.sipd_exit.specs.declared.record_place.RecordFault.{RecordFault}
@@ -238,6 +239,9 @@ sources_command = command (codes "sources")
     ∷ flag (codes "json")
     ∷ [])
 
+abbrev pub page_command : Shape
+page_command = command (codes "page") (needed (several (option (codes "record"))) ∷ option (codes "config") ∷ option (codes "log") ∷ [])
+
 -- the program without its commands: one has to be there
 abbrev pub no_commands : App
 no_commands = record (new_app (codes "sipd")) { top = record (new_app (codes "sipd")).top { has_version = true; subcommand_required = true } }
@@ -247,7 +251,8 @@ abbrev pub program : App
 program = record {
   top = record no_commands.top { is_leaf = false };
   subs = check_command ∷ replay_command ∷ compact_command ∷ serve_command ∷ decide_command ∷ matrix_command ∷ report_command ∷ user_command
-      ∷ calls_command ∷ phones_command ∷ now_command ∷ trace_command ∷ ladder_command ∷ sources_command ∷ [];
+      ∷ calls_command ∷ phones_command ∷ now_command ∷ trace_command ∷ ladder_command ∷ sources_command
+      ∷ page_command ∷ [];
 }
 
 -- ---- what is said of an option
@@ -452,6 +457,12 @@ pub record IsSources (rows : List Row) (call : SourcesCall) : Type 0 where
   pub csv : call.csv ≡ is_on (codes "csv") rows
   pub json : call.json ≡ is_on (codes "json") rows
 
+-- `page`
+pub record IsPage (rows : List Row) (call : PageCall) : Type 0 where
+  pub records : map string_bytes call.records.items ≡ texts_at (codes "record") rows
+  pub config : option_map string_bytes call.config ≡ text_at (codes "config") rows
+  pub log : option_map string_bytes call.log ≡ text_at (codes "log") rows
+
 -- what a command with its options asks for
 abbrev pub IsCall : Text → List Row → ProgramCall → Type 0
 IsCall name rows (calls.Check call) = (name ≡ codes "check") × IsCheck rows call
@@ -468,6 +479,7 @@ IsCall name rows (calls.Now call) = (name ≡ codes "now") × IsTime rows call
 IsCall name rows (calls.Trace call) = (name ≡ codes "trace") × IsTrace rows call
 IsCall name rows (calls.Ladder call) = (name ≡ codes "ladder") × IsLadder rows call
 IsCall name rows (calls.Sources call) = (name ≡ codes "sources") × IsSources rows call
+IsCall name rows (calls.Page call) = (name ≡ codes "page") × IsPage rows call
 
 -- the same of the command that a command line names, if it names one
 abbrev pub IsCallOf : Option (Text × List Row) → ProgramCall → Type 0
@@ -562,7 +574,8 @@ is_of_days name = list_any (bytes_eq name) (codes "calls" ∷ codes "phones" ∷
 
 -- the commands whose options all stand together
 abbrev pub is_free : Text → Bool
-is_free name = list_any (bytes_eq name) (codes "check" ∷ codes "replay" ∷ codes "compact" ∷ codes "report" ∷ codes "trace" ∷ codes "ladder" ∷ [])
+is_free name = list_any (bytes_eq name) (codes "check" ∷ codes "replay" ∷ codes "compact" ∷ codes "report" ∷ codes "trace" ∷ codes "ladder"
+    ∷ codes "page" ∷ [])
 
 abbrev pub misuse_in : Text → List Row → Option Misuse
 misuse_in name rows =

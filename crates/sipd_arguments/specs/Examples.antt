@@ -59,6 +59,7 @@ pub record AreLines : Type 0 where
   pub ladder : faults_in (line (codes "ladder" ∷ codes "7" ∷ codes "--record" ∷ codes "a" ∷ [])) ≡ []
   pub counted : faults_in (line (codes "sources" ∷ codes "--record" ∷ codes "a" ∷ codes "b" ∷ codes "--from" ∷ codes "192.0.2.7" ∷ [])) ≡ []
   pub unproven : faults_in (line (codes "sources" ∷ codes "--record" ∷ codes "a" ∷ codes "--user" ∷ codes "carol" ∷ [])) ≡ kinds.UnknownArgument ∷ []
+  pub paged : faults_in (line (codes "page" ∷ codes "--record" ∷ codes "a" ∷ codes "b" ∷ codes "--log" ∷ codes "c" ∷ [])) ≡ []
   pub no_call : faults_in (line (codes "ladder" ∷ codes "--record" ∷ codes "a" ∷ [])) ≡ kinds.MissingRequiredArgument ∷ []
   pub no_records : faults_in (line (codes "calls" ∷ [])) ≡ kinds.MissingRequiredArgument ∷ []
   pub empty_records : faults_in (line (codes "calls" ∷ codes "--record" ∷ codes "--csv" ∷ [])) ≡ kinds.InvalidValue ∷ []

@@ -18,6 +18,7 @@ pub enum ProgramCall {
     Trace(TraceCall),
     Ladder(LadderCall),
     Sources(SourcesCall),
+    Page(PageCall),
 }
 
 /// Written out, so that it is proved once and not wherever one is dropped.
@@ -38,6 +39,7 @@ impl Drop for ProgramCall {
             ProgramCall::Trace(_) => {}
             ProgramCall::Ladder(_) => {}
             ProgramCall::Sources(_) => {}
+            ProgramCall::Page(_) => {}
         }
     }
 }
@@ -166,7 +168,6 @@ pub struct ReportCall {
 }
 
 /// Which lines of a log are shown.
-#[derive(Drop)]
 pub struct ChosenLines {
     /// The time from which on lines are shown, as it is said; all are where none is said.
     pub since: Option<String>,
@@ -184,6 +185,26 @@ pub struct ChosenLines {
     pub outcome: Option<String>,
 }
 
+/// Written out, so that it is proved once and not wherever one is dropped.
+impl Drop for ChosenLines {
+    fn drop(self) {
+        let ChosenLines {
+            since,
+            until,
+            user,
+            target,
+            rule: _,
+            denied: _,
+            outcome,
+        } = self;
+        let_go(since);
+        let_go(until);
+        let_go(user);
+        let_go(target);
+        let_go(outcome);
+    }
+}
+
 /// `user`: the table of a user, whose password is on standard input.
 #[derive(Drop)]
 pub struct UserCall {
@@ -199,7 +220,7 @@ pub struct UserCall {
 /// `calls`: the calls of recorded days.
 #[derive(Drop)]
 pub struct CallsCall {
-    /// The files of the records, in the order in which they are shown.
+    /// The files of the records, or their folders, in the order in which they are shown.
     pub records: Vec<String>,
     /// The file of the configuration of records that hold none.
     pub config: Option<String>,
@@ -252,7 +273,7 @@ impl Drop for ChosenCalls {
 /// `phones` and `now`: how a recorded day stood at a time.
 #[derive(Drop)]
 pub struct TimeCall {
-    /// The file of the record.
+    /// The file of the record, or its folder.
     pub file: String,
     /// The file of the configuration of a record that holds none.
     pub config: Option<String>,
@@ -267,7 +288,7 @@ pub struct TimeCall {
 /// `trace`: what came and went on recorded days, as a capture.
 #[derive(Drop)]
 pub struct TraceCall {
-    /// The files of the records, in their order.
+    /// The files of the records, or their folders, in their order.
     pub records: Vec<String>,
     /// The file of the configuration of records that hold none.
     pub config: Option<String>,
@@ -282,7 +303,7 @@ pub struct TraceCall {
 /// `ladder`: a call of recorded days as a diagram, or as a drawing.
 #[derive(Drop)]
 pub struct LadderCall {
-    /// The files of the records, in their order.
+    /// The files of the records, or their folders, in their order.
     pub records: Vec<String>,
     /// The file of the configuration of records that hold none.
     pub config: Option<String>,
@@ -295,7 +316,7 @@ pub struct LadderCall {
 /// `sources`: what each address did from which datagrams came on recorded days.
 #[derive(Drop)]
 pub struct SourcesCall {
-    /// The files of the records, in the order in which they are shown.
+    /// The files of the records, or their folders, in the order in which they are shown.
     pub records: Vec<String>,
     /// The file of the configuration of records that hold none.
     pub config: Option<String>,
@@ -325,4 +346,15 @@ impl Drop for ChosenSources {
         let_go(until);
         let_go(from);
     }
+}
+
+/// `page`: recorded days as one page of HTML.
+#[derive(Drop)]
+pub struct PageCall {
+    /// The files of the records, or their folders, in the order in which they are shown.
+    pub records: Vec<String>,
+    /// The file of the configuration of records that hold none.
+    pub config: Option<String>,
+    /// The file of a log that is held against them.
+    pub log: Option<String>,
 }

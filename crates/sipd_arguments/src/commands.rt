@@ -317,14 +317,18 @@ fn outcome_argument<'a>(alloc: Global) -> Arg<'a>
 fn sifting<'a>(alloc: Global, command: Command<'a>) -> Result<Command<'a>, AllocError>
     ensures { (shape : Shape) → IsCommand shape command.entry → IfOk result (IsCommand (Definitions.sifting shape)) }
 {
-    command
-        .arg(option(alloc, "since", "TIME", "Lines from this time on"))?
-        .arg(option(alloc, "until", "TIME", "Lines before this time"))?
-        .arg(option(alloc, "user", "NAME", "Lines of this user"))?
-        .arg(option(alloc, "target", "WHOM", "Lines for this USER or USER@HOST"))?
-        .arg(rule_argument(alloc))?
-        .arg(flag(alloc, "denied", "Denials alone"))?
-        .arg(outcome_argument(alloc))
+    let since = option(alloc, "since", "TIME", "Lines from this time on");
+    let until = option(alloc, "until", "TIME", "Lines before this time");
+    let user = option(alloc, "user", "NAME", "Lines of this user");
+    let target = option(alloc, "target", "WHOM", "Lines for this USER or USER@HOST");
+    let denied = flag(alloc, "denied", "Denials alone");
+    let command = with_option(Ok(command), since);
+    let command = with_option(command, until);
+    let command = with_option(command, user);
+    let command = with_option(command, target);
+    let command = with_option(command, rule_argument(alloc));
+    let command = with_option(command, denied);
+    with_option(command, outcome_argument(alloc))
 }
 
 fn report_command<'a>(alloc: Global) -> Result<Command<'a>, AllocError>
@@ -368,12 +372,12 @@ fn user_command<'a>(alloc: Global) -> Result<Command<'a>, AllocError>
     with_option(user, sha256_argument(alloc))
 }
 
-/// `--record FILE ..`, of records that are there.
+/// `--record FILE ..`, of records that are there, or of folders of them.
 fn days_argument<'a>(alloc: Global) -> Arg<'a>
     ensures rule { rule_of result ≡ Definitions.several (Definitions.option (codes "record")) }
     ensures local { result.global ≡ false }
 {
-    let help = "The records, in their order";
+    let help = "The records, in their order, or folders of them";
     option(alloc, "record", "FILE", help)
         .num_args(1..)
         .action(ArgAction::Append)
@@ -443,12 +447,12 @@ fn calls_command<'a>(alloc: Global) -> Result<Command<'a>, AllocError>
     forms(alloc, all_chosen)
 }
 
-/// `--record FILE`, of one record that is there.
+/// `--record FILE`, of one record that is there, or of its folder.
 fn one_day_argument<'a>(alloc: Global) -> Arg<'a>
     ensures rule { rule_of result ≡ Definitions.option (codes "record") }
     ensures local { result.global ≡ false }
 {
-    option(alloc, "record", "FILE", "The record")
+    option(alloc, "record", "FILE", "The record, or its folder")
 }
 
 /// `--at TIME`.
@@ -550,6 +554,15 @@ fn sources_command<'a>(alloc: Global) -> Result<Command<'a>, AllocError>
     forms(alloc, counted)
 }
 
+fn page_command<'a>(alloc: Global) -> Result<Command<'a>, AllocError>
+    ensures { IfOk result (IsCommand Definitions.page_command) }
+{
+    let about = "Prints recorded days as one page of HTML for whoever answers for the server";
+    let log = "The log of these days, held against them line by line";
+    let told = of_days(alloc, Command::new(alloc, "page").about(about))?;
+    told.arg(option(alloc, "log", "FILE", log))
+}
+
 /// A command whose help ends with a text.
 fn ended<'a>(command: Command<'a>, text: &'a str) -> Command<'a>
     ensures { (shape : Shape) → IsCommand shape command.entry → IsCommand shape result }
@@ -618,7 +631,8 @@ fn commands<'a>(alloc: Global) -> Result<Command<'a>, AllocError>
     let known = and_command(known, now_command(alloc), endings::NOW);
     let known = and_command(known, trace_command(alloc), endings::TRACE);
     let known = and_command(known, ladder_command(alloc), endings::LADDER);
-    and_command(known, sources_command(alloc), endings::SOURCES)
+    let known = and_command(known, sources_command(alloc), endings::SOURCES);
+    and_command(known, page_command(alloc), endings::PAGE)
 }
 
 /// Why a command line isn't taken, or the text that it asks for.

@@ -86,6 +86,12 @@ Example: sipd sources --record /var/lib/sipd/records/*.record --since 2026-10-14
 Ends with 0 done, 1 usage, or no such time or address, 2 configuration, 3 damaged record behind what came before, 4 device, 5 memory.
 More: docs/OPERATING.md";
 
+pub(crate) const PAGE: &str = "\
+Without a script, and without anything of the net: it can be kept, printed and sent as one file.
+Example: sipd page --record /var/lib/sipd/records --log sipd.log > days.html
+Ends with 0 done, 1 usage, 2 configuration, 3 damaged record, of which nothing is printed, 4 device, 5 memory.
+More: docs/OPERATING.md";
+
 pub(crate) const USER: &str = "\
 Example: echo sesame | sipd user carol --config office.toml >> office.toml
 Ends with 0 done, 1 usage or no such table, 2 configuration, 4 device, 5 memory.

@@ -16,8 +16,8 @@ mod summary;
 
 pub use call::{
     CallsCall, CheckCall, ChosenCalls, ChosenLines, ChosenSources, CompactCall, DecideCall,
-    ExpectedDecision, LadderCall, MatrixCall, ProgramCall, QuestionCall, ReplayCall, ReportCall,
-    ServeCall, SourcesCall, TimeCall, TraceCall, UserCall,
+    ExpectedDecision, LadderCall, MatrixCall, PageCall, ProgramCall, QuestionCall, ReplayCall,
+    ReportCall, ServeCall, SourcesCall, TimeCall, TraceCall, UserCall,
 };
 pub use commands::{Parsed, parse};
 pub use summary::summary_of;

@@ -1,5 +1,5 @@
 //! What the words of a command ask for, read out of what was parsed; and which options don't stand together.
-ghost use Rattle.std.specs.Prelude.{◌≡◌, Some, None, codes, map, IfErr, IfOk, is_some, option_map, string_bytes};
+ghost use Rattle.std.specs.Prelude.{◌≡◌, Some, None, codes, map, IfErr, IfOk, OnOk, is_some, option_map, string_bytes};
 ghost use Rattle.clap.specs.Words.{found_of, rows_of, subcommand_rows_of};
 ghost use Rattle.sipd_arguments.specs.CommandLine as Definitions;
 ghost use Rattle.sipd_arguments.specs.CommandLine.{IsCall, IsCallOf, IsPlace};
@@ -7,8 +7,8 @@ ghost use Rattle.sipd_arguments.specs.Commands.{IsFitCall, IsUnfit, IsWhy};
 
 use crate::call::{
     CallsCall, CheckCall, ChosenCalls, ChosenLines, ChosenSources, CompactCall, DecideCall,
-    ExpectedDecision, LadderCall, MatrixCall, ProgramCall, QuestionCall, ReplayCall, ReportCall,
-    ServeCall, SourcesCall, TimeCall, TraceCall, UserCall,
+    ExpectedDecision, LadderCall, MatrixCall, PageCall, ProgramCall, QuestionCall, ReplayCall,
+    ReportCall, ServeCall, SourcesCall, TimeCall, TraceCall, UserCall,
 };
 use crate::misuse::Misuse;
 use clap::ArgMatches;
@@ -55,6 +55,19 @@ fn text_of(
         Some(text) => Ok(Some(String::from_str(alloc, text)?)),
         None => Ok(None),
     }
+}
+
+/// Puts the text of an option into its place. Who is lent several places to fill owns nothing, and has one way through it.
+fn put_text(
+    alloc: Global,
+    matches: &ArgMatches<'_>,
+    name: &str,
+    place: &mut Option<String>,
+) -> Result<(), AllocError>
+    ensures { OnOk result (option_map string_bytes place.new ≡ Definitions.text_at name.now (rows_of (found_of matches.now))) }
+{
+    *place = text_of(alloc, matches, name)?;
+    Ok(())
 }
 
 /// Copies of texts.
@@ -426,19 +439,39 @@ fn matrix_call(alloc: Global, matches: &ArgMatches<'_>) -> Result<ProgramCall, U
     }))
 }
 
+/// Puts what is said of the lines to be shown into its places.
+fn put_lines(
+    alloc: Global,
+    matches: &ArgMatches<'_>,
+    chosen: &mut ChosenLines,
+) -> Result<(), AllocError>
+    ensures { OnOk result (Definitions.IsChosenIn (rows_of (found_of matches.now)) chosen.new) }
+{
+    put_text(alloc, matches, "since", &mut chosen.since)?;
+    put_text(alloc, matches, "until", &mut chosen.until)?;
+    put_text(alloc, matches, "user", &mut chosen.user)?;
+    put_text(alloc, matches, "target", &mut chosen.target)?;
+    put_text(alloc, matches, "outcome", &mut chosen.outcome)?;
+    chosen.rule = number_of(matches, "rule");
+    chosen.denied = is_on(matches, "denied");
+    Ok(())
+}
+
 /// Which lines are to be shown.
 fn chosen_lines(alloc: Global, matches: &ArgMatches<'_>) -> Result<ChosenLines, AllocError>
     ensures { IfOk result (Definitions.IsChosenIn (rows_of (found_of matches.now))) }
 {
-    Ok(ChosenLines {
-        since: text_of(alloc, matches, "since")?,
-        until: text_of(alloc, matches, "until")?,
-        user: text_of(alloc, matches, "user")?,
-        target: text_of(alloc, matches, "target")?,
-        rule: number_of(matches, "rule"),
-        denied: is_on(matches, "denied"),
-        outcome: text_of(alloc, matches, "outcome")?,
-    })
+    let mut chosen = ChosenLines {
+        since: None,
+        until: None,
+        user: None,
+        target: None,
+        rule: None,
+        denied: false,
+        outcome: None,
+    };
+    put_lines(alloc, matches, &mut chosen)?;
+    Ok(chosen)
 }
 
 fn report_call(alloc: Global, matches: &ArgMatches<'_>) -> Result<ProgramCall, Uncalled>
@@ -492,18 +525,37 @@ fn forms_misuse(matches: &ArgMatches<'_>) -> Option<Misuse>
     None
 }
 
+/// Puts what is said of the calls to be shown into its places.
+fn put_chosen(
+    alloc: Global,
+    matches: &ArgMatches<'_>,
+    chosen: &mut ChosenCalls,
+) -> Result<(), AllocError>
+    ensures { OnOk result (Definitions.IsChosen (rows_of (found_of matches.now)) chosen.new) }
+{
+    put_text(alloc, matches, "since", &mut chosen.since)?;
+    put_text(alloc, matches, "until", &mut chosen.until)?;
+    put_text(alloc, matches, "user", &mut chosen.user)?;
+    put_text(alloc, matches, "target", &mut chosen.target)?;
+    put_text(alloc, matches, "from", &mut chosen.from)?;
+    chosen.challenged = is_on(matches, "challenged");
+    Ok(())
+}
+
 /// Which calls are to be shown.
 fn chosen_calls(alloc: Global, matches: &ArgMatches<'_>) -> Result<ChosenCalls, AllocError>
     ensures { IfOk result (Definitions.IsChosen (rows_of (found_of matches.now))) }
 {
-    Ok(ChosenCalls {
-        since: text_of(alloc, matches, "since")?,
-        until: text_of(alloc, matches, "until")?,
-        user: text_of(alloc, matches, "user")?,
-        target: text_of(alloc, matches, "target")?,
-        from: text_of(alloc, matches, "from")?,
-        challenged: is_on(matches, "challenged"),
-    })
+    let mut chosen = ChosenCalls {
+        since: None,
+        until: None,
+        user: None,
+        target: None,
+        from: None,
+        challenged: false,
+    };
+    put_chosen(alloc, matches, &mut chosen)?;
+    Ok(chosen)
 }
 
 /// Which calls of which records are asked for.
@@ -625,6 +677,18 @@ fn sources_call(alloc: Global, matches: &ArgMatches<'_>) -> Result<ProgramCall, 
     Ok(ProgramCall::Sources(asked_sources(alloc, matches)?))
 }
 
+/// The page of which days is asked for.
+fn page_call(alloc: Global, matches: &ArgMatches<'_>) -> Result<ProgramCall, Uncalled>
+    ensures call { IfOk result (IsFitCall (codes "page") (rows_of (found_of matches.now))) }
+    ensures refused { IfErr result (IsUnfit (codes "page") (rows_of (found_of matches.now))) }
+{
+    Ok(ProgramCall::Page(PageCall {
+        records: texts_of(alloc, matches, "record")?,
+        config: text_of(alloc, matches, "config")?,
+        log: text_of(alloc, matches, "log")?,
+    }))
+}
+
 /// What a command with its options asks for.
 fn call_named(alloc: Global, name: &str, matches: &ArgMatches<'_>) -> Result<ProgramCall, Uncalled>
     ensures call { IfOk result (λ call. IsCall name.now (rows_of (found_of matches.now)) call × (Definitions.misuse_in name.now (rows_of (found_of matches.now)) ≡ None)) }
@@ -645,6 +709,7 @@ fn call_named(alloc: Global, name: &str, matches: &ArgMatches<'_>) -> Result<Pro
         "trace" => trace_call(alloc, matches),
         "ladder" => ladder_call(alloc, matches),
         "sources" => sources_call(alloc, matches),
+        "page" => page_call(alloc, matches),
         _ => Err(Uncalled::Misused(Misuse::NoCommand)),
     }
 }

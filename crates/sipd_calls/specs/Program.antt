@@ -9,7 +9,7 @@ use Rattle.sip_days.specs.declared.call.Ending.{Ending}
 use Rattle.sip_days.specs.Results.{result_of, ring_of, talk_of}
 use Rattle.sipd_calls.specs.declared.choice.CallFilter.{CallFilter}
 use Rattle.sipd_calls.specs.declared.notation.Notation.{Notation}
-use Rattle.sipd_calls.specs.declared.notation.Notation.TheVariants.{Csv, Json}
+use Rattle.sipd_calls.specs.declared.notation.Notation.TheVariants.{Csv, Json, Html}
 use Rattle.sipd_calls.specs.Choices.{if_shown}
 use Rattle.sipd_calls.specs.Notation.{Said, Words, Number, Nothing, end_text, first_text, further_text}
 use Rattle.sipd_calls.specs.Moments.{iso_text}
@@ -75,6 +75,7 @@ call_text notation call = asked_text notation call ++ came_text notation call ++
 abbrev pub names_text : Notation → List ℕ
 names_text Csv = codes "number,start,caller,from,called,rule,result,ring_ms,talk_ms,ended_by,call_id\r\n"
 names_text Json = []
+names_text Html = codes "<tr><th>number</th><th>start</th><th>caller</th><th>from</th><th>called</th><th>rule</th><th>result</th><th>ring, ms</th><th>talk, ms</th><th>ended by</th><th>Call-ID</th></tr>\n"
 
 -- the calls that are shown, in their order
 abbrev pub objects_text : Notation → CallFilter → List Call → List ℕ

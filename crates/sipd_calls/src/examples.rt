@@ -5,9 +5,9 @@ ghost use Rattle.sipd_report.specs.Chosen.{is_of_target};
 ghost use Rattle.sipd_calls.specs.Example.{anyone, carols_call};
 ghost use Rattle.sipd_calls.specs.Program.{call_text};
 ghost use Rattle.sipd_calls.specs.Table.{table_text};
-ghost use Rattle.sipd_calls.specs.declared.notation.Notation.TheVariants.{Csv, Json};
+ghost use Rattle.sipd_calls.specs.declared.notation.Notation.TheVariants.{Csv, Json, Html};
 ghost use Rattle.sipd_calls.specs.Moments.{length_text, start_text, title};
-ghost use Rattle.sipd_calls.specs.Notation.{json_text};
+ghost use Rattle.sipd_calls.specs.Notation.{html_text, json_text};
 
 /// A call in the table and for programs, on a clock that is an hour ahead of UTC.
 pub fn call_row_example()
@@ -15,6 +15,14 @@ pub fn call_row_example()
     ensures csv { call_text Csv carols_call
         ≡ codes "7,1970-01-02T01:00:00+01:00,carol,192.0.2.2:5060,ivan@office.example,30,answered,8000,51000,caller,x\r\n" }
     ensures json { call_text Json carols_call ≡ codes "{\"number\":7,\"start\":\"1970-01-02T01:00:00+01:00\",\"caller\":\"carol\",\"from\":\"192.0.2.2:5060\",\"called\":\"ivan@office.example\",\"rule\":\"30\",\"result\":\"answered\",\"ring_ms\":8000,\"talk_ms\":51000,\"ended_by\":\"caller\",\"call_id\":\"x\"}\n" }
+    ensures html { call_text Html carols_call
+        ≡ codes "<tr><td class=\"n\">7</td><td>1970-01-02T01:00:00+01:00</td><td>carol</td><td>192.0.2.2:5060</td><td>ivan@office.example</td>"
+        ++ codes "<td>30</td><td>answered</td><td class=\"n\">8000</td><td class=\"n\">51000</td><td>caller</td><td>x</td></tr>\n" }
+{}
+
+/// A cell of a text that somebody chose who would have it read as markup.
+pub fn cell_example()
+    ensures { html_text (codes "<b title='x'>&\"</b>") ≡ codes "<td>&lt;b title=&#39;x&#39;&gt;&amp;&quot;&lt;/b&gt;</td>" }
 {}
 
 /// The table: a head in front of the first row, and what is counted behind the last.

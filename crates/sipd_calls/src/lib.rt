@@ -1,5 +1,5 @@
 //! The calls of a recorded day as a table of 80 columns, and for programs; which of them are shown; and what other tables of a day are made
-//! of: moments and lengths of time, and the members of a line of CSV (RFC 4180) or of an object of JSON (RFC 8259).
+//! of: moments and lengths of time, and the members of a line of CSV (RFC 4180), of an object of JSON (RFC 8259), or of a row of HTML.
 //!
 //! - Used: `sipd_days`, for `sipd calls`; `sipd_standing` writes cells, members and times as it does.
 //! - Not here: what a call is (`sip_days`); dates, and how far a clock is ahead of UTC (`sipd_report`).
@@ -13,6 +13,7 @@
 mod cells;
 mod choice;
 pub mod examples;
+pub mod laws;
 mod moments;
 mod notation;
 mod program;

@@ -1,4 +1,4 @@
-//! Calls for programs: a line of CSV or an object of JSON for each.
+//! Calls for programs: a line of CSV or an object of JSON for each, or a row of HTML for a page.
 ghost use Rattle.std.specs.Prelude.{◌≡◌, ◌++◌, Some, IfOk, OnOk};
 ghost use Rattle.sipd_calls.specs.Choices.{if_shown};
 ghost use Rattle.sipd_calls.specs.Notation as Written;
@@ -190,7 +190,7 @@ fn push_shown(
     Ok(())
 }
 
-/// What such a text begins with: the names of the columns, in CSV.
+/// What such a text begins with: the names of the columns, in CSV and in HTML.
 pub fn names_text(notation: Notation) -> &'static [u8]
     ensures { result.now ≡ Definitions.names_text notation }
 {
@@ -199,6 +199,8 @@ pub fn names_text(notation: Notation) -> &'static [u8]
             b"number,start,caller,from,called,rule,result,ring_ms,talk_ms,ended_by,call_id\r\n"
         }
         Notation::Json => b"",
+        Notation::Html =>
+            b"<tr><th>number</th><th>start</th><th>caller</th><th>from</th><th>called</th><th>rule</th><th>result</th><th>ring, ms</th><th>talk, ms</th><th>ended by</th><th>Call-ID</th></tr>\n",
     }
 }
 

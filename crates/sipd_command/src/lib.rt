@@ -1,5 +1,5 @@
 //! The program's command line carried out: phones are served over a socket; what is replayed goes to `sipd_replay`, what is told of recorded
-//! days to `sipd_days`, and to `sipd_traces` what came and went on them, and what else is asked for to `sipd_tools`.
+//! days to `sipd_days`, to `sipd_traces` what came and went on them, to `sipd_page` the page of them, and what else is asked for to `sipd_tools`.
 //!
 //! - Used: the program `sipd`, with its kinds of timers and rules.
 //! - Not here: how a server that records begins (`sipd_start`), its turns (`sipd_service`); the process's streams themselves.

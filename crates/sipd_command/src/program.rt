@@ -7,6 +7,7 @@ use sip_timers::Timers;
 use sipd_arguments::{Parsed, ProgramCall, ReplayCall, parse};
 use sipd_days::{DayTable, show_calls, show_sources, show_table};
 use sipd_exit::{Exit, print};
+use sipd_page::print_page;
 use sipd_progress::Watched;
 use sipd_replay::{replay_records, replay_script};
 use sipd_service::LinePrinter;
@@ -91,6 +92,7 @@ fn carry_out<
         ProgramCall::Sources(call) => {
             show_sources::<T, P, R, W, C>(rt, call, seen, output, complaints)
         }
+        ProgramCall::Page(call) => print_page::<T, P, R, W, C>(rt, call, seen, output, complaints),
     }
 }
 
@@ -109,12 +111,21 @@ fn run<
     output: &mut W,
     complaints: &mut C,
 ) -> Result<(), Exit> {
-    match parse(rt.alloc(), words)? {
+    let parsed = parse(rt.alloc(), words)?;
+    match &parsed {
         Parsed::Text(text) => print(text.as_bytes(), output),
         Parsed::Call(call) => {
-            carry_out::<T, P, R, I, W, C>(rt, &call, seen, input, output, complaints)
+            carry_out::<T, P, R, I, W, C>(rt, call, seen, input, output, complaints)
         }
     }
+}
+
+/// Complains of that by which the program ends, and gives the exit status.
+fn end_by<C: Write>(exit: Exit, complaints: &mut C) -> u8
+    ensures { result ≤ 6 }
+{
+    let _ = writeln!(complaints, "{exit}");
+    exit.status()
 }
 
 /// Does what the words of a command line say, the program's own name first, on these kinds of timers and rules, and gives
@@ -134,9 +145,6 @@ pub fn command<
 {
     match run::<T, P, R, I, W, C>(rt, words, seen, input, output, complaints) {
         Ok(()) => 0,
-        Err(exit) => {
-            let _ = writeln!(complaints, "{exit}");
-            exit.status()
-        }
+        Err(exit) => end_by(exit, complaints),
     }
 }

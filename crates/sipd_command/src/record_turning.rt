@@ -41,7 +41,6 @@ fn office_time(now: u64, offset: i16) -> u64 {
 }
 
 /// The turning of a server that records in a folder from one record to the next.
-#[derive(Drop)]
 pub struct RecordTurning<'a, R> {
     folder: RecordFolder<'a, R>,
     /// The path of the record that it writes.
@@ -54,6 +53,20 @@ pub struct RecordTurning<'a, R> {
     number: u64,
     /// When the next record couldn't be begun last, in milliseconds.
     refused: u64,
+}
+
+/// Written out, so that it is proved once and not wherever one is dropped.
+impl<'a, R> Drop for RecordTurning<'a, R> {
+    fn drop(self) {
+        let RecordTurning {
+            folder: _,
+            path: _,
+            day: _,
+            long: _,
+            number: _,
+            refused: _,
+        } = self;
+    }
 }
 
 impl<'a, R: Files + Clock + Eprint + AllocGlobal> RecordTurning<'a, R> {
@@ -102,6 +115,19 @@ impl<'a, R: Files + Clock + Eprint + AllocGlobal> RecordTurning<'a, R> {
         Ok(())
     }
 
+    /// The next record is begun, at a time of the office, and has so many bytes: that is said, and what is too old of the folder is taken away.
+    fn go_on<C: Write>(&mut self, time: u64, size: u64, complaints: &mut C) {
+        self.begin(time, size);
+        say_turned(self.path.as_str(), complaints);
+        self.folder.remove_old(complaints);
+    }
+
+    /// The next record can't be begun at this moment, in milliseconds: why is said.
+    fn write_on<C: Write>(&mut self, why: Exit, now: u64, complaints: &mut C) {
+        self.refused = now;
+        say_unturned(self.path.as_str(), why, complaints);
+    }
+
     /// Another record is written from here on, at a time of the office, which has so many bytes. However many of them were kept, it isn't a long one.
     fn begin(&mut self, time: u64, size: u64) {
         self.day = Some(time / DAY);
@@ -141,15 +167,19 @@ fn say_unmarked<C: Write>(path: &str, complaints: &mut C) {
     );
 }
 
-/// Says that the next record is begun, or why it isn't.
-fn say_turned<C: Write>(path: &str, turned: &Result<(), Exit>, complaints: &mut C) {
-    let _ = match turned {
-        Ok(()) => writeln!(complaints, "sipd: {path} is written from here on"),
-        Err(Exit::NoShorter) => writeln!(
+/// Says that the next record is begun.
+fn say_turned<C: Write>(path: &str, complaints: &mut C) {
+    let _ = writeln!(complaints, "sipd: {path} is written from here on");
+}
+
+/// Says why the next record isn't begun.
+fn say_unturned<C: Write>(path: &str, why: Exit, complaints: &mut C) {
+    let _ = match &why {
+        Exit::NoShorter => writeln!(
             complaints,
             "sipd: no next record leads where {path} does: that is written on"
         ),
-        Err(exit) => writeln!(
+        exit => writeln!(
             complaints,
             "sipd: no next record could be begun, so {path} is written on: {exit}"
         ),
@@ -178,14 +208,9 @@ impl<'a, T: Timers, P: Rules, R: Files + Clock + Eprint + AllocGlobal> NextRecor
             return;
         }
         journal.close();
-        let turned = self.turn(engine, journal, stated, complaints);
-        match &turned {
-            Ok(()) => self.begin(time, journal.writer.size()),
-            Err(_) => self.refused = now,
-        }
-        say_turned(self.path.as_str(), &turned, complaints);
-        if turned.is_ok() {
-            self.folder.remove_old(complaints);
+        match self.turn(engine, journal, stated, complaints) {
+            Ok(()) => self.go_on(time, journal.writer.size(), complaints),
+            Err(why) => self.write_on(why, now, complaints),
         }
     }
 }

@@ -43,7 +43,6 @@ use std::rt;
 use std::rt::Files;
 
 /// What a server of one start serves with, beside its engine and its journal.
-#[derive(Drop)]
 struct ServeStart<L: Link, N: Rng + Drop> {
     link: L,
     address: Addr,
@@ -56,6 +55,66 @@ struct ServeStart<L: Link, N: Rng + Drop> {
     words: N,
     per_source: Option<u32>,
     turns: Option<u32>,
+}
+
+/// Written out, so that it is proved once and not wherever one is dropped.
+impl<L: Link, N: Rng + Drop> Drop for ServeStart<L, N> {
+    fn drop(self) {
+        let ServeStart {
+            link: _,
+            address: _,
+            path: _,
+            stated: _,
+            hops: _,
+            words: _,
+            per_source: _,
+            turns: _,
+        } = self;
+    }
+}
+
+/// What a service has of a start.
+#[derive(Drop)]
+struct Guarded<L: Link, C: Clock, N: Rng + Drop> {
+    link: Guard<L, C>,
+    words: N,
+    port: u16,
+    path: Bytes,
+    stated: Bytes,
+}
+
+impl<L: Link, N: Rng + Drop> ServeStart<L, N> {
+    /// What a service has of it: over its link a guard hears so many datagrams a second from one address as are asked for, and hops always. The
+    /// guard's keys are the source's next numbers.
+    fn guarded<C: Clock>(self, alloc: Global, aside: C) -> Result<Guarded<L, C, N>, AllocError>
+        ensures words { IfOk result (λ guarded. N.stream guarded.words ≡ behind_secret (N.stream self.words)) }
+        ensures guard { IfOk result (λ guarded. guarded.link ≡ guard_over (secret_from (N.stream self.words)) self.hops.items self.per_source
+            (link_told (L.heard self.link) (L.fresh self.link) (L.aside self.link) (L.given self.link) (L.held self.link)
+            (L.waits self.link) (L.receives self.link) (L.failures self.link)) (C.readings aside)) }
+        ensures port { IfOk result (λ guarded. guarded.port ≡ self.address.port) }
+        ensures path { IfOk result (λ guarded. guarded.path ≡ self.path) }
+        ensures stated { IfOk result (λ guarded. guarded.stated ≡ self.stated) }
+    {
+        let ServeStart {
+            link,
+            address,
+            path,
+            stated,
+            hops,
+            mut words,
+            per_source,
+            turns: _,
+        } = self;
+        let keys = secret(&mut words);
+        let link = Guard::new(alloc, keys, link, aside, per_source, hops)?;
+        Ok(Guarded {
+            link,
+            words,
+            port: address.port,
+            path,
+            stated,
+        })
+    }
 }
 
 /// What is looked at and written beside a server's traffic.
@@ -117,9 +176,14 @@ fn start_of<L: Link, N: Rng + Drop>(
     link: L,
     words: N,
 ) -> Result<ServeStart<L, N>, AllocError>
-    ensures { IfOk result (λ start. (start.link ≡ link) × (start.address ≡ bound_address config.now)
-        × (start.path ≡ string_bytes call.now.config) × (start.stated ≡ stated.now.bytes) × (start.hops.items ≡ hop_addresses config.now) × (start.words ≡ words)
-        × (start.per_source ≡ call.now.per_source) × (start.turns ≡ call.now.turns)) }
+    ensures link { IfOk result (λ start. start.link ≡ link) }
+    ensures address { IfOk result (λ start. start.address ≡ bound_address config.now) }
+    ensures path { IfOk result (λ start. start.path ≡ string_bytes call.now.config) }
+    ensures stated { IfOk result (λ start. start.stated ≡ stated.now.bytes) }
+    ensures hops { IfOk result (λ start. start.hops.items ≡ hop_addresses config.now) }
+    ensures words { IfOk result (λ start. start.words ≡ words) }
+    ensures per_source { IfOk result (λ start. start.per_source ≡ call.now.per_source) }
+    ensures turns { IfOk result (λ start. start.turns ≡ call.now.turns) }
 {
     Ok(ServeStart {
         link,
@@ -152,8 +216,7 @@ fn clock_from<'a, R: rt::Clock, M: Write>(
     clock
 }
 
-/// The service of a start: over its link a guard hears so many datagrams a second from one address as are asked for, and hops always.
-/// The guard's keys are the source's next numbers.
+/// The service of a start.
 fn service_of<
     T: Timers,
     P: Rules,
@@ -185,19 +248,14 @@ fn service_of<
     ensures stated { IfOk result (λ service. service.stated ≡ start.stated) }
     ensures status { IfOk result (λ service. service.status ≡ beside.status) }
 {
-    let (watch, status) = beside.apart();
-    let ServeStart {
+    let Guarded {
         link,
-        address,
+        words,
+        port,
         path,
         stated,
-        hops,
-        mut words,
-        per_source,
-        ..
-    } = start;
-    let keys = secret(&mut words);
-    let link = Guard::new(alloc, keys, link, aside, per_source, hops)?;
+    } = start.guarded(alloc, aside)?;
+    let (watch, status) = beside.apart();
     Ok(Service {
         engine,
         link,
@@ -205,7 +263,7 @@ fn service_of<
         clock,
         words,
         watch,
-        port: address.port,
+        port,
         path,
         next,
         stated,
@@ -264,6 +322,14 @@ fn decided_by(last: &Option<StepOut>) -> &[Record]
     }
 }
 
+/// Says that nothing is recorded.
+fn say_unrecorded<M: Write>(complaints: &mut M) {
+    let _ = writeln!(
+        complaints,
+        "sipd: the record can't be written; nothing is recorded"
+    );
+}
+
 /// Serves with a server that is begun, which records: in one file, or in a folder in which it turns to the next one; or couldn't.
 fn serve_begun<
     'a,
@@ -294,10 +360,7 @@ fn serve_begun<
     } = begun;
     let decided = decided_by(&last);
     let Some(recorder) = recorder else {
-        let _ = writeln!(
-            complaints,
-            "sipd: the record can't be written; nothing is recorded"
-        );
+        say_unrecorded(complaints);
         return serve_with(
             rt, start, engine, NoJournal, OneRecord, decided, beside, printer, complaints,
         );
@@ -382,8 +445,73 @@ fn beside_of<'a, R: Files + AllocGlobal>(
     })
 }
 
-/// Serves and records. The address is bound first; behind what the input gives, where the server goes on from that, since until then
-/// it is the address of the server whose record comes there.
+/// The link of a server that records, where its address is bound first.
+fn bind_first<R: Files + Net + rt::Clock + AllocGlobal>(
+    rt: &R,
+    config: &Config,
+    beginning: &Beginning<'_, R>,
+) -> Result<Option<UdpLink>, Exit> {
+    let bound = if beginning.reads_input() {
+        None
+    } else {
+        Some(bind(rt, address_of(config))?)
+    };
+    Ok(bound)
+}
+
+/// The link of a server that may be bound already.
+fn bind_last<R: Net + AllocGlobal>(
+    rt: &R,
+    config: &Config,
+    bound: Option<UdpLink>,
+) -> Result<UdpLink, Exit> {
+    match bound {
+        Some(link) => Ok(link),
+        None => bind(rt, address_of(config)),
+    }
+}
+
+/// A server that is begun, and its link, where that is bound already: the address is bound first, unless the server goes on from what the input
+/// gives, since until then it is the address of the server whose record comes there.
+fn begin_bound<
+    'a,
+    T: Timers,
+    P: Rules,
+    R: Files + Net + rt::Clock + Eprint + AllocGlobal,
+    I: TellingReader,
+    M: Write,
+>(
+    rt: &'a R,
+    config: &Config,
+    beginning: &Beginning<'a, R>,
+    words: &mut StdRng,
+    input: &mut I,
+    complaints: &mut M,
+) -> Result<(Option<UdpLink>, Begun<'a, T, P, R>), Exit> {
+    let bound = bind_first(rt, config, beginning)?;
+    let begun = begin::<T, P, R, I, _, M>(beginning, input, words, complaints)?;
+    Ok((bound, begun))
+}
+
+/// What a server that records starts with over its link, which is bound by then, and what turns from its record to the next.
+fn start_recorded<'a, R: Files + Net + rt::Clock + Eprint + AllocGlobal>(
+    rt: &'a R,
+    call: &ServeCall,
+    config: &Config,
+    beginning: &Beginning<'a, R>,
+    bound: Option<UdpLink>,
+    mut words: StdRng,
+) -> Result<(ServeStart<UdpLink, StdRng>, Option<RecordTurning<'a, R>>), Exit>
+    ensures turns { IfOk result (λ made. made.0.turns ≡ call.now.turns) }
+    ensures address { IfOk result (λ made. made.0.address ≡ bound_address config.now) }
+{
+    let link = bind_last(rt, config, bound)?;
+    let turning = turning_of(rt, call, beginning, &mut words)?;
+    let start = start_of(rt.alloc(), call, config, beginning.stated, link, words)?;
+    Ok((start, turning))
+}
+
+/// Serves and records.
 fn serve_recorded<
     'a,
     T: Timers,
@@ -407,20 +535,28 @@ fn serve_recorded<
 ) -> Result<(), Exit>
     ensures { OnOk result (PrintsAt call.now.turns (bound_address config.now) (W.contents printer.old.output) (W.contents printer.new.output)) }
 {
-    let address = address_of(config);
-    let bound = if beginning.reads_input() {
-        None
-    } else {
-        Some(bind(rt, address)?)
-    };
-    let begun = begin::<T, P, R, I, _, M>(beginning, input, &mut words, complaints)?;
-    let link = match bound {
-        Some(link) => link,
-        None => bind(rt, address)?,
-    };
-    let turning = turning_of(rt, call, beginning, &mut words)?;
-    let start = start_of(rt.alloc(), call, config, beginning.stated, link, words)?;
+    let (bound, begun) = begin_bound::<T, P, R, I, M>(
+        rt, config, beginning, &mut words, input, complaints,
+    )?;
+    let (start, turning) = start_recorded(rt, call, config, beginning, bound, words)?;
     serve_begun(rt, start, begun, turning, beside, printer, complaints)
+}
+
+/// A server that records nothing, and what it starts with over its link. The address is bound first.
+fn begin_alone<T: Timers, P: Rules, R: Net + AllocGlobal>(
+    rt: &R,
+    call: &ServeCall,
+    config: &Config,
+    stated: &Stated,
+    words: StdRng,
+) -> Result<(ServeStart<UdpLink, StdRng>, Engine<T, P>), Exit>
+    ensures turns { IfOk result (λ made. made.0.turns ≡ call.now.turns) }
+    ensures address { IfOk result (λ made. made.0.address ≡ bound_address config.now) }
+{
+    let link = bind(rt, address_of(config))?;
+    let mut start = start_of(rt.alloc(), call, config, stated, link, words)?;
+    let engine = begin_unrecorded::<T, P, _, _>(rt, stated, &mut start.words)?;
+    Ok((start, engine))
 }
 
 /// Serves, and records nothing.
@@ -444,9 +580,7 @@ fn serve_unrecorded<
 ) -> Result<(), Exit>
     ensures { OnOk result (PrintsFor call.now.turns (bound_address config.now) [] (W.contents printer.old.output) (W.contents printer.new.output)) }
 {
-    let link = bind(rt, address_of(config))?;
-    let mut start = start_of(rt.alloc(), call, config, stated, link, words)?;
-    let engine = begin_unrecorded::<T, P, _, _>(rt, stated, &mut start.words)?;
+    let (start, engine) = begin_alone::<T, P, R>(rt, call, config, stated, words)?;
     serve_with(
         rt,
         start,
@@ -458,6 +592,43 @@ fn serve_unrecorded<
         printer,
         complaints,
     )
+}
+
+/// What comes through an input as a record.
+type Incoming<'b, R, I> = Expanding<Watched<'b, R, Unsealing<&'b mut I>>>;
+
+/// What comes through an input as a record, without the lines that hold digests of it.
+fn record_in<'b, R: rt::Clock + Eprint + AllocGlobal, I: Read>(
+    rt: &'b R,
+    seen: bool,
+    input: &'b mut I,
+) -> Result<Incoming<'b, R, I>, AllocError> {
+    let alloc = rt.alloc();
+    let unsealing = Unsealing::new(alloc, input)?;
+    let watched = Watched::new(rt, unsealing, "the record that comes", None, seen);
+    Expanding::new(alloc, watched)
+}
+
+/// What a server that records at a place is begun with, and what comes through an input as a record.
+fn begun_with<'b, R: Files + rt::Clock + Eprint + AllocGlobal, I: Read>(
+    rt: &'b R,
+    call: &ServeCall,
+    place: &RecordPlace,
+    stated: &'b Stated,
+    seen: bool,
+    input: &'b mut I,
+) -> Result<(Beginning<'b, R>, Incoming<'b, R, I>), Exit> {
+    let beginning = Beginning::new(
+        rt,
+        stated,
+        place,
+        call.record_fault,
+        call.sync,
+        call.keep,
+        seen,
+    )?;
+    let record = record_in(rt, seen, input)?;
+    Ok((beginning, record))
 }
 
 /// Serves and records at a place. The record from which the server goes on may come through an input.
@@ -485,19 +656,7 @@ fn serve_placed<
 ) -> Result<(), Exit>
     ensures { OnOk result (PrintsAt call.now.turns (bound_address config.now) (W.contents printer.old.output) (W.contents printer.new.output)) }
 {
-    let beginning = Beginning::new(
-        rt,
-        stated,
-        place,
-        call.record_fault,
-        call.sync,
-        call.keep,
-        seen,
-    )?;
-    let alloc = rt.alloc();
-    let unsealing = Unsealing::new(alloc, input)?;
-    let watched = Watched::new(rt, unsealing, "the record that comes", None, seen);
-    let mut record = Expanding::new(alloc, watched)?;
+    let (beginning, mut record) = begun_with(rt, call, place, stated, seen, input)?;
     serve_recorded::<T, P, R, _, _, _, _, M>(
         rt,
         call,
@@ -509,6 +668,49 @@ fn serve_placed<
         printer,
         complaints,
     )
+}
+
+/// The file of a server's configuration, and what it states.
+struct Configured {
+    stated: Stated,
+    config: Config,
+}
+
+/// Written out, so that it is proved once and not wherever one is dropped.
+impl Drop for Configured {
+    fn drop(self) {
+        let Configured {
+            stated: _,
+            config: _,
+        } = self;
+    }
+}
+
+/// The configuration of a file.
+fn configuration_in<R: Files + AllocGlobal>(rt: &R, path: &str) -> Result<Configured, Exit> {
+    let alloc = rt.alloc();
+    let stated = stated_in(rt, path)?;
+    let config = config_of_bytes(alloc, stated.bytes.as_slice())?;
+    Ok(Configured { stated, config })
+}
+
+/// What a server has before it is bound: its configuration, numbers that nobody knows, and what is looked at and written beside its traffic.
+fn prepared<'a, R: Files + RandomSource + AllocGlobal>(
+    rt: &'a R,
+    call: &'a ServeCall,
+) -> Result<
+    (
+        Configured,
+        StdRng,
+        Beside<PathFile<'a, R>, StatusFile<'a, R>>,
+    ),
+    Exit,
+> {
+    check_stack(rt)?;
+    let file = configuration_in(rt, call.config.as_str())?;
+    let words: StdRng = rand::make_rng(rt)?;
+    let beside = beside_of(rt, call, &file.stated)?;
+    Ok((file, words, beside))
 }
 
 /// Serves with the configuration of a file, for as many turns as a command line asks for.
@@ -529,18 +731,30 @@ pub fn serve_file<
 ) -> Result<(), Exit>
     ensures { OnOk result (PrintsSomewhere call.now.turns (W.contents printer.old.output) (W.contents printer.new.output)) }
 {
-    check_stack(rt)?;
-    let alloc = rt.alloc();
-    let stated = stated_in(rt, call.config.as_str())?;
-    let config = config_of_bytes(alloc, stated.bytes.as_slice())?;
-    let words: StdRng = rand::make_rng(rt)?;
-    let beside = beside_of(rt, call, &stated)?;
+    let (file, words, beside) = prepared(rt, call)?;
     let Some(place) = &call.record else {
         return serve_unrecorded::<T, P, R, _, _, _, M>(
-            rt, call, &config, &stated, words, beside, printer, complaints,
+            rt,
+            call,
+            &file.config,
+            &file.stated,
+            words,
+            beside,
+            printer,
+            complaints,
         );
     };
     serve_placed::<T, P, R, I, _, _, _, M>(
-        rt, call, place, &config, &stated, words, beside, seen, input, printer, complaints,
+        rt,
+        call,
+        place,
+        &file.config,
+        &file.stated,
+        words,
+        beside,
+        seen,
+        input,
+        printer,
+        complaints,
     )
 }

@@ -1,3 +1,4 @@
+pub mod Leading
 pub mod Shown
 pub mod Stood
 pub mod Timed

@@ -33,6 +33,17 @@ pub fn open_day<'p, R: Files + Clock + Eprint + AllocGlobal, C: Write>(
     Ok(OldRecord { head, events })
 }
 
+/// Complains of a record without a configuration, for which no file is named.
+pub fn complain_of_older<C: Write>(exit: Exit, complaints: &mut C) -> Exit {
+    if let Exit::BareRecord = &exit {
+        let _ = writeln!(
+            complaints,
+            "sipd: an older record: name its file with --config"
+        );
+    }
+    exit
+}
+
 /// How the program ends where a record wasn't told to its end: at that line of its file.
 pub fn exit_of_day<R: Files + Clock + Eprint + AllocGlobal>(
     exit: Exit,

@@ -94,14 +94,24 @@ abbrev pub signs : List ℕ
 signs = text_block legend
 
 -- what stands under the cells: the users of each row, and the rules, the hops and the groups that decide nothing
-abbrev pub text_end : Config → Operation → PolicyTable → List ℕ → List ℕ
-text_end config operation table numbers = text_block (foot config operation table numbers) ++ codes "</body>\n</html>\n"
+abbrev pub under : Config → Operation → PolicyTable → List ℕ → List ℕ
+under config operation table numbers = text_block (foot config operation table numbers)
 
-abbrev pub html_of : Config → Operation → PolicyTable → List ℕ
-html_of config operation table =
-    page_begin ++ heading config operation ++ signs ++ flat_map (piece_table config operation table) table.pieces
-    ++ text_end config operation table (numbers_of config operation table)
+-- what a table says
+abbrev pub table_text : Config → Operation → PolicyTable → List ℕ → List ℕ
+table_text config operation table numbers =
+    heading config operation ++ signs ++ flat_map (piece_table config operation table) table.pieces ++ under config operation table numbers
+
+abbrev pub policy_of : Config → Operation → PolicyTable → List ℕ
+policy_of config operation table = table_text config operation table (numbers_of config operation table)
 
 -- the table of a configuration for an operation
+abbrev pub policy_text : Config → Operation → List ℕ
+policy_text config operation = policy_of config operation (table_of config.rules config.users config.own.domains)
+
+-- as a page, which has its end behind all texts
+abbrev pub page_end : List ℕ
+page_end = codes "</body>\n</html>\n"
+
 abbrev pub html_text : Config → Operation → List ℕ
-html_text config operation = html_of config operation (table_of config.rules config.users config.own.domains)
+html_text config operation = page_begin ++ policy_text config operation ++ page_end

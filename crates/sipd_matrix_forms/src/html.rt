@@ -244,8 +244,8 @@ fn put_pieces(
     Ok(())
 }
 
-/// Adds a text line by line.
-fn put_block(text: &mut Bytes, block: &[u8]) -> Result<(), AllocError>
+/// Adds a text line by line, none of which is markup.
+pub fn put_block(text: &mut Bytes, block: &[u8]) -> Result<(), AllocError>
     ensures { OnOk result (text.new ≡ text.old ++ Definitions.text_block block.now) }
 {
     text.extend(b"<pre>")?;
@@ -279,7 +279,7 @@ fn put_signs(alloc: Global, text: &mut Bytes) -> Result<(), AllocError>
 }
 
 /// Adds what stands under the cells.
-fn put_end(
+fn put_under(
     alloc: Global,
     text: &mut Bytes,
     config: &Config,
@@ -287,12 +287,11 @@ fn put_end(
     table: &PolicyTable,
     numbers: &Items<u32>,
 ) -> Result<(), AllocError>
-    ensures { OnOk result (text.new ≡ text.old ++ Definitions.text_end config.now operation.now table.now numbers.now) }
+    ensures { OnOk result (text.new ≡ text.old ++ Definitions.under config.now operation.now table.now numbers.now) }
 {
     let mut foot = Bytes::new(alloc);
     put_foot(&mut foot, config, operation, table, numbers)?;
-    put_block(text, foot.as_slice())?;
-    text.extend(b"</body>\n</html>\n")
+    put_block(text, foot.as_slice())
 }
 
 /// Adds what stands before all texts.
@@ -302,24 +301,62 @@ fn put_begin(text: &mut Bytes) -> Result<(), AllocError>
     text.extend(PAGE_BEGIN)
 }
 
-/// The page of a table.
-fn html_of(
+/// Adds what stands behind all texts.
+fn put_page_end(text: &mut Bytes) -> Result<(), AllocError>
+    ensures { OnOk result (text.new ≡ text.old ++ Definitions.page_end) }
+{
+    text.extend(b"</body>\n</html>\n")
+}
+
+/// Adds what a table says, behind what was found of its rules.
+fn put_table(
     alloc: Global,
+    text: &mut Bytes,
     config: &Config,
     operation: &Operation,
     table: &PolicyTable,
-) -> Result<Bytes, AllocError>
-    ensures { IfOk result (λ text. text ≡ Definitions.html_of config.now operation.now table.now) }
+    numbers: &Items<u32>,
+) -> Result<(), AllocError>
+    ensures { OnOk result (text.new ≡ text.old ++ Definitions.table_text config.now operation.now table.now numbers.now) }
+{
+    put_heading(alloc, text, config, operation)?;
+    put_signs(alloc, text)?;
+    let pieces = table.pieces.as_slice();
+    put_pieces(alloc, text, config, operation, table, pieces)?;
+    put_under(alloc, text, config, operation, table, numbers)
+}
+
+/// The same of a table whose rules are still to be found.
+fn put_table_of(
+    alloc: Global,
+    text: &mut Bytes,
+    config: &Config,
+    operation: &Operation,
+    table: &PolicyTable,
+) -> Result<(), AllocError>
+    ensures { OnOk result (text.new ≡ text.old ++ Definitions.policy_of config.now operation.now table.now) }
 {
     let numbers = numbers_of(alloc, config, operation, table)?;
-    let mut text = Bytes::new(alloc);
-    put_begin(&mut text)?;
-    put_heading(alloc, &mut text, config, operation)?;
-    put_signs(alloc, &mut text)?;
-    let pieces = table.pieces.as_slice();
-    put_pieces(alloc, &mut text, config, operation, table, pieces)?;
-    put_end(alloc, &mut text, config, operation, table, &numbers)?;
-    Ok(text)
+    put_table(alloc, text, config, operation, table, &numbers)
+}
+
+/// Adds the whole policy of a configuration for one operation, without the beginning and the end of a page: the cells of the table, and what
+/// stands under it. By the laws of this room no text of the configuration is markup.
+pub fn put_policy(
+    alloc: Global,
+    text: &mut Bytes,
+    config: &Config,
+    operation: &Operation,
+) -> Result<(), AllocError>
+    ensures { OnOk result (text.new ≡ text.old ++ Definitions.policy_text config.now operation.now) }
+{
+    let table = table_of(
+        alloc,
+        config.rules.as_slice(),
+        &config.users,
+        config.own.domains.as_slice(),
+    )?;
+    put_table_of(alloc, text, config, operation, &table)
 }
 
 /// The whole policy of a configuration for one operation as one file of HTML, without a script and without anything of the net: the cells of
@@ -328,12 +365,9 @@ fn html_of(
 pub fn html_text(alloc: Global, config: &Config, operation: &Operation) -> Result<Bytes, AllocError>
     ensures { IfOk result (λ text. text ≡ Definitions.html_text config.now operation.now) }
 {
-    let table = table_of(
-        alloc,
-        config.rules.as_slice(),
-        &config.users,
-        config.own.domains.as_slice(),
-    )?;
-    let text = html_of(alloc, config, operation, &table)?;
+    let mut text = Bytes::new(alloc);
+    put_begin(&mut text)?;
+    put_policy(alloc, &mut text, config, operation)?;
+    put_page_end(&mut text)?;
     Ok(text)
 }

@@ -1,3 +1,4 @@
 pub mod Places
 pub mod RecordNames
 pub mod Unmade
+pub mod Named

@@ -1,10 +1,11 @@
 //! What a new record says of the one from which it goes on: the name of its file, and the digest in its last line, which is written for that.
 use sip_journal::RecordMark;
 use sip_record_sealed::Follows;
+use sip_text::same_bytes;
 use sipd_old_record::{OldRecord, SealedFile, open_any_record, seal_file};
 use std::alloc::{AllocError, Global};
 use std::io;
-use std::io::ErrorKind;
+use std::io::{ErrorKind, Read};
 use std::rt::Files;
 
 /// What is known of a record from which a start may go on.
@@ -55,6 +56,33 @@ pub fn follows_of(
     digest: [u8; 32],
 ) -> Result<Option<Follows>, AllocError> {
     Follows::new(alloc, name_in(path).as_bytes(), digest)
+}
+
+/// Which record the one of a file follows, if its second line says that.
+pub fn follows_in<R: Files + AllocGlobal>(rt: &R, path: &str) -> Option<Follows> {
+    let mut record = open_any_record(rt, rt.alloc(), path).ok()?;
+    let mut byte = [0u8; 1];
+    let _ = record.events.read(&mut byte);
+    record.events.follows()
+}
+
+/// Whether the record of a file says that it follows the one of another, whose last line holds this digest.
+pub fn goes_on_from<R: Files + AllocGlobal>(
+    rt: &R,
+    path: &str,
+    before: &str,
+    digest: Option<[u8; 32]>,
+) -> bool {
+    let Some(digest) = digest else {
+        return false;
+    };
+    match follows_in(rt, path) {
+        Some(follows) => {
+            same_bytes(follows.name.as_slice(), name_in(before).as_bytes())
+                && follows.digest == digest
+        }
+        None => false,
+    }
 }
 
 /// Whether a path finds a record from which no other start went on.

@@ -5,27 +5,9 @@ use sip_record_sealed::Follows;
 use sip_text::same_bytes;
 use sip_timers::Timers;
 use sipd_exit::Exit;
-use sipd_old_record::open_any_record;
-use sipd_record_files::{name_of, numbers_in};
-use std::fs;
-use std::io::{Read, Write};
+use sipd_record_files::{follows_in, is_folder, name_of, numbers_in};
+use std::io::Write;
 use std::rt::{Clock, Files};
-
-/// Whether a path finds a folder.
-fn is_folder<R: Files>(rt: &R, path: &str) -> bool {
-    match fs::metadata(rt, path) {
-        Ok(found) => found.is_dir(),
-        Err(_) => false,
-    }
-}
-
-/// Which record the one of a file follows, if its second line says that.
-fn follows_in<R: Files + AllocGlobal>(rt: &R, path: &str) -> Option<Follows> {
-    let mut record = open_any_record(rt, rt.alloc(), path).ok()?;
-    let mut byte = [0u8; 1];
-    let _ = record.events.read(&mut byte);
-    record.events.follows()
-}
 
 /// The record that was replayed last.
 #[derive(Clone, Copy)]

@@ -3,7 +3,7 @@ use Rattle.std.specs.Prelude.{ℕ, List, [], ◌++◌, codes}
 use Rattle.sip_uri.specs.Addresses.{ip_text}
 use Rattle.sipd_calls.specs.Moments.{iso_text}
 use Rattle.sipd_calls.specs.declared.notation.Notation.{Notation}
-use Rattle.sipd_calls.specs.declared.notation.Notation.TheVariants.{Csv, Json}
+use Rattle.sipd_calls.specs.declared.notation.Notation.TheVariants.{Csv, Json, Html}
 use Rattle.sipd_calls.specs.Notation.{Words, Number, end_text, first_text, further_text}
 use Rattle.sipd_sources.specs.declared.source.Source.{Source}
 use Rattle.sipd_sources.specs.declared.source.SourceMoment.{SourceMoment}
@@ -12,6 +12,7 @@ use Rattle.sipd_sources.specs.declared.source.SourceMoment.{SourceMoment}
 abbrev pub columns : Notation → List ℕ
 columns Csv = codes "address,heard,asked,proven,wrong,names,first,last\r\n"
 columns Json = []
+columns Html = codes "<tr><th>address</th><th>heard</th><th>asked</th><th>proven</th><th>wrong</th><th>names</th><th>first</th><th>last</th></tr>\n"
 
 abbrev pub address_member : Notation → List ℕ → List ℕ
 address_member notation ip = first_text notation (codes "address") (Words (ip_text ip))

@@ -30,7 +30,7 @@ fn unread(error: &ViewError<'_>) -> Result<(), AllocError>
 }
 
 /// The message that bytes say, if they say a whole one.
-fn message_in<'a>(alloc: Global, bytes: &'a [u8]) -> Result<Option<View<'a>>, AllocError>
+pub fn message_in<'a>(alloc: Global, bytes: &'a [u8]) -> Result<Option<View<'a>>, AllocError>
     ensures { IfOk result (λ message. message ≡ said bytes.now) }
 {
     match view(alloc, bytes) {

@@ -25,6 +25,7 @@ mod ranking;
 mod source;
 mod table;
 
+pub use claims::message_in;
 pub use filter::SourceFilter;
 pub use listening::Sources;
 pub use source::{Source, SourceMoment};

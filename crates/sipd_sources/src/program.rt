@@ -1,4 +1,4 @@
-//! An address for programs: a line of CSV or an object of JSON.
+//! An address for programs: a line of CSV or an object of JSON, or a row of HTML for a page.
 ghost use Rattle.std.specs.Prelude.{◌≡◌, ◌++◌, OnOk};
 ghost use Rattle.sipd_calls.specs.Moments.{iso_text};
 ghost use Rattle.sipd_sources.specs.Program as Definitions;
@@ -9,13 +9,15 @@ use sip_uri::ip_text;
 use sipd_calls::{Notation, Value, push_end, push_first, push_further, push_iso_at};
 use std::alloc::{AllocError, Global};
 
-/// The names of the columns, in CSV.
+/// The names of the columns, in CSV and in HTML.
 pub(crate) fn columns(notation: Notation) -> &'static [u8]
     ensures { result.now ≡ Definitions.columns notation }
 {
     match notation {
         Notation::Csv => b"address,heard,asked,proven,wrong,names,first,last\r\n",
         Notation::Json => b"",
+        Notation::Html =>
+            b"<tr><th>address</th><th>heard</th><th>asked</th><th>proven</th><th>wrong</th><th>names</th><th>first</th><th>last</th></tr>\n",
     }
 }
 

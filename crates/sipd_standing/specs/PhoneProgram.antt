@@ -6,7 +6,7 @@ use Rattle.sip_location.specs.declared.binding.Binding.{Binding}
 use Rattle.sip_days.specs.declared.registered.Registered.{Registered}
 use Rattle.sipd_calls.specs.Moments.{iso_text}
 use Rattle.sipd_calls.specs.declared.notation.Notation.{Notation}
-use Rattle.sipd_calls.specs.declared.notation.Notation.TheVariants.{Csv, Json}
+use Rattle.sipd_calls.specs.declared.notation.Notation.TheVariants.{Csv, Json, Html}
 use Rattle.sipd_calls.specs.Notation.{Words, Number, end_text, first_text, further_text}
 use Rattle.sipd_calls.specs.Program.{source_member}
 
@@ -14,6 +14,7 @@ use Rattle.sipd_calls.specs.Program.{source_member}
 abbrev pub columns : Notation → List ℕ
 columns Csv = codes "registered,contact,left,since,from\r\n"
 columns Json = []
+columns Html = codes "<tr><th>registered</th><th>contact</th><th>left</th><th>since</th><th>from</th></tr>\n"
 
 abbrev pub address_member : Notation → Registered → List ℕ
 address_member notation row = first_text notation (codes "registered") (Words (target_text row.aor))

@@ -3,7 +3,7 @@ use Rattle.std.specs.Prelude.{ℕ, ◌-◌, List, [], ◌++◌, codes}
 use Rattle.sip_days.specs.declared.call.Call.{Call}
 use Rattle.sipd_calls.specs.Moments.{iso_text}
 use Rattle.sipd_calls.specs.declared.notation.Notation.{Notation}
-use Rattle.sipd_calls.specs.declared.notation.Notation.TheVariants.{Csv, Json}
+use Rattle.sipd_calls.specs.declared.notation.Notation.TheVariants.{Csv, Json, Html}
 use Rattle.sipd_calls.specs.Notation.{Words, Number, end_text, first_text, further_text}
 use Rattle.sipd_calls.specs.Program.{called_member, source_member, words_said}
 use Rattle.sipd_calls.specs.Words.{ruled_text}
@@ -12,6 +12,7 @@ use Rattle.sipd_calls.specs.Words.{ruled_text}
 abbrev pub columns : Notation → List ℕ
 columns Csv = codes "number,since,caller,from,called,rule,state,for_ms,call_id\r\n"
 columns Json = []
+columns Html = codes "<tr><th>number</th><th>since</th><th>caller</th><th>from</th><th>called</th><th>rule</th><th>state</th><th>for, ms</th><th>Call-ID</th></tr>\n"
 
 abbrev pub since_member : Notation → Call → ℕ → List ℕ
 since_member notation call since = further_text notation (codes "since") (Words (iso_text call.offset since))

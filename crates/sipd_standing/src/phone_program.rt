@@ -1,4 +1,4 @@
-//! Who is registered, for programs: a line of CSV or an object of JSON for a binding.
+//! Who is registered, for programs: a line of CSV or an object of JSON for a binding, or a row of HTML for a page.
 ghost use Rattle.std.specs.Prelude.{◌≡◌, ◌++◌, OnOk};
 ghost use Rattle.sipd_calls.specs.Moments.{iso_text};
 ghost use Rattle.sipd_standing.specs.PhoneProgram as Definitions;
@@ -11,13 +11,15 @@ use sipd_calls::{Notation, Value, push_end, push_first, push_further, push_iso_a
 use sipd_report::put_target;
 use std::alloc::{AllocError, Global};
 
-/// The names of the columns, in CSV.
+/// The names of the columns, in CSV and in HTML.
 pub(crate) fn columns(notation: Notation) -> &'static [u8]
     ensures { result.now ≡ Definitions.columns notation }
 {
     match notation {
         Notation::Csv => b"registered,contact,left,since,from\r\n",
         Notation::Json => b"",
+        Notation::Html =>
+            b"<tr><th>registered</th><th>contact</th><th>left</th><th>since</th><th>from</th></tr>\n",
     }
 }
 

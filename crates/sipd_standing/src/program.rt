@@ -1,4 +1,4 @@
-//! Calls that ring or are talked, for programs: a line of CSV or an object of JSON for each.
+//! Calls that ring or are talked, for programs: a line of CSV or an object of JSON for each, or a row of HTML for a page.
 ghost use Rattle.std.specs.Prelude.{◌≡◌, ◌++◌, OnOk};
 ghost use Rattle.sipd_calls.specs.Moments.{iso_text};
 ghost use Rattle.sipd_standing.specs.Program as Definitions;
@@ -11,13 +11,15 @@ use sipd_calls::{
 };
 use std::alloc::{AllocError, Global};
 
-/// The names of the columns, in CSV.
+/// The names of the columns, in CSV and in HTML.
 pub(crate) fn columns(notation: Notation) -> &'static [u8]
     ensures { result.now ≡ Definitions.columns notation }
 {
     match notation {
         Notation::Csv => b"number,since,caller,from,called,rule,state,for_ms,call_id\r\n",
         Notation::Json => b"",
+        Notation::Html =>
+            b"<tr><th>number</th><th>since</th><th>caller</th><th>from</th><th>called</th><th>rule</th><th>state</th><th>for, ms</th><th>Call-ID</th></tr>\n",
     }
 }
 

@@ -10,6 +10,7 @@ use Rattle.sipd_ladder.specs.Hearing.{place_at, rungs_with}
 use Rattle.sipd_ladder.specs.declared.hearing.Ladder.{Ladder}
 use Rattle.sipd_ladder.specs.declared.rung.AddrName.{AddrName}
 use Rattle.sipd_ladder.specs.declared.rung.Rung.{Rung}
+use Rattle.sipd_days.specs.Onward.{HearsAll}
 use Rattle.sipd_traces.specs.Ladders.{AddsRungs, ladder_behind, ladder_with}
 use Rattle.sipd_traces.specs.Traces.{adds_frames, step_frames}
 
@@ -35,6 +36,12 @@ all_frames choice old new (link ∷ history) h =
     subst (λ (l : List ℕ). Appends old new l) (one_more choice history link)
     (Appends-trans old h.half new (flat_map (step_frames choice) (heard_of history)) (step_frames choice (heard_at link))
     (all_frames choice old h.half history h.earlier) h.last)
+
+pub steps_frames : (choice : CaptureChoice) (old new : Option (List ℕ)) (steps : List Heard) → HearsAll (adds_frames choice) old new steps
+    → Appends old new (flat_map (step_frames choice) steps)
+steps_frames choice old new [] h = subst (λ (x : Option (List ℕ)). Appends old x []) (sym h) (Appends-nil old)
+steps_frames choice old new (step ∷ steps) h =
+    Appends-trans old h.half new (step_frames choice step) (flat_map (step_frames choice) steps) h.first (steps_frames choice h.half new steps h.others)
 
 -- ---- rungs
 
@@ -63,3 +70,8 @@ all_rungs old new (link ∷ history) h =
     one_step h.half (heard_at link) new h.last
     ∙ ap (λ (ladder : Ladder). ladder_with ladder (heard_at link)) (all_rungs old h.half history h.earlier)
     ∙ sym (behind_more old (heard_of history) (heard_at link))
+
+pub steps_rungs : (old new : Ladder) (steps : List Heard) → HearsAll AddsRungs old new steps → new ≡ ladder_behind old steps
+steps_rungs old new [] h = h
+steps_rungs old new (step ∷ steps) h =
+    steps_rungs h.half new steps h.others ∙ ap (λ (ladder : Ladder). ladder_behind ladder steps) (one_step old step h.half h.first)

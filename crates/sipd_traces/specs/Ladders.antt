@@ -1,12 +1,13 @@
 -- A call of recorded days.
-use Rattle.std.specs.Prelude.{◌≡◌, ℕ, Bool, if◌then◌else◌, List, [], ◌∷◌, Option}
+use Rattle.std.specs.Prelude.{◌≡◌, ℕ, Bool, if◌then◌else◌, List, [], ◌∷◌, length, Option}
 use Rattle.std.specs.Io.KnownBytes.{Appends}
 use Rattle.sip_listener.specs.Heard.{Heard}
 use Rattle.sipd_ladder.specs.Hearing.{names_with, place_at, rungs_with}
 use Rattle.sipd_ladder.specs.Table.{ladder_text}
 use Rattle.sipd_ladder.specs.declared.hearing.Ladder.{Ladder}
 use Rattle.sipd_ladder_picture.specs.Picture.{drawing}
-use Rattle.sipd_traces.specs.Days.{TellsFiles}
+use Rattle.sipd_record_files.specs.Named.{AreNamed}
+use Rattle.sipd_days.specs.Records.{TellsFiles}
 
 -- a ladder hears a step
 pub record AddsRungs (old : Ladder) (step : Heard) (new : Ladder) : Type 0 where
@@ -36,10 +37,12 @@ abbrev pub shown_ladder : Bool → Ladder → List ℕ
 shown_ladder svg ladder =
     if svg then drawing ladder.call_id ladder.names ladder.rungs else ladder_text ladder.call_id ladder.names ladder.rungs
 
--- a call of so many records was printed so
-pub record PrintsLadder (svg : Bool) (count : ℕ) (old new : Option (List ℕ)) : Type 0 where
+-- the diagram of a call of the records that paths name was printed
+pub record PrintsLadder (svg : Bool) (paths : List (List ℕ)) (old new : Option (List ℕ)) : Type 0 where
   pub first : Ladder
   pub unheard : IsUnheard first
   pub ladder : Ladder
-  pub days : TellsFiles AddsRungs count first ladder
+  pub files : List (List ℕ)
+  pub named : AreNamed paths files
+  pub days : TellsFiles AddsRungs (length files) first ladder
   pub printed : Appends old new (shown_ladder svg ladder)

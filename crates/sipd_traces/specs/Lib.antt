@@ -1,4 +1,3 @@
-pub mod Days
 pub mod Traces
 pub mod Ladders
 pub mod Numbers

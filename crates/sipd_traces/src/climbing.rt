@@ -1,18 +1,19 @@
 //! The command `ladder`: a call of recorded days as a diagram, or as a drawing.
-ghost use Rattle.std.specs.Prelude.{◌≡◌, length, IfOk, OnOk};
+ghost use Rattle.std.specs.Prelude.{◌≡◌, map, string_bytes, IfOk, OnOk};
 ghost use Rattle.std.specs.Io.KnownBytes.{Appends};
 ghost use Rattle.sipd_traces.specs.Ladders.{PrintsLadder, shown_ladder};
 
 use crate::climber::Climber;
-use crate::files::tell_files;
-use crate::naming::{call_id_of, reading_of};
+use crate::naming::call_id_of;
 use sip_policy::Rules;
 use sip_text::Bytes;
 use sip_timers::Timers;
 use sipd_arguments::LadderCall;
+use sipd_days::{Onward, reading_of, tell_files};
 use sipd_exit::{Exit, print};
 use sipd_ladder::Ladder;
 use sipd_ladder_picture::picture;
+use sipd_record_files::record_files;
 use std::alloc::{AllocError, Global};
 use std::io::Write;
 use std::rt::{Clock, Files};
@@ -60,21 +61,22 @@ pub fn draw_ladder<
     W: Write,
     C: Write,
 >(rt: &R, call: &LadderCall, seen: bool, output: &mut W, complaints: &mut C) -> Result<(), Exit>
-    ensures { OnOk result (PrintsLadder call.now.svg (length call.now.records.items) (W.contents output.old) (W.contents output.new)) }
+    ensures { OnOk result (PrintsLadder call.now.svg (map string_bytes call.now.records.items) (W.contents output.old) (W.contents output.new)) }
 {
     let alloc = rt.alloc();
-    let records = call.records.as_slice();
+    let files = record_files(rt, call.records.as_slice())?;
+    let records = files.as_slice();
     let reading = reading_of(rt, &call.config, seen)?;
     let call_id = call_id_of::<T, P, R, C>(rt, call.call.as_str(), records, &reading, complaints)?;
-    let mut climber = Climber {
+    let mut climber = Onward::new(Climber {
         alloc,
         ladder: Ladder::new(alloc, call_id.as_slice())?,
-    };
+    });
     let told = tell_files::<T, P, R, Climber, C>(rt, records, &reading, &mut climber, complaints);
-    if climber.ladder.rungs.as_slice().is_empty() {
+    if climber.listener.ladder.rungs.as_slice().is_empty() {
         told?;
         return Err(nothing_of(alloc, call.call.as_str()));
     }
-    print_ladder(alloc, call.svg, &climber.ladder, output)?;
+    print_ladder(alloc, call.svg, &climber.listener.ladder, output)?;
     told
 }

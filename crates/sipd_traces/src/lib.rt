@@ -8,7 +8,6 @@
 
 mod climber;
 mod climbing;
-mod files;
 mod finder;
 pub mod laws;
 mod naming;

@@ -1,24 +1,15 @@
 //! Which call a word of a command line means.
+ghost use Rattle.std.specs.Prelude.{IfOk};
+ghost use Rattle.sipd_traces.specs.Traces.{Means};
 
-use crate::files::{DayReading, tell_files};
 use crate::finder::Finder;
 use sip_policy::Rules;
 use sip_text::{Bytes, plain_decimal};
 use sip_timers::Timers;
-use sipd_exit::{Exit, Stated};
-use sipd_old_record::named_file;
+use sipd_days::{DayReading, Onward, tell_files};
+use sipd_exit::Exit;
 use std::io::Write;
 use std::rt::{Clock, Files};
-
-/// How records are read, with the configuration in a file for those that hold none.
-pub(crate) fn reading_of<R: Files + AllocGlobal>(
-    rt: &R,
-    config: &Option<String>,
-    seen: bool,
-) -> Result<DayReading, Exit> {
-    let named: Option<Stated> = named_file(rt, config.as_ref().map(String::as_str))?;
-    Ok(DayReading { named, seen })
-}
 
 /// The Call-ID of the datagram of a number, if it was decided.
 fn call_of_number<T: Timers, P: Rules, R: Files + Clock + Eprint + AllocGlobal, C: Write>(
@@ -28,14 +19,13 @@ fn call_of_number<T: Timers, P: Rules, R: Files + Clock + Eprint + AllocGlobal, 
     reading: &DayReading,
     complaints: &mut C,
 ) -> Result<Option<Bytes>, Exit> {
-    let mut finder = Finder {
+    let mut finder = Onward::new(Finder {
         alloc: rt.alloc(),
         number,
         found: None,
-    };
+    });
     let told = tell_files::<T, P, R, Finder, C>(rt, records, reading, &mut finder, complaints);
-    let Finder { found, .. } = finder;
-    match found {
+    match finder.listener.found.take() {
         Some(call_id) => Ok(Some(call_id)),
         None => {
             told?;
@@ -51,7 +41,9 @@ pub(crate) fn call_id_of<T: Timers, P: Rules, R: Files + Clock + Eprint + AllocG
     records: &[String],
     reading: &DayReading,
     complaints: &mut C,
-) -> Result<Bytes, Exit> {
+) -> Result<Bytes, Exit>
+    ensures { IfOk result (λ call_id. Means word.now call_id) }
+{
     if let Some(number) = plain_decimal(word.as_bytes()) {
         let found = call_of_number::<T, P, R, C>(rt, number, records, reading, complaints)?;
         if let Some(call_id) = found {

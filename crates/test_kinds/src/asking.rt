@@ -2,7 +2,6 @@ use sip_policy::{Operation, Rules, Ruling};
 use sip_text::Bytes;
 use sip_uri::Aor;
 use std::alloc::{AllocError, Global};
-use std::fmt;
 
 /// A request at a minute of the day, as rules are asked about it.
 #[derive(Clone, Copy)]
@@ -15,30 +14,6 @@ pub struct Asking {
     pub user: &'static str,
     pub host: &'static str,
     pub minute: u16,
-}
-
-impl fmt::Display for Asking {
-    fn fmt<W: fmt::Write>(&self, f: &mut fmt::Formatter<W>) -> fmt::Result {
-        let words: &[&str] = &[
-            self.method,
-            if self.has_contact {
-                " with"
-            } else {
-                " without"
-            },
-            " Contact to ",
-            self.user,
-            "@",
-            self.host,
-            ", ",
-            self.proven.unwrap_or("nobody"),
-            " proven, at minute ",
-        ];
-        for word in words {
-            f.write_str(word)?;
-        }
-        write!(f, "{}", self.minute)
-    }
 }
 
 fn aor(alloc: Global, user: &str, host: &str) -> Result<Aor, AllocError> {

@@ -9,8 +9,6 @@
 //! - `refusals`: the steps of the script of standard input, where `tests/refuse_each.sh` refuses their memory;
 //! - `tables CASE SIZE TIMES`: calls on a table of a size, so many times, which `bench/measure_tables.py` counts;
 //! - `parts CASE TARGETS TIMES`: calls on the parts, so many times, which `bench/measure_parts.py` counts;
-//! - `kinds timers SEED CALLS` and `kinds rules SEED CALLS`: whether two kinds of them answer so many random calls alike,
-//!   which `tests/compare_kinds.sh` asks.
 //!
 //! Exit statuses: 0 done, 1 a refused step changed something, 2 other words, 3 script, 4 device, 5 memory outside of
 //! steps. What doesn't hold is told by what is printed, which is compared.
@@ -88,16 +86,6 @@ fn try_one(rt: &HostRuntime, trial: &str) -> Result<u8, Fault> {
     Ok(DONE)
 }
 
-/// Whether both kinds answer alike.
-fn compare(rt: &HostRuntime, what: &str, seed: u32, calls: u32) -> io::Result<u8> {
-    match what {
-        "timers" => test_kinds::tell_timers(rt, seed, calls)?,
-        "rules" => test_kinds::tell_rules(rt, seed, calls)?,
-        _ => return Ok(OTHER_WORDS),
-    }
-    Ok(DONE)
-}
-
 /// Calls of a case, so many times.
 fn count(rt: &HostRuntime, trial: &str, case: &str, size: u32, times: u32) -> io::Result<u8> {
     match trial {
@@ -121,9 +109,6 @@ fn answer(rt: &HostRuntime, words: &[String]) -> Result<u8, Fault> {
         [_, trial] => try_one(rt, trial.as_str()),
         [_, trial, case, size, times] => {
             let (size, times) = (number(size.as_str()), number(times.as_str()));
-            if trial.as_str() == "kinds" {
-                return Ok(compare(rt, case.as_str(), size, times)?);
-            }
             Ok(count(rt, trial.as_str(), case.as_str(), size, times)?)
         }
         _ => Ok(OTHER_WORDS),

@@ -1,10 +1,11 @@
 use Rattle.sipd_arguments.specs.CommandLine.{check_command, replay_command, compact_command, serve_command, decide_command, matrix_command, report_command}
-use Rattle.sipd_arguments.specs.CommandLine.{user_command, calls_command, phones_command, now_command, trace_command, ladder_command, sources_command}
+use Rattle.sipd_arguments.specs.CommandLine.{user_command, calls_command, phones_command, now_command, trace_command, ladder_command, sources_command, page_command}
 use Rattle.sipd_arguments.proofs.commands.commands.Goals as goal
 
 pub returns : goal.returns
 returns c =
-    c.and_command.ensures _ sources_command
+    c.and_command.ensures _ page_command
+    (c.and_command-known-14.ensures _ sources_command
     (c.and_command-known-13.ensures _ ladder_command
     (c.and_command-known-12.ensures _ trace_command
     (c.and_command-known-11.ensures _ now_command
@@ -30,4 +31,5 @@ returns c =
     c.now_command.ensures)
     c.trace_command.ensures)
     c.ladder_command.ensures)
-    c.sources_command.ensures
+    c.sources_command.ensures)
+    c.page_command.ensures

@@ -27,6 +27,7 @@ returns c = record {
   ladder = refl;
   counted = refl;
   unproven = refl;
+  paged = refl;
   no_call = refl;
   no_records = refl;
   empty_records = refl;

@@ -1,0 +1,4 @@
+pub mod Told
+pub mod Adding
+pub mod Days
+pub mod Printing

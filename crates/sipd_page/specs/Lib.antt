@@ -1,0 +1,3 @@
+pub mod Days
+pub mod History
+pub mod Page

@@ -1,0 +1,5 @@
+pub mod Places
+pub mod Fronts
+pub mod Looks
+pub mod Points
+pub mod Tags
