@@ -12,6 +12,7 @@ import csv
 import io
 import math
 import os
+import re
 import shutil
 import signal
 import subprocess
@@ -27,6 +28,11 @@ from program import Server, ended, goes_apart, read, until, write
 
 PASSWORDS = {**phone.PASSWORDS, "carol": "sesame", "dave": "dromedary", "erin": "eleven", "frank": "fortress"}
 DENIED = '[[rule]]\nid = 20\nwho = "proven"\nop = "send INVITE"\ntarget = "vault@192.0.2.10"\nverdict = "deny"\n\n'
+
+
+def unquoted(cell):
+    """A cell of CSV without the quote that keeps it from being a formula: sipp's Call-IDs begin with `-`."""
+    return cell[1:] if re.match("'[=+@\t\r-]", cell) else cell
 
 
 class Day:
@@ -77,7 +83,7 @@ class Day:
         """The rows that a command prints of the record, as comma-separated values."""
         status, text, complaints = ended(command, "--csv", "--record", self.record, *words)
         assert (status, complaints) == (0, ""), (command, words, status, complaints)
-        return list(csv.DictReader(io.StringIO(text, newline="")))
+        return [{name: unquoted(cell) for name, cell in row.items()} for row in csv.DictReader(io.StringIO(text, newline=""))]
 
     def traced(self, name, *words):
         path = os.path.join(self.folder, name)
