@@ -126,7 +126,7 @@ def stored():
 def tried():
     """What `test_server` tries: all that the gate compares, and the steps of a script."""
     crate, script = os.path.join(TOP, "crates", "test_server"), os.path.join(DATA, "registered")
-    yield ["test_server"], DATA, read(os.path.join(crate, "stdin")), os.path.join(crate, "stdout"), 0
+    yield ["test_server"], DATA, b"", os.path.join(crate, "stdout"), 0
     yield ["test_server", "refusals"], DATA, read(script + ".script"), script + ".out", 0
 
 

@@ -4,7 +4,7 @@
 //! - Used: the tables of dialogs and of open requests hash under a secret (`KeyedHasher`); open requests share the kept message
 //!   (`Shared`); hosts, bindings and rules are found by codes (`mixed`).
 //! - Not here: anything of SIP.
-//! - Tried: `test_counts`.
+//! - Tried: the stored runs of `test_server`.
 #![tactic(auto)]
 
 mod code;

@@ -2,7 +2,7 @@
 //!
 //! - Used: `sip_config` makes one, the engine is opened with one.
 //! - Not here: the file and its grammar (`sip_config`).
-//! - Tried: `test_counts`.
+//! - Tried: the stored runs of `test_server`.
 #![tactic(auto)]
 
 mod config;

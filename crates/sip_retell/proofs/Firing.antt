@@ -6,11 +6,11 @@ use Rattle.sip_config_types.specs.declared.config.Config.{Config}
 use Rattle.sip_model.specs.state.declared.server.Server.{Server}
 use Rattle.sip_model.specs.steps_model.Step.{Passing}
 use Rattle.sip_model.specs.TimerOrder.{Standing}
-use Rattle.sip_run.specs.Due.{Fires}
-use Rattle.sip_run.specs.Refusals.{RefusesStep}
-use Rattle.sip_run.specs.engine.declared.error.StepError.{StepError}
-use Rattle.sip_run.specs.engine.declared.error.StepError.TheVariants as step_errors
-use Rattle.sip_run.specs.engine.StepError.{refusal_at}
+use Rattle.sip_resume.specs.run.Due.{Fires}
+use Rattle.sip_resume.specs.run.Refusals.{RefusesStep}
+use Rattle.sip_resume.specs.run.engine.declared.error.StepError.{StepError}
+use Rattle.sip_resume.specs.run.engine.declared.error.StepError.TheVariants as step_errors
+use Rattle.sip_resume.specs.run.engine.StepError.{refusal_at}
 use Rattle.sip_replay_script.specs.declared.print_stop.PrintStop.{PrintStop}
 use Rattle.sip_replay_script.specs.declared.print_stop.PrintStop.TheVariants as prints
 use Rattle.sip_resume.specs.Resumes.{StepStops}

@@ -6,9 +6,9 @@ use Rattle.sip_event.specs.declared.event.Event.{Event}
 use Rattle.sip_model.specs.state.declared.server.Server.{Server}
 use Rattle.sip_model.specs.Run.{event_moment}
 use Rattle.sip_model.specs.TimerOrder.{Standing}
-use Rattle.sip_run.specs.engine.Engine.{Engine}
-use Rattle.sip_run.specs.Due.{standing_of}
-use Rattle.sip_run.proofs.Standings.{standing_is}
+use Rattle.sip_resume.specs.run.engine.Engine.{Engine}
+use Rattle.sip_resume.specs.run.Due.{standing_of}
+use Rattle.sip_resume.proofs.of_standings.{standing_is}
 use Rattle.sip_replay_script.specs.Lines.{IsOver, Reading, is_end, left, pending}
 use Rattle.sip_replay_script.specs.Recorded.{GivesRecorded, IsCutRecord, IsDamagedRecord, RecordStops}
 use Rattle.sip_replay_script.specs.declared.read_stop.ReadStop.{ReadStop}

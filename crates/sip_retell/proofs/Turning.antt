@@ -7,10 +7,10 @@ use Rattle.sip_model.specs.state.declared.server.Server.{Server}
 use Rattle.sip_model.specs.steps_model.Step.{Given, IsStep, moment_of}
 use Rattle.sip_model.specs.Run.{event_moment}
 use Rattle.sip_model.specs.TimerOrder.{IsQueueAfter, Standing}
-use Rattle.sip_run.specs.Due.{NothingDueBy}
-use Rattle.sip_run.specs.Refusals.{RefusesStep, refusal_of_event}
-use Rattle.sip_run.specs.engine.declared.error.StepError.{StepError}
-use Rattle.sip_run.specs.engine.declared.error.StepError.TheVariants as step_errors
+use Rattle.sip_resume.specs.run.Due.{NothingDueBy}
+use Rattle.sip_resume.specs.run.Refusals.{RefusesStep, refusal_of_event}
+use Rattle.sip_resume.specs.run.engine.declared.error.StepError.{StepError}
+use Rattle.sip_resume.specs.run.engine.declared.error.StepError.TheVariants as step_errors
 use Rattle.sip_replay_script.specs.declared.print_stop.PrintStop.{PrintStop}
 use Rattle.sip_replay_script.specs.declared.print_stop.PrintStop.TheVariants as prints
 use Rattle.sip_resume.specs.Resumes.{StepStops}

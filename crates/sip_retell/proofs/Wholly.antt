@@ -11,7 +11,7 @@ use Rattle.sip_model.specs.Periods.{Period, until_of}
 use Rattle.sip_model.specs.TimerOrder.{Standing}
 use Rattle.sip_model.proofs.Along.{queue_behind}
 use Rattle.sip_model.proofs.Orderly.{orderly_joined}
-use Rattle.sip_run.proofs.RunOn.{run_on}
+use Rattle.sip_resume.proofs.of_run.{run_on}
 use Rattle.sip_journal.specs.Segments.{SaysWhole, Segment}
 use Rattle.sip_config.specs.Stated.{States}
 use Rattle.sip_resume.specs.Resumes.{Runs}

@@ -1,7 +1,7 @@
 -- Why a record isn't told further.
 use Rattle.std.specs.Prelude.{ℕ, Result, Ok, Err}
-use Rattle.sip_run.specs.engine.declared.error.StepError.{StepError}
-use Rattle.sip_run.specs.engine.declared.error.StepError.TheVariants as steps
+use Rattle.sip_resume.specs.run.engine.declared.error.StepError.{StepError}
+use Rattle.sip_resume.specs.run.engine.declared.error.StepError.TheVariants as steps
 use Rattle.sip_replay_script.specs.declared.print_stop.PrintStop.{PrintStop}
 use Rattle.sip_replay_script.specs.declared.print_stop.PrintStop.TheVariants as prints
 use Rattle.sip_replay_script.specs.declared.read_stop.ReadStop.{ReadStop}

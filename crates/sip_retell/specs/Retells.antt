@@ -9,7 +9,7 @@ use Rattle.sip_model.specs.Run.{Link, event_moment, under}
 use Rattle.sip_model.specs.Access.{Access}
 use Rattle.sip_model.specs.Bounds.{IsBounded}
 use Rattle.sip_model.specs.TimerOrder.{Standing}
-use Rattle.sip_run.specs.engine.Engine.{Engine}
+use Rattle.sip_resume.specs.run.engine.Engine.{Engine}
 use Rattle.sip_replay_script.specs.Lines.{Reading, is_end, left, pending}
 use Rattle.sip_journal.specs.Segments.{Segment}
 use Rattle.sip_config.specs.Stated.{States}

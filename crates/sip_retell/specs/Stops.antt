@@ -4,9 +4,9 @@ use Rattle.sip_event.specs.declared.event.Event.{Event}
 use Rattle.sip_model.specs.state.declared.server.Server.{Server}
 use Rattle.sip_model.specs.Run.{event_moment}
 use Rattle.sip_model.specs.TimerOrder.{Standing}
-use Rattle.sip_run.specs.engine.declared.error.StepError.{StepError}
-use Rattle.sip_run.specs.engine.StepError.{refusal_at}
-use Rattle.sip_run.specs.Refusals.{refusal_of_event}
+use Rattle.sip_resume.specs.run.engine.declared.error.StepError.{StepError}
+use Rattle.sip_resume.specs.run.engine.StepError.{refusal_at}
+use Rattle.sip_resume.specs.run.Refusals.{refusal_of_event}
 use Rattle.sip_replay_script.specs.Recorded.{IsDamagedRecord}
 use Rattle.sip_journal.specs.Configurations.{IsDamagedConfiguration, IsLongConfiguration}
 use Rattle.sip_config.specs.Stated.{StatesNone}

@@ -5,7 +5,7 @@ ghost use Rattle.sip_retell.specs.declared.error.RetellError.TheVariants.{NoMemo
 use sip_config::ConfigError;
 use sip_config_change::FrameKey;
 use sip_replay_script::PrintStop;
-use sip_run::engine::StepError;
+use sip_resume::engine::StepError;
 use std::alloc::{AllocError, AllocFailed};
 use std::error::Error;
 use std::fmt;

@@ -1,7 +1,7 @@
 //! Time that passes for a server, and an event behind all that is due by its moment: each step is told.
 ghost use Rattle.std.specs.Prelude.{◌≡◌, [], ◌∷◌, None, Some, IfErr, OnOk};
 ghost use Rattle.sip_model.specs.steps_model.Step.{moment_of};
-ghost use Rattle.sip_run.specs.Due.{NothingDueBy, standing_of};
+ghost use Rattle.sip_resume.specs.run.Due.{NothingDueBy, standing_of};
 ghost use Rattle.sip_retell.specs.Retells.{RunsTold};
 ghost use Rattle.sip_retell.specs.Stops.{PassingStops, TurnStops};
 ghost use Rattle.sip_retell.specs.declared.error.RetellError.TheVariants as Refusal;
@@ -10,8 +10,8 @@ use crate::error::RetellError;
 use sip_event::Event;
 use sip_listener::Listener;
 use sip_policy::Rules;
-use sip_run::engine::Engine;
-use sip_run::{event_moment, fire_next, take_event};
+use sip_resume::engine::Engine;
+use sip_resume::run::{event_moment, fire_next, take_event};
 use sip_timers::Timers;
 
 /// Lets all happen that is due by a moment in milliseconds, each in a step at its own moment, and tells these steps. So a server that was

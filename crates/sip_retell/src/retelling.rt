@@ -1,7 +1,7 @@
 ghost use Rattle.std.specs.Prelude.{◌≡◌, ◌≤◌, IfOk, IfErr};
 ghost use Rattle.sip_replay_script.specs.Devices.{later};
 ghost use Rattle.sip_replay_script.specs.Lines.{pending, IsSpent};
-ghost use Rattle.sip_run.specs.Due.{standing_of};
+ghost use Rattle.sip_resume.specs.run.Due.{standing_of};
 ghost use Rattle.sip_retell.specs.Retells.{IsRetold};
 ghost use Rattle.sip_retell.specs.Stops.{IsUnretold};
 ghost use Rattle.sip_retell.specs.declared.error.RetellError.TheVariants as Refusal;
@@ -11,7 +11,7 @@ use crate::next::{NextItem, tell_next};
 use sip_listener::Listener;
 use sip_policy::Rules;
 use sip_replay_script::{ScriptLines, TellingReader};
-use sip_run::engine::Engine;
+use sip_resume::engine::Engine;
 use sip_timers::Timers;
 use std::alloc::Global;
 

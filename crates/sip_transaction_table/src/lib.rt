@@ -5,7 +5,7 @@
 //!
 //! - Used: `sip_fork` keeps the open requests in it, `sip_verdict` reads the key.
 //! - Not here: what an open request is (`sip_state`).
-//! - Tried: `test_counts`.
+//! - Tried: the stored runs of `test_server`.
 //!
 //! ```text
 //! let place = table.find(&key);

@@ -3,7 +3,7 @@
 //!
 //! - Used: `sip_verdict`, before anything else of a request is asked.
 //! - Not here: whether bytes are a message (`sip_message`).
-//! - Tried: worked examples in `src/examples.rt`, as contracts that compute; `test_counts`.
+//! - Tried: worked examples in `src/examples.rt`, as contracts that compute; the stored runs of `test_server`.
 //!
 //! ```text
 //! let checked = validate(alloc, &request, &via, short, &own)?;

@@ -6,6 +6,7 @@
 //! - Tried: `test_server`, `tests/serve.py`, `tests/faults.py`.
 #![tactic(auto)]
 
+mod beside;
 mod compacting;
 mod program;
 mod record_turning;

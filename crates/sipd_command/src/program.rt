@@ -56,12 +56,16 @@ fn carry_out<
     C: Write,
 >(
     rt: &R,
-    call: &ProgramCall,
+    parsed: &Parsed,
     seen: bool,
     input: &mut I,
     output: &mut W,
     complaints: &mut C,
 ) -> Result<(), Exit> {
+    let call = match parsed {
+        Parsed::Text(text) => return print(text.as_bytes(), output),
+        Parsed::Call(call) => call,
+    };
     match call {
         ProgramCall::Check(call) => check(rt, call, output, complaints),
         ProgramCall::Replay(call) => replay_call::<T, P, R, I, W, C>(
@@ -112,13 +116,13 @@ fn run<
     complaints: &mut C,
 ) -> Result<(), Exit> {
     let parsed = parse(rt.alloc(), words)?;
-    match &parsed {
-        Parsed::Text(text) => print(text.as_bytes(), output),
-        Parsed::Call(call) => {
-            carry_out::<T, P, R, I, W, C>(rt, call, seen, input, output, complaints)
-        }
-    }
+    let done = carry_out::<T, P, R, I, W, C>(rt, &parsed, seen, input, output, complaints);
+    let_go(parsed);
+    done
 }
+
+/// Lets what a command line says go. It stands apart, so that its cases don't stand where it is carried out.
+fn let_go(_parsed: Parsed) {}
 
 /// Complains of that by which the program ends, and gives the exit status.
 fn end_by<C: Write>(exit: Exit, complaints: &mut C) -> u8

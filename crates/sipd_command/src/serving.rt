@@ -1,20 +1,20 @@
 //! The command `serve` carried out: the configuration is read, the address bound, the record begun, and a guard put over the socket.
 //! The turns themselves are in `sipd_service`.
-ghost use Rattle.std.specs.Prelude.{◌≡◌, [], is_some, IfOk, IfSome, OnOk, string_bytes};
+ghost use Rattle.std.specs.Prelude.{◌≡◌, [], IfOk, OnOk, string_bytes};
 ghost use Rattle.sip_guard.specs.Guard.{guard_over, link_told};
 ghost use Rattle.sipd_boot.specs.Boots.{behind_secret, secret_from};
 ghost use Rattle.sipd_service.specs.Hops.{hop_addresses};
 ghost use Rattle.sipd_command.specs.Starts.{bound_address, decided_before, PrintsAt, PrintsFor, PrintsSomewhere};
 
+use crate::beside::{Beside, BesideFiles, beside_of};
 use crate::record_turning::RecordTurning;
-use crate::status_file::StatusFile;
 use rand::rngs::StdRng;
 use rand_core::Rng;
 use sip_audit::Record;
 use sip_config_types::Config;
 use sip_event::StepOut;
 use sip_guard::Guard;
-use sip_journal::NoJournal;
+use sip_journal::{NoJournal, Recorder};
 use sip_policy::Rules;
 use sip_record_omitted::Expanding;
 use sip_record_sealed::Unsealing;
@@ -26,15 +26,15 @@ use sip_uri::Addr;
 use sipd_arguments::ServeCall;
 use sipd_boot::secret;
 use sipd_exit::{DeviceFault, Exit, RecordPlace, Stated, config_of_bytes, stated_in};
-use sipd_old_record::WatchedJournal;
+use sipd_old_record::{RecordFile, WatchedJournal};
 use sipd_progress::Watched;
-use sipd_reload::{PathFile, Watch, WatchedFile};
+use sipd_reload::WatchedFile;
 use sipd_service::engine::Engine;
 use sipd_service::{
     LinePrinter, NextRecord, OneRecord, Said, Service, Serving, SizedJournal, hops_of, serve_turns,
 };
 use sipd_start::{Beginning, Begun, RecordFolder, begin, begin_unrecorded, check_stack};
-use sipd_status::{Status, StatusPlace};
+use sipd_status::StatusPlace;
 use std::alloc::{AllocError, Global};
 use std::io::{ErrorKind, Read, Write};
 use std::net::Net;
@@ -114,35 +114,6 @@ impl<L: Link, N: Rng + Drop> ServeStart<L, N> {
             path,
             stated,
         })
-    }
-}
-
-/// What is looked at and written beside a server's traffic.
-struct Beside<F: WatchedFile, S: StatusPlace> {
-    /// What looks at the configuration's file, where that is asked for.
-    watch: Option<Watch<F>>,
-    /// What says how the server is, where that is asked for.
-    status: Option<Status<S>>,
-}
-
-/// Written out, so that it is proved once and not wherever one is dropped.
-impl<F: WatchedFile, S: StatusPlace> Drop for Beside<F, S> {
-    fn drop(self) {
-        let Beside {
-            watch: _,
-            status: _,
-        } = self;
-    }
-}
-
-impl<F: WatchedFile, S: StatusPlace> Beside<F, S> {
-    /// Each of them alone.
-    fn apart(self) -> (Option<Watch<F>>, Option<Status<S>>)
-        ensures watch { result.0 ≡ self.watch }
-        ensures status { result.1 ≡ self.status }
-    {
-        let Beside { watch, status } = self;
-        (watch, status)
     }
 }
 
@@ -276,23 +247,19 @@ fn service_of<
 fn serve_with<
     T: Timers,
     P: Rules,
-    R: rt::Clock + AllocGlobal,
-    L: Link,
+    R: Files + rt::Clock + AllocGlobal,
     J: WatchedJournal + SizedJournal,
     X: NextRecord<T, P, J>,
-    N: Rng + Drop,
-    F: WatchedFile,
-    S: StatusPlace,
     W: Write + Drop,
     M: Write,
 >(
     rt: &R,
-    start: ServeStart<L, N>,
+    start: ServeStart<UdpLink, StdRng>,
     engine: Engine<T, P>,
     journal: J,
     next: X,
     decided: &[Record],
-    beside: Beside<F, S>,
+    beside: BesideFiles<'_, R>,
     printer: &mut LinePrinter<W>,
     complaints: &mut M,
 ) -> Result<(), Exit>
@@ -330,49 +297,56 @@ fn say_unrecorded<M: Write>(complaints: &mut M) {
     );
 }
 
+/// Lets what turns from one record to the next go, where nothing is recorded. It stands apart, so that its cases don't stand beside those of all
+/// that a server has.
+fn let_turning_go<R>(_turning: Option<RecordTurning<'_, R>>) {}
+
+/// Lets the last step of an older record go. It stands apart, as that.
+fn let_last_go(_last: Option<StepOut>) {}
+
 /// Serves with a server that is begun, which records: in one file, or in a folder in which it turns to the next one; or couldn't.
 fn serve_begun<
     'a,
     T: Timers,
     P: Rules,
     R: Files + rt::Clock + Eprint + AllocGlobal,
-    L: Link,
-    F: WatchedFile,
-    S: StatusPlace,
     W: Write + Drop,
     M: Write,
 >(
     rt: &'a R,
-    start: ServeStart<L, StdRng>,
+    start: ServeStart<UdpLink, StdRng>,
     begun: Begun<'a, T, P, R>,
     turning: Option<RecordTurning<'a, R>>,
-    beside: Beside<F, S>,
+    beside: BesideFiles<'_, R>,
     printer: &mut LinePrinter<W>,
     complaints: &mut M,
 ) -> Result<(), Exit>
     ensures { OnOk result (PrintsFor start.turns start.address (decided_before begun.entry.last) (W.contents printer.old.output)
         (W.contents printer.new.output)) }
 {
-    let Begun {
-        engine,
-        recorder,
-        last,
-    } = begun;
+    let (engine, recorder, last) = begun.into_parts();
     let decided = decided_by(&last);
     let Some(recorder) = recorder else {
+        let_turning_go(turning);
         say_unrecorded(complaints);
-        return serve_with(
+        let served = serve_with(
             rt, start, engine, NoJournal, OneRecord, decided, beside, printer, complaints,
         );
+        let_last_go(last);
+        return served;
     };
     if let Some(turning) = turning {
-        return serve_with(
+        let served = serve_with(
             rt, start, engine, recorder, turning, decided, beside, printer, complaints,
         );
+        let_last_go(last);
+        return served;
     }
-    serve_with(
+    let served = serve_with(
         rt, start, engine, recorder, OneRecord, decided, beside, printer, complaints,
-    )
+    );
+    let_last_go(last);
+    served
 }
 
 /// What turns from one record to the next, where a server records in a folder.
@@ -398,51 +372,24 @@ fn turning_of<'a, R: Files + rt::Clock + Eprint + AllocGlobal>(
     Ok(Some(RecordTurning::new(folder, path)))
 }
 
-/// What looks at the configuration's file while it serves, where that is asked for: what the file stated is in force.
-fn watch_of<'a, R: Files + AllocGlobal>(
-    rt: &'a R,
-    call: &'a ServeCall,
-    stated: &Stated,
-) -> Result<Option<Watch<PathFile<'a, R>>>, AllocError>
-    ensures asked { IfOk result (λ watch. is_some watch ≡ call.now.reload) }
-    ensures in_force { IfOk result (λ watch. IfSome watch (λ w. w.in_force ≡ stated.now.bytes)) }
-{
-    if !call.reload {
-        return Ok(None);
+/// The link of a server, where its address is bound already.
+struct Bound {
+    link: Option<UdpLink>,
+}
+
+/// Written out, so that it is proved once and not wherever one is dropped.
+impl Drop for Bound {
+    fn drop(self) {
+        let Bound { link: _ } = self;
     }
-    let in_force = Bytes::copy(rt.alloc(), stated.bytes.as_slice())?;
-    let file = PathFile::new(rt, call.config.as_str());
-    Ok(Some(Watch::new(file, in_force, 0)))
 }
 
-/// What says how the server is, in the file that is named for that.
-fn status_of<'a, R: Files + AllocGlobal>(
-    rt: &'a R,
-    call: &ServeCall,
-) -> Result<Option<Status<StatusFile<'a, R>>>, AllocError>
-    ensures { IfOk result (λ status. is_some status ≡ is_some call.now.status) }
-{
-    let Some(path) = &call.status else {
-        return Ok(None);
-    };
-    let file = StatusFile::new(rt, path.as_str())?;
-    Ok(Some(Status::new(rt.alloc(), file)?))
-}
-
-/// What is looked at and written beside the traffic, as a command line asks for.
-fn beside_of<'a, R: Files + AllocGlobal>(
-    rt: &'a R,
-    call: &'a ServeCall,
-    stated: &Stated,
-) -> Result<Beside<PathFile<'a, R>, StatusFile<'a, R>>, AllocError>
-    ensures watched { IfOk result (λ beside. is_some beside.watch ≡ call.now.reload) }
-    ensures in_force { IfOk result (λ beside. IfSome beside.watch (λ w. w.in_force ≡ stated.now.bytes)) }
-    ensures told { IfOk result (λ beside. is_some beside.status ≡ is_some call.now.status) }
-{
-    Ok(Beside {
-        watch: watch_of(rt, call, stated)?,
-        status: status_of(rt, call)?,
-    })
+impl Bound {
+    /// The link alone.
+    fn into_link(self) -> Option<UdpLink> {
+        let Bound { link } = self;
+        link
+    }
 }
 
 /// The link of a server that records, where its address is bound first.
@@ -450,22 +397,19 @@ fn bind_first<R: Files + Net + rt::Clock + AllocGlobal>(
     rt: &R,
     config: &Config,
     beginning: &Beginning<'_, R>,
-) -> Result<Option<UdpLink>, Exit> {
-    let bound = if beginning.reads_input() {
+    bound: &mut Bound,
+) -> Result<(), Exit> {
+    bound.link = if beginning.reads_input() {
         None
     } else {
         Some(bind(rt, address_of(config))?)
     };
-    Ok(bound)
+    Ok(())
 }
 
 /// The link of a server that may be bound already.
-fn bind_last<R: Net + AllocGlobal>(
-    rt: &R,
-    config: &Config,
-    bound: Option<UdpLink>,
-) -> Result<UdpLink, Exit> {
-    match bound {
+fn bind_last<R: Net + AllocGlobal>(rt: &R, config: &Config, bound: Bound) -> Result<UdpLink, Exit> {
+    match bound.into_link() {
         Some(link) => Ok(link),
         None => bind(rt, address_of(config)),
     }
@@ -486,11 +430,11 @@ fn begin_bound<
     beginning: &Beginning<'a, R>,
     words: &mut StdRng,
     input: &mut I,
+    bound: &mut Bound,
     complaints: &mut M,
-) -> Result<(Option<UdpLink>, Begun<'a, T, P, R>), Exit> {
-    let bound = bind_first(rt, config, beginning)?;
-    let begun = begin::<T, P, R, I, _, M>(beginning, input, words, complaints)?;
-    Ok((bound, begun))
+) -> Result<Begun<'a, T, P, R>, Exit> {
+    bind_first(rt, config, beginning, bound)?;
+    begin::<T, P, R, I, _, M>(beginning, input, words, complaints)
 }
 
 /// What a server that records starts with over its link, which is bound by then, and what turns from its record to the next.
@@ -499,15 +443,15 @@ fn start_recorded<'a, R: Files + Net + rt::Clock + Eprint + AllocGlobal>(
     call: &ServeCall,
     config: &Config,
     beginning: &Beginning<'a, R>,
-    bound: Option<UdpLink>,
-    mut words: StdRng,
+    bound: Bound,
+    words: StdRng,
 ) -> Result<(ServeStart<UdpLink, StdRng>, Option<RecordTurning<'a, R>>), Exit>
     ensures turns { IfOk result (λ made. made.0.turns ≡ call.now.turns) }
     ensures address { IfOk result (λ made. made.0.address ≡ bound_address config.now) }
 {
     let link = bind_last(rt, config, bound)?;
-    let turning = turning_of(rt, call, beginning, &mut words)?;
-    let start = start_of(rt.alloc(), call, config, beginning.stated, link, words)?;
+    let mut start = start_of(rt.alloc(), call, config, beginning.stated, link, words)?;
+    let turning = turning_of(rt, call, beginning, &mut start.words)?;
     Ok((start, turning))
 }
 
@@ -518,8 +462,6 @@ fn serve_recorded<
     P: Rules,
     R: Files + Net + rt::Clock + Eprint + AllocGlobal,
     I: TellingReader,
-    F: WatchedFile,
-    S: StatusPlace,
     W: Write + Drop,
     M: Write,
 >(
@@ -528,15 +470,16 @@ fn serve_recorded<
     config: &Config,
     beginning: &Beginning<'a, R>,
     mut words: StdRng,
-    beside: Beside<F, S>,
+    beside: BesideFiles<'_, R>,
     input: &mut I,
     printer: &mut LinePrinter<W>,
     complaints: &mut M,
 ) -> Result<(), Exit>
     ensures { OnOk result (PrintsAt call.now.turns (bound_address config.now) (W.contents printer.old.output) (W.contents printer.new.output)) }
 {
-    let (bound, begun) = begin_bound::<T, P, R, I, M>(
-        rt, config, beginning, &mut words, input, complaints,
+    let mut bound = Bound { link: None };
+    let begun = begin_bound::<T, P, R, I, M>(
+        rt, config, beginning, &mut words, input, &mut bound, complaints,
     )?;
     let (start, turning) = start_recorded(rt, call, config, beginning, bound, words)?;
     serve_begun(rt, start, begun, turning, beside, printer, complaints)
@@ -563,9 +506,7 @@ fn begin_alone<T: Timers, P: Rules, R: Net + AllocGlobal>(
 fn serve_unrecorded<
     T: Timers,
     P: Rules,
-    R: Net + rt::Clock + AllocGlobal,
-    F: WatchedFile,
-    S: StatusPlace,
+    R: Files + Net + rt::Clock + AllocGlobal,
     W: Write + Drop,
     M: Write,
 >(
@@ -574,7 +515,7 @@ fn serve_unrecorded<
     config: &Config,
     stated: &Stated,
     words: StdRng,
-    beside: Beside<F, S>,
+    beside: BesideFiles<'_, R>,
     printer: &mut LinePrinter<W>,
     complaints: &mut M,
 ) -> Result<(), Exit>
@@ -610,6 +551,22 @@ fn record_in<'b, R: rt::Clock + Eprint + AllocGlobal, I: Read>(
 }
 
 /// What a server that records at a place is begun with, and what comes through an input as a record.
+struct Placed<'b, R: rt::Clock + Eprint + AllocGlobal, I: Read> {
+    beginning: Beginning<'b, R>,
+    record: Incoming<'b, R, I>,
+}
+
+/// Written out, so that it is proved once and not wherever one is dropped.
+impl<'b, R: rt::Clock + Eprint + AllocGlobal, I: Read> Drop for Placed<'b, R, I> {
+    fn drop(self) {
+        let Placed {
+            beginning: _,
+            record: _,
+        } = self;
+    }
+}
+
+/// What a server that records at a place is begun with, and what comes through an input as a record.
 fn begun_with<'b, R: Files + rt::Clock + Eprint + AllocGlobal, I: Read>(
     rt: &'b R,
     call: &ServeCall,
@@ -617,7 +574,7 @@ fn begun_with<'b, R: Files + rt::Clock + Eprint + AllocGlobal, I: Read>(
     stated: &'b Stated,
     seen: bool,
     input: &'b mut I,
-) -> Result<(Beginning<'b, R>, Incoming<'b, R, I>), Exit> {
+) -> Result<Placed<'b, R, I>, Exit> {
     let beginning = Beginning::new(
         rt,
         stated,
@@ -628,43 +585,43 @@ fn begun_with<'b, R: Files + rt::Clock + Eprint + AllocGlobal, I: Read>(
         seen,
     )?;
     let record = record_in(rt, seen, input)?;
-    Ok((beginning, record))
+    Ok(Placed { beginning, record })
 }
 
 /// Serves and records at a place. The record from which the server goes on may come through an input.
 fn serve_placed<
+    'b,
     T: Timers,
     P: Rules,
     R: Files + Net + rt::Clock + Eprint + AllocGlobal,
     I: Read,
-    F: WatchedFile,
-    S: StatusPlace,
     W: Write + Drop,
     M: Write,
 >(
-    rt: &R,
+    rt: &'b R,
     call: &ServeCall,
     place: &RecordPlace,
     config: &Config,
-    stated: &Stated,
+    stated: &'b Stated,
     words: StdRng,
-    beside: Beside<F, S>,
+    beside: BesideFiles<'_, R>,
     seen: bool,
-    input: &mut I,
+    input: &'b mut I,
     printer: &mut LinePrinter<W>,
     complaints: &mut M,
 ) -> Result<(), Exit>
     ensures { OnOk result (PrintsAt call.now.turns (bound_address config.now) (W.contents printer.old.output) (W.contents printer.new.output)) }
 {
-    let (beginning, mut record) = begun_with(rt, call, place, stated, seen, input)?;
-    serve_recorded::<T, P, R, _, _, _, _, M>(
+    let mut placed = begun_with(rt, call, place, stated, seen, input)?;
+    let lent = &mut placed;
+    serve_recorded::<T, P, R, _, _, M>(
         rt,
         call,
         config,
-        &beginning,
+        &lent.beginning,
         words,
         beside,
-        &mut record,
+        &mut lent.record,
         printer,
         complaints,
     )
@@ -698,14 +655,7 @@ fn configuration_in<R: Files + AllocGlobal>(rt: &R, path: &str) -> Result<Config
 fn prepared<'a, R: Files + RandomSource + AllocGlobal>(
     rt: &'a R,
     call: &'a ServeCall,
-) -> Result<
-    (
-        Configured,
-        StdRng,
-        Beside<PathFile<'a, R>, StatusFile<'a, R>>,
-    ),
-    Exit,
-> {
+) -> Result<(Configured, StdRng, BesideFiles<'a, R>), Exit> {
     check_stack(rt)?;
     let file = configuration_in(rt, call.config.as_str())?;
     let words: StdRng = rand::make_rng(rt)?;
@@ -733,7 +683,7 @@ pub fn serve_file<
 {
     let (file, words, beside) = prepared(rt, call)?;
     let Some(place) = &call.record else {
-        return serve_unrecorded::<T, P, R, _, _, _, M>(
+        return serve_unrecorded::<T, P, R, _, M>(
             rt,
             call,
             &file.config,
@@ -744,7 +694,7 @@ pub fn serve_file<
             complaints,
         );
     };
-    serve_placed::<T, P, R, I, _, _, _, M>(
+    serve_placed::<T, P, R, I, _, M>(
         rt,
         call,
         place,

@@ -1,5 +1,3 @@
-pub mod Leading
-pub mod Shown
 pub mod Stood
 pub mod Timed
 pub mod Printing

@@ -17,8 +17,8 @@ use Rattle.sipd_report.specs.Said.{time_in}
 use Rattle.sipd_days.specs.DayAt.{IsByClock}
 use Rattle.sipd_days.specs.Days.{AreCallsOf, shown_text}
 use Rattle.sipd_days.specs.Printed.{PrintsCalls, PrintsNames, PrintsTable}
-use Rattle.sipd_days.specs.Onward.{HearsAll}
-use Rattle.sipd_days.specs.Records.{TellsFiles}
+use Rattle.sipd_telling.specs.Onward.{HearsAll}
+use Rattle.sipd_telling.specs.Records.{TellsFiles}
 use Rattle.sipd_days.specs.declared.day_at.DayTable.{DayTable}
 
 -- ---- calls
@@ -64,9 +64,14 @@ prints_calls grow (Err e) all call form choice count files first calls old betwe
 
 -- ---- a table
 
+-- what is so however it ends
+pub done : {X E : Type 0} (P : Type 0) (result : Result X E) → P → OnOk result P
+done P (Ok x) h = h
+done P (Err e) h = tt
+
 pub prints_table : {X : Type 0} (result : Result X Exit) (table : DayTable) (call : TimeCall) (time : Option ℕ) (text : List ℕ) (end : Option Exit)
     (old new : Option (List ℕ)) → time ≡ time_in (option_map string_bytes call.at) → IsByClock table (form_of call.csv call.json) time text end
-    → Appends old new text → OnOk result (end ≡ None) → OnOk result (PrintsTable table call old new)
+    → OnOk result (Appends old new text) → OnOk result (end ≡ None) → OnOk result (PrintsTable table call old new)
 prints_table (Ok x) table call time text end old new is h printed whole = record {
   text = text;
   shown =

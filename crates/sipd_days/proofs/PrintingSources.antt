@@ -1,6 +1,6 @@
 -- What `sources` prints.
 use Rattle.std.proofs.Common.{◌≡◌, add-one, sym, subst, ℕ, ◌+◌, ℤ, Result, Ok, Err, List, Option, None}
-use Rattle.std.specs.Prelude.{OnOk, length, map, string_bytes}
+use Rattle.std.specs.Prelude.{IfOk, OnOk, length, map, string_bytes}
 use Rattle.std.specs.Io.KnownBytes.{Appends}
 use Rattle.sipd_arguments.specs.declared.call.SourcesCall.{SourcesCall}
 use Rattle.sipd_calls.specs.declared.notation.Notation.{Notation}
@@ -14,8 +14,8 @@ use Rattle.sipd_days.specs.declared.day_at.DayTable.TheVariants as tables
 
 -- a record's addresses
 pub prints_one : {X : Type 0} (result : Result X Exit) (form : Option Notation) (filter : SourceFilter) (text : List ℕ) (taken offset : ℤ) (end : Option Exit)
-    (old new : Option (List ℕ)) → WasTableIf (tables.Sources filter) form None None text taken offset end → Appends old new text
-    → OnOk result (end ≡ None) → OnOk result (PrintsOne form filter old new)
+    (old new : Option (List ℕ)) → WasTableIf (tables.Sources filter) form None None text taken offset end
+    → OnOk result (Appends old new text) → OnOk result (end ≡ None) → OnOk result (PrintsOne form filter old new)
 prints_one (Ok x) form filter text taken offset end old new was printed whole = record {
   text = text;
   taken = taken;
@@ -26,7 +26,7 @@ prints_one (Ok x) form filter text taken offset end old new was printed whole = 
 prints_one (Err e) form filter text taken offset end old new was printed whole = tt
 
 -- those of one that was told to its end
-pub were_all : (form : Option Notation) (filter : SourceFilter) (text : List ℕ) (taken offset : ℤ) (end : Option Exit) → filter ≡ every_datagram
+were_all : (form : Option Notation) (filter : SourceFilter) (text : List ℕ) (taken offset : ℤ) (end : Option Exit) → filter ≡ every_datagram
     → WasTableIf (tables.Sources filter) form None None text taken offset end → end ≡ None → WereSources form every_datagram text
 were_all form filter text taken offset end every was whole =
     subst (λ (f : SourceFilter). WereSources form f text) every (record {
@@ -34,6 +34,13 @@ were_all form filter text taken offset end every was whole =
       offset = offset;
       was = subst (λ (e : Option Exit). WasTableIf (tables.Sources filter) form None None text taken offset e) whole was;
     })
+
+pub were_ok : (result : Result (List ℕ) Exit) (form : Option Notation) (filter : SourceFilter) (text : List ℕ) (taken offset : ℤ) (end : Option Exit)
+    → filter ≡ every_datagram → WasTableIf (tables.Sources filter) form None None text taken offset end → IfOk result (λ t. t ≡ text) → OnOk result (end ≡ None)
+    → IfOk result (WereSources form every_datagram)
+were_ok (Ok t) form filter text taken offset end every was same whole =
+    subst (λ (x : List ℕ). WereSources form every_datagram x) (sym same) (were_all form filter text taken offset end every was whole)
+were_ok (Err e) form filter text taken offset end every was same whole = tt
 
 -- one record more
 pub prints_further : (form : Option Notation) (filter : SourceFilter) (count : ℕ) (old between new : Option (List ℕ))

@@ -4,10 +4,10 @@ use Rattle.std.specs.Prelude.{IfErr, OnOk, unwrap_or}
 use Rattle.sip_model.specs.state.declared.server.Server.{Server}
 use Rattle.sip_model.specs.TimerOrder.{Standing}
 use Rattle.sip_listener.specs.Heard.{Heard}
-use Rattle.sip_retell.specs.Retells.{RunsTold}
+use Rattle.sipd_telling.specs.retell.Retells.{RunsTold}
 use Rattle.sipd_exit.specs.declared.exit.Exit.{Exit}
 use Rattle.sipd_days.specs.Standing.{IsStood, IsUnpassedThen, IsUnstood, StandsThere}
-use Rattle.sipd_days.specs.Tellings.{IsToldOn, IsUnpassed}
+use Rattle.sipd_telling.specs.Tellings.{IsToldOn, IsUnpassed}
 
 module _ {L : Type 0} (hears refuses : L → Heard → L → Type 0) (server : Server) (old new : Standing) (record_bytes : Option (List ℕ)) (lines : ℕ)
     (heard heard_then : L) where

@@ -1,6 +1,6 @@
 -- A record at a time.
-use Rattle.std.proofs.Common.{◌≡◌, ◌∙◌, inl, refl, sym, ap, subst, ℕ, ℤ, Result, Ok, Err, List, ◌++◌, Option, None, Some}
-use Rattle.std.specs.Prelude.{IfErr, IfNone, IfOk, option_map, unwrap_or}
+use Rattle.std.proofs.Common.{◌≡◌, ◌∙◌, inl, refl, sym, ap, subst, ℕ, ℤ, Result, Ok, Err, List, [], ◌++◌, Option, None, Some}
+use Rattle.std.specs.Prelude.{IfErr, IfNone, IfOk, length, option_map, unwrap_or}
 use Rattle.std.specs.Borrow.{Bor}
 use Rattle.sip_config_types.specs.declared.config.Config.{Config}
 use Rattle.sip_model.specs.state.declared.server.Server.{Server}
@@ -8,26 +8,29 @@ use Rattle.sip_model.specs.state.declared.proxy_state.ProxyState.{ProxyState}
 use Rattle.sip_model.specs.Run.{Link}
 use Rattle.sip_model.specs.TimerOrder.{Standing, first_standing}
 use Rattle.sip_journal.specs.declared.record_head.RecordHead.{RecordHead}
-use Rattle.sip_replay.specs.Replays.{server_with}
 use Rattle.sip_replay_script.specs.Devices.{later}
 use Rattle.sip_replay_script.specs.Lines.{IsSpent, Reading, pending}
 use Rattle.sip_listener.specs.Heard.{Heard, Tells, heard_of}
-use Rattle.sip_retell.proofs.Hearing.{told_both}
+use Rattle.sipd_telling.proofs.of_retell.{told_both}
 use Rattle.sip_days.specs.declared.call.Call.{Call}
+use Rattle.sip_days.specs.Calls.{calls_of}
+use Rattle.sip_days.specs.Hearing.{adds_calls}
+use Rattle.sip_days.specs.Phones.{adds_phones, phones_of}
 use Rattle.sipd_calls.specs.declared.notation.Notation.{Notation}
 use Rattle.sipd_sources.specs.Table.{sources_text}
-use Rattle.sipd_sources.specs.Told.{Known}
-use Rattle.sipd_standing.specs.Standing.{standing_text}
+use Rattle.sipd_sources.specs.declared.filter.SourceFilter.{SourceFilter}
+use Rattle.sipd_sources.specs.Told.{Known, adds_sources, none as no_sources, sources_of}
+use Rattle.sipd_standing.specs.Standing.{standing_text, tables_text}
 use Rattle.sipd_exit.specs.declared.exit.Exit.{Exit}
 use Rattle.sipd_exit.specs.declared.exit.Exit.TheVariants.{Memory}
 use Rattle.sipd_exit.specs.declared.files.Stated.{Stated}
 use Rattle.sipd_old_record.specs.Own.{unread}
-use Rattle.sipd_days.proofs.Shown.{RunsAreLawful}
-use Rattle.sipd_days.specs.Days.{IsNoDay}
-use Rattle.sipd_days.specs.DayAt.{IsByClock, OnOwnClock, OnOtherClock, IsDayAt, IsTableAt, IsTold, KeepsAll, KeepsTo, WasTableIf}
+use Rattle.sipd_telling.proofs.Shown.{RunsAreLawful}
+use Rattle.sipd_days.specs.Days.{IsNoDay, forgets}
+use Rattle.sipd_days.specs.DayAt.{IsByClock, OnOwnClock, OnOtherClock, IsDayAt, IsTableAt, IsTableTold, IsTold, KeepsAll, KeepsTo, WasTableIf, calls_in, forgets_phones, forgets_sources, phones_in, sources_in}
 use Rattle.sipd_report.specs.Said.{moment_at}
 use Rattle.sipd_days.specs.Standing.{Reaches, StandsThere}
-use Rattle.sipd_days.specs.Tellings.{IsBegun}
+use Rattle.sipd_telling.specs.Tellings.{IsBegun, server_with}
 use Rattle.sipd_days.specs.declared.day_at.DayAt.{DayAt}
 use Rattle.sipd_days.specs.declared.day_at.DayTable.{DayTable}
 use Rattle.sipd_days.specs.declared.day_at.DayTable.TheVariants as tables
@@ -125,17 +128,62 @@ module _ {L : Type 0} (hears refuses : L → Heard → L → Type 0) (none : L) 
       text_is = h.text_is;
     }
 
+-- The text of a table was made of what a server says that was told up to there, and of what is kept.
+pub told_day : {L E : Type 0} (hears refuses : L → Heard → L → Type 0) (none : L) (text_of : Server → ProxyState → ℕ → L → List ℕ) (server server_then : Server)
+    (old new : Standing) (spent : Type 0) (record_bytes : Option (List ℕ)) (lines : ℕ) (at : Option ℕ) (kept : L) (moment : ℕ) (text : Result (List ℕ) E)
+    (result : Result DayAt Exit) (in_force : ℤ) (end : Option Exit)
+    → Reaches end hears refuses server server_then old new spent record_bytes lines at none kept ⊥ moment → in_force ≡ server_then.config.offset
+    → IfOk text (λ t. t ≡ text_of server_then new.state moment kept) → IfOk result (λ (day : DayAt). text ≡ Ok day.text)
+    → IfOk result (λ (day : DayAt). day.in_force.ahead ≡ in_force) → IfOk result (λ (day : DayAt). day.end ≡ end)
+    → IfOk result (λ (day : DayAt). IsTold hears refuses none text_of server old spent record_bytes lines at day.text day.in_force.ahead day.end)
+told_day {L} {E} hears refuses none text_of server server_then old new spent record_bytes lines at kept moment text (Ok day) in_force end reaches offset says is by
+    ends =
+    record {
+      server_then = server_then;
+      standing = new;
+      kept = kept;
+      moment = moment;
+      reaches =
+          subst (λ (e : Option Exit). Reaches e hears refuses server server_then old new spent record_bytes lines at none kept ⊥ moment) (sym ends) reaches;
+      offset_is = by ∙ offset;
+      text_is = subst (λ (r : Result (List ℕ) E). IfOk r (λ t. t ≡ text_of server_then new.state moment kept)) is says;
+    }
+told_day hears refuses none text_of server server_then old new spent record_bytes lines at kept moment text (Err e) in_force end reaches offset says is by ends =
+    tt
+
+-- each of the tables
+pub table_shown : (table : DayTable) (form : Option Notation) → RunsAreLawful → IsKept adds_phones forgets_phones [] phones_of
+    → IsKept adds_calls forgets [] calls_of
+    → ((filter : SourceFilter) → IsKept adds_sources forgets_sources (no_sources filter) (sources_of filter))
+    → (result : Result DayAt Exit) (head : RecordHead) (named : Option (Bor Stated)) (has_failed : Type 0) (asks : ℕ) (asked asked_then : Option ℕ)
+    (server : Server) (old : Standing) (lines : Reading) (before rest : Option (List ℕ)) (time : Option ℕ) (clock : Option ℤ) (taken : ℤ)
+    → IsBegun head named server old lines before rest → later asks asked_then ≡ later unread.asks asked → taken ≡ unwrap_or clock server.config.offset
+    → IfOk result (λ (day : DayAt). IsTableTold table form server old (IsSpent has_failed asks) (pending lines rest) lines.number
+    (option_map (λ t. moment_at t taken) time) day.text day.in_force.ahead day.end)
+    → IfOk result (λ (day : DayAt). day.taken.ahead ≡ taken)
+    → IfOk result (λ (day : DayAt). IsTableAt table form head named has_failed asked asked_then before time clock day.text day.taken.ahead day.in_force.ahead
+    day.end)
+table_shown tables.Phones form lawful phones calls sources = shown_at adds_phones forgets_phones [] phones_of (phones_in form) lawful phones
+table_shown tables.Standing form lawful phones calls sources = shown_at adds_calls forgets [] calls_of (calls_in form) lawful calls
+table_shown (tables.Sources filter) form lawful phones calls sources =
+    shown_at adds_sources forgets_sources (no_sources filter) (sources_of filter) (sources_in form) lawful (sources filter)
+
 -- memory ran out
 pub no_text : {X : Type 0} (result : Result X Exit) (head : RecordHead) (named : Option (Bor Stated)) (has_failed : Type 0) (asked asked_then : Option ℕ) (behind : Option
     (List ℕ)) → IfErr result (λ exit. exit ≡ Memory) → IfErr result (IsNoDay head named has_failed asked asked_then behind)
 no_text (Ok x) head named has_failed asked asked_then behind h = tt
 no_text (Err exit) head named has_failed asked asked_then behind h = inl h
 
--- the calls that stand on the clock of a server
-pub on_clock : (form : Option Notation) (at : ℕ) (shown calls : List Call) (config own : Config) (text : List ℕ) → config ≡ own → shown ≡ calls
-    → text ≡ standing_text form config.offset at shown → text ≡ standing_text form own.offset at calls
-on_clock form at shown calls config own text is same h =
-    h ∙ ap (λ (c : Config). standing_text form c.offset at shown) is ∙ ap (λ (l : List Call). standing_text form own.offset at l) same
+-- the calls that stand on the clock of a server, and its tables
+pub on_clock : (form : Option Notation) (at : ℕ) (shown calls : List Call) (config own : Config) (requests dialogs : ℕ) (state : ProxyState) (text : List ℕ)
+    → config ≡ own → shown ≡ calls → requests ≡ length state.requests → dialogs ≡ length state.dialogs
+    → text ≡ standing_text form config.offset at shown ++ tables_text form requests dialogs
+    → text ≡ standing_text form own.offset at calls ++ tables_text form (length state.requests) (length state.dialogs)
+on_clock form at shown calls config own requests dialogs state text is same held stand h =
+    h ∙ ap (λ (c : Config). standing_text form c.offset at shown ++ tables_text form requests dialogs) is
+    ∙ ap (λ (l : List Call). standing_text form own.offset at l ++ tables_text form requests dialogs) same
+    ∙ ap (λ (n : ℕ). standing_text form own.offset at calls ++ tables_text form n dialogs) held
+    ∙ ap (λ (n : ℕ). standing_text form own.offset at calls ++ tables_text form (length state.requests) n) stand
 
 -- the addresses on the clock of a server
 pub addresses_on_clock : (form : Option Notation) (at : ℕ) (known : Known) (config own : Config) (text : List ℕ) → config ≡ own

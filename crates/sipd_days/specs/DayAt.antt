@@ -7,7 +7,7 @@ use Rattle.sip_model.specs.state.declared.proxy_state.ProxyState.{ProxyState}
 use Rattle.sip_model.specs.Access.{Access}
 use Rattle.sip_model.specs.TimerOrder.{Standing, first_standing}
 use Rattle.sip_journal.specs.declared.record_head.RecordHead.{RecordHead}
-use Rattle.sip_replay.specs.Replays.{server_with}
+use Rattle.sipd_telling.specs.Tellings.{server_with}
 use Rattle.sip_replay_script.specs.Devices.{later}
 use Rattle.sip_replay_script.specs.Lines.{IsSpent, Reading, pending}
 use Rattle.sip_listener.specs.Heard.{Heard, heard_of}
@@ -106,6 +106,15 @@ forgets_phones old step new = ⊤
 -- nor is of one to addresses
 abbrev pub forgets_sources : Known → Heard → Known → Type 0
 forgets_sources old step new = ⊤
+
+-- what a server says of a table that takes what is left of a record
+abbrev pub IsTableTold : DayTable → Option Notation → Server → Standing → Type 0 → Option (List ℕ) → ℕ → Option ℕ → List ℕ → ℤ → Option Exit → Type 0
+IsTableTold tables.Phones form server old spent record_bytes lines at text offset end =
+    IsTold adds_phones forgets_phones [] (phones_in form) server old spent record_bytes lines at text offset end
+IsTableTold tables.Standing form server old spent record_bytes lines at text offset end =
+    IsTold adds_calls forgets [] (calls_in form) server old spent record_bytes lines at text offset end
+IsTableTold (tables.Sources filter) form server old spent record_bytes lines at text offset end =
+    IsTold adds_sources forgets_sources (no_sources filter) (sources_in form) server old spent record_bytes lines at text offset end
 
 -- the text of a table
 abbrev pub IsTableAt : DayTable → Option Notation → RecordHead → Option (Bor Stated) → Type 0 → Option ℕ → Option ℕ → Option (List ℕ) → Option ℕ → Option ℤ

@@ -12,9 +12,9 @@ use Rattle.sipd_calls.specs.declared.notation.Notation.{Notation}
 use Rattle.sipd_exit.specs.declared.exit.Exit.{Exit}
 use Rattle.sipd_exit.specs.declared.exit.Exit.TheVariants.{Memory}
 use Rattle.sipd_exit.specs.declared.files.Stated.{Stated}
-use Rattle.sipd_days.specs.Records.{SaysHistory}
-use Rattle.sipd_days.specs.Tellings.{IsUnbegun}
-use Rattle.sipd_days.specs.declared.onward.DayPoint.{DayPoint}
+use Rattle.sipd_telling.specs.Records.{SaysHistory}
+use Rattle.sipd_telling.specs.Tellings.{IsUnbegun}
+use Rattle.sipd_telling.specs.declared.onward.DayPoint.{DayPoint}
 
 -- the calls that are shown, as a form has them
 abbrev pub shown_text : Option Notation → CallFilter → List Call → List ℕ

@@ -1,7 +1,3 @@
-pub mod Exits
-pub mod Tellings
-pub mod Onward
-pub mod Records
 pub mod Choosing
 pub mod Days
 pub mod Standing

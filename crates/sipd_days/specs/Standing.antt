@@ -3,10 +3,10 @@ use Rattle.std.specs.Prelude.{◌≡◌, ◌⊎◌, ℕ, List, [], Option, None,
 use Rattle.sip_model.specs.state.declared.server.Server.{Server}
 use Rattle.sip_model.specs.Run.{Link}
 use Rattle.sip_model.specs.TimerOrder.{Standing}
-use Rattle.sip_resume.specs.Resumes.{Runs}
+use Rattle.sipd_telling.specs.resume.Resumes.{Runs}
 use Rattle.sip_listener.specs.Heard.{Heard, Tells}
 use Rattle.sipd_exit.specs.declared.exit.Exit.{Exit}
-use Rattle.sipd_days.specs.Tellings.{IsToldOn, IsUnpassed, IsUntoldOn}
+use Rattle.sipd_telling.specs.Tellings.{IsToldOn, IsUnpassed, IsUntoldOn}
 
 -- all that was due by a moment happened, in this history
 pub record IsPassed (server : Server) (old new : Standing) (at : ℕ) (history : List Link) : Type 0 where

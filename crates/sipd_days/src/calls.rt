@@ -1,12 +1,10 @@
 //! The command `calls`.
-ghost use Rattle.std.specs.Prelude.{◌≡◌, None, IsOk, OnOk};
+ghost use Rattle.std.specs.Prelude.{IsOk, OnOk};
 ghost use Rattle.std.specs.Io.KnownBytes.{Appends};
 ghost use Rattle.sipd_days.specs.Days.{shown_text};
 ghost use Rattle.sipd_days.specs.Printed.{PrintsCalls, PrintsNames};
 
 use crate::choosing::{choice_of, form_of};
-use crate::files::{reading_of, tell_files};
-use crate::onward::Onward;
 use crate::showing::text_of;
 use sip_days::Calls;
 use sip_days::laws::calls_grow_by_a_step;
@@ -16,19 +14,10 @@ use sipd_arguments::CallsCall;
 use sipd_calls::{CallFilter, Notation, names_text};
 use sipd_exit::{Exit, print};
 use sipd_record_files::record_files;
+use sipd_telling::{Onward, reading_of, tell_files};
 use std::alloc::Global;
 use std::io::Write;
 use std::rt::{Clock, Files};
-
-/// How the program ends, where a record wasn't told to its end.
-pub(crate) fn ended(end: Option<Exit>) -> Result<(), Exit>
-    ensures { OnOk result (end ≡ None) }
-{
-    match end {
-        None => Ok(()),
-        Some(exit) => Err(exit),
-    }
-}
 
 /// Prints the calls that were told.
 fn print_calls<W: Write>(

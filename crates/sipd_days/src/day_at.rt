@@ -1,37 +1,42 @@
 //! What a record says of a time, as text: who was registered then, which calls stood, or what each address did up to it.
-ghost use Rattle.std.specs.Prelude.{◌≡◌, ◌<◌, ◌^◌, [], option_map, unwrap_or, IfErr, IfNone, IfOk, IfSome};
+ghost use Rattle.std.specs.Prelude.{◌≡◌, ◌<◌, ◌^◌, ◌++◌, [], None, Ok, option_map, unwrap_or, IfErr, IfNone, IfOk, IfSome, OnOk};
+ghost use Rattle.std.specs.Io.KnownBytes.{Appends};
 ghost use Rattle.sip_replay_script.specs.Devices.{later};
 ghost use Rattle.sip_replay_script.specs.Lines.{IsSpent, pending};
-ghost use Rattle.sip_run.specs.Due.{standing_of};
+ghost use Rattle.sipd_telling.specs.run.Due.{standing_of};
 ghost use Rattle.sip_days.specs.Hearing.{adds_calls};
 ghost use Rattle.sip_days.specs.Phones.{adds_phones};
 ghost use Rattle.sipd_sources.specs.Told.{adds_sources, none as no_sources};
 ghost use Rattle.sipd_exit.specs.declared.exit.Exit.TheVariants.{Memory};
 ghost use Rattle.sipd_days.specs.Days.{forgets, IsNoDay};
-ghost use Rattle.sipd_standing.specs.Standing.{standing_text};
+ghost use Rattle.sipd_standing.specs.Standing.{standing_text, tables_text};
 ghost use Rattle.sipd_days.specs.DayAt as Definitions;
-ghost use Rattle.sipd_days.specs.DayAt.{forgets_phones, forgets_sources, IsTableAt, IsTold, WasTableIf};
+ghost use Rattle.sipd_days.specs.DayAt.{forgets_phones, forgets_sources, IsTableAt, IsTableTold, IsTold, WasTableIf};
 ghost use Rattle.sipd_report.specs.Said.{moment_at};
-ghost use Rattle.sipd_days.specs.declared.day_at.DayTable.TheVariants as Tables;
 
 use crate::standing::{DayClock, stand_at};
-use crate::telling::{Telling, begin};
 use sip_config_types::Config;
 use sip_days::laws::{calls_grow_by_a_step, phones_grow_by_a_step};
-use sip_days::{Calls, Phones};
+use sip_days::{Call, Calls, Phones};
 use sip_journal::RecordHead;
 use sip_policy::Rules;
+use sip_record_omitted::Expanding;
+use sip_record_sealed::Unsealing;
 use sip_replay_script::TellingReader;
-use sip_retell::laws::what_is_told_is_lawful;
-use sip_run::engine::Engine;
 use sip_text::Bytes;
 use sip_timers::Timers;
 use sipd_calls::Notation;
-use sipd_exit::{Exit, Stated};
+use sipd_exit::{Exit, Stated, print};
+use sipd_progress::Watched;
 use sipd_sources::laws::sources_grow_by_a_step;
 use sipd_sources::{SourceFilter, Sources, sources_text};
 use sipd_standing::{phones_text, standing_text, tables_text};
+use sipd_telling::engine::Engine;
+use sipd_telling::laws::what_is_told_is_lawful;
+use sipd_telling::{Telling, begin, exit_of_day};
 use std::alloc::{AllocError, Global};
+use std::io::{BufReader, Write};
+use std::rt::{Clock, Files};
 
 /// What is asked of a time.
 #[derive(Clone, Copy)]
@@ -45,12 +50,46 @@ pub enum DayTable {
 }
 
 /// The text of a table; the clock of which the time was taken to be, and that of the configuration in force then; and how the program ends, where the record wasn't told up to the time.
-#[derive(Drop)]
 pub(crate) struct DayAt {
     pub text: Bytes,
     pub taken: DayClock,
     pub in_force: DayClock,
     pub end: Option<Exit>,
+}
+
+/// Written out, so that it is proved once and not wherever one is dropped.
+impl Drop for DayAt {
+    fn drop(self) {
+        let DayAt {
+            text: _,
+            taken: _,
+            in_force: _,
+            end: _,
+        } = self;
+    }
+}
+
+/// How the program ends, where a record wasn't told to its end.
+fn ended(end: Option<Exit>) -> Result<(), Exit>
+    ensures { OnOk result (end ≡ None) }
+{
+    match end {
+        None => Ok(()),
+        Some(exit) => Err(exit),
+    }
+}
+
+/// At a line of the record's file, where it doesn't end well.
+fn end_of_day<R: Files + Clock + Eprint + AllocGlobal>(
+    end: Option<Exit>,
+    events: &Expanding<Watched<'_, R, Unsealing<BufReader<R::File>>>>,
+) -> Option<Exit>
+    ensures { IfNone result (end ≡ None) }
+{
+    match end {
+        None => None,
+        Some(exit) => Some(exit_of_day(exit, events)),
+    }
 }
 
 impl DayAt {
@@ -63,6 +102,88 @@ impl DayAt {
             return None;
         }
         Some(self.in_force)
+    }
+
+    /// The same, where the program ends at a line of the record's file.
+    pub(crate) fn in_file<R: Files + Clock + Eprint + AllocGlobal>(
+        self,
+        events: &Expanding<Watched<'_, R, Unsealing<BufReader<R::File>>>>,
+    ) -> DayAt
+        ensures text { result.text ≡ self.text }
+        ensures taken { result.taken.ahead ≡ self.taken.ahead }
+        ensures in_force { result.in_force.ahead ≡ self.in_force.ahead }
+        ensures end { IfNone result.end (self.end ≡ None) }
+    {
+        let DayAt {
+            text,
+            taken,
+            in_force,
+            end,
+        } = self;
+        DayAt {
+            text,
+            taken,
+            in_force,
+            end: end_of_day(end, events),
+        }
+    }
+
+    /// Prints it; the program ends as it says.
+    pub(crate) fn print_to<W: Write>(self, output: &mut W) -> Result<(), Exit>
+        ensures printed { OnOk result (Appends (W.contents output.old) (W.contents output.new) self.text) }
+        ensures whole { OnOk result (self.end ≡ None) }
+    {
+        let DayAt {
+            text,
+            taken: _,
+            in_force: _,
+            end,
+        } = self;
+        match print(text.as_slice(), output) {
+            Ok(()) => ended(end),
+            Err(exit) => Err(exit),
+        }
+    }
+
+    /// The text, where the program ends well.
+    pub(crate) fn into_text(self) -> Result<Bytes, Exit>
+        ensures text { IfOk result (λ text. text ≡ self.text) }
+        ensures whole { OnOk result (self.end ≡ None) }
+    {
+        let DayAt {
+            text,
+            taken: _,
+            in_force: _,
+            end,
+        } = self;
+        match end {
+            None => Ok(text),
+            Some(exit) => Err(exit),
+        }
+    }
+}
+
+/// A table whose text was made, if memory was enough.
+fn day_of(
+    text: Result<Bytes, AllocError>,
+    taken: DayClock,
+    in_force: DayClock,
+    end: Option<Exit>,
+) -> Result<DayAt, Exit>
+    ensures text { IfOk result (λ day. text ≡ Ok day.text) }
+    ensures taken { IfOk result (λ day. day.taken.ahead ≡ taken.ahead) }
+    ensures in_force { IfOk result (λ day. day.in_force.ahead ≡ in_force.ahead) }
+    ensures end { IfOk result (λ day. day.end ≡ end) }
+    ensures refused { IfErr result (λ exit. exit ≡ Memory) }
+{
+    match text {
+        Ok(text) => Ok(DayAt {
+            text,
+            taken,
+            in_force,
+            end,
+        }),
+        Err(_) => Err(Exit::Memory),
     }
 }
 
@@ -105,20 +226,25 @@ fn phones_in<T: Timers, P: Rules>(
     phones_text(alloc, form, engine, at, phones.as_slice())
 }
 
-/// The calls that ring or are talked, on the clock of a server.
-fn standing_in<T: Timers, P: Rules>(
+/// The calls that ring or are talked, on the clock of a configuration, and how full the tables of a server are.
+fn calls_text(
     alloc: Global,
     form: Option<Notation>,
-    engine: &Engine<T, P>,
+    config: &Config,
     at: u64,
-    calls: &Calls,
+    calls: &[Call],
+    requests: usize,
+    dialogs: usize,
 ) -> Result<Bytes, AllocError>
-    ensures { IfOk result (λ text. text ≡ standing_text form engine.now.server.config.offset at calls.now) }
+    ensures { IfOk result (λ text. text ≡ standing_text form config.now.offset at calls.now ++ tables_text form requests dialogs) }
 {
-    standing_text(alloc, form, engine.config(), at, calls.as_slice())
+    let mut text = standing_text(alloc, form, config, at, calls)?;
+    let tables = tables_text(alloc, form, requests, dialogs)?;
+    text.extend(tables.as_slice())?;
+    Ok(text)
 }
 
-/// The same, and how full the tables of the server are.
+/// The same of a server.
 fn calls_in<T: Timers, P: Rules>(
     alloc: Global,
     form: Option<Notation>,
@@ -128,10 +254,15 @@ fn calls_in<T: Timers, P: Rules>(
 ) -> Result<Bytes, AllocError>
     ensures { IfOk result (λ text. text ≡ Definitions.calls_in form engine.now.server engine.now.state at calls.now) }
 {
-    let mut text = standing_in(alloc, form, engine, at, calls)?;
-    let tables = tables_text(alloc, form, engine.open_count(), engine.dialog_count())?;
-    text.extend(tables.as_slice())?;
-    Ok(text)
+    calls_text(
+        alloc,
+        form,
+        engine.config(),
+        at,
+        calls.as_slice(),
+        engine.open_count(),
+        engine.dialog_count(),
+    )
 }
 
 /// The addresses from which datagrams came, on the clock of a server.
@@ -166,13 +297,8 @@ fn tell_phones<T: Timers, P: Rules, I: TellingReader>(
 {
     let mut phones = Phones::new(alloc);
     let reached = stand_at(alloc, telling, events, time, taken, &mut phones)?;
-    let text = phones_in(alloc, form, &telling.engine, reached.at, &phones)?;
-    Ok(DayAt {
-        text,
-        taken,
-        in_force: clock_in(&telling.engine),
-        end: reached.end,
-    })
+    let text = phones_in(alloc, form, &telling.engine, reached.at, &phones);
+    day_of(text, taken, clock_in(&telling.engine), reached.end)
 }
 
 /// The calls that ring or are talked then.
@@ -194,13 +320,8 @@ fn tell_calls<T: Timers, P: Rules, I: TellingReader>(
 {
     let mut calls = Calls::new(alloc);
     let reached = stand_at(alloc, telling, events, time, taken, &mut calls)?;
-    let text = calls_in(alloc, form, &telling.engine, reached.at, &calls)?;
-    Ok(DayAt {
-        text,
-        taken,
-        in_force: clock_in(&telling.engine),
-        end: reached.end,
-    })
+    let text = calls_in(alloc, form, &telling.engine, reached.at, &calls);
+    day_of(text, taken, clock_in(&telling.engine), reached.end)
 }
 
 /// The addresses up to then.
@@ -223,85 +344,41 @@ fn tell_sources<T: Timers, P: Rules, I: TellingReader>(
 {
     let mut sources = Sources::new(alloc, filter);
     let reached = stand_at(alloc, telling, events, time, taken, &mut sources)?;
-    let text = sources_in(alloc, form, &telling.engine, reached.at, sources)?;
-    Ok(DayAt {
-        text,
-        taken,
-        in_force: clock_in(&telling.engine),
-        end: reached.end,
-    })
+    let text = sources_in(alloc, form, &telling.engine, reached.at, sources);
+    day_of(text, taken, clock_in(&telling.engine), reached.end)
 }
 
-/// Who was registered at a time of what a reader gives behind the first line of a record, which says this head. The time is one of a clock; where
-/// none is given, of that of the configuration with which the record begins.
-fn phones_at<T: Timers, P: Rules, I: TellingReader>(
+/// What is asked of a time of a clock, of a server that takes what is left of a record.
+fn tell_table<T: Timers, P: Rules, I: TellingReader>(
     alloc: Global,
-    head: &RecordHead,
-    named: Option<&Stated>,
+    table: DayTable,
+    telling: &mut Telling<T, P>,
     events: &mut I,
     form: Option<Notation>,
     time: Option<u64>,
-    clock: Option<DayClock>,
+    taken: DayClock,
 ) -> Result<DayAt, Exit>
     requires { IfSome time (λ t. t < 2 ^ 50) }
-    ensures shown { IfOk result (λ day. IsTableAt Tables.Phones form head.now named.entry (I.has_failed events.new) (I.asked events.old) (I.asked events.new)
-        (I.remaining events.old) time (option_map (λ c. c.ahead) clock) day.text day.taken.ahead day.in_force.ahead day.end) }
-    ensures refused { IfErr result (IsNoDay head.now named.entry (I.has_failed events.new) (I.asked events.old) (I.asked events.new) (I.remaining events.old)) }
+    ensures told { IfOk result (λ day. IsTableTold table form telling.old.engine.server (standing_of telling.old.engine)
+        (IsSpent (I.has_failed events.new) telling.new.lines.asks) (pending telling.old.lines (I.remaining events.old)) telling.old.lines.number
+        (option_map (λ t. moment_at t taken.ahead) time) day.text day.in_force.ahead day.end) }
+    ensures taken { IfOk result (λ day. day.taken.ahead ≡ taken.ahead) }
+    ensures refused { IfErr result (λ exit. exit ≡ Memory) }
+    ensures asked { later telling.new.lines.asks (I.asked events.new) ≡ later telling.old.lines.asks (I.asked events.old) }
 {
-    what_is_told_is_lawful();
-    phones_grow_by_a_step();
-    let mut telling = begin::<T, P, I>(alloc, head, named, events)?;
-    let taken = clock_by(&telling.engine, clock);
-    tell_phones(alloc, &mut telling, events, form, time, taken)
+    match table {
+        DayTable::Phones => tell_phones(alloc, telling, events, form, time, taken),
+        DayTable::Standing => tell_calls(alloc, telling, events, form, time, taken),
+        DayTable::Sources(filter) => {
+            tell_sources(alloc, telling, events, filter, form, time, taken)
+        }
+    }
 }
 
-/// The calls that rang or were talked then.
-fn calls_at<T: Timers, P: Rules, I: TellingReader>(
-    alloc: Global,
-    head: &RecordHead,
-    named: Option<&Stated>,
-    events: &mut I,
-    form: Option<Notation>,
-    time: Option<u64>,
-    clock: Option<DayClock>,
-) -> Result<DayAt, Exit>
-    requires { IfSome time (λ t. t < 2 ^ 50) }
-    ensures shown { IfOk result (λ day. IsTableAt Tables.Standing form head.now named.entry (I.has_failed events.new) (I.asked events.old)
-        (I.asked events.new) (I.remaining events.old) time (option_map (λ c. c.ahead) clock) day.text day.taken.ahead day.in_force.ahead day.end) }
-    ensures refused { IfErr result (IsNoDay head.now named.entry (I.has_failed events.new) (I.asked events.old) (I.asked events.new) (I.remaining events.old)) }
-{
-    what_is_told_is_lawful();
-    calls_grow_by_a_step();
-    let mut telling = begin::<T, P, I>(alloc, head, named, events)?;
-    let taken = clock_by(&telling.engine, clock);
-    tell_calls(alloc, &mut telling, events, form, time, taken)
-}
-
-/// The addresses up to then.
-fn sources_at<T: Timers, P: Rules, I: TellingReader>(
-    alloc: Global,
-    filter: SourceFilter,
-    head: &RecordHead,
-    named: Option<&Stated>,
-    events: &mut I,
-    form: Option<Notation>,
-    time: Option<u64>,
-    clock: Option<DayClock>,
-) -> Result<DayAt, Exit>
-    requires { IfSome time (λ t. t < 2 ^ 50) }
-    ensures shown { IfOk result (λ day. IsTableAt (Tables.Sources filter) form head.now named.entry (I.has_failed events.new) (I.asked events.old)
-        (I.asked events.new) (I.remaining events.old) time (option_map (λ c. c.ahead) clock) day.text day.taken.ahead day.in_force.ahead day.end) }
-    ensures refused { IfErr result (IsNoDay head.now named.entry (I.has_failed events.new) (I.asked events.old) (I.asked events.new) (I.remaining events.old)) }
-{
-    what_is_told_is_lawful();
-    sources_grow_by_a_step();
-    let mut telling = begin::<T, P, I>(alloc, head, named, events)?;
-    let taken = clock_by(&telling.engine, clock);
-    tell_sources(alloc, &mut telling, events, filter, form, time, taken)
-}
-
-/// What is asked of a time. Refusals: as `crate::begin` says, where the record has no configuration; `Memory`, at any point.
-pub(crate) fn table_at<T: Timers, P: Rules, I: TellingReader>(
+/// What is asked of a time of what a reader gives behind the first line of a record, which says this head. The time is one of a clock; where none is
+/// given, of that of the configuration with which the record begins. Refusals: as `sipd_telling::begin` says, where the record has no configuration;
+/// `Memory`, at any point.
+fn table_at<T: Timers, P: Rules, I: TellingReader>(
     alloc: Global,
     table: DayTable,
     head: &RecordHead,
@@ -316,13 +393,13 @@ pub(crate) fn table_at<T: Timers, P: Rules, I: TellingReader>(
         (I.remaining events.old) time (option_map (λ c. c.ahead) clock) day.text day.taken.ahead day.in_force.ahead day.end) }
     ensures refused { IfErr result (IsNoDay head.now named.entry (I.has_failed events.new) (I.asked events.old) (I.asked events.new) (I.remaining events.old)) }
 {
-    match table {
-        DayTable::Phones => phones_at::<T, P, I>(alloc, head, named, events, form, time, clock),
-        DayTable::Standing => calls_at::<T, P, I>(alloc, head, named, events, form, time, clock),
-        DayTable::Sources(filter) => {
-            sources_at::<T, P, I>(alloc, filter, head, named, events, form, time, clock)
-        }
-    }
+    what_is_told_is_lawful();
+    phones_grow_by_a_step();
+    calls_grow_by_a_step();
+    sources_grow_by_a_step();
+    let mut telling = begin::<T, P, I>(alloc, head, named, events)?;
+    let taken = clock_by(&telling.engine, clock);
+    tell_table(alloc, table, &mut telling, events, form, time, taken)
 }
 
 /// The same of a record, whatever it holds.

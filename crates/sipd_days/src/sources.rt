@@ -2,9 +2,8 @@
 ghost use Rattle.std.specs.Prelude.{◌≡◌, length, IfOk, OnOk};
 ghost use Rattle.sipd_days.specs.PrintedSources.{PrintsColumns, PrintsEach, PrintsOne, PrintsSources, WereSources, every_datagram as all_datagrams};
 
-use crate::calls::ended;
 use crate::choosing::{filter_of, form_of};
-use crate::day_at::{DayAt, DayTable};
+use crate::day_at::DayTable;
 use crate::moments::table_in_file;
 use sip_policy::Rules;
 use sip_text::Bytes;
@@ -39,14 +38,10 @@ pub fn sources_in_file<T: Timers, P: Rules, R: Files + Clock + Eprint + AllocGlo
     ensures { IfOk result (WereSources form all_datagrams) }
 {
     let table = DayTable::Sources(every_datagram());
-    let DayAt {
-        text,
-        taken: _,
-        in_force: _,
-        end,
-    } = table_in_file::<T, P, R, C>(rt, table, path, config, form, None, None, seen, complaints)?;
-    ended(end)?;
-    Ok(text)
+    let day = table_in_file::<T, P, R, C>(
+        rt, table, path, config, form, None, None, seen, complaints,
+    )?;
+    day.into_text()
 }
 
 /// Each datagram.
@@ -71,12 +66,7 @@ fn tell_record<T: Timers, P: Rules, R: Files + Clock + Eprint + AllocGlobal, W: 
 ) -> Result<(), Exit>
     ensures { OnOk result (PrintsOne counting.form counting.filter (W.contents output.old) (W.contents output.new)) }
 {
-    let DayAt {
-        text,
-        taken: _,
-        in_force: _,
-        end,
-    } = table_in_file::<T, P, R, C>(
+    let day = table_in_file::<T, P, R, C>(
         rt,
         DayTable::Sources(counting.filter),
         path,
@@ -87,8 +77,7 @@ fn tell_record<T: Timers, P: Rules, R: Files + Clock + Eprint + AllocGlobal, W: 
         counting.seen,
         complaints,
     )?;
-    print(text.as_slice(), output)?;
-    ended(end)
+    day.print_to(output)
 }
 
 /// Prints the addresses of records, one record after the other.

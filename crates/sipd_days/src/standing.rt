@@ -2,19 +2,19 @@
 ghost use Rattle.std.specs.Prelude.{◌≡◌, ◌⊎◌, ◌<◌, ◌^◌, None, Some, option_map, unwrap_or, IfErr, IfOk, IfSome, OnOk};
 ghost use Rattle.sip_replay_script.specs.Devices.{later};
 ghost use Rattle.sip_replay_script.specs.Lines.{IsSpent, pending};
-ghost use Rattle.sip_run.specs.Due.{standing_of};
+ghost use Rattle.sipd_telling.specs.run.Due.{standing_of};
 ghost use Rattle.sipd_exit.specs.declared.exit.Exit.TheVariants.{Memory};
 ghost use Rattle.sipd_report.specs.Said as Definitions;
 ghost use Rattle.sipd_days.specs.Standing.{IsStood, IsUnpassedThen, IsUnstood, Reaches};
-ghost use Rattle.sipd_days.specs.Tellings.{IsUntoldOn};
+ghost use Rattle.sipd_telling.specs.Tellings.{IsUntoldOn};
 
-use crate::telling::{Telling, pass, tell};
 use sip_listener::Listener;
 use sip_policy::Rules;
 use sip_replay_script::TellingReader;
 use sip_timers::Timers;
 use sipd_exit::Exit;
 use sipd_report::moment_at;
+use sipd_telling::{Telling, pass, tell};
 use std::alloc::Global;
 
 /// A clock that is so many minutes ahead of UTC.

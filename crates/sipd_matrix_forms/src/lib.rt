@@ -1,6 +1,6 @@
 //! The whole policy of a configuration in other forms than text: comma-separated values, and a page of HTML.
 //!
-//! - Used: `sipd_tools`, for `matrix --csv` and `matrix --html`; `sipd_page` writes texts and the policy as it does.
+//! - Used: `sipd_tools`, for `matrix --csv` and `matrix --html`; `sipd_page_sections` writes texts and the policy as it does.
 //! - Not here: which cells there are (`sip_matrix`), the table as text (`sipd_matrix`), and one question (`sipd_ask`).
 //! - Tried: worked examples in `src/examples.rt`, as contracts that compute.
 //!

@@ -4,7 +4,7 @@
 //! Here, too: the file of a server's record, and what is asked of a journal beside its events: whether what was written stands where it
 //! belongs.
 //!
-//! - Used: `sipd_start`, for the record from which a server goes on, and for the one that is replayed; `sipd_days`, for one that is told;
+//! - Used: `sipd_start`, for the record from which a server goes on, and for the one that is replayed; `sipd_telling`, for one that is told;
 //!   `sipd_tools`, for one that a change is told against; `sipd_start` makes the file, `sipd_service` looks at the journal.
 //! - Not here: what the first line says (`sip_journal`), how a configuration stands in a record (`sip_segment_config`), and what stands
 //!   behind the first one (`sip_resume`).

@@ -7,8 +7,8 @@ use Rattle.sip_listener.specs.Heard.{Heard}
 use Rattle.sip_days.specs.declared.call.Call.{Call}
 use Rattle.sip_days.specs.Calls.{calls_of}
 use Rattle.sip_days.specs.Hearing.{calls_with}
-use Rattle.sipd_days.specs.Onward.{HearsAll}
-use Rattle.sipd_days.specs.Records.{TellsFiles}
+use Rattle.sipd_telling.specs.Onward.{HearsAll}
+use Rattle.sipd_telling.specs.Records.{TellsFiles}
 use Rattle.sipd_page.specs.declared.history.History.{History}
 use Rattle.sipd_page.specs.Days.{day_lines}
 use Rattle.sipd_page.specs.History.{AreOfHistory, HearsHistory, IsUntold, with_line}

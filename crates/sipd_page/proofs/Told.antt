@@ -7,12 +7,11 @@ use Rattle.sip_model.specs.state.declared.server.Server.{Server}
 use Rattle.sip_model.specs.Run.{Link}
 use Rattle.sip_model.specs.TimerOrder.{Standing, first_standing}
 use Rattle.sip_journal.specs.declared.record_head.RecordHead.{RecordHead}
-use Rattle.sip_replay.specs.Replays.{server_with}
 use Rattle.sip_replay_script.specs.Lines.{Reading, pending}
-use Rattle.sip_retell.specs.Items.{Item}
-use Rattle.sip_retell.specs.Retells.{GoesThrough, IsLawfulRun}
+use Rattle.sipd_telling.specs.retell.Items.{Item}
+use Rattle.sipd_telling.specs.retell.Retells.{GoesThrough, IsLawfulRun}
 use Rattle.sipd_exit.specs.declared.files.Stated.{Stated}
-use Rattle.sipd_days.specs.Tellings.{IsBegun, IsToldOn}
+use Rattle.sipd_telling.specs.Tellings.{IsBegun, IsToldOn, server_with}
 use Rattle.sipd_page_sections.specs.declared.notes.Notes.{Notes}
 use Rattle.sipd_page_sections.specs.declared.told.FileTold.{FileTold}
 use Rattle.sipd_page_sections.specs.Notes.{hears_notes}

@@ -7,8 +7,8 @@ use Rattle.sip_days.specs.declared.call.Call.{Call}
 use Rattle.sip_days.specs.Calls.{calls_of}
 use Rattle.sip_days.specs.Hearing.{adds_calls}
 use Rattle.sipd_calls.specs.declared.choice.CallFilter.{CallFilter}
-use Rattle.sipd_days.specs.Records.{SaysHistory}
-use Rattle.sipd_days.specs.declared.onward.DayPoint.{DayPoint}
+use Rattle.sipd_telling.specs.Records.{SaysHistory}
+use Rattle.sipd_telling.specs.declared.onward.DayPoint.{DayPoint}
 use Rattle.sipd_page.specs.declared.history.History.{History}
 use Rattle.sipd_page.specs.Days.{day_lines}
 

@@ -11,7 +11,7 @@ use Rattle.sipd_calls.specs.declared.notation.Notation.TheVariants.{Html}
 use Rattle.sipd_exit.specs.declared.files.Stated.{Stated}
 use Rattle.sipd_record_files.specs.Named.{AreNamed}
 use Rattle.sipd_days.specs.PrintedSources.{WereSources, every_datagram}
-use Rattle.sipd_days.specs.Records.{TellsRecord}
+use Rattle.sipd_telling.specs.Records.{TellsRecord}
 use Rattle.sipd_page_sections.specs.declared.notes.Notes.{Notes}
 use Rattle.sipd_page.specs.History.{AreOfHistory, every_call}
 use Rattle.sipd_page_sections.specs.Log.{log_lines, verdict_text}

@@ -1,6 +1,6 @@
 ghost use Rattle.std.specs.Prelude.{◌≡◌, List, ◌++◌};
 ghost use Rattle.sip_listener.specs.Heard.{Heard};
-ghost use Rattle.sipd_days.specs.Onward.{HearsAll};
+ghost use Rattle.sipd_telling.specs.Onward.{HearsAll};
 ghost use Rattle.sipd_page.specs.declared.history.History.{History};
 ghost use Rattle.sipd_page.specs.Days.{day_lines};
 ghost use Rattle.sipd_page.specs.History.{HearsHistory};

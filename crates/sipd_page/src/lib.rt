@@ -3,7 +3,7 @@
 //! address did from which datagrams came; and the policy.
 //!
 //! - Used: `sipd_command`, for `sipd page`.
-//! - Not here: how a record is opened and told (`sipd_days`, `sip_retell`), what is kept of its steps, and how all of it is written
+//! - Not here: how a record is opened and told (`sipd_telling`, `sip_retell`), what is kept of its steps, and how all of it is written
 //!   (`sipd_page_sections`), and what a call is (`sip_days`).
 //! - Tried: worked parts in `sipd_page_sections`; `tests/page.py`; `test_server`.
 //!

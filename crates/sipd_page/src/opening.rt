@@ -7,12 +7,12 @@ use sip_config_types::Config;
 use sip_journal::RecordHead;
 use sip_policy::Rules;
 use sip_replay_script::TellingReader;
-use sip_retell::laws::what_is_told_is_lawful;
 use sip_timers::Timers;
-use sipd_days::{DayReading, begin, complain_of_older, exit_of_day, open_day, tell};
 use sipd_exit::{Exit, Stated};
 use sipd_old_record::OldRecord;
 use sipd_page_sections::{FileTold, Notes, policy_of};
+use sipd_telling::laws::what_is_told_is_lawful;
+use sipd_telling::{DayReading, begin, exit_of_file, open_day, tell};
 use std::alloc::Global;
 use std::io::Write;
 use std::rt::{Clock, Files};
@@ -71,6 +71,6 @@ pub(crate) fn tell_file<T: Timers, P: Rules, R: Files + Clock + Eprint + AllocGl
     let named = reading.named.as_ref();
     match tell_day::<T, P, _>(rt.alloc(), &head, named, &mut events, notes) {
         Ok(told) => Ok(sealed_with(told, events.inner.reader.end_digest())),
-        Err(exit) => Err(complain_of_older(exit_of_day(exit, &events), complaints)),
+        Err(exit) => Err(exit_of_file(exit, &events, complaints)),
     }
 }

@@ -2,7 +2,7 @@
 //! denied; how many addresses had a live binding, as a picture; and all that the page says of a record.
 //!
 //! - Used: `sipd_page`, which tells records to the notes, and makes the page of it.
-//! - Not here: how a record is told, and the lines and the calls of a history (`sipd_page`, over `sipd_days`), the tables of calls and of addresses
+//! - Not here: how a record is told, and the lines and the calls of a history (`sipd_page`, over `sipd_telling`), the tables of calls and of addresses
 //!   (`sipd_calls`, `sipd_sources`), and the policy as HTML (`sipd_matrix_forms`).
 //! - Tried: worked parts in `src/examples.rt`, as contracts that compute; `tests/page.py`.
 //!

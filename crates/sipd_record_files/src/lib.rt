@@ -3,7 +3,7 @@
 //! shorter record has, as those of the whole one are told, and what writes these.
 //!
 //! - Used: `sipd_start`, for the record of a start, and for the next one of a server that serves; `sipd_replay`, `sipd_days` and `sipd_traces`, for the
-//!   records of a folder.
+//!   records of a folder; `sipd_telling`, for whether a record goes on from another.
 //! - Not here: what is written into a record (`sip_journal`), its file as the system has it and its digests (`sipd_old_record`), and which events
 //!   matter (`sip_compact`); whether a shorter one serves (`sipd_start`).
 //! - Tried: `tests/serve.py`, `tests/faults.py`, `tests/turns.py`.

@@ -23,7 +23,7 @@ use Rattle.sip_resume.specs.Whole.{IsRecordResumed}
 use Rattle.sipd_old_record.specs.OldRecord.{SaysHead}
 use Rattle.sipd_start.specs.Begins.{IsServerOf, StartsAnew, Written, TakesOld, LeadsTo, GoesOn, GoesOnFrom, IsFileNotResumed, IsLeftBehind, GoesOnFromFile, Begins}
 use Rattle.sipd_start.specs.Boots.{boot_again}
-use Rattle.sipd_start.specs.Shorter.{GoesOnAlike, IsLedByFile, LeadsAlike}
+use Rattle.sipd_start.specs.Shorter.{GoesOnAlike, IsLedByFile, IsLedSomehow, LeadsAlike}
 use Rattle.sip_model.specs.SameAhead.{SameAhead}
 use Rattle.sipd_boot.specs.Boots.{behind_boot, secret_from, behind_secret}
 use Rattle.sipd_start.specs.OldRecords.{IsBegunBy}
@@ -166,7 +166,7 @@ pub goes_on_from_input : (is_input : Bool) (input : Option (List ℕ)) (bytes di
 goes_on_from_input is_input input bytes digest words left keys server state secrets lines last h drawn under rest =
     record { whole = input; of_input = λ _. refl; lines = lines; goes_on = h; under = under_drawn words keys secrets drawn under; rest = rest }
 
-pub goes_on_from_file : (is_input : Bool) (input whole : Option (List ℕ)) (bytes digest : List ℕ) (words left : Stream) (keys : ℕ) (server : Server)
+goes_on_from_file : (is_input : Bool) (input whole : Option (List ℕ)) (bytes digest : List ℕ) (words left : Stream) (keys : ℕ) (server : Server)
     (state : Standing) (secrets : Secrets) (lines : ℕ) (last : Option StepOut)
     → is_input ≡ false → GoesOnFrom bytes digest whole server state lines last → keys ≡ secret_from words → secrets ≡ secrets_of keys
     → left ≡ behind_secret words → GoesOnFromFile is_input input bytes digest words server state secrets last left
@@ -174,13 +174,22 @@ goes_on_from_file true input whole bytes digest words left keys server state sec
 goes_on_from_file false input whole bytes digest words left keys server state secrets lines last is h drawn under rest =
     record { whole = whole; of_input = λ other. absurd cc; lines = lines; goes_on = h; under = under_drawn words keys secrets drawn under; rest = rest }
 
--- it goes on from a shorter one, which some file held, too
-pub goes_on_alike : (is_input : Bool) (input : Option (List ℕ)) (bytes digest : List ℕ) (words left : Stream) (keys : ℕ) (server : Server)
+-- the same of what a file held, behind some of its lines
+pub goes_on_led : (is_input : Bool) (input : Option (List ℕ)) (bytes digest : List ℕ) (words left : Stream) (keys : ℕ) (server : Server)
     (state : Standing) (secrets : Secrets) (last : Option StepOut)
-    → is_input ≡ false → GoesOnAlike bytes digest server state last → keys ≡ secret_from words → secrets ≡ secrets_of keys → left ≡ behind_secret words
+    → is_input ≡ false → IsLedSomehow bytes digest server state last → keys ≡ secret_from words → secrets ≡ secrets_of keys → left ≡ behind_secret words
     → GoesOnFromFile is_input input bytes digest words server state secrets last left
-goes_on_alike is_input input bytes digest words left keys server state secrets last is h drawn under rest =
-    goes_on_from_file is_input input h.leads.shorter bytes digest words left keys server state secrets h.lines last is h.leads.goes_on drawn under rest
+goes_on_led is_input input bytes digest words left keys server state secrets last is h drawn under rest =
+    goes_on_from_file is_input input h.1.0 bytes digest words left keys server state secrets h.0 last is h.1.1 drawn under rest
+
+-- behind all that is left of it, or behind a shorter one, which some file held, too
+pub led_whole : (bytes digest : List ℕ) (whole : Option (List ℕ)) (server : Server) (state : Standing) (lines : ℕ) (last : Option StepOut)
+    → GoesOnFrom bytes digest whole server state lines last → IsLedSomehow bytes digest server state last
+led_whole bytes digest whole server state lines last h = (lines, (whole, h))
+
+pub led_alike : (bytes digest : List ℕ) (server : Server) (state : Standing) (last : Option StepOut)
+    → GoesOnAlike bytes digest server state last → IsLedSomehow bytes digest server state last
+led_alike bytes digest server state last h = (h.lines, (h.leads.shorter, h.leads.goes_on))
 
 -- ---- two servers of one configuration
 

@@ -1,5 +1,6 @@
 pub mod Asked
 pub mod Beginnings
+pub mod Made
 pub mod OldBeginnings
 pub mod Refusals
 pub mod StackLines

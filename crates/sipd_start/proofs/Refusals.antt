@@ -32,7 +32,7 @@ use Rattle.sipd_exit.specs.declared.device_fault.DeviceFault.{DeviceFault}
 use Rattle.sipd_exit.specs.declared.exit.Exit.{Exit}
 use Rattle.sipd_exit.specs.declared.exit.Exit.TheVariants as exits
 use Rattle.sipd_reload.specs.File.{most_bytes}
-use Rattle.sipd_start.specs.Begins.{IsFileNotResumed, IsUnopened, EventsStop, StopsAt, IsStopped, IsNotGoneOn, IsUnread, IsNotResumed, Written, reason_of}
+use Rattle.sipd_start.specs.Begins.{IsFileNotResumed, IsNoFileResumed, IsUnopened, EventsStop, StopsAt, IsStopped, IsNotGoneOn, IsUnread, IsNotResumed, Written, reason_of}
 use Rattle.sipd_start.specs.Boots.{boot_again}
 use Rattle.sipd_old_record.specs.OldRecord.{IsRefused, IsSystemFault, SaysHead}
 use Rattle.sipd_old_record.specs.Own.{OwnStops}
@@ -369,23 +369,20 @@ pub input_not_resumed : {A : Type 0} (result : Result A StartStop) (is_input : B
 input_not_resumed result true input F before now bytes digest is h = h
 input_not_resumed result false input F before now bytes digest is h = absurd cc
 
-other_file : {A : Type 0} (result : Result A StartStop) (input whole : Option (List ℕ)) (F : Type 0) (before now : Option ℕ) (bytes digest : List ℕ)
-    → IfErr result (IsNotResumed bytes digest ⊤ None None whole)
-    → IfErr result (IsFileNotResumed false input F before now bytes digest)
-other_file (Ok a) input whole F before now bytes digest h = tt
-other_file (Err stop) input whole F before now bytes digest h = inr (whole, h)
-
-pub file_not_resumed : {A : Type 0} (result : Result A StartStop) (is_input : Bool) (input whole : Option (List ℕ)) (F : Type 0)
+pub of_file : {A : Type 0} (result : Result A StartStop) (is_input : Bool) (input : Option (List ℕ)) (F : Type 0)
     (before now : Option ℕ) (bytes digest : List ℕ) → is_input ≡ false
-    → IfErr result (IsNotResumed bytes digest ⊤ None None whole) → IfErr result (IsFileNotResumed is_input input F before now bytes digest)
-file_not_resumed result true input whole F before now bytes digest is h = absurd cc
-file_not_resumed result false input whole F before now bytes digest is h = other_file result input whole F before now bytes digest h
+    → IfErr result (IsNoFileResumed bytes digest) → IfErr result (IsFileNotResumed is_input input F before now bytes digest)
+of_file result true input F before now bytes digest is h = absurd cc
+of_file result false input F before now bytes digest is h = h
 
-pub unopened : (is_input : Bool) (input : Option (List ℕ)) (F : Type 0) (before now : Option ℕ) (bytes digest : List ℕ) (exit : Exit)
-    (stop : StartStop) → is_input ≡ false → stop ≡ unread exit → IsSystemFault exit
-    → IsFileNotResumed is_input input F before now bytes digest stop
-unopened true input F before now bytes digest exit stop other is h = absurd cc
-unopened false input F before now bytes digest exit stop other is h = inl (record { exit = exit; fault = h; same = is })
+pub file_not_resumed : {A : Type 0} (result : Result A StartStop) (whole : Option (List ℕ)) (bytes digest : List ℕ)
+    → IfErr result (IsNotResumed bytes digest ⊤ None None whole) → IfErr result (IsNoFileResumed bytes digest)
+file_not_resumed (Ok a) whole bytes digest h = tt
+file_not_resumed (Err stop) whole bytes digest h = inr (whole, h)
+
+pub unopened : (bytes digest : List ℕ) (exit : Exit) (stop : StartStop) → stop ≡ unread exit → IsSystemFault exit
+    → IsNoFileResumed bytes digest stop
+unopened bytes digest exit stop is h = inl (record { exit = exit; fault = h; same = is })
 
 opened_exits : (bytes : List ℕ) (exit other : Exit) → Exits exit ≡ unread other
     → (other ≡ exits.Memory) ⊎ ((fault : DeviceFault) × (other ≡ exits.Device fault)) → EndsStart bytes exit

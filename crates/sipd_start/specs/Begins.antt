@@ -176,12 +176,15 @@ pub record IsUnopened (stop : StartStop) : Type 0 where
   pub fault : IsSystemFault exit
   pub same : stop ≡ unread exit
 
--- Why a server starts anew in place of going on from the record of a file, or nothing is begun: where that is the input, what the input had isn't
--- gone on from; else the file can't be opened, or what it held isn't, of whose reader nothing is known.
+-- Why a server starts anew in place of going on from what a file held, or nothing is begun: the file can't be opened, or what it held isn't gone on
+-- from, of whose reader nothing is known.
+abbrev pub IsNoFileResumed : List ℕ → List ℕ → StartStop → Type 0
+IsNoFileResumed bytes digest stop = IsUnopened stop ⊎ ((whole : Option (List ℕ)) × IsNotResumed bytes digest ⊤ None None whole stop)
+
+-- and so it is of the record of a file; where that is the input, what the input had isn't gone on from
 abbrev pub IsFileNotResumed : Bool → Option (List ℕ) → Type 0 → Option ℕ → Option ℕ → List ℕ → List ℕ → StartStop → Type 0
 IsFileNotResumed true input has_failed before now bytes digest stop = IsNotResumed bytes digest has_failed before now input stop
-IsFileNotResumed false input has_failed before now bytes digest stop =
-    IsUnopened stop ⊎ ((whole : Option (List ℕ)) × IsNotResumed bytes digest ⊤ None None whole stop)
+IsFileNotResumed false input has_failed before now bytes digest stop = IsNoFileResumed bytes digest stop
 
 -- ---- how it begins
 

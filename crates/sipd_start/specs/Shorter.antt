@@ -10,6 +10,10 @@ use Rattle.sipd_start.specs.Begins.{GoesOnFrom}
 abbrev pub IsLedByFile : List ℕ → List ℕ → Server → Standing → ℕ → Option StepOut → Type 0
 IsLedByFile bytes digest server state lines last = (whole : Option (List ℕ)) × GoesOnFrom bytes digest whole server state lines last
 
+-- by so many lines, whichever
+abbrev pub IsLedSomehow : List ℕ → List ℕ → Server → Standing → Option StepOut → Type 0
+IsLedSomehow bytes digest server state last = (lines : ℕ) × IsLedByFile bytes digest server state lines last
+
 -- A server goes on from the shorter record that some file held, by so many of its lines, with the configuration that bytes of this digest state.
 -- Some other file held a record from which the same server goes on, in a state that is the same ahead: whatever comes, that server sends and
 -- records the same (law runs_same of sip_model).

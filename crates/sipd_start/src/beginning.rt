@@ -7,8 +7,8 @@ ghost use Rattle.sip_resume.specs.run.engine.engine_time.proxy.Proxy.{secrets_of
 ghost use Rattle.sipd_boot.specs.Boots.{behind_boot};
 ghost use Rattle.sipd_exit.specs.declared.exit.Exit.TheVariants.{PipedRecord};
 ghost use Rattle.sipd_exit.specs.declared.record_place.RecordFault.TheVariants.{GoOn};
-ghost use Rattle.sipd_start.specs.Begins.{Begins, GoesOn, GoesOnFrom, GoesOnFromFile, IsFileNotResumed, IsLeftBehind, IsNotGoneOn};
-ghost use Rattle.sipd_start.specs.Shorter.{GoesOnAlike};
+ghost use Rattle.sipd_start.specs.Begins.{Begins, GoesOn, GoesOnFrom, GoesOnFromFile, IsFileNotResumed, IsLeftBehind, IsNoFileResumed, IsNotGoneOn};
+ghost use Rattle.sipd_start.specs.Shorter.{GoesOnAlike, IsLedSomehow};
 ghost use Rattle.sipd_start.specs.Begins.{IsNotResumed, IsOpened, LeadsTo, StartsAnew, StopsAt};
 ghost use Rattle.sipd_record_files.specs.Places;
 ghost use Rattle.sipd_record_files.specs.Places.{IsPlaceOf};
@@ -37,9 +37,10 @@ use sipd_exit::{Exit, RecordFault, RecordPlace, RecordSync, Stated, config_of_by
 use sipd_old_record::laws::asks_add_up;
 use sipd_old_record::{RecordFile, head_in, mark_file};
 use sipd_record_files::{
-    RecordFiles, check_free, folder_of, follow, make_part, name_part, place_of, remove_old,
-    remove_part,
+    Followed, RecordFiles, check_free, folder_of, follow, make_part, name_part, place_of,
+    remove_old, remove_part,
 };
+use std::alloc::Global;
 use std::fs;
 use std::io::{ErrorKind, Write};
 use std::os::unix::fs::FileTypeExt;
@@ -52,6 +53,7 @@ const INPUT: &str = "-";
 #[derive(Drop)]
 pub struct Beginning<'a, R> {
     rt: &'a R,
+    alloc: Global,
     /// The file of its configuration.
     pub stated: &'a Stated,
     /// Where the new record is made.
@@ -85,6 +87,7 @@ impl<'a, R: Files + Clock + AllocGlobal> Beginning<'a, R> {
         check_old(rt, &place)?;
         Ok(Beginning {
             rt,
+            alloc: rt.alloc(),
             stated,
             place,
             fault,
@@ -130,26 +133,55 @@ fn is_input(old: &str) -> bool
 }
 
 /// A server that is begun.
-#[derive(Drop)]
 pub struct Begun<'a, T: Timers, P: Rules, R: Files> {
     pub engine: Engine<T, P>,
     /// What writes its events into a record; none where that can't be written and the server goes on without it.
     pub recorder: Option<Recorder<RecordFile<'a, R>>>,
     /// The last step of the record from which it goes on: what it decided may not have been printed.
     pub last: Option<StepOut>,
+    /// Behind how many lines of that record it goes on; 0 where it starts anew.
+    pub lines: u64,
 }
 
-/// A server that goes on from a record, by so many of its lines.
-#[derive(Drop)]
-struct GoneOn<'a, T: Timers, P: Rules, R: Files> {
-    begun: Begun<'a, T, P, R>,
-    lines: u64,
+/// Written out, so that it is proved once and not wherever one is dropped.
+impl<'a, T: Timers, P: Rules, R: Files> Drop for Begun<'a, T, P, R> {
+    fn drop(self) {
+        let Begun {
+            engine: _,
+            recorder: _,
+            last: _,
+            lines: _,
+        } = self;
+    }
+}
+
+impl<'a, T: Timers, P: Rules, R: Files> Begun<'a, T, P, R> {
+    /// The server, what writes its events into a record, and the last step of an older one.
+    pub fn into_parts(
+        self,
+    ) -> (
+        Engine<T, P>,
+        Option<Recorder<RecordFile<'a, R>>>,
+        Option<StepOut>,
+    )
+        ensures engine { result.0 ≡ self.entry.engine }
+        ensures recorder { result.1 ≡ self.entry.recorder }
+        ensures last { result.2 ≡ self.entry.last }
+    {
+        let Begun {
+            engine,
+            recorder,
+            last,
+            lines: _,
+        } = self;
+        (engine, recorder, last)
+    }
 }
 
 /// A server that has just started, with the configuration that is stated.
 #[tactic(auto, using(crate::proofs::Beginnings::opened_standing))]
-fn open<T: Timers, P: Rules, R: AllocGlobal>(
-    rt: &R,
+fn open<T: Timers, P: Rules>(
+    alloc: Global,
     stated: &Stated,
     boot: Boot,
 ) -> Result<Engine<T, P>, Exit>
@@ -157,7 +189,6 @@ fn open<T: Timers, P: Rules, R: AllocGlobal>(
     ensures refused { IfErr result (EndsStart stated.now.bytes) }
     ensures secrets { IfOk result (λ engine. engine.secrets ≡ secrets_of boot.keys) }
 {
-    let alloc = rt.alloc();
     let config = config_of_bytes(alloc, stated.bytes.as_slice())?;
     Ok(Engine::open(alloc, config, boot)?)
 }
@@ -173,7 +204,7 @@ pub fn begin_unrecorded<T: Timers, P: Rules, R: AllocGlobal, W: Rng>(
     ensures refused { IfErr result (EndsStart stated.now.bytes) }
 {
     let boot = new_boot(words);
-    open(rt, stated, boot)
+    open(rt.alloc(), stated, boot)
 }
 
 /// The new record of a start, of which the first line is written, with this digest, and which record it follows. It hasn't its name yet.
@@ -256,10 +287,35 @@ fn make_anew<'a, R: Files + AllocGlobal>(
     name(beginning, recorder)
 }
 
-/// A server that starts anew, and its record.
-fn begin_anew<'a, T: Timers, P: Rules, R: Files + AllocGlobal, W: Rng>(
+/// The same; or none, where it can't be written and the server is to go on without it.
+fn record_anew<'a, R: Files + AllocGlobal>(
+    beginning: &Beginning<'a, R>,
+    boot: Boot,
+) -> Result<Option<Recorder<RecordFile<'a, R>>>, Exit>
+    ensures whole { IfOk result (λ recorder. IfSome recorder (λ r. r.has_failed ≡ false)) }
+    ensures unrecorded { IfOk result (λ recorder. IfNone recorder (beginning.now.fault ≡ GoOn)) }
+    ensures refused { IfErr result IsUnmade }
+{
+    settle(beginning, make_anew(beginning, boot))
+}
+
+/// Takes away what is too old of a folder, where the new record stands in it.
+fn remove_behind<R: Files + Clock + AllocGlobal, C: Write>(
+    beginning: &Beginning<'_, R>,
+    is_recorded: bool,
+    complaints: &mut C,
+) {
+    if is_recorded && beginning.place.copy.is_some() {
+        let folder = folder_of(beginning.place.record.path.as_str());
+        remove_old(beginning.rt, folder, beginning.keep, complaints);
+    }
+}
+
+/// A server that starts anew, and its record. What is too old of a folder in which that stands is taken away then.
+fn begin_anew<'a, T: Timers, P: Rules, R: Files + Clock + AllocGlobal, W: Rng, C: Write>(
     beginning: &Beginning<'a, R>,
     words: &mut W,
+    complaints: &mut C,
 ) -> Result<Begun<'a, T, P, R>, Exit>
     ensures anew { IfOk result (λ begun. StartsAnew beginning.now.stated.now.bytes (W.stream words.old) begun.engine.server
         (standing_of begun.engine) begun.engine.secrets begun.last) }
@@ -269,84 +325,93 @@ fn begin_anew<'a, T: Timers, P: Rules, R: Files + AllocGlobal, W: Rng>(
     ensures refused { IfErr result (EndsStart beginning.now.stated.now.bytes) }
 {
     let boot = new_boot(words);
-    let engine = open(beginning.rt, beginning.stated, boot)?;
-    let made = make_anew(beginning, boot);
+    let engine = open(beginning.alloc, beginning.stated, boot)?;
+    let recorder = record_anew(beginning, boot)?;
+    remove_behind(beginning, recorder.is_some(), complaints);
     Ok(Begun {
         engine,
-        recorder: settle(beginning, made)?,
+        recorder,
         last: None,
+        lines: 0,
     })
 }
 
-/// A server that has taken what is left of a record, and records none.
-#[tactic(auto, using(crate::proofs::Beginnings::leads))]
-fn go_on_alone<'a, T: Timers, P: Rules, R: Files + AllocGlobal, I: TellingReader>(
+/// The record in which all stands that was taken, which has its name then; or none, where it can't be written and the server is to go on without
+/// it.
+fn record_whole<'a, R: Files + AllocGlobal>(
     beginning: &Beginning<'a, R>,
-    mut engine: Engine<T, P>,
-    old: OldLines,
-    reader: &mut I,
-) -> Result<GoneOn<'a, T, P, R>, StartStop>
-    ensures resumed { IfOk result (λ gone_on. LeadsTo old.first beginning.now.stated.now.bytes engine.server gone_on.begun.engine.server
-        (standing_of engine) old.lines.number (pending old.lines (I.remaining reader.old)) (standing_of gone_on.begun.engine) gone_on.lines gone_on.begun.last) }
-    ensures unrecorded { IfOk result (λ gone_on. gone_on.begun.recorder ≡ None) }
-    ensures stops { IfErr result (StopsAt old.first beginning.now.stated.now.bytes
-        (HasStopped (I.has_failed reader.new) old.lines.asks (I.asked reader.old) (I.asked reader.new)) engine.server (standing_of engine)
-        old.lines.number (pending old.lines (I.remaining reader.old))) }
-    ensures secrets { IfOk result (λ gone_on. gone_on.begun.engine.secrets ≡ engine.secrets) }
+    recorder: Recorder<RecordFile<'a, R>>,
+) -> Result<Option<Recorder<RecordFile<'a, R>>>, Exit>
+    ensures whole { IfOk result (λ recorder. IfSome recorder (λ r. r.has_failed ≡ false)) }
+    ensures unrecorded { IfOk result (λ recorder. IfNone recorder (beginning.now.fault ≡ GoOn)) }
+    ensures refused { IfErr result IsUnmade }
 {
-    let alloc = beginning.rt.alloc();
-    let stated = beginning.stated;
-    let Resumed { lines, last } = take_old(
-        alloc,
-        stated,
-        &mut engine,
-        old,
-        reader,
-        &mut NoJournal,
-    )?;
-    let begun = Begun {
-        engine,
-        recorder: None,
-        last,
-    };
-    Ok(GoneOn { begun, lines })
+    settle(beginning, name(beginning, recorder))
 }
 
-/// A server that has taken what is left of a record, which stands in the new record, too. That has its name once it is whole, so that the older
-/// one is needed no more.
+/// A server that has taken what is left of a record, which stands in the new record, too, where there is one. That has its name once it is whole, so
+/// that the older one is needed no more.
 #[tactic(auto, using(crate::proofs::Beginnings::leads, crate::proofs::Refusals::exits_at))]
-fn go_on_recorded<'a, T: Timers, P: Rules, R: Files + AllocGlobal, I: TellingReader>(
+fn go_on_to<'a, T: Timers, P: Rules, R: Files + AllocGlobal, I: TellingReader>(
     beginning: &Beginning<'a, R>,
     mut engine: Engine<T, P>,
-    mut recorder: Recorder<RecordFile<'a, R>>,
+    recorder: Option<Recorder<RecordFile<'a, R>>>,
     old: OldLines,
     reader: &mut I,
-) -> Result<GoneOn<'a, T, P, R>, StartStop>
-    ensures resumed { IfOk result (λ gone_on. LeadsTo old.first beginning.now.stated.now.bytes engine.server gone_on.begun.engine.server
-        (standing_of engine) old.lines.number (pending old.lines (I.remaining reader.old)) (standing_of gone_on.begun.engine) gone_on.lines gone_on.begun.last) }
-    ensures whole { IfOk result (λ gone_on. IfSome gone_on.begun.recorder (λ r. r.has_failed ≡ false)) }
-    ensures unrecorded { IfOk result (λ gone_on. IfNone gone_on.begun.recorder (beginning.now.fault ≡ GoOn)) }
+) -> Result<Begun<'a, T, P, R>, StartStop>
+    requires unrecorded { IfNone recorder (beginning.now.fault ≡ GoOn) }
+    ensures resumed { IfOk result (λ begun. LeadsTo old.first beginning.now.stated.now.bytes engine.server begun.engine.server
+        (standing_of engine) old.lines.number (pending old.lines (I.remaining reader.old)) (standing_of begun.engine) begun.lines begun.last) }
+    ensures whole { IfOk result (λ begun. IfSome begun.recorder (λ r. r.has_failed ≡ false)) }
+    ensures unrecorded { IfOk result (λ begun. IfNone begun.recorder (beginning.now.fault ≡ GoOn)) }
     ensures stops { IfErr result (StopsAt old.first beginning.now.stated.now.bytes
         (HasStopped (I.has_failed reader.new) old.lines.asks (I.asked reader.old) (I.asked reader.new)) engine.server (standing_of engine)
         old.lines.number (pending old.lines (I.remaining reader.old))) }
-    ensures secrets { IfOk result (λ gone_on. gone_on.begun.engine.secrets ≡ engine.secrets) }
+    ensures secrets { IfOk result (λ begun. begun.engine.secrets ≡ engine.secrets) }
 {
-    let alloc = beginning.rt.alloc();
+    let alloc = beginning.alloc;
     let stated = beginning.stated;
-    match take_old(alloc, stated, &mut engine, old, reader, &mut recorder) {
-        Ok(Resumed { lines, last }) => {
-            let begun = Begun {
+    match recorder {
+        None => {
+            let resumed = take_old(alloc, stated, &mut engine, old, reader, &mut NoJournal)?;
+            let Resumed { lines, last } = resumed;
+            Ok(Begun {
                 engine,
-                recorder: settle(beginning, name(beginning, recorder))?,
+                recorder: None,
                 last,
-            };
-            Ok(GoneOn { begun, lines })
+                lines,
+            })
         }
-        Err(stop) => {
-            remove_part(beginning.rt, &beginning.place);
-            Err(stop)
+        Some(mut recorder) => {
+            match take_old(alloc, stated, &mut engine, old, reader, &mut recorder) {
+                Ok(Resumed { lines, last }) => Ok(Begun {
+                    engine,
+                    recorder: record_whole(beginning, recorder)?,
+                    last,
+                    lines,
+                }),
+                Err(stop) => {
+                    remove_part(beginning.rt, &beginning.place);
+                    Err(stop)
+                }
+            }
         }
     }
+}
+
+/// The new record of a server that goes on, whose first line has this digest; or none, where it can't be written and the server is to go on
+/// without it.
+fn record_again<'a, R: Files + AllocGlobal>(
+    beginning: &Beginning<'a, R>,
+    boot: Boot,
+    digest: [u8; 32],
+    follows: Option<&Follows>,
+) -> Result<Option<Recorder<RecordFile<'a, R>>>, Exit>
+    ensures whole { IfOk result (λ recorder. IfSome recorder (λ r. r.has_failed ≡ false)) }
+    ensures unrecorded { IfOk result (λ recorder. IfNone recorder (beginning.now.fault ≡ GoOn)) }
+    ensures refused { IfErr result IsUnmade }
+{
+    settle(beginning, make(beginning, boot, digest, follows))
 }
 
 /// A server that goes on from a record whose first line says this head, and whose events stand behind it. The new record's first line has
@@ -358,25 +423,23 @@ fn go_on<'a, T: Timers, P: Rules, R: Files + AllocGlobal, I: TellingReader>(
     reader: &mut I,
     keys: u128,
     follows: Option<&Follows>,
-) -> Result<GoneOn<'a, T, P, R>, StartStop>
-    ensures goes_on { IfOk result (λ gone_on. GoesOn beginning.now.stated.now.bytes beginning.now.stated.now.digest head.now
-        (I.remaining reader.old) gone_on.begun.engine.server (standing_of gone_on.begun.engine) gone_on.lines gone_on.begun.last) }
-    ensures whole { IfOk result (λ gone_on. IfSome gone_on.begun.recorder (λ r. r.has_failed ≡ false)) }
-    ensures unrecorded { IfOk result (λ gone_on. IfNone gone_on.begun.recorder (beginning.now.fault ≡ GoOn)) }
+) -> Result<Begun<'a, T, P, R>, StartStop>
+    ensures goes_on { IfOk result (λ begun. GoesOn beginning.now.stated.now.bytes beginning.now.stated.now.digest head.now
+        (I.remaining reader.old) begun.engine.server (standing_of begun.engine) begun.lines begun.last) }
+    ensures whole { IfOk result (λ begun. IfSome begun.recorder (λ r. r.has_failed ≡ false)) }
+    ensures unrecorded { IfOk result (λ begun. IfNone begun.recorder (beginning.now.fault ≡ GoOn)) }
     ensures stopped { IfErr result (IsNotGoneOn beginning.now.stated.now.bytes beginning.now.stated.now.digest
         (HasStopped (I.has_failed reader.new) most_asks (I.asked reader.old) (I.asked reader.new)) head.now (I.remaining reader.old)) }
-    ensures secrets { IfOk result (λ gone_on. gone_on.begun.engine.secrets ≡ secrets_of keys) }
+    ensures secrets { IfOk result (λ begun. begun.engine.secrets ≡ secrets_of keys) }
 {
     asks_add_up();
     let boot = boot_again(head, keys);
-    let alloc = beginning.rt.alloc();
+    let alloc = beginning.alloc;
     let old = old_beginning(alloc, beginning.stated, head, reader)?;
     let OldBeginning { lines, config } = old;
-    let engine = open_old(beginning.rt, boot, config)?;
-    match settle(beginning, make(beginning, boot, head.digest, follows))? {
-        Some(recorder) => go_on_recorded(beginning, engine, recorder, lines, reader),
-        None => go_on_alone(beginning, engine, lines, reader),
-    }
+    let engine = open_old(alloc, boot, config)?;
+    let recorder = record_again(beginning, boot, head.digest, follows)?;
+    go_on_to(beginning, engine, recorder, lines, reader)
 }
 
 /// A server that goes on from where a record leads that some reader gives, if that is whole, and one of this configuration or one that
@@ -387,17 +450,17 @@ fn begin_from<'a, T: Timers, P: Rules, R: Files + AllocGlobal, I: TellingReader>
     reader: &mut I,
     keys: u128,
     follows: Option<&Follows>,
-) -> Result<GoneOn<'a, T, P, R>, StartStop>
-    ensures goes_on { IfOk result (λ gone_on. GoesOnFrom beginning.now.stated.now.bytes beginning.now.stated.now.digest
-        (I.remaining reader.old) gone_on.begun.engine.server (standing_of gone_on.begun.engine) gone_on.lines gone_on.begun.last) }
-    ensures whole { IfOk result (λ gone_on. IfSome gone_on.begun.recorder (λ r. r.has_failed ≡ false)) }
-    ensures unrecorded { IfOk result (λ gone_on. IfNone gone_on.begun.recorder (beginning.now.fault ≡ GoOn)) }
+) -> Result<Begun<'a, T, P, R>, StartStop>
+    ensures goes_on { IfOk result (λ begun. GoesOnFrom beginning.now.stated.now.bytes beginning.now.stated.now.digest
+        (I.remaining reader.old) begun.engine.server (standing_of begun.engine) begun.lines begun.last) }
+    ensures whole { IfOk result (λ begun. IfSome begun.recorder (λ r. r.has_failed ≡ false)) }
+    ensures unrecorded { IfOk result (λ begun. IfNone begun.recorder (beginning.now.fault ≡ GoOn)) }
     ensures refused { IfErr result (IsNotResumed beginning.now.stated.now.bytes beginning.now.stated.now.digest
         (I.has_failed reader.new) (I.asked reader.old) (I.asked reader.new) (I.remaining reader.old)) }
-    ensures secrets { IfOk result (λ gone_on. gone_on.begun.engine.secrets ≡ secrets_of keys) }
+    ensures secrets { IfOk result (λ begun. begun.engine.secrets ≡ secrets_of keys) }
 {
     asks_add_up();
-    let head = match head_in(beginning.rt.alloc(), reader) {
+    let head = match head_in(beginning.alloc, reader) {
         Ok(head) => head,
         Err(exit) => return Err(unread(exit)),
     };
@@ -414,14 +477,14 @@ fn begin_shorter<'a, T: Timers, P: Rules, R: Files + Clock + Eprint + AllocGloba
     beginning: &Beginning<'a, R>,
     old: &str,
     keys: u128,
-    follows: Option<&Follows>,
+    followed: &Followed,
     file: &mut InFile,
-) -> Result<GoneOn<'a, T, P, R>, StartStop>
-    ensures goes_on { IfOk result (λ gone_on. GoesOnAlike beginning.now.stated.now.bytes beginning.now.stated.now.digest
-        gone_on.begun.engine.server (standing_of gone_on.begun.engine) gone_on.begun.last) }
-    ensures whole { IfOk result (λ gone_on. IfSome gone_on.begun.recorder (λ r. r.has_failed ≡ false)) }
-    ensures unrecorded { IfOk result (λ gone_on. IfNone gone_on.begun.recorder (beginning.now.fault ≡ GoOn)) }
-    ensures secrets { IfOk result (λ gone_on. gone_on.begun.engine.secrets ≡ secrets_of keys) }
+) -> Result<Begun<'a, T, P, R>, StartStop>
+    ensures goes_on { IfOk result (λ begun. GoesOnAlike beginning.now.stated.now.bytes beginning.now.stated.now.digest
+        begun.engine.server (standing_of begun.engine) begun.last) }
+    ensures whole { IfOk result (λ begun. IfSome begun.recorder (λ r. r.has_failed ≡ false)) }
+    ensures unrecorded { IfOk result (λ begun. IfNone begun.recorder (beginning.now.fault ≡ GoOn)) }
+    ensures secrets { IfOk result (λ begun. begun.engine.secrets ≡ secrets_of keys) }
 {
     let shorter = make_shorter::<T, P, R>(
         beginning.rt,
@@ -431,43 +494,33 @@ fn begin_shorter<'a, T: Timers, P: Rules, R: Files + Clock + Eprint + AllocGloba
         beginning.fault,
         keys,
         beginning.seen,
-        follows,
+        followed.follows.as_ref(),
         file,
     )?;
+    file.note(followed);
     let Shorter {
         led,
         recorder,
         lines,
     } = shorter;
+    let recorder = name(beginning, recorder)?;
     let (engine, last) = led.into_parts();
-    let begun = Begun {
+    Ok(Begun {
         engine,
-        recorder: Some(name(beginning, recorder)?),
+        recorder: Some(recorder),
         last,
-    };
-    Ok(GoneOn { begun, lines })
+        lines,
+    })
 }
 
-/// The same, if it can be; nothing is left of one that wasn't made. Where no shorter record leads where the whole one does, that is said; any
-/// other reason is told where it is gone on from whole.
-fn try_shorter<'a, T: Timers, P: Rules, R: Files + Clock + Eprint + AllocGlobal, C: Write>(
-    beginning: &Beginning<'a, R>,
+/// Lets a shorter record go that wasn't made: nothing is left of it. Where none leads where the whole one does, that is said; any other reason is
+/// told where it is gone on from whole.
+fn let_go<R: Files, C: Write>(
+    beginning: &Beginning<'_, R>,
     old: &str,
-    keys: u128,
-    follows: Option<&Follows>,
-    file: &mut InFile,
+    stop: StartStop,
     complaints: &mut C,
-) -> Option<GoneOn<'a, T, P, R>>
-    ensures goes_on { IfSome result (λ gone_on. GoesOnAlike beginning.now.stated.now.bytes beginning.now.stated.now.digest
-        gone_on.begun.engine.server (standing_of gone_on.begun.engine) gone_on.begun.last) }
-    ensures whole { IfSome result (λ gone_on. IfSome gone_on.begun.recorder (λ r. r.has_failed ≡ false)) }
-    ensures unrecorded { IfSome result (λ gone_on. IfNone gone_on.begun.recorder (beginning.now.fault ≡ GoOn)) }
-    ensures secrets { IfSome result (λ gone_on. gone_on.begun.engine.secrets ≡ secrets_of keys) }
-{
-    let stop = match begin_shorter(beginning, old, keys, follows, file) {
-        Ok(gone_on) => return Some(gone_on),
-        Err(stop) => stop,
-    };
+) {
     remove_part(beginning.rt, &beginning.place);
     if let StartStop::Exits(Exit::NoShorter { .. }) = stop {
         let _ = writeln!(
@@ -475,12 +528,43 @@ fn try_shorter<'a, T: Timers, P: Rules, R: Files + Clock + Eprint + AllocGlobal,
             "sipd: {old} couldn't be made shorter: all that it holds is kept"
         );
     }
-    None
 }
 
-/// A server that goes on from where the record of a file leads, or of the input, where it can. That of a file is made shorter, where that can
-/// be. What the file holds no clause can say.
-#[tactic(auto, using(crate::proofs::Beginnings::goes_on_from_input, crate::proofs::Beginnings::goes_on_from_file, crate::proofs::Beginnings::goes_on_alike, crate::proofs::Refusals::input_not_resumed, crate::proofs::Refusals::file_not_resumed, crate::proofs::Refusals::unopened))]
+/// A server that goes on from where the record of a file leads, and what is known of the file then. The record is made shorter, where that can be. What
+/// the file holds no clause can say.
+#[tactic(auto, using(crate::proofs::Beginnings::led_alike, crate::proofs::Beginnings::led_whole, crate::proofs::Refusals::file_not_resumed, crate::proofs::Refusals::unopened))]
+fn begin_from_file<'a, T: Timers, P: Rules, R: Files + Clock + Eprint + AllocGlobal, C: Write>(
+    beginning: &Beginning<'a, R>,
+    old: &str,
+    keys: u128,
+    file: &mut InFile,
+    complaints: &mut C,
+) -> Result<Begun<'a, T, P, R>, StartStop>
+    ensures goes_on { IfOk result (λ begun. IsLedSomehow beginning.now.stated.now.bytes beginning.now.stated.now.digest
+        begun.engine.server (standing_of begun.engine) begun.last) }
+    ensures whole { IfOk result (λ begun. IfSome begun.recorder (λ r. r.has_failed ≡ false)) }
+    ensures unrecorded { IfOk result (λ begun. IfNone begun.recorder (beginning.now.fault ≡ GoOn)) }
+    ensures refused { IfErr result (IsNoFileResumed beginning.now.stated.now.bytes beginning.now.stated.now.digest) }
+    ensures secrets { IfOk result (λ begun. begun.engine.secrets ≡ secrets_of keys) }
+{
+    let followed = follow(beginning.rt, old);
+    match begin_shorter(beginning, old, keys, &followed, file) {
+        Ok(begun) => return Ok(begun),
+        Err(stop) => let_go(beginning, old, stop, complaints),
+    }
+    match read_old(beginning.rt, old, beginning.seen) {
+        Ok(mut reader) => {
+            let begun = begin_from(beginning, &mut reader, keys, followed.follows.as_ref());
+            *file = InFile::of(&reader);
+            file.note(&followed);
+            begun
+        }
+        Err(exit) => Err(unread(exit)),
+    }
+}
+
+/// A server that goes on from where the record of a file leads, or of the input, where it can.
+#[tactic(auto, using(crate::proofs::Beginnings::goes_on_from_input, crate::proofs::Beginnings::goes_on_led, crate::proofs::Refusals::input_not_resumed, crate::proofs::Refusals::of_file))]
 fn begin_again<
     'a,
     T: Timers,
@@ -496,13 +580,13 @@ fn begin_again<
     words: &mut W,
     file: &mut InFile,
     complaints: &mut C,
-) -> Result<GoneOn<'a, T, P, R>, StartStop>
-    ensures goes_on { IfOk result (λ gone_on. GoesOnFromFile (Places.is_input old.now) (I.remaining input.old) beginning.now.stated.now.bytes
-        beginning.now.stated.now.digest (W.stream words.old) gone_on.begun.engine.server (standing_of gone_on.begun.engine)
-        gone_on.begun.engine.secrets gone_on.begun.last (W.stream words.new)) }
+) -> Result<Begun<'a, T, P, R>, StartStop>
+    ensures goes_on { IfOk result (λ begun. GoesOnFromFile (Places.is_input old.now) (I.remaining input.old) beginning.now.stated.now.bytes
+        beginning.now.stated.now.digest (W.stream words.old) begun.engine.server (standing_of begun.engine)
+        begun.engine.secrets begun.last (W.stream words.new)) }
     ensures left_behind { OnErr result (IsLeftBehind (W.stream words.old) (W.stream words.new)) }
-    ensures whole { IfOk result (λ gone_on. IfSome gone_on.begun.recorder (λ r. r.has_failed ≡ false)) }
-    ensures unrecorded { IfOk result (λ gone_on. IfNone gone_on.begun.recorder (beginning.now.fault ≡ GoOn)) }
+    ensures whole { IfOk result (λ begun. IfSome begun.recorder (λ r. r.has_failed ≡ false)) }
+    ensures unrecorded { IfOk result (λ begun. IfNone begun.recorder (beginning.now.fault ≡ GoOn)) }
     ensures refused { IfErr result (IsFileNotResumed (Places.is_input old.now) (I.remaining input.old) (I.has_failed input.new)
         (I.asked input.old) (I.asked input.new) beginning.now.stated.now.bytes beginning.now.stated.now.digest) }
 {
@@ -510,21 +594,7 @@ fn begin_again<
     if is_input(old) {
         return begin_from(beginning, input, keys, None);
     }
-    let followed = follow(beginning.rt, old);
-    let follows = followed.follows.as_ref();
-    if let Some(gone_on) = try_shorter(beginning, old, keys, follows, file, complaints) {
-        file.note(&followed);
-        return Ok(gone_on);
-    }
-    match read_old(beginning.rt, old, beginning.seen) {
-        Ok(mut reader) => {
-            let begun = begin_from(beginning, &mut reader, keys, follows);
-            *file = InFile::of(&reader);
-            file.note(&followed);
-            begun
-        }
-        Err(exit) => Err(unread(exit)),
-    }
+    begin_from_file(beginning, old, keys, file, complaints)
 }
 
 /// Marks a record that is gone on from, so that no other start goes on from it. Where it came through the input, its file is somebody
@@ -637,55 +707,11 @@ fn pass_rest<I: TellingReader>(old: &str, why: NotResumed, input: &mut I)
     read_out(input);
 }
 
-/// Takes away what is too old of a folder in which a new record stands.
-fn remove_behind<T: Timers, P: Rules, R: Files + Clock + AllocGlobal, C: Write>(
-    beginning: &Beginning<'_, R>,
-    begun: &Result<Begun<'_, T, P, R>, Exit>,
-    complaints: &mut C,
-) {
-    let Ok(begun) = begun else {
-        return;
-    };
-    if begun.recorder.is_some() && beginning.place.copy.is_some() {
-        let folder = folder_of(beginning.place.record.path.as_str());
-        remove_old(beginning.rt, folder, beginning.keep, complaints);
-    }
-}
-
 /// A server that records: one that goes on from where an older record leads, if there is one and it can be had, or else one that starts
 /// anew. The older record may be the input, which is read up to its end then, unless it can't be read. Where it goes on, `last` is the last
 /// step of that record; what it records isn't in it. What is too old of a folder in which it records is taken away then.
-pub fn begin<
-    'a,
-    T: Timers,
-    P: Rules,
-    R: Files + Clock + Eprint + AllocGlobal,
-    I: TellingReader,
-    W: Rng,
-    C: Write,
->(
-    beginning: &Beginning<'a, R>,
-    input: &mut I,
-    words: &mut W,
-    complaints: &mut C,
-) -> Result<Begun<'a, T, P, R>, Exit>
-    ensures begins { IfOk result (λ begun. Begins (option_map (λ old. string_bytes old) beginning.now.place.old) (I.remaining input.old)
-        (I.has_failed input.new) (I.asked input.old) (I.asked input.new) beginning.now.stated.now.bytes beginning.now.stated.now.digest
-        (W.stream words.old) begun.engine.server (standing_of begun.engine) begun.engine.secrets begun.last (W.stream words.new)) }
-    ensures alone { beginning.now.place.old ≡ None → IfOk result (λ begun. StartsAnew beginning.now.stated.now.bytes
-        (W.stream words.old) begun.engine.server (standing_of begun.engine) begun.engine.secrets begun.last) }
-    ensures whole { IfOk result (λ begun. IfSome begun.recorder (λ r. r.has_failed ≡ false)) }
-    ensures unrecorded { IfOk result (λ begun. IfNone begun.recorder (beginning.now.fault ≡ GoOn)) }
-    ensures refused { IfErr result (EndsStart beginning.now.stated.now.bytes) }
-{
-    let begun = begin_server(beginning, input, words, complaints);
-    remove_behind(beginning, &begun, complaints);
-    begun
-}
-
-/// The same, and nothing is taken away.
 #[tactic(auto, using(crate::proofs::Beginnings::begins_again, crate::proofs::Beginnings::begins_anew, crate::proofs::Beginnings::begins_alone, crate::proofs::Refusals::file_exits))]
-fn begin_server<
+pub fn begin<
     'a,
     T: Timers,
     P: Rules,
@@ -711,21 +737,22 @@ fn begin_server<
     check_free(beginning.rt, &beginning.place)?;
     let Some(old) = &beginning.place.old else {
         say_first(&beginning.place, complaints);
-        return begin_anew(beginning, words);
+        return begin_anew(beginning, words, complaints);
     };
     let old = old.as_str();
     let mut file = InFile::unknown();
     match begin_again(beginning, old, input, words, &mut file, complaints) {
-        Ok(GoneOn { begun, lines }) => {
+        Ok(begun) => {
             leave(beginning.rt, old, complaints);
             let is_recorded = begun.recorder.is_some();
-            say_gone_on(old, lines, &file, is_recorded, complaints);
+            say_gone_on(old, begun.lines, &file, is_recorded, complaints);
+            remove_behind(beginning, is_recorded, complaints);
             Ok(begun)
         }
         Err(StartStop::NotResumed(why)) => {
             say_lost(old, why, &file, complaints);
             pass_rest(old, why, input);
-            begin_anew(beginning, words)
+            begin_anew(beginning, words, complaints)
         }
         Err(StartStop::Exits(exit)) => Err(exit),
     }

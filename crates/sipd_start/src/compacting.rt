@@ -1,18 +1,19 @@
 //! A record made shorter. Of its events those are written again that still matter, with how many datagrams are left out between them; and the
 //! new record is used only where it leads to a server that goes on as the one to which the old record leads.
-ghost use Rattle.std.specs.Prelude.{◌≡◌, IfOk, OnOk};
+ghost use Rattle.std.specs.Prelude.{◌≡◌, IfOk, Ok, OnOk};
 ghost use Rattle.sip_journal.specs.declared.record_mark.RecordMark.TheVariants as Marks;
 ghost use Rattle.sip_model.specs.SameAhead.{SameAhead};
 ghost use Rattle.sip_resume.specs.run.Due.{standing_of};
 ghost use Rattle.sip_resume.specs.run.engine.engine_time.proxy.Proxy.{secrets_of};
+ghost use Rattle.sipd_old_record.specs.OldRecord.{SaysHead};
 ghost use Rattle.sipd_start.specs.Begins.{GoesOn, GoesOnFrom, IsServerOf};
 ghost use Rattle.sipd_start.specs.Shorter.{IsLedByFile, LeadsAlike};
 
 use crate::not_resumed::{NotResumed, StartStop};
-use crate::old_lines::{OldBeginning, OldLines};
+use crate::old_lines::OldBeginning;
 use crate::opening::{InFile, boot_again, open_old, read_old};
-use crate::taking::{old_beginning, take_old, tell};
-use crate::telling::tell_rest;
+use crate::taking::{old_beginning, take_old};
+use crate::telling::tell_behind;
 use rand_core::Rng;
 use sip_event::StepOut;
 use sip_journal::{Journal, NoJournal, RecordHead, RecordMark, Recorder};
@@ -28,6 +29,7 @@ use sipd_old_record::{RecordFile, head_in};
 use sipd_record_files::{
     Choice, Choosing, Keeping, RecordFiles, check_free, make_part, name_part, place_of, remove_part,
 };
+use std::alloc::Global;
 use std::io::Write;
 use std::rt::{Clock, Files};
 
@@ -98,11 +100,21 @@ fn check_mark(head: &RecordHead) -> Result<(), StartStop>
     }
 }
 
+/// What the first line of a record says that is whole, and that no start went on from.
+fn whole_head<I: TellingReader>(alloc: Global, reader: &mut I) -> Result<RecordHead, StartStop>
+    ensures head { IfOk result (SaysHead (I.remaining reader.old) (I.remaining reader.new)) }
+    ensures whole { IfOk result (λ head. head.mark ≡ Marks.Whole) }
+{
+    let head = head_in(alloc, reader)?;
+    check_mark(&head)?;
+    Ok(head)
+}
+
 /// The server to which a record leads whose first line says this head, under the configuration of a file; a journal is told each event and
 /// configuration.
 #[tactic(auto, using(crate::proofs::Beginnings::goes_on_after, crate::proofs::Beginnings::under_head))]
-fn lead<T: Timers, P: Rules, R: AllocGlobal, I: TellingReader, J: Journal>(
-    rt: &R,
+fn lead<T: Timers, P: Rules, I: TellingReader, J: Journal>(
+    alloc: Global,
     stated: &Stated,
     head: &RecordHead,
     keys: u128,
@@ -115,10 +127,9 @@ fn lead<T: Timers, P: Rules, R: AllocGlobal, I: TellingReader, J: Journal>(
     ensures secrets { IfOk result (λ led. led.engine.secrets ≡ secrets_of keys) }
 {
     let boot = boot_again(head, keys);
-    let alloc = rt.alloc();
     let old = old_beginning(alloc, stated, head, reader)?;
     let OldBeginning { lines, config } = old;
-    let mut engine = open_old(rt, boot, config)?;
+    let mut engine = open_old(alloc, boot, config)?;
     let resumed = take_old(alloc, stated, &mut engine, lines, reader, journal)?;
     let Resumed { lines, last } = resumed;
     Ok(Led {
@@ -129,30 +140,46 @@ fn lead<T: Timers, P: Rules, R: AllocGlobal, I: TellingReader, J: Journal>(
     })
 }
 
-/// The server to which a record leads, while its events are told to what chooses of them. `Memory`, where that ran out there.
-fn lead_choosing<T: Timers, P: Rules, R: AllocGlobal, I: TellingReader>(
-    rt: &R,
+/// What was made while what chooses was told events. `Memory`, where that ran out there.
+pub(crate) fn unless_failed<A: Drop>(
+    choosing: &Choosing,
+    made: Result<A, StartStop>,
+) -> Result<A, StartStop>
+    ensures { IfOk result (λ a. made ≡ Ok a) }
+{
+    if choosing.has_failed {
+        return Err(StartStop::Exits(Exit::Memory));
+    }
+    made
+}
+
+/// The server to which a record leads, while its events are told to what chooses of them; and what that has chosen.
+fn lead_choosing<T: Timers, P: Rules, I: TellingReader>(
+    alloc: Global,
     stated: &Stated,
     head: &RecordHead,
     keys: u128,
     reader: &mut I,
     choosing: &mut Choosing,
-) -> Result<Led<T, P>, StartStop>
-    ensures goes_on { IfOk result (λ led. GoesOn stated.now.bytes stated.now.digest head.now (I.remaining reader.old) led.engine.server
-        (standing_of led.engine) led.lines led.last) }
-    ensures server { IfOk result (λ led. IsServerOf stated.now.bytes led.word led.engine.server) }
+) -> Result<Whole<T, P>, StartStop>
+    ensures goes_on { IfOk result (λ whole. GoesOn stated.now.bytes stated.now.digest head.now (I.remaining reader.old) whole.led.engine.server
+        (standing_of whole.led.engine) whole.led.lines whole.led.last) }
+    ensures server { IfOk result (λ whole. IsServerOf stated.now.bytes whole.led.word whole.led.engine.server) }
 {
-    let led = lead(rt, stated, head, keys, reader, choosing);
-    if choosing.has_failed {
-        return Err(StartStop::Exits(Exit::Memory));
-    }
-    led
+    let made = lead::<T, P, _, _>(alloc, stated, head, keys, reader, choosing);
+    let led = unless_failed(choosing, made)?;
+    let choice = choosing.choice(led.engine.moment())?;
+    Ok(Whole {
+        head: *head,
+        led,
+        choice,
+    })
 }
 
 /// What a record holds that still matters, as it leads to a server.
 #[tactic(auto, using(crate::proofs::Beginnings::goes_on_from))]
-fn choose<T: Timers, P: Rules, R: AllocGlobal, I: TellingReader>(
-    rt: &R,
+fn choose<T: Timers, P: Rules, I: TellingReader>(
+    alloc: Global,
     stated: &Stated,
     keys: u128,
     reader: &mut I,
@@ -161,13 +188,9 @@ fn choose<T: Timers, P: Rules, R: AllocGlobal, I: TellingReader>(
         (standing_of whole.led.engine) whole.led.lines whole.led.last) }
     ensures server { IfOk result (λ whole. IsServerOf stated.now.bytes whole.led.word whole.led.engine.server) }
 {
-    let alloc = rt.alloc();
-    let head = head_in(alloc, reader)?;
-    check_mark(&head)?;
+    let head = whole_head(alloc, reader)?;
     let mut choosing = Choosing::new(alloc, head.first, keys);
-    let led = lead_choosing::<T, P, _, _>(rt, stated, &head, keys, reader, &mut choosing)?;
-    let choice = choosing.choice(led.engine.moment())?;
-    Ok(Whole { head, led, choice })
+    lead_choosing(alloc, stated, &head, keys, reader, &mut choosing)
 }
 
 /// Writes what was chosen of a record, which is read once more.
@@ -179,15 +202,7 @@ fn write_chosen<'a, R: Files + AllocGlobal, I: TellingReader>(
 ) -> Result<(), StartStop> {
     let alloc = rt.alloc();
     let head = head_in(alloc, reader)?;
-    let old = old_beginning(alloc, stated, &head, reader)?;
-    let OldBeginning {
-        lines: left,
-        config: _,
-    } = old;
-    let OldLines { mut lines, first } = left;
-    tell(first.as_slice(), keeping)?;
-    tell_rest(alloc, &mut lines, reader, keeping)?;
-    tell(stated.bytes.as_slice(), keeping)?;
+    tell_behind(alloc, stated, &head, reader, keeping)?;
     keeping.finish()?;
     Ok(())
 }
@@ -207,17 +222,9 @@ fn choose_in<T: Timers, P: Rules, R: Files + Clock + Eprint + AllocGlobal>(
     ensures server { IfOk result (λ whole. IsServerOf stated.now.bytes whole.led.word whole.led.engine.server) }
 {
     let mut reader = read_old(rt, old, seen)?;
-    let chosen = choose::<T, P, _, _>(rt, stated, keys, &mut reader);
-    let known = InFile::of(&reader);
-    *file = known;
-    if let Some(line) = known.changed {
-        return Err(StartStop::Exits(Exit::Changed(line)));
-    }
-    match chosen {
-        Ok(whole) => Ok(whole),
-        Err(StartStop::NotResumed(why)) => Err(StartStop::NotResumed(why.in_file(&known))),
-        Err(stop) => Err(stop),
-    }
+    let chosen = choose::<T, P, _>(rt.alloc(), stated, keys, &mut reader);
+    *file = InFile::of(&reader);
+    file.checked(chosen)
 }
 
 /// The shorter record, which hasn't its name yet, of that of a file.
@@ -264,9 +271,8 @@ fn check_same<T: Timers, P: Rules>(new: &Led<T, P>, old: &Led<T, P>) -> Result<(
 }
 
 /// The server to which the shorter record leads, which is read as a start reads it.
-#[tactic(auto, using(crate::proofs::Beginnings::goes_on_from))]
-fn lead_again<T: Timers, P: Rules, R: AllocGlobal, I: TellingReader>(
-    rt: &R,
+fn lead_again<T: Timers, P: Rules, I: TellingReader>(
+    alloc: Global,
     stated: &Stated,
     keys: u128,
     reader: &mut I,
@@ -276,10 +282,8 @@ fn lead_again<T: Timers, P: Rules, R: AllocGlobal, I: TellingReader>(
     ensures server { IfOk result (λ led. IsServerOf stated.now.bytes led.word led.engine.server) }
     ensures secrets { IfOk result (λ led. led.engine.secrets ≡ secrets_of keys) }
 {
-    let head = head_in(rt.alloc(), reader)?;
-    check_mark(&head)?;
-    let led = lead(rt, stated, &head, keys, reader, &mut NoJournal)?;
-    Ok(led)
+    let head = whole_head(alloc, reader)?;
+    lead(alloc, stated, &head, keys, reader, &mut NoJournal)
 }
 
 /// The same of a new record that hasn't its name yet.
@@ -296,7 +300,7 @@ pub(crate) fn lead_part<T: Timers, P: Rules, R: Files + Clock + Eprint + AllocGl
     ensures secrets { IfOk result (λ led. led.engine.secrets ≡ secrets_of keys) }
 {
     let mut reader = read_old(rt, files.record.part.as_str(), false)?;
-    lead_again::<T, P, _, _>(rt, stated, keys, &mut reader)
+    lead_again::<T, P, _>(rt.alloc(), stated, keys, &mut reader)
 }
 
 /// Makes the shorter record of that of a file, which hasn't its name then; and what is known of that file. `NoShorter` where what is chosen leads elsewhere.
@@ -358,6 +362,17 @@ fn make_named<T: Timers, P: Rules, R: Files + Clock + Eprint + AllocGlobal>(
     Ok(())
 }
 
+/// The files of a new record of this name, where there is none yet.
+fn files_of<R: Files + Clock + AllocGlobal>(rt: &R, new: &str) -> Result<RecordFiles, Exit> {
+    let wanted = RecordPlace::File {
+        path: String::from_str(rt.alloc(), new)?,
+        resume: None,
+    };
+    let files = place_of(rt, &wanted)?;
+    check_free(rt, &files)?;
+    Ok(files)
+}
+
 /// Makes a shorter record of that of a file, with the configuration of another file, which is that of the same server to others; it has its
 /// name only where it leads to a server that goes on as the one to which the whole record leads. `NoShorter` where that can't be gone on from, or
 /// what is chosen leads elsewhere.
@@ -372,12 +387,7 @@ pub fn compact<T: Timers, P: Rules, R: Files + Clock + Eprint + AllocGlobal, W: 
     words: &mut W,
     complaints: &mut C,
 ) -> Result<(), Exit> {
-    let wanted = RecordPlace::File {
-        path: String::from_str(rt.alloc(), new)?,
-        resume: None,
-    };
-    let files = place_of(rt, &wanted)?;
-    check_free(rt, &files)?;
+    let files = files_of(rt, new)?;
     let keys = secret(words);
     let made = make_named::<T, P, R>(rt, stated, old, &files, keys, seen);
     remove_part(rt, &files);

@@ -4,12 +4,10 @@ ghost use Rattle.std.specs.Prelude.{◌≡◌, IfOk, OnOk};
 ghost use Rattle.sip_config.specs.Stated.{States};
 ghost use Rattle.sip_model.specs.SameAhead.{SameAhead};
 
-use crate::compacting::{Led, lead_part, rewrite};
+use crate::compacting::{Led, lead_part, rewrite, unless_failed};
 use crate::not_resumed::StartStop;
-use crate::old_lines::{OldBeginning, OldLines};
 use crate::opening::{InFile, read_old};
-use crate::taking::{old_beginning, tell};
-use crate::telling::tell_rest;
+use crate::telling::tell_behind;
 use sip_journal::{RecordHead, Recorder};
 use sip_policy::Rules;
 use sip_record_sealed::Follows;
@@ -23,7 +21,7 @@ use sipd_record_files::{
     Choice, Choosing, RecordFiles, copy_of, follows_of, name_part, place_of, remove_old,
     remove_part,
 };
-use std::alloc::AllocError;
+use std::alloc::{AllocError, Global};
 use std::io::Write;
 use std::rt::{Clock, Files};
 
@@ -77,43 +75,19 @@ impl<'a, R> Drop for RecordFolder<'a, R> {
     }
 }
 
-/// Tells what chooses of a record all that it holds, which a server wrote under the configuration in force.
-fn tell_written<R: AllocGlobal, I: TellingReader>(
-    rt: &R,
-    stated: &Stated,
-    head: &RecordHead,
-    reader: &mut I,
-    choosing: &mut Choosing,
-) -> Result<(), StartStop> {
-    let alloc = rt.alloc();
-    let old = old_beginning(alloc, stated, head, reader)?;
-    let OldBeginning {
-        lines: left,
-        config: _,
-    } = old;
-    let OldLines { mut lines, first } = left;
-    tell(first.as_slice(), choosing)?;
-    tell_rest(alloc, &mut lines, reader, choosing)?;
-    tell(stated.bytes.as_slice(), choosing)?;
-    Ok(())
-}
-
-/// What a record that a server wrote holds that still matters at a moment, in milliseconds. No event of it is taken for that.
-fn choose_written<R: AllocGlobal, I: TellingReader>(
-    rt: &R,
+/// What a record that a server wrote holds that still matters at a moment, in milliseconds: what chooses is told all of it, which a server wrote
+/// under the configuration in force. No event of it is taken for that.
+fn choose_written<I: TellingReader>(
+    alloc: Global,
     stated: &Stated,
     keys: u128,
     now: u64,
     reader: &mut I,
 ) -> Result<Written, StartStop> {
-    let alloc = rt.alloc();
     let head = head_in(alloc, reader)?;
     let mut choosing = Choosing::new(alloc, head.first, keys);
-    let told = tell_written(rt, stated, &head, reader, &mut choosing);
-    if choosing.has_failed {
-        return Err(StartStop::Exits(Exit::Memory));
-    }
-    told?;
+    let told = tell_behind(alloc, stated, &head, reader, &mut choosing);
+    unless_failed(&choosing, told)?;
     let choice = choosing.choice(now)?;
     Ok(Written { head, choice })
 }
@@ -127,11 +101,8 @@ fn choose_written_in<R: Files + Clock + Eprint + AllocGlobal>(
     old: &str,
 ) -> Result<Written, StartStop> {
     let mut reader = read_old(rt, old, false)?;
-    let written = choose_written(rt, stated, keys, now, &mut reader);
-    if let Some(line) = InFile::of(&reader).changed {
-        return Err(StartStop::Exits(Exit::Changed(line)));
-    }
-    written
+    let written = choose_written(rt.alloc(), stated, keys, now, &mut reader);
+    InFile::of(&reader).checked(written)
 }
 
 /// That a server to which a record leads has the word of another one, and goes on as that. `NoShorter` is the only refusal.
@@ -216,23 +187,7 @@ impl<'a, R: Files + Clock + Eprint + AllocGlobal> RecordFolder<'a, R> {
         )
     }
 
-    /// The server to which that leads, which goes on as another one.
-    fn lead<T: Timers, P: Rules>(
-        &self,
-        stated: &Stated,
-        files: &RecordFiles,
-        engine: &Engine<T, P>,
-    ) -> Result<Led<T, P>, StartStop>
-        ensures stated { IfOk result (λ led. States stated.now.bytes led.engine.server.config) }
-        ensures word { IfOk result (λ led. led.engine.server.word ≡ engine.now.server.word) }
-        ensures same { IfOk result (λ led. SameAhead led.engine.state engine.now.state) }
-    {
-        let new = lead_part::<T, P, R>(self.rt, stated, files, self.keys)?;
-        check_goes_on(&new, engine)?;
-        Ok(new)
-    }
-
-    /// The next record, which hasn't its name yet, and the server to which it leads.
+    /// The next record, which has its name then, and the server to which it leads, which goes on as another one.
     fn make<T: Timers, P: Rules>(
         &self,
         last: &LastRecord<'_>,
@@ -245,31 +200,16 @@ impl<'a, R: Files + Clock + Eprint + AllocGlobal> RecordFolder<'a, R> {
         ensures same { IfOk result (λ next. SameAhead next.engine.state engine.now.state) }
     {
         let path = copy_of(self.rt, files.record.path.as_str())?;
-        let recorder = self.write(last, stated, files, engine.moment())?;
-        let led = self.lead(stated, files, engine)?;
-        let (next, _) = led.into_parts();
+        let mut recorder = self.write(last, stated, files, engine.moment())?;
+        let new = lead_part::<T, P, R>(self.rt, stated, files, self.keys)?;
+        check_goes_on(&new, engine)?;
+        name_part(self.rt, files, &mut recorder.writer, self.sync)?;
+        let (next, _) = new.into_parts();
         Ok(NextInFolder {
             engine: next,
             recorder,
             path,
         })
-    }
-
-    /// The same once it has its name.
-    fn make_named<T: Timers, P: Rules>(
-        &self,
-        last: &LastRecord<'_>,
-        stated: &Stated,
-        files: &RecordFiles,
-        engine: &Engine<T, P>,
-    ) -> Result<NextInFolder<'a, T, P, R>, StartStop>
-        ensures stated { IfOk result (λ next. States stated.now.bytes next.engine.server.config) }
-        ensures word { IfOk result (λ next. next.engine.server.word ≡ engine.now.server.word) }
-        ensures same { IfOk result (λ next. SameAhead next.engine.state engine.now.state) }
-    {
-        let mut next = self.make(last, stated, files, engine)?;
-        name_part(self.rt, files, &mut next.recorder.writer, self.sync)?;
-        Ok(next)
     }
 
     /// The next record behind the last one, all of which a server wrote that serves under the configuration whose file has these bytes: it has its
@@ -287,7 +227,7 @@ impl<'a, R: Files + Clock + Eprint + AllocGlobal> RecordFolder<'a, R> {
     {
         let stated = Stated::of(Bytes::copy(self.rt.alloc(), bytes)?);
         let files = place_of(self.rt, &self.place)?;
-        match self.make_named(last, &stated, &files, engine) {
+        match self.make(last, &stated, &files, engine) {
             Ok(next) => Ok(next),
             Err(stop) => {
                 remove_part(self.rt, &files);

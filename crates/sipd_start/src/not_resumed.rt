@@ -60,31 +60,29 @@ impl NotResumed {
 
 impl fmt::Display for NotResumed {
     fn fmt<W: fmt::Write>(&self, f: &mut fmt::Formatter<W>) -> fmt::Result {
-        match self {
-            NotResumed::Unreadable => write!(f, "it can't be read"),
-            NotResumed::NoRecord => write!(f, "it is no record"),
-            NotResumed::OtherConfiguration => write!(f, "it was made with another configuration"),
-            NotResumed::Broken => write!(f, "its writing failed: it lacks events"),
-            NotResumed::Left => write!(f, "another start went on from it"),
-            NotResumed::CutConfiguration => write!(f, "it was cut in its first configuration"),
-            NotResumed::Damaged(1) => {
-                write!(
-                    f,
-                    "its line 1 has another digest than its first configuration"
-                )
-            }
+        let words = match self {
+            NotResumed::Unreadable => "it can't be read",
+            NotResumed::NoRecord => "it is no record",
+            NotResumed::OtherConfiguration => "it was made with another configuration",
+            NotResumed::Broken => "its writing failed: it lacks events",
+            NotResumed::Left => "another start went on from it",
+            NotResumed::CutConfiguration => "it was cut in its first configuration",
+            NotResumed::Damaged(1) => "its line 1 has another digest than its first configuration",
             NotResumed::Damaged(line) => {
-                write!(f, "its line {line} begins no event and no configuration")
+                return write!(f, "its line {line} begins no event and no configuration");
             }
-            NotResumed::TooLong(line) => write!(f, "its configuration at line {line} is too long"),
+            NotResumed::TooLong(line) => {
+                return write!(f, "its configuration at line {line} is too long");
+            }
             NotResumed::NoConfiguration(line, e) => {
-                write!(f, "its configuration at line {line} is refused: {e}")
+                return write!(f, "its configuration at line {line} is refused: {e}");
             }
             NotResumed::OtherFrame(line, key) => {
-                write!(f, "its configuration at line {line} has another {key}")
+                return write!(f, "its configuration at line {line} has another {key}");
             }
-            NotResumed::Unlawful => write!(f, "its events aren't those of a server"),
-        }
+            NotResumed::Unlawful => "its events aren't those of a server",
+        };
+        f.write_str(words)
     }
 }
 

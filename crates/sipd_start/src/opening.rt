@@ -1,5 +1,5 @@
 //! How the record of a file is opened that is gone on from, and a server as its first line says.
-ghost use Rattle.std.specs.Prelude.{◌≡◌, IfErr, IfOk};
+ghost use Rattle.std.specs.Prelude.{◌≡◌, IfErr, IfOk, Ok};
 ghost use Rattle.sip_model.specs.TimerOrder.{first_standing};
 ghost use Rattle.sip_resume.specs.run.Due.{standing_of};
 ghost use Rattle.sip_resume.specs.run.engine.engine_time.proxy.Proxy.{secrets_of};
@@ -7,6 +7,7 @@ ghost use Rattle.sipd_old_record.specs.OldRecord.{IsSystemFault};
 ghost use Rattle.sipd_start.specs.Boots.{boot_again};
 ghost use Rattle.sipd_record_files.specs.Unmade.{IsUnmade};
 
+use crate::not_resumed::StartStop;
 use sip_config_types::Config;
 use sip_event::Boot;
 use sip_journal::RecordHead;
@@ -19,6 +20,7 @@ use sipd_exit::Exit;
 use sipd_old_record::open_file;
 use sipd_progress::{Watched, size_of_file};
 use sipd_record_files::Followed;
+use std::alloc::Global;
 use std::io::BufReader;
 use std::rt::{Clock, Files};
 
@@ -35,8 +37,8 @@ pub(crate) fn boot_again(head: &RecordHead, keys: u128) -> Boot
 
 /// A server that has just started, with the configuration with which a record begins.
 #[tactic(auto, using(crate::proofs::Beginnings::opened_standing))]
-pub(crate) fn open_old<T: Timers, P: Rules, R: AllocGlobal>(
-    rt: &R,
+pub(crate) fn open_old<T: Timers, P: Rules>(
+    alloc: Global,
     boot: Boot,
     config: Config,
 ) -> Result<Engine<T, P>, Exit>
@@ -45,7 +47,7 @@ pub(crate) fn open_old<T: Timers, P: Rules, R: AllocGlobal>(
     ensures refused { IfErr result IsUnmade }
     ensures secrets { IfOk result (λ engine. engine.secrets ≡ secrets_of boot.keys) }
 {
-    Ok(Engine::open(rt.alloc(), config, boot)?)
+    Ok(Engine::open(alloc, config, boot)?)
 }
 
 /// What is known of a record's file, where it was read up to a line of the text that it stands for.
@@ -92,6 +94,21 @@ impl InFile {
     pub(crate) fn note(&mut self, followed: &Followed) {
         self.is_unclosed = followed.is_unclosed;
         self.is_unsealed = followed.was_unsealed;
+    }
+
+    /// What was made of the record by a reader of which this is known: nothing, where that disagrees with a digest in it (`Changed`). Why it
+    /// isn't gone on from is said by its lines.
+    pub(crate) fn checked<A: Drop>(&self, made: Result<A, StartStop>) -> Result<A, StartStop>
+        ensures { IfOk result (λ a. made ≡ Ok a) }
+    {
+        if let Some(line) = self.changed {
+            return Err(StartStop::Exits(Exit::Changed(line)));
+        }
+        match made {
+            Ok(a) => Ok(a),
+            Err(StartStop::NotResumed(why)) => Err(StartStop::NotResumed(why.in_file(self))),
+            Err(stop) => Err(stop),
+        }
     }
 
     /// The line of the file that is this one of the text.

@@ -1,11 +1,13 @@
 //! The events and configurations of a record told to a journal, without a server.
-use crate::taking::tell;
+use crate::not_resumed::StartStop;
+use crate::old_lines::{OldBeginning, OldLines};
+use crate::taking::{old_beginning, tell};
 use sip_event::Event;
 use sip_journal::{
-    ConfigurationStop, Journal, JournalFault, Upcoming, look_ahead, next_configuration,
+    ConfigurationStop, Journal, JournalFault, RecordHead, Upcoming, look_ahead, next_configuration,
 };
 use sip_replay_script::{ReadStop, ScriptLines, TellingReader, next_recorded};
-use sipd_exit::Exit;
+use sipd_exit::{Exit, Stated};
 use sipd_reload::MOST_BYTES;
 use std::alloc::Global;
 
@@ -76,7 +78,7 @@ fn tell_next<I: TellingReader, J: Journal>(
 
 /// Tells what is left of a record, up to its end or a cut. Refusals: `Memory`; `Recording`, where the journal failed; `NoShorter`, where what is
 /// left is damaged, or can't be read.
-pub(crate) fn tell_rest<I: TellingReader, J: Journal>(
+fn tell_rest<I: TellingReader, J: Journal>(
     alloc: Global,
     lines: &mut ScriptLines,
     reader: &mut I,
@@ -87,5 +89,32 @@ pub(crate) fn tell_rest<I: TellingReader, J: Journal>(
             return Ok(());
         }
     }
+    Ok(())
+}
+
+/// Tells what is left of a record, with the configuration with which it begins first.
+fn tell_lines<I: TellingReader, J: Journal>(
+    alloc: Global,
+    old: OldLines,
+    reader: &mut I,
+    journal: &mut J,
+) -> Result<(), Exit> {
+    let OldLines { mut lines, first } = old;
+    tell(first.as_slice(), journal)?;
+    tell_rest(alloc, &mut lines, reader, journal)
+}
+
+/// Tells all that stands behind the first line of a record, which says this head, and then the configuration of a file.
+pub(crate) fn tell_behind<I: TellingReader, J: Journal>(
+    alloc: Global,
+    stated: &Stated,
+    head: &RecordHead,
+    reader: &mut I,
+    journal: &mut J,
+) -> Result<(), StartStop> {
+    let old = old_beginning(alloc, stated, head, reader)?;
+    let OldBeginning { lines, config: _ } = old;
+    tell_lines(alloc, lines, reader, journal)?;
+    tell(stated.bytes.as_slice(), journal)?;
     Ok(())
 }

@@ -10,7 +10,7 @@ use Rattle.sipd_ladder.specs.Hearing.{place_at, rungs_with}
 use Rattle.sipd_ladder.specs.declared.hearing.Ladder.{Ladder}
 use Rattle.sipd_ladder.specs.declared.rung.AddrName.{AddrName}
 use Rattle.sipd_ladder.specs.declared.rung.Rung.{Rung}
-use Rattle.sipd_days.specs.Onward.{HearsAll}
+use Rattle.sipd_telling.specs.Onward.{HearsAll}
 use Rattle.sipd_traces.specs.Ladders.{AddsRungs, ladder_behind, ladder_with}
 use Rattle.sipd_traces.specs.Traces.{adds_frames, step_frames}
 

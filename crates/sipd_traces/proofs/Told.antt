@@ -12,8 +12,8 @@ use Rattle.sipd_exit.specs.declared.exit.Exit.{Exit}
 use Rattle.sipd_record_files.specs.Named.{AreNamed}
 use Rattle.sipd_arguments.specs.declared.call.TraceCall.{TraceCall}
 use Rattle.sipd_capture.specs.declared.choice.CaptureChoice.{CaptureChoice}
-use Rattle.sipd_days.specs.Onward.{HearsAll}
-use Rattle.sipd_days.specs.Records.{TellsFiles}
+use Rattle.sipd_telling.specs.Onward.{HearsAll}
+use Rattle.sipd_telling.specs.Records.{TellsFiles}
 use Rattle.sipd_ladder.specs.declared.hearing.Ladder.{Ladder}
 use Rattle.sipd_capture.specs.Headers.{file_head}
 use Rattle.sipd_traces.specs.Ladders.{AddsRungs, IsUnheard, PrintsLadder, shown_ladder}

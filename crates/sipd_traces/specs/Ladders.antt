@@ -7,7 +7,7 @@ use Rattle.sipd_ladder.specs.Table.{ladder_text}
 use Rattle.sipd_ladder.specs.declared.hearing.Ladder.{Ladder}
 use Rattle.sipd_ladder_picture.specs.Picture.{drawing}
 use Rattle.sipd_record_files.specs.Named.{AreNamed}
-use Rattle.sipd_days.specs.Records.{TellsFiles}
+use Rattle.sipd_telling.specs.Records.{TellsFiles}
 
 -- a ladder hears a step
 pub record AddsRungs (old : Ladder) (step : Heard) (new : Ladder) : Type 0 where

@@ -10,8 +10,8 @@ use Rattle.sipd_capture.specs.Frames.{frames_of}
 use Rattle.sipd_capture.specs.Headers.{file_head}
 use Rattle.sipd_capture.specs.declared.choice.CaptureChoice.{CaptureChoice}
 use Rattle.sipd_record_files.specs.Named.{AreNamed}
-use Rattle.sipd_days.specs.Records.{SaysHistory}
-use Rattle.sipd_days.specs.declared.onward.DayPoint.{DayPoint}
+use Rattle.sipd_telling.specs.Records.{SaysHistory}
+use Rattle.sipd_telling.specs.declared.onward.DayPoint.{DayPoint}
 use Rattle.sipd_arguments.specs.declared.call.TraceCall.{TraceCall}
 
 -- what came and went in a step

@@ -4,7 +4,7 @@ ghost use Rattle.std.specs.List.{flat_map};
 ghost use Rattle.sip_model.specs.Run.{Link};
 ghost use Rattle.sip_listener.specs.Heard.{Heard, Tells, heard_of};
 ghost use Rattle.sipd_capture.specs.declared.choice.CaptureChoice.{CaptureChoice};
-ghost use Rattle.sipd_days.specs.Onward.{HearsAll};
+ghost use Rattle.sipd_telling.specs.Onward.{HearsAll};
 ghost use Rattle.sipd_ladder.specs.declared.hearing.Ladder.{Ladder};
 ghost use Rattle.sipd_traces.specs.Ladders.{AddsRungs, ladder_behind};
 ghost use Rattle.sipd_traces.specs.Traces.{adds_frames, step_frames};

@@ -6,8 +6,8 @@ use crate::finder::Finder;
 use sip_policy::Rules;
 use sip_text::{Bytes, plain_decimal};
 use sip_timers::Timers;
-use sipd_days::{DayReading, Onward, tell_files};
 use sipd_exit::Exit;
+use sipd_telling::{DayReading, Onward, tell_files};
 use std::io::Write;
 use std::rt::{Clock, Files};
 

@@ -3,7 +3,7 @@ ghost use Rattle.std.specs.Prelude.{◌≡◌, true, false, length, map, string_
 ghost use Rattle.std.specs.Io.KnownBytes.{Appends, Keeps};
 ghost use Rattle.sipd_capture.specs.Headers.{file_head};
 ghost use Rattle.sipd_record_files.specs.Named.{AreNamed};
-ghost use Rattle.sipd_days.specs.Records.{TellsFiles};
+ghost use Rattle.sipd_telling.specs.Records.{TellsFiles};
 ghost use Rattle.sipd_traces.specs.Traces as Definitions;
 ghost use Rattle.sipd_traces.specs.Traces.{Chooses, WritesCapture, WritesChosen, WritesOut, adds_frames};
 
@@ -14,10 +14,10 @@ use sip_replay_script::{PrintStop, TellingWriter, hand_on};
 use sip_timers::Timers;
 use sipd_arguments::TraceCall;
 use sipd_capture::CaptureChoice;
-use sipd_days::{DayReading, Onward, reading_of, tell_files};
 use sipd_exit::{DeviceFault, Exit};
 use sipd_old_record::new_file;
 use sipd_record_files::record_files;
+use sipd_telling::{DayReading, Onward, reading_of, tell_files};
 use std::alloc::Global;
 use std::io::{BufWriter, ErrorKind, Write};
 use std::rt::{Clock, Files};

@@ -1,14 +1,12 @@
 //! Trials of the whole server, and of its parts: one program, since each that holds the server costs the gate minutes.
-//! Without words it tries all that the gate compares: the stored runs, the cases that have a name, the steps of one
-//! stored run, and each kind of calls that `bench/` counts, on small tables and on the configuration of standard input.
+//! Without words it tries all that the gate compares: the stored runs, the cases that have a name, and the steps of one
+//! stored run.
 //! With words it tries one thing:
 //!
 //! - `runs`: every stored run of the folder that it runs in;
 //! - `cases`: what no stored run shows of the engine, of replays, of runs over lists of events and of `serve`, and of the
 //!   parts, as texts, messages and tables;
 //! - `refusals`: the steps of the script of standard input, where `tests/refuse_each.sh` refuses their memory;
-//! - `tables CASE SIZE TIMES`: calls on a table of a size, so many times, which `bench/measure_tables.py` counts;
-//! - `parts CASE TARGETS TIMES`: calls on the parts, so many times, which `bench/measure_parts.py` counts;
 //!
 //! Exit statuses: 0 done, 1 a refused step changed something, 2 other words, 3 script, 4 device, 5 memory outside of
 //! steps. What doesn't hold is told by what is printed, which is compared.
@@ -16,11 +14,9 @@
 
 mod runs;
 
-use sip_text::decimal;
 use std::io::{BufWriter, Write};
 use std::process::ExitCode;
 use std::{env, io};
-use test_counts::{parts, tables};
 use test_engine::{Fault, cases, refusals};
 
 /// The exit status where all that was asked for is done.
@@ -38,14 +34,6 @@ fn words<R: env::Env + AllocGlobal>(rt: &R) -> Result<Vec<String>, Fault> {
     Ok(words)
 }
 
-/// The number that a word writes, and 0 where it writes none.
-fn number(word: &str) -> u32 {
-    match decimal(word.as_bytes()) {
-        Some(number) => u32::try_from(number).unwrap_or(0),
-        None => 0,
-    }
-}
-
 /// The cases that have a name.
 fn try_cases(rt: &HostRuntime) -> io::Result<()> {
     cases::tell_all(rt)?;
@@ -58,10 +46,7 @@ fn try_cases(rt: &HostRuntime) -> io::Result<()> {
 fn try_all(rt: &HostRuntime) -> io::Result<()> {
     runs::tell_all(rt)?;
     try_cases(rt)?;
-    runs::tell_steps(rt, "registered")?;
-    tables::tell_all(rt)?;
-    let text = io::read_to_string(rt.alloc(), rt.reader())?;
-    parts::tell_all(rt, text.as_str())
+    runs::tell_steps(rt, "registered")
 }
 
 /// The steps of the script of standard input, each taken once more where it is refused for want of memory.
@@ -86,19 +71,6 @@ fn try_one(rt: &HostRuntime, trial: &str) -> Result<u8, Fault> {
     Ok(DONE)
 }
 
-/// Calls of a case, so many times.
-fn count(rt: &HostRuntime, trial: &str, case: &str, size: u32, times: u32) -> io::Result<u8> {
-    match trial {
-        "tables" => tables::tell(rt, case, size, times)?,
-        "parts" => {
-            let text = io::read_to_string(rt.alloc(), rt.reader())?;
-            parts::tell(rt, text.as_str(), case, size, times)?
-        }
-        _ => return Ok(OTHER_WORDS),
-    }
-    Ok(DONE)
-}
-
 /// The exit status of what these words ask for.
 fn answer(rt: &HostRuntime, words: &[String]) -> Result<u8, Fault> {
     match words {
@@ -107,10 +79,6 @@ fn answer(rt: &HostRuntime, words: &[String]) -> Result<u8, Fault> {
             Ok(DONE)
         }
         [_, trial] => try_one(rt, trial.as_str()),
-        [_, trial, case, size, times] => {
-            let (size, times) = (number(size.as_str()), number(times.as_str()));
-            Ok(count(rt, trial.as_str(), case.as_str(), size, times)?)
-        }
         _ => Ok(OTHER_WORDS),
     }
 }

@@ -2,7 +2,7 @@ use Rattle.std.proofs.Common.{◌∙◌, sym}
 use Rattle.std.proofs.lemmas.Result.{err_from_is_err_and}
 use Rattle.sip_replay_script.specs.Lines.{IsSpent, pending}
 use Rattle.sip_resume.proofs.Segmentwise.{none_waits}
-use Rattle.sip_run.specs.Due.{standing_of}
+use Rattle.sip_resume.specs.run.Due.{standing_of}
 use Rattle.sip_retell.proofs.Nexts.{event_later, event_over, event_told, turn_stops, unread_stops}
 use Rattle.sip_retell.proofs.next.tell_event.Goals as goal
 

@@ -1,5 +1,5 @@
 use Rattle.std.proofs.Common.{◌≡◌, arith}
-use Rattle.sip_run.specs.Due.{standing_of}
+use Rattle.sip_resume.specs.run.Due.{standing_of}
 use Rattle.sip_replay_script.specs.Lines.{IsSpent, pending}
 use Rattle.sip_journal.specs.declared.upcoming.Upcoming.TheVariants.{Configuration, Event, Over}
 use Rattle.sip_retell.proofs.Nexts.{comes_configuration, comes_event, comes_over, configuration_given, configuration_refused, event_given, event_stopped}

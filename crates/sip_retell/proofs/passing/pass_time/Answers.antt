@@ -1,8 +1,8 @@
 use Rattle.std.proofs.Common.{refl, ap, ◌∙◌, Some}
 use Rattle.std.proofs.lemmas.Result.{err_from_is_err_and}
 use Rattle.sip_model.specs.state.declared.server.Server.{Server}
-use Rattle.sip_run.specs.engine.Engine.{Engine}
-use Rattle.sip_run.specs.Due.{standing_of}
+use Rattle.sip_resume.specs.run.engine.Engine.{Engine}
+use Rattle.sip_resume.specs.run.Due.{standing_of}
 use Rattle.sip_retell.proofs.Firing.{passing_stops, passing_untold, tells_firing, tells_nothing, untold_firing}
 use Rattle.sip_retell.proofs.passing.pass_time.Goals as goal
 

@@ -1,6 +1,6 @@
 use Rattle.std.proofs.Common.{◌≡◌, [], Some}
 use Rattle.sip_model.specs.Ends.{steps_left}
-use Rattle.sip_run.specs.Due.{standing_of}
+use Rattle.sip_resume.specs.run.Due.{standing_of}
 use Rattle.sip_retell.specs.Retells.{RunsTold}
 use Rattle.sip_retell.proofs.passing.pass_time.Given as goal
 

@@ -1,8 +1,8 @@
 use Rattle.std.proofs.Common.{ap, ◌∙◌}
 use Rattle.std.proofs.lemmas.Result.{err_from_is_err_and}
 use Rattle.sip_model.specs.state.declared.server.Server.{Server}
-use Rattle.sip_run.specs.engine.Engine.{Engine}
-use Rattle.sip_run.specs.Due.{standing_of}
+use Rattle.sip_resume.specs.run.engine.Engine.{Engine}
+use Rattle.sip_resume.specs.run.Due.{standing_of}
 use Rattle.sip_retell.proofs.Turning.{due_stops, own_stops, own_unheard, turn_told, turn_untold}
 use Rattle.sip_retell.proofs.passing.tell_in_turn.Goals as goal
 

@@ -1,6 +1,6 @@
 use Rattle.std.proofs.Common.{true, false, refl, ◌∙◌}
 use Rattle.std.proofs.lemmas.Result.{err_from_is_err_and}
-use Rattle.sip_run.specs.Due.{standing_of}
+use Rattle.sip_resume.specs.run.Due.{standing_of}
 use Rattle.sip_replay_script.specs.Lines.{IsSpent, pending}
 use Rattle.sip_segment_config.proofs.SoFar.{fewer_asks}
 use Rattle.sip_resume.proofs.Eventwise.{still_left}

@@ -1,5 +1,5 @@
 use Rattle.std.proofs.Common.{◌≡◌, ◌≤◌}
-use Rattle.sip_run.specs.Due.{standing_of}
+use Rattle.sip_resume.specs.run.Due.{standing_of}
 use Rattle.sip_replay_script.specs.Devices.{later}
 use Rattle.sip_replay_script.specs.Lines.{left, pending}
 use Rattle.sip_retell.specs.Retells.{TakesItems}

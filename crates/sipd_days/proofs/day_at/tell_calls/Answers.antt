@@ -1,13 +1,20 @@
-use Rattle.sip_run.specs.Due.{standing_of}
+use Rattle.std.specs.Prelude.{option_map}
+use Rattle.std.proofs.Common.{[]}
+use Rattle.sip_days.specs.Hearing.{adds_calls}
+use Rattle.sipd_days.specs.DayAt.{calls_in}
+use Rattle.sipd_days.specs.Days.{forgets}
+use Rattle.sip_replay_script.specs.Lines.{IsSpent, pending}
+use Rattle.sipd_telling.specs.run.Due.{standing_of}
+use Rattle.sipd_report.specs.Said.{moment_at}
+use Rattle.sipd_days.proofs.Timed.{told_day}
 use Rattle.sipd_days.proofs.day_at.tell_calls.Goals as goal
 
 pub returns-clause-told : goal.returns-clause-told
-returns-clause-told g c = record {
-  server_then = c.stand_at.new.telling.engine.server;
-  standing = standing_of c.stand_at.new.telling.engine;
-  kept = c.stand_at.new.listener;
-  moment = c.in_ok-reached.reached.at;
-  reaches = rw c.new-calls.ensures at c.in_ok-reached.ensures.reached;
-  offset_is = c.clock_in.ensures;
-  text_is = c.in_ok-text.ensures;
-}
+returns-clause-told g c =
+    told_day adds_calls forgets [] (calls_in c.args.form) c.args.telling.now.engine.server c.stand_at.new.telling.engine.server
+    (standing_of c.args.telling.now.engine) (standing_of c.stand_at.new.telling.engine)
+    (IsSpent (g.I.TellingReader.has_failed c.stand_at.new.events) c.stand_at.new.telling.lines.asks)
+    (pending c.args.telling.now.lines (g.I.TellingReader.remaining c.args.events.now)) c.args.telling.now.lines.number
+    (option_map (λ t. moment_at t c.args.taken.ahead) c.args.time) c.stand_at.new.listener c.in_ok-reached.reached.at c.calls_in-text.result c.day_of.result
+    c.clock_in.result.ahead c.in_ok-reached.reached.end (rw c.new-calls.ensures at c.in_ok-reached.ensures.reached) c.clock_in.ensures
+    c.calls_in-text.ensures c.day_of.ensures.text c.day_of.ensures.in_force c.day_of.ensures.end

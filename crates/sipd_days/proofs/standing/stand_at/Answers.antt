@@ -1,5 +1,5 @@
 use Rattle.std.specs.Prelude.{option_map}
-use Rattle.sip_run.specs.Due.{standing_of}
+use Rattle.sipd_telling.specs.run.Due.{standing_of}
 use Rattle.sip_replay_script.specs.Lines.{pending}
 use Rattle.sipd_report.specs.Said.{moment_at}
 use Rattle.sipd_days.proofs.Stood.{there}

@@ -1,5 +1,5 @@
 use Rattle.std.proofs.Common.{refl, []}
-use Rattle.sip_run.specs.Due.{standing_of}
+use Rattle.sipd_telling.specs.run.Due.{standing_of}
 use Rattle.sipd_days.proofs.standing.tell_to_end.Goals as goal
 
 pub returns-in-Ok-clause-told : goal.returns-in-Ok-clause-told

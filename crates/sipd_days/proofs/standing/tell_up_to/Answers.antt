@@ -1,4 +1,4 @@
-use Rattle.sip_run.specs.Due.{standing_of}
+use Rattle.sipd_telling.specs.run.Due.{standing_of}
 use Rattle.sip_replay_script.specs.Lines.{IsSpent, pending}
 use Rattle.sipd_days.proofs.Stood.{all_told, not_passed}
 use Rattle.sipd_days.proofs.standing.tell_up_to.Goals as goal

@@ -1,4 +1,4 @@
-use Rattle.sip_run.specs.Due.{standing_of}
+use Rattle.sipd_telling.specs.run.Due.{standing_of}
 use Rattle.sipd_page.proofs.Told.{tells_to, was_told}
 use Rattle.sipd_page.proofs.opening.tell_day.Goals as goal
 

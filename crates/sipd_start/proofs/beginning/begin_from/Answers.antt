@@ -19,6 +19,6 @@ returns-in-Whole-clause-refused g c =
 
 pub returns-in-Whole-clause-goes_on : goal.returns-in-Whole-clause-goes_on
 returns-in-Whole-clause-goes_on g c =
-    went_on_whole c.go_on.result (λ a. a.begun.engine.server) (λ a. standing_of a.begun.engine) (λ a. a.lines) (λ a. a.begun.last) c.args.beginning.now.stated.now.bytes
+    went_on_whole c.go_on.result (λ a. a.engine.server) (λ a. standing_of a.engine) (λ a. a.lines) (λ a. a.last) c.args.beginning.now.stated.now.bytes
     c.args.beginning.now.stated.now.digest c.in-Ok.head
     (g.I.TellingReader.remaining c.args.reader.now) (g.I.TellingReader.remaining c.head_in.new.reader) c.in-Ok.ensures.head c.in-Whole.is c.go_on.ensures.goes_on

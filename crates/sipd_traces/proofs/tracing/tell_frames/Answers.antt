@@ -1,7 +1,7 @@
 use Rattle.std.proofs.Common.{rules, ap, subst₂, sym, ◌∙◌, length}
 use Rattle.std.proofs.lemmas.Result.{on_ok_weaker}
 use Rattle.std.specs.Option.{ghost_name_of}
-use Rattle.sipd_days.specs.Records.{TellsFiles}
+use Rattle.sipd_telling.specs.Records.{TellsFiles}
 use Rattle.sipd_traces.specs.Traces.{adds_frames, held_by}
 use Rattle.sipd_traces.proofs.Told.{framed, no_name, same_name}
 use Rattle.sipd_traces.proofs.tracing.tell_frames.Goals as goal

@@ -1,8 +1,0 @@
-use Rattle.std.proofs.lemmas.Result.{IfOk-weaker}
-use Rattle.sipd_days.proofs.Timed.{on_clock}
-use Rattle.sipd_days.proofs.day_at.standing_in.Goals as goal
-
-pub returns : goal.returns
-returns g c =
-    IfOk-weaker c.standing_text.result _ _ (λ text h. on_clock c.args.form c.args.at c.as_slice.result.now c.args.calls.now c.config.result.now
-    c.args.engine.now.server.config text c.config.ensures c.as_slice.ensures h) c.standing_text.ensures
