@@ -1,9 +1,11 @@
 #!/usr/bin/env python3
 """Counts what a registration, a call and a forked call cost as real phones write them, beside Kamailio's instructions on the same forms:
-`bench/measure_phones.py [PROGRAM] [--replay]`, at the top, after `rt run` in crates/sipd. It takes some ten minutes, `--replay` one.
+`bench/measure_phones.py [PROGRAM] [--replay] [--bare]`, at the top, after `rt run` in crates/sipd. It takes some twenty minutes, `--replay` one.
 
 They go through `sipd serve` over sockets of this machine, as Kamailio's did: instructions are callgrind's, of a run of some units, less
-those of a run as long in which only phones registered, for each unit, until what they left open has ended. With `--replay` they are what
+those of a run as long without them, for each unit, until what they left open has ended; in both as many were done before, and have
+ended, as of a server that has served for a minute. The server has the variables that its
+unit (contrib/sipd.service) starts it with, with `--bare` none of them. With `--replay` they are what
 a replay with ten of a thing costs more than one with two of it, for each of the eight, in which the script is read, too. Kamailio's
 numbers are those of 5.6.3 on messages of the same forms; there are none for a forked call in compact names or with parameters.
 """
@@ -20,12 +22,12 @@ from concurrent.futures import ThreadPoolExecutor
 
 HERE = os.path.dirname(os.path.abspath(__file__))
 sys.path.insert(0, os.path.join(HERE, "..", "tests"))
-IN_REPLAY = "--replay" in sys.argv
-sys.argv = [word for word in sys.argv if word != "--replay"]
+IN_REPLAY, IS_BARE = "--replay" in sys.argv, "--bare" in sys.argv
+sys.argv = [word for word in sys.argv if word not in ("--replay", "--bare")]
 
 import measure_replays
 import phones
-from phone import SERVERS, started
+from phone import SERVERS, service_environment, started
 
 FEW, MANY = 2, 10
 UNITS, OPEN = 16, 34  # how often over sockets, and the seconds until what was opened has ended
@@ -132,11 +134,16 @@ def tried(form, what, folder, host, units):
     path = os.path.join(folder, f"{host}.toml")
     with open(path, "w", encoding="utf-8") as made:
         made.write(phones.replays.configuration().replace("127.0.0.1", host))
-    server, _ = started(measure_replays.PROGRAM, path, before=COUNTED, host=host)
+    server, _ = started(measure_replays.PROGRAM, path, before=COUNTED, host=host, variables={} if IS_BARE else service_environment())
     do, count, wanted = DONE[what]
     script = SentScript(phones.FORMS[form], host)
-    ends = time.monotonic() + OPEN + UNITS * (sum(wanted.values()) + 2) * 2 * QUIET + LATE
+    lasts = UNITS * (sum(wanted.values()) + 2) * 2 * QUIET + LATE + OPEN
+    ends = time.monotonic() + lasts
     script.pair("help", script.contacts(count))
+    for place in range(UNITS):
+        do(script, f"w{place}")
+    time.sleep(max(ends - time.monotonic(), OPEN))
+    ends = time.monotonic() + lasts
     script.sent.clear()
     for place in range(units):
         do(script, place)

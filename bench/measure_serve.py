@@ -1,11 +1,12 @@
 #!/usr/bin/env python3
-"""Counts what `sipd serve` costs over real sockets of this machine: `bench/measure_serve.py [PROGRAM] [--record]`, at the top, after
-`rt run` in crates/sipd; with `--record` the server records what it hears. It takes four minutes: instructions of a REGISTER pair, a call and a forked call, the processor time of an idle
+"""Counts what `sipd serve` costs over real sockets of this machine: `bench/measure_serve.py [PROGRAM] [--record] [--bare]`, at the top, after
+`rt run` in crates/sipd; with `--record` the server records what it hears, and with `--bare` it has none of the variables that its unit
+(contrib/sipd.service) starts it with. It takes six minutes: instructions of a REGISTER pair, a call and a forked call, the processor time of an idle
 minute, and the memory that is resident at the start and with 1,000 bindings.
 
-Instructions are callgrind's: of a run of some units, less those of a run as long in which only phones registered, for each unit.
-The run goes on until what the units left open has ended, so that the timers that fire afterwards are counted. Phones and
-configuration are those of `bench/measure_replays.py`.
+Instructions are callgrind's: of a run of some units, less those of a run as long without them, for each unit. In both as many were done
+before, and have ended, as of a server that has served for a minute. The run goes on until what the units left open has ended, so that
+the timers that fire afterwards are counted. Phones and configuration are those of `bench/measure_replays.py`.
 """
 
 import os
@@ -22,10 +23,11 @@ sys.path.insert(0, os.path.join(HERE, "..", "tests"))
 
 import replays
 from phone import PROGRAM as BUILT
-from phone import Phone, free_port, started, tag_of, uri_in
+from phone import Phone, free_port, service_environment, started, tag_of, uri_in
 
 RECORDS = "--record" in sys.argv
-GIVEN = [word for word in sys.argv[1:] if word != "--record"]
+VARIABLES = {} if "--bare" in sys.argv else service_environment()
+GIVEN = [word for word in sys.argv[1:] if word not in ("--record", "--bare")]
 PROGRAM = GIVEN[0] if GIVEN else BUILT
 UNITS = 20
 OPEN = 34  # seconds until what was opened has ended
@@ -82,19 +84,20 @@ def call(caller, phones):
     assert caller.hear().status == 200
 
 
-def instructions(folder, phones, unit):
-    """Of a run in which so many phones register, and then a unit is done some times, if there is one."""
-    server, port = started(PROGRAM, configured(folder), *recorded(folder), before=COUNTED)
-    ends = time.monotonic() + 10 + OPEN
+def instructions(folder, phones, unit, done):
+    """Of a run in which so many phones register, and a unit is done some times; and, where all of that has ended, as often again, if `done`."""
+    server, port = started(PROGRAM, configured(folder), *recorded(folder), before=COUNTED, variables=VARIABLES)
     registered = [phone_of("help", port) for _ in range(phones)]
     for phone in registered:
         assert phone.register() == [401, 200]
     caller = stranger(port)
-    for _ in range(UNITS if unit else 0):
-        unit(caller, registered)
-    left = ends - time.monotonic()
-    assert left > OPEN, "the units took too long"
-    time.sleep(left)
+    for times in (UNITS, UNITS if done else 0):
+        ends = time.monotonic() + 10 + OPEN
+        for _ in range(times):
+            unit(caller, registered)
+        left = ends - time.monotonic()
+        assert left > OPEN, "the units took too long"
+        time.sleep(left)
     server.send_signal(signal.SIGTERM)
     said = server.communicate()[1].decode()
     return int(re.search(r"Collected : (\d+)", said)[1])
@@ -116,7 +119,7 @@ def processor(server):
 
 
 def idle(folder):
-    server, _ = started(PROGRAM, configured(folder), *recorded(folder))
+    server, _ = started(PROGRAM, configured(folder), *recorded(folder), variables=VARIABLES)
     time.sleep(1)
     before = processor(server)
     time.sleep(60)
@@ -127,7 +130,7 @@ def idle(folder):
 
 def bindings(folder):
     users = [f"user{place}" for place in range(BINDINGS)]
-    server, port = started(PROGRAM, configured(folder, ["help", *users]), *recorded(folder))
+    server, port = started(PROGRAM, configured(folder, ["help", *users]), *recorded(folder), variables=VARIABLES)
     # Its records are read on: they are more than a pipe holds, and a server whose output nobody reads waits.
     threading.Thread(target=server.stdout.read, daemon=True).start()
     time.sleep(1)
@@ -143,7 +146,7 @@ def bindings(folder):
 
 def main():
     with tempfile.TemporaryDirectory() as folder, ThreadPoolExecutor() as pool:
-        runs = {name: (pool.submit(instructions, folder, phones, unit), pool.submit(instructions, folder, phones, None)) for name, phones, unit in [("a REGISTER pair", 1, pair), ("a call", 1, call), ("a call forked to three", 3, call)]}
+        runs = {name: (pool.submit(instructions, folder, phones, unit, True), pool.submit(instructions, folder, phones, unit, False)) for name, phones, unit in [("a REGISTER pair", 1, pair), ("a call", 1, call), ("a call forked to three", 3, call)]}
         minute, held = pool.submit(idle, folder), pool.submit(bindings, folder)
         for name, (run, still) in runs.items():
             print(f"{name}: {(run.result() - still.result()) / UNITS:,.0f} instructions")

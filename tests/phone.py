@@ -29,9 +29,15 @@ def office(folder, port):
     return path
 
 
-def started(program, config, *words, before=(), host="127.0.0.1"):
+def service_environment():
+    """The variables that the unit starts the server with."""
+    with open(os.path.join(TOP, "contrib", "sipd.service")) as unit:
+        return dict(re.findall(r"^Environment=(\w+)=(.*)$", unit.read(), re.M))
+
+
+def started(program, config, *words, before=(), host="127.0.0.1", variables={}):
     """`sipd serve`, once it says where it serves, and the port."""
-    it = subprocess.Popen([*before, program, "serve", "--config", config, *words], stdin=subprocess.DEVNULL, stdout=subprocess.PIPE, stderr=subprocess.PIPE)
+    it = subprocess.Popen([*before, program, "serve", "--config", config, *words], stdin=subprocess.DEVNULL, stdout=subprocess.PIPE, stderr=subprocess.PIPE, env={**os.environ, **variables})
     SERVERS.append(it)
     line = it.stdout.readline().decode()
     found = re.fullmatch(rf"sipd: serving {re.escape(host)}:(\d+)\n", line)
