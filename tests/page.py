@@ -4,10 +4,10 @@
 
 The page is read by Python's own reader of HTML: it has to say that the log comes out of the record, and hold both of its digests, a row for each
 row of `sipd calls` and `sipd sources`, the denials and the bindings over the time, and no tag that a phone, the log or the name of a file would
-have. A log of which a byte is another has its line named, of a damaged record nothing is printed, and records that follow one another are one
-history, as a folder of them is. What a spreadsheet would take for a formula stands behind a quote in CSV. Where chromium is there it shows the
-page, by itself, without asking anybody for anything, and the picture has its line there; `KEPT` names a folder that keeps page and picture. It says
-each thing that it tried, ends with 1 where one fails, and no gate runs it."""
+have; its headings are those of the page, of the record and of its sections. A log of which a byte is another has its line named, of a damaged
+record nothing is printed, and records that follow one another are one history, as a folder of them is. What a spreadsheet would take for a formula
+stands behind a quote in CSV. Where chromium is there it shows the page, by itself, without asking anybody for anything, and the picture has its
+line there; `KEPT` names a folder that keeps page and picture. It says each thing that it tried, ends with 1 where one fails, and no gate runs it."""
 
 import csv
 import hashlib
@@ -33,6 +33,7 @@ CALL_ID = "<script>alert(1)</script>\"'@x"
 # what a spreadsheet takes for the beginning of a formula; and Call-IDs and users that begin so
 FORMULA = ("=", "+", "-", "@", "\t", "\r")
 FORMULAS = {"=1+1": "=1+1", "+4930": "+4930", "-1": "-1", "@x": "900"}
+HEADINGS = ("h1", "h2", "h3", "h4")
 OF_CONFIGURATION = "SHA-256 of the configuration with which it begins"
 failures = []
 
@@ -44,12 +45,12 @@ def say(what, holds, but=""):
 
 
 class Reader(html.parser.HTMLParser):
-    """The tables of a page under their headings, its tags, its texts, and the paragraphs of a class."""
+    """The tables of a page under their headings, these with their levels, its tags, its texts, and the paragraphs of a class."""
 
     def __init__(self, text):
         super().__init__(convert_charrefs=True)
         self.tables, self.tags, self.attributes, self.paragraphs, self.heading = {}, {}, [], {}, ""
-        self.within, self.text, self.blocks = [], "", []
+        self.within, self.text, self.blocks, self.headings = [], "", [], []
         self.feed(text)
         self.close()
 
@@ -57,7 +58,7 @@ class Reader(html.parser.HTMLParser):
         self.tags[tag] = self.tags.get(tag, 0) + 1
         self.attributes += attrs
         self.within.append((tag, dict(attrs).get("class")))
-        if tag in ("h1", "h2", "h3", "p", "td", "th", "pre"):
+        if tag in (*HEADINGS, "p", "td", "th", "pre"):
             self.text = ""
         if tag == "tr":
             self.tables.setdefault(self.heading, []).append([])
@@ -69,8 +70,9 @@ class Reader(html.parser.HTMLParser):
         while self.within and self.within[-1][0] != tag:
             self.within.pop()
         kind = self.within.pop()[1] if self.within else None
-        if tag in ("h1", "h2", "h3"):
+        if tag in HEADINGS:
             self.heading = self.text
+            self.headings.append((tag, self.text))
         if tag == "p":
             self.paragraphs.setdefault(kind, []).append(self.text)
         if tag == "pre":
@@ -158,6 +160,10 @@ def compared(folder, record, log, config):
     say("the denials", denied > 0 and sum(int(row[1]) for row in found) == denied, (found, denied))
     facts = [["SHA-256 up to its last seal", "none: its end is not sealed"], [OF_CONFIGURATION, hashlib.sha256(read(config)).hexdigest()]]
     say("the file by its name, and its digests", page.tables.get(record) == facts, page.tables.get(record))
+    above = [heading for heading in page.headings if heading[0] < "h3"]
+    say("a heading of the page, and one of the record", above == [("h1", "Recorded days"), ("h2", record)], page.headings)
+    policy = [tag for tag, text in page.headings if text.startswith("INVITE, offset ")]
+    say("the policy is a section of it", policy == ["h3"], page.headings)
     say("no script, no link, no picture from elsewhere", not {"script", "link", "img", "iframe", "object", "a"} & {*page.tags}, page.tags)
     say("nothing that is loaded", not any(name in ("src", "href", "onload", "onclick") for name, _ in page.attributes), page.attributes)
     say("nothing may be loaded", any(name == "content" and value == "default-src 'none'; style-src 'unsafe-inline'" for name, value in page.attributes))

@@ -868,16 +868,16 @@ PAGE_SOURCES = {
     "calls_of_a_followed_day": "127.0.0.1,4,1,1,0,1,1970-01-01T00:00:01+00:00,1970-01-01T00:00:11+00:00",
     "calls_of_a_following_day": "127.0.0.1,11,2,2,0,2,1970-01-01T00:00:01+00:00,1970-01-01T01:01:37+01:00",
 }
-# who may call whom by check_sample.toml
+# who may call whom by check_sample.toml, under headings of a section
 PAGE_POLICY = """\
-<h1>INVITE, offset 0
-</h1>
+<h3>INVITE, offset 0
+</h3>
 <pre>A rule&#39;s number, 0 for none, and what comes of it: + goes to the registrar or to
 the bindings, &gt; goes by a hop, - is denied, ? is asked for a proof, ! is allowed
 and reaches nobody; behind / for the asker&#39;s own address. U*@H are all that begin
 so, but those that have a line of their own or a longer beginning.
 </pre>
-<h2>0:00-24:00</h2>
+<h4>0:00-24:00</h4>
 <table>
 <tr><th>nobody</th><th>Mufasa</th><th>alice</th><th>asks for</th></tr>
 <tr><td class="challenge">6?</td><td class="allow">6+</td><td class="allow">6+</td><td> Mufasa@host.com alice@host.com</td></tr>

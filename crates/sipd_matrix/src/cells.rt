@@ -1,11 +1,12 @@
 //! What stands in a cell: the number of the rule that decides, and what comes of it.
-ghost use Rattle.std.specs.Prelude.{◌≡◌, ◌++◌, ◌&&◌, Some, false, OnOk};
+ghost use Rattle.std.specs.Prelude.{◌≡◌, ◌++◌, OnOk};
 ghost use Rattle.std.specs.List.{slice_get};
 ghost use Rattle.std.specs.Option.{option_copied};
 ghost use Rattle.sip_matrix.specs.Asker;
 ghost use Rattle.sip_matrix.specs.Column.{are_asked_alike};
 ghost use Rattle.sipd_matrix.specs.Cells as Definitions;
 
+use crate::cell::Cell;
 use crate::words::put_both;
 use sip_config_types::Config;
 use sip_hops::Hop;
@@ -91,36 +92,27 @@ pub fn are_known(config: &Config, column: &Column) -> bool
 pub fn rule_at<'a>(
     config: &'a Config,
     operation: &Operation,
-    row: Option<&[u8]>,
-    column: &Column,
+    cell: &Cell<'_>,
     own: bool,
-    piece: u16,
 ) -> Option<&'a Rule>
-    ensures { option_copied result ≡ Definitions.rule_at config.now operation.now (option_copied row.entry) column.now own piece }
+    ensures { option_copied result ≡ Definitions.rule_at config.now operation.now (option_copied cell.now.row) cell.now.class.now own cell.now.piece }
 {
     rule_in(
         config.rules.as_slice(),
         &config.users,
-        row,
+        cell.row,
         operation,
-        column,
+        cell.class,
         own,
-        piece,
+        cell.piece,
     )
 }
 
 /// Its number, 0 without one. Takes no memory.
-pub fn number_at(
-    config: &Config,
-    operation: &Operation,
-    row: Option<&[u8]>,
-    column: &Column,
-    own: bool,
-    piece: u16,
-) -> u32
-    ensures { result ≡ Definitions.number_at config.now operation.now (option_copied row.entry) column.now own piece }
+pub fn number_at(config: &Config, operation: &Operation, cell: &Cell<'_>, own: bool) -> u32
+    ensures { result ≡ Definitions.number_at config.now operation.now (option_copied cell.now.row) cell.now.class.now own cell.now.piece }
 {
-    number_of(rule_at(config, operation, row, column, own, piece))
+    number_of(rule_at(config, operation, cell, own))
 }
 
 /// Adds what comes of it. `AllocError` is the only refusal.
@@ -128,16 +120,14 @@ pub fn put_mark_at(
     text: &mut Bytes,
     config: &Config,
     operation: &Operation,
-    row: Option<&[u8]>,
-    column: &Column,
+    cell: &Cell<'_>,
     own: bool,
-    piece: u16,
 ) -> Result<(), AllocError>
-    ensures { OnOk result (text.new ≡ text.old ++ Definitions.mark_at config.now operation.now (option_copied row.entry) column.now own piece) }
+    ensures { OnOk result (text.new ≡ text.old ++ Definitions.mark_at config.now operation.now (option_copied cell.now.row) cell.now.class.now own cell.now.piece) }
 {
-    let rule = rule_at(config, operation, row, column, own, piece);
-    let decision = ruling_by(rule, row, piece).decision;
-    let known = are_known(config, column);
+    let rule = rule_at(config, operation, cell, own);
+    let decision = ruling_by(rule, cell.row, cell.piece).decision;
+    let known = are_known(config, cell.class);
     put_mark(text, operation, config.hops.as_slice(), known, decision)
 }
 
@@ -146,17 +136,15 @@ pub fn put_value(
     text: &mut Bytes,
     config: &Config,
     operation: &Operation,
-    row: Option<&[u8]>,
-    column: &Column,
+    cell: &Cell<'_>,
     own: bool,
-    piece: u16,
 ) -> Result<(), AllocError>
-    ensures { OnOk result (text.new ≡ text.old ++ Definitions.value_text config.now operation.now (option_copied row.entry) column.now own piece) }
+    ensures { OnOk result (text.new ≡ text.old ++ Definitions.value_text config.now operation.now (option_copied cell.now.row) cell.now.class.now own cell.now.piece) }
 {
-    let rule = rule_at(config, operation, row, column, own, piece);
-    let decision = ruling_by(rule, row, piece).decision;
+    let rule = rule_at(config, operation, cell, own);
+    let decision = ruling_by(rule, cell.row, cell.piece).decision;
     text.push_decimal(u64::from(number_of(rule)))?;
-    let known = are_known(config, column);
+    let known = are_known(config, cell.class);
     put_mark(text, operation, config.hops.as_slice(), known, decision)
 }
 
@@ -235,66 +223,4 @@ pub(crate) fn has_others(config: &Config, columns: &[Column], class: &Column, ro
         are_of_row(config, row, user.name.as_slice())
             && has_other_than(config, columns, class, user.name.as_slice())
     })
-}
-
-/// Whether a cell has a second value, for the asker's own address. Takes no memory.
-pub fn has_second(
-    config: &Config,
-    operation: &Operation,
-    columns: &[Column],
-    class: &Column,
-    row: &[u8],
-    piece: u16,
-) -> bool
-    ensures { result ≡ Definitions.has_second config.now operation.now columns.now class.now row.now piece }
-{
-    if !has_own(config, columns, class, row) {
-        return false;
-    }
-    let others = number_at(config, operation, Some(row), class, false, piece);
-    let own = number_at(config, operation, Some(row), class, true, piece);
-    others != own
-}
-
-/// Adds the second value, if there is one.
-fn put_second(
-    text: &mut Bytes,
-    config: &Config,
-    operation: &Operation,
-    columns: &[Column],
-    class: &Column,
-    row: &[u8],
-    piece: u16,
-) -> Result<(), AllocError>
-    ensures { OnOk result (text.new ≡ text.old ++ Definitions.second_text config.now operation.now columns.now class.now row.now piece) }
-{
-    if !has_second(config, operation, columns, class, row, piece) {
-        return Ok(());
-    }
-    text.extend(b"/")?;
-    put_value(text, config, operation, Some(row), class, true, piece)
-}
-
-/// Adds what stands in a cell. `AllocError` is the only refusal.
-pub fn put_cell(
-    text: &mut Bytes,
-    config: &Config,
-    operation: &Operation,
-    columns: &[Column],
-    class: &Column,
-    piece: u16,
-    row: Option<&[u8]>,
-) -> Result<(), AllocError>
-    ensures { OnOk result (text.new ≡ text.old ++ Definitions.cell_text config.now operation.now columns.now class.now piece (option_copied row.entry)) }
-{
-    match row {
-        None => {
-            let known = are_known(config, class);
-            put_value(text, config, operation, None, class, known, piece)
-        }
-        Some(row) => {
-            put_value(text, config, operation, Some(row), class, false, piece)?;
-            put_second(text, config, operation, columns, class, row, piece)
-        }
-    }
 }

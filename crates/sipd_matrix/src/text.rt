@@ -5,12 +5,14 @@ ghost use Rattle.std.specs.Option.{option_copied};
 ghost use Rattle.sipd_matrix.specs.Text as Definitions;
 ghost use Rattle.sipd_matrix.specs.Cells.{cell_text};
 
-use crate::cells::{are_of_class, are_of_row, put_cell};
+use crate::cell::Cell;
+use crate::cells::{are_of_class, are_of_row};
+use crate::matrix::{Matrix, policy_table};
 use crate::numbers::numbers_of;
 use crate::unused_names::{is_named, put_all_groups, put_hops};
 use crate::words::{operation_word, put_both, put_clock, put_column, put_padded, put_signed};
 use sip_config_types::Config;
-use sip_matrix::{Column, PolicyTable, table_of};
+use sip_matrix::{Column, PolicyTable};
 use sip_policy::{Operation, Rule, User};
 use sip_text::{Bytes, Items, same_bytes};
 use std::alloc::{AllocError, Global};
@@ -26,43 +28,35 @@ const LEGEND: &[u8] = b"\
 fn put_field(
     alloc: Global,
     text: &mut Bytes,
-    config: &Config,
-    operation: &Operation,
-    columns: &[Column],
-    class: &Column,
-    piece: u16,
-    row: Option<&[u8]>,
+    matrix: &Matrix<'_>,
+    cell: &Cell<'_>,
 ) -> Result<(), AllocError>
-    ensures { OnOk result (text.new ≡ text.old ++ Definitions.padded (cell_text config.now operation.now columns.now class.now piece (option_copied row.entry))) }
+    ensures { OnOk result (text.new ≡ text.old ++ Definitions.padded (cell_text matrix.now.config.now matrix.now.operation.now
+        matrix.now.table.now.columns cell.now.class.now cell.now.piece (option_copied cell.now.row))) }
 {
-    let mut cell = Bytes::new(alloc);
-    put_cell(&mut cell, config, operation, columns, class, piece, row)?;
-    put_padded(text, cell.as_slice())
+    let mut field = Bytes::new(alloc);
+    matrix.put_cell(&mut field, cell)?;
+    put_padded(text, field.as_slice())
 }
 
 fn put_fields(
     alloc: Global,
     text: &mut Bytes,
-    config: &Config,
-    operation: &Operation,
-    columns: &[Column],
-    class: &Column,
+    matrix: &Matrix<'_>,
     piece: u16,
+    class: &Column,
     rows: &[Bytes],
 ) -> Result<(), AllocError>
-    ensures { OnOk result (text.new ≡ text.old ++ flat_map (Definitions.field_text config.now operation.now columns.now class.now piece) rows.now) }
+    ensures { OnOk result (text.new ≡ text.old ++ flat_map (Definitions.field_text matrix.now.config.now matrix.now.operation.now
+        matrix.now.table.now.columns class.now piece) rows.now) }
 {
     for row in rows {
-        put_field(
-            alloc,
-            text,
-            config,
-            operation,
-            columns,
+        let cell = Cell {
+            row: Some(row.as_slice()),
             class,
             piece,
-            Some(row.as_slice()),
-        )?;
+        };
+        put_field(alloc, text, matrix, &cell)?;
     }
     Ok(())
 }
@@ -102,35 +96,38 @@ pub fn put_members(
 fn put_class(
     alloc: Global,
     text: &mut Bytes,
-    config: &Config,
-    operation: &Operation,
-    table: &PolicyTable,
+    matrix: &Matrix<'_>,
     piece: u16,
     class: &Column,
 ) -> Result<(), AllocError>
-    ensures { OnOk result (text.new ≡ text.old ++ Definitions.class_line config.now operation.now table.now piece class.now) }
+    ensures { OnOk result (text.new ≡ text.old
+        ++ Definitions.class_line matrix.now.config.now matrix.now.operation.now matrix.now.table.now piece class.now) }
 {
-    let columns = table.columns.as_slice();
-    let rows = table.rows.as_slice();
-    put_field(alloc, text, config, operation, columns, class, piece, None)?;
-    put_fields(alloc, text, config, operation, columns, class, piece, rows)?;
-    put_members(text, config, class, columns)?;
+    let nobody = Cell {
+        row: None,
+        class,
+        piece,
+    };
+    let rows = matrix.table.rows.as_slice();
+    let columns = matrix.table.columns.as_slice();
+    put_field(alloc, text, matrix, &nobody)?;
+    put_fields(alloc, text, matrix, piece, class, rows)?;
+    put_members(text, matrix.config, class, columns)?;
     text.push(b'\n')
 }
 
 fn put_classes(
     alloc: Global,
     text: &mut Bytes,
-    config: &Config,
-    operation: &Operation,
-    table: &PolicyTable,
+    matrix: &Matrix<'_>,
     piece: u16,
     classes: &[Column],
 ) -> Result<(), AllocError>
-    ensures { OnOk result (text.new ≡ text.old ++ flat_map (Definitions.class_line config.now operation.now table.now piece) classes.now) }
+    ensures { OnOk result (text.new ≡ text.old
+        ++ flat_map (Definitions.class_line matrix.now.config.now matrix.now.operation.now matrix.now.table.now piece) classes.now) }
 {
     for class in classes {
-        put_class(alloc, text, config, operation, table, piece, class)?;
+        put_class(alloc, text, matrix, piece, class)?;
     }
     Ok(())
 }
@@ -157,33 +154,30 @@ fn put_head(text: &mut Bytes, table: &PolicyTable) -> Result<(), AllocError>
 fn put_piece(
     alloc: Global,
     text: &mut Bytes,
-    config: &Config,
-    operation: &Operation,
-    table: &PolicyTable,
+    matrix: &Matrix<'_>,
     piece: u16,
 ) -> Result<(), AllocError>
-    ensures { OnOk result (text.new ≡ text.old ++ Definitions.piece_lines config.now operation.now table.now piece) }
+    ensures { OnOk result (text.new ≡ text.old ++ Definitions.piece_lines matrix.now.config.now matrix.now.operation.now matrix.now.table.now piece) }
 {
     text.extend(b"\nfrom ")?;
     put_clock(text, piece)?;
     text.push(b'\n')?;
-    put_head(text, table)?;
-    let classes = table.classes.as_slice();
-    put_classes(alloc, text, config, operation, table, piece, classes)
+    put_head(text, matrix.table)?;
+    let classes = matrix.table.classes.as_slice();
+    put_classes(alloc, text, matrix, piece, classes)
 }
 
 fn put_pieces(
     alloc: Global,
     text: &mut Bytes,
-    config: &Config,
-    operation: &Operation,
-    table: &PolicyTable,
+    matrix: &Matrix<'_>,
     pieces: &[u16],
 ) -> Result<(), AllocError>
-    ensures { OnOk result (text.new ≡ text.old ++ flat_map (Definitions.piece_lines config.now operation.now table.now) pieces.now) }
+    ensures { OnOk result (text.new ≡ text.old
+        ++ flat_map (Definitions.piece_lines matrix.now.config.now matrix.now.operation.now matrix.now.table.now) pieces.now) }
 {
     for piece in pieces {
-        put_piece(alloc, text, config, operation, table, *piece)?;
+        put_piece(alloc, text, matrix, *piece)?;
     }
     Ok(())
 }
@@ -367,17 +361,16 @@ fn put_unnamed(text: &mut Bytes, config: &Config) -> Result<(), AllocError>
 /// `AllocError` is the only refusal.
 pub fn put_foot(
     text: &mut Bytes,
-    config: &Config,
-    operation: &Operation,
-    table: &PolicyTable,
+    matrix: &Matrix<'_>,
     numbers: &Items<u32>,
 ) -> Result<(), AllocError>
-    ensures { OnOk result (text.new ≡ text.old ++ Definitions.foot config.now operation.now table.now numbers.now) }
+    ensures { OnOk result (text.new ≡ text.old ++ Definitions.foot matrix.now.config.now matrix.now.operation.now matrix.now.table.now numbers.now) }
 {
+    let rules = matrix.config.rules.as_slice();
     text.push(b'\n')?;
-    put_rows(text, config, table.rows.as_slice())?;
-    put_all_unused(text, operation, numbers.as_slice(), config.rules.as_slice())?;
-    put_unnamed(text, config)
+    put_rows(text, matrix.config, matrix.table.rows.as_slice())?;
+    put_all_unused(text, matrix.operation, numbers.as_slice(), rules)?;
+    put_unnamed(text, matrix.config)
 }
 
 /// Adds what the signs in the cells mean. `AllocError` is the only refusal.
@@ -388,21 +381,15 @@ pub fn put_legend(text: &mut Bytes) -> Result<(), AllocError>
 }
 
 /// The text of a table.
-fn text_of(
-    alloc: Global,
-    config: &Config,
-    operation: &Operation,
-    table: &PolicyTable,
-) -> Result<Bytes, AllocError>
-    ensures { IfOk result (λ text. text ≡ Definitions.text_of config.now operation.now table.now) }
+fn text_of(alloc: Global, matrix: &Matrix<'_>) -> Result<Bytes, AllocError>
+    ensures { IfOk result (λ text. text ≡ Definitions.text_of matrix.now.config.now matrix.now.operation.now matrix.now.table.now) }
 {
-    let numbers = numbers_of(alloc, config, operation, table)?;
+    let numbers = numbers_of(alloc, matrix)?;
     let mut text = Bytes::new(alloc);
-    put_title(&mut text, config, operation)?;
+    put_title(&mut text, matrix.config, matrix.operation)?;
     put_legend(&mut text)?;
-    let pieces = table.pieces.as_slice();
-    put_pieces(alloc, &mut text, config, operation, table, pieces)?;
-    put_foot(&mut text, config, operation, table, &numbers)?;
+    put_pieces(alloc, &mut text, matrix, matrix.table.pieces.as_slice())?;
+    put_foot(&mut text, matrix, &numbers)?;
     Ok(text)
 }
 
@@ -416,12 +403,12 @@ pub fn matrix_text(
 ) -> Result<Bytes, AllocError>
     ensures { IfOk result (λ text. text ≡ Definitions.matrix_text config.now operation.now) }
 {
-    let table = table_of(
-        alloc,
-        config.rules.as_slice(),
-        &config.users,
-        config.own.domains.as_slice(),
-    )?;
-    let text = text_of(alloc, config, operation, &table)?;
+    let table = policy_table(alloc, config)?;
+    let matrix = Matrix {
+        config,
+        operation,
+        table: &table,
+    };
+    let text = text_of(alloc, &matrix)?;
     Ok(text)
 }

@@ -1,4 +1,3 @@
-pub mod Written
 pub mod Sides
 pub mod Cells
 pub mod Nothing

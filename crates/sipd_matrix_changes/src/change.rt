@@ -7,12 +7,22 @@ ghost use Rattle.sipd_matrix_changes.specs.Change as Definitions;
 use crate::both_configurations::{ask_alike, proven_to};
 use crate::table::are_asked_alike;
 use sip_config_types::Config;
-use sip_matrix::{Column, agree};
+use sip_matrix::{Column, PolicyTable, agree};
 use sip_policy::{Operation, User, is_own_domain};
 use sip_text::{Bytes, same_bytes};
 use sip_uri::Aor;
-use sipd_matrix::{are_known, put_mark_at};
+use sipd_matrix::{Cell, are_known, put_mark_at};
 use std::alloc::{AllocError, Global};
+
+/// A new configuration that takes the place of an old one, and an operation, lent.
+#[derive(Clone, Copy)]
+pub(crate) struct Change<'a> {
+    pub(crate) old: &'a Config,
+    pub(crate) new: &'a Config,
+    pub(crate) operation: &'a Operation,
+    /// That of both configurations together.
+    pub(crate) table: &'a PolicyTable,
+}
 
 /// Whether who asks is nobody to a configuration.
 fn is_nobody(config: &Config, row: Option<&[u8]>) -> bool
@@ -25,13 +35,13 @@ fn is_nobody(config: &Config, row: Option<&[u8]>) -> bool
 }
 
 /// Whether `self` means the addresses of a cell.
-pub(crate) fn own_to(config: &Config, row: Option<&[u8]>, class: &Column, own: bool) -> bool
-    ensures { result ≡ Definitions.own_to config.now (option_copied row.entry) class.now own }
+pub(crate) fn own_to(config: &Config, cell: &Cell<'_>, own: bool) -> bool
+    ensures { result ≡ Definitions.own_to config.now (option_copied cell.now.row) cell.now.class.now own }
 {
-    if !are_known(config, class) {
+    if !are_known(config, cell.class) {
         return false;
     }
-    own || is_nobody(config, row)
+    own || is_nobody(config, cell.row)
 }
 
 /// What a configuration makes of the questions of a cell.
@@ -39,36 +49,21 @@ fn decided_in(
     alloc: Global,
     config: &Config,
     operation: &Operation,
-    row: Option<&[u8]>,
-    class: &Column,
+    cell: &Cell<'_>,
     own: bool,
-    piece: u16,
 ) -> Result<Bytes, AllocError>
-    ensures { IfOk result (λ mark. mark ≡ Definitions.decided_in config.now operation.now (option_copied row.entry) class.now own piece) }
+    ensures { IfOk result (λ mark. mark ≡ Definitions.decided_in config.now operation.now (option_copied cell.now.row) cell.now.class.now own
+        cell.now.piece) }
 {
     let mut mark = Bytes::new(alloc);
-    let own = own_to(config, row, class, own);
-    let proven = proven_to(config, row);
-    put_mark_at(&mut mark, config, operation, proven, class, own, piece)?;
+    let own = own_to(config, cell, own);
+    let asked = Cell {
+        row: proven_to(config, cell.row),
+        class: cell.class,
+        piece: cell.piece,
+    };
+    put_mark_at(&mut mark, config, operation, &asked, own)?;
     Ok(mark)
-}
-
-/// Whether two make something else of them.
-fn is_changed_in(
-    alloc: Global,
-    old: &Config,
-    new: &Config,
-    operation: &Operation,
-    row: Option<&[u8]>,
-    class: &Column,
-    own: bool,
-    piece: u16,
-) -> Result<bool, AllocError>
-    ensures { IfOk result (λ changed. changed ≡ Definitions.is_changed_in old.now new.now operation.now (option_copied row.entry) class.now own piece) }
-{
-    let before = decided_in(alloc, old, operation, row, class, own, piece)?;
-    let behind = decided_in(alloc, new, operation, row, class, own, piece)?;
-    Ok(!same_bytes(before.as_slice(), behind.as_slice()))
 }
 
 /// Whether a host is an own domain of one of both.
@@ -120,61 +115,46 @@ fn has_column(
     })
 }
 
-/// Whether some user of a row does.
-fn has_asker(
-    old: &Config,
-    new: &Config,
-    columns: &[Column],
-    row: &[u8],
-    class: &Column,
-    own: bool,
-    users: &[User],
-) -> bool
-    ensures { result ≡ Definitions.has_asker old.now new.now columns.now row.now class.now own users.now }
-{
-    users.iter().any(|user| {
-        ask_alike(old, new, row, user.name.as_slice())
-            && has_column(old, new, columns, class, own, user.name.as_slice())
-    })
-}
+impl Change<'_> {
+    /// Whether two configurations make something else of the questions of a cell.
+    pub(crate) fn is_changed_in(
+        &self,
+        alloc: Global,
+        cell: &Cell<'_>,
+        own: bool,
+    ) -> Result<bool, AllocError>
+        ensures { IfOk result (λ changed. changed ≡ Definitions.is_changed_in self.now.old.now self.now.new.now self.now.operation.now
+            (option_copied cell.now.row) cell.now.class.now own cell.now.piece) }
+    {
+        let before = decided_in(alloc, self.old, self.operation, cell, own)?;
+        let behind = decided_in(alloc, self.new, self.operation, cell, own)?;
+        Ok(!same_bytes(before.as_slice(), behind.as_slice()))
+    }
 
-/// Whether a cell has questions.
-pub(crate) fn has_question(
-    old: &Config,
-    new: &Config,
-    columns: &[Column],
-    row: Option<&[u8]>,
-    class: &Column,
-    own: bool,
-) -> bool
-    ensures { result ≡ Definitions.has_question old.now new.now columns.now (option_copied row.entry) class.now own }
-{
-    match row {
-        None => !own,
-        Some(row) => {
-            has_asker(old, new, columns, row, class, own, old.users.as_slice())
-                || has_asker(old, new, columns, row, class, own, new.users.as_slice())
+    /// Whether some user of a row asks for his own address in a class, or for another.
+    fn has_asker(&self, row: &[u8], class: &Column, own: bool, users: &[User]) -> bool
+        ensures { result ≡ Definitions.has_asker self.now.old.now self.now.new.now self.now.table.now.columns row.now class.now own users.now }
+    {
+        let old = self.old;
+        let new = self.new;
+        let columns = self.table.columns.as_slice();
+        users.iter().any(|user| {
+            ask_alike(old, new, row, user.name.as_slice())
+                && has_column(old, new, columns, class, own, user.name.as_slice())
+        })
+    }
+
+    /// Whether a cell has questions.
+    pub(crate) fn has_question(&self, cell: &Cell<'_>, own: bool) -> bool
+        ensures { result ≡ Definitions.has_question self.now.old.now self.now.new.now self.now.table.now.columns (option_copied cell.now.row)
+            cell.now.class.now own }
+    {
+        match cell.row {
+            None => !own,
+            Some(row) => {
+                self.has_asker(row, cell.class, own, self.old.users.as_slice())
+                    || self.has_asker(row, cell.class, own, self.new.users.as_slice())
+            }
         }
     }
-}
-
-/// Whether a cell is told.
-pub(crate) fn is_told(
-    alloc: Global,
-    old: &Config,
-    new: &Config,
-    operation: &Operation,
-    columns: &[Column],
-    piece: u16,
-    class: &Column,
-    row: Option<&[u8]>,
-    own: bool,
-) -> Result<bool, AllocError>
-    ensures { IfOk result (λ told. told ≡ Definitions.is_told old.now new.now operation.now columns.now piece class.now (option_copied row.entry) own) }
-{
-    if !has_question(old, new, columns, row, class, own) {
-        return Ok(false);
-    }
-    let changed = is_changed_in(alloc, old, new, operation, row, class, own, piece)?;
-    Ok(changed)
 }

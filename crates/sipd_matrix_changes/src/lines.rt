@@ -5,13 +5,13 @@ ghost use Rattle.std.specs.Option.{option_copied};
 ghost use Rattle.sipd_matrix_changes.specs.Lines as Definitions;
 
 use crate::both_configurations::{ask_alike, proven_to};
-use crate::change::{has_question, is_told, own_to};
+use crate::change::{Change, own_to};
 use crate::table::{are_asked_alike, table_of};
 use sip_config_types::Config;
-use sip_matrix::{Column, PolicyTable};
+use sip_matrix::Column;
 use sip_policy::{Operation, User};
 use sip_text::Bytes;
-use sipd_matrix::{end_of, put_both, put_clock, put_column, put_value};
+use sipd_matrix::{Cell, end_of, put_both, put_clock, put_column, put_value};
 use std::alloc::{AllocError, Global};
 
 /// Adds a piece of the day.
@@ -28,16 +28,19 @@ fn put_value_of(
     text: &mut Bytes,
     config: &Config,
     operation: &Operation,
-    row: Option<&[u8]>,
-    class: &Column,
+    cell: &Cell<'_>,
     own: bool,
-    piece: u16,
 ) -> Result<(), AllocError>
-    ensures { OnOk result (text.new ≡ text.old ++ Definitions.value_of config.now operation.now (option_copied row.entry) class.now own piece) }
+    ensures { OnOk result (text.new ≡ text.old ++ Definitions.value_of config.now operation.now (option_copied cell.now.row) cell.now.class.now own
+        cell.now.piece) }
 {
-    let own = own_to(config, row, class, own);
-    let proven = proven_to(config, row);
-    put_value(text, config, operation, proven, class, own, piece)
+    let own = own_to(config, cell, own);
+    let asked = Cell {
+        row: proven_to(config, cell.row),
+        class: cell.class,
+        piece: cell.piece,
+    };
+    put_value(text, config, operation, &asked, own)
 }
 
 /// Adds a user behind a blank, if he asks as a row does.
@@ -171,81 +174,71 @@ fn put_members(
 /// Adds both rules.
 fn put_values(
     text: &mut Bytes,
-    old: &Config,
-    new: &Config,
-    operation: &Operation,
-    row: Option<&[u8]>,
-    class: &Column,
+    change: &Change<'_>,
+    cell: &Cell<'_>,
     own: bool,
-    piece: u16,
 ) -> Result<(), AllocError>
-    ensures { OnOk result (text.new ≡ text.old ++ Definitions.values_text old.now new.now operation.now (option_copied row.entry) class.now own piece) }
+    ensures { OnOk result (text.new ≡ text.old ++ Definitions.values_text change.now.old.now change.now.new.now change.now.operation.now
+        (option_copied cell.now.row) cell.now.class.now own cell.now.piece) }
 {
-    put_value_of(text, old, operation, row, class, own, piece)?;
+    put_value_of(text, change.old, change.operation, cell, own)?;
     text.extend(b" becomes ")?;
-    put_value_of(text, new, operation, row, class, own, piece)
+    put_value_of(text, change.new, change.operation, cell, own)
 }
 
 /// Adds who asks for whom.
 fn put_askers(
     text: &mut Bytes,
-    old: &Config,
-    new: &Config,
-    columns: &[Column],
-    class: &Column,
-    row: Option<&[u8]>,
+    change: &Change<'_>,
+    cell: &Cell<'_>,
     own: bool,
 ) -> Result<(), AllocError>
-    ensures { OnOk result (text.new ≡ text.old ++ Definitions.askers_text old.now new.now columns.now class.now (option_copied row.entry) own) }
+    ensures { OnOk result (text.new ≡ text.old ++ Definitions.askers_text change.now.old.now change.now.new.now change.now.table.now.columns
+        cell.now.class.now (option_copied cell.now.row) own) }
 {
     text.extend(b" as")?;
-    put_row(text, old, new, row)?;
-    let some_own = has_question(old, new, columns, row, class, true);
+    put_row(text, change.old, change.new, cell.row)?;
+    let some_own = change.has_question(cell, true);
     text.extend(target_words(own, some_own))?;
-    put_members(text, old, new, class, columns)
+    let columns = change.table.columns.as_slice();
+    put_members(text, change.old, change.new, cell.class, columns)
 }
 
 /// Adds the line of a cell.
 fn put_cell(
     text: &mut Bytes,
-    old: &Config,
-    new: &Config,
-    operation: &Operation,
-    table: &PolicyTable,
-    piece: u16,
-    class: &Column,
-    row: Option<&[u8]>,
+    change: &Change<'_>,
+    cell: &Cell<'_>,
     own: bool,
 ) -> Result<(), AllocError>
-    ensures { OnOk result (text.new ≡ text.old ++ Definitions.cell_line old.now new.now operation.now table.now piece class.now (option_copied row.entry) own) }
+    ensures { OnOk result (text.new ≡ text.old
+        ++ Definitions.cell_line change.now.old.now change.now.new.now change.now.operation.now change.now.table.now
+        cell.now.piece cell.now.class.now (option_copied cell.now.row) own) }
 {
-    put_span(text, table.pieces.as_slice(), piece)?;
+    put_span(text, change.table.pieces.as_slice(), cell.piece)?;
     text.extend(b" ")?;
-    put_values(text, old, new, operation, row, class, own, piece)?;
-    let columns = table.columns.as_slice();
-    put_askers(text, old, new, columns, class, row, own)?;
+    put_values(text, change, cell, own)?;
+    put_askers(text, change, cell, own)?;
     text.push(b'\n')
 }
 
-/// The same, if it is told.
+/// The same, if the cell is told: it has questions, of which the two make something else.
 fn put_own(
     alloc: Global,
     text: &mut Bytes,
-    old: &Config,
-    new: &Config,
-    operation: &Operation,
-    table: &PolicyTable,
-    piece: u16,
-    class: &Column,
-    row: Option<&[u8]>,
+    change: &Change<'_>,
+    cell: &Cell<'_>,
     own: bool,
 ) -> Result<(), AllocError>
-    ensures { OnOk result (text.new ≡ text.old ++ Definitions.own_line old.now new.now operation.now table.now piece class.now (option_copied row.entry) own) }
+    ensures { OnOk result (text.new ≡ text.old
+        ++ Definitions.own_line change.now.old.now change.now.new.now change.now.operation.now change.now.table.now
+        cell.now.piece cell.now.class.now (option_copied cell.now.row) own) }
 {
-    let columns = table.columns.as_slice();
-    let told = is_told(alloc, old, new, operation, columns, piece, class, row, own)?;
-    if told {
-        put_cell(text, old, new, operation, table, piece, class, row, own)
+    if !change.has_question(cell, own) {
+        return Ok(());
+    }
+    if change.is_changed_in(alloc, cell, own)? {
+        put_cell(text, change, cell, own)
     } else {
         Ok(())
     }
@@ -255,40 +248,35 @@ fn put_own(
 fn put_both_of(
     alloc: Global,
     text: &mut Bytes,
-    old: &Config,
-    new: &Config,
-    operation: &Operation,
-    table: &PolicyTable,
-    piece: u16,
-    class: &Column,
-    row: Option<&[u8]>,
+    change: &Change<'_>,
+    cell: &Cell<'_>,
 ) -> Result<(), AllocError>
-    ensures { OnOk result (text.new ≡ text.old ++ Definitions.row_lines old.now new.now operation.now table.now piece class.now (option_copied row.entry)) }
+    ensures { OnOk result (text.new ≡ text.old
+        ++ Definitions.row_lines change.now.old.now change.now.new.now change.now.operation.now change.now.table.now
+        cell.now.piece cell.now.class.now (option_copied cell.now.row)) }
 {
-    put_own(
-        alloc, text, old, new, operation, table, piece, class, row, false,
-    )?;
-    put_own(
-        alloc, text, old, new, operation, table, piece, class, row, true,
-    )
+    put_own(alloc, text, change, cell, false)?;
+    put_own(alloc, text, change, cell, true)
 }
 
 fn put_rows(
     alloc: Global,
     text: &mut Bytes,
-    old: &Config,
-    new: &Config,
-    operation: &Operation,
-    table: &PolicyTable,
+    change: &Change<'_>,
     piece: u16,
     class: &Column,
     rows: &[Bytes],
 ) -> Result<(), AllocError>
-    ensures { OnOk result (text.new ≡ text.old ++ flat_map (Definitions.user_lines old.now new.now operation.now table.now piece class.now) rows.now) }
+    ensures { OnOk result (text.new ≡ text.old
+        ++ flat_map (Definitions.user_lines change.now.old.now change.now.new.now change.now.operation.now change.now.table.now piece class.now) rows.now) }
 {
     for row in rows {
-        let row = Some(row.as_slice());
-        put_both_of(alloc, text, old, new, operation, table, piece, class, row)?;
+        let cell = Cell {
+            row: Some(row.as_slice()),
+            class,
+            piece,
+        };
+        put_both_of(alloc, text, change, &cell)?;
     }
     Ok(())
 }
@@ -297,34 +285,35 @@ fn put_rows(
 fn put_class(
     alloc: Global,
     text: &mut Bytes,
-    old: &Config,
-    new: &Config,
-    operation: &Operation,
-    table: &PolicyTable,
+    change: &Change<'_>,
     piece: u16,
     class: &Column,
 ) -> Result<(), AllocError>
-    ensures { OnOk result (text.new ≡ text.old ++ Definitions.class_lines old.now new.now operation.now table.now piece class.now) }
+    ensures { OnOk result (text.new ≡ text.old
+        ++ Definitions.class_lines change.now.old.now change.now.new.now change.now.operation.now change.now.table.now piece class.now) }
 {
-    put_both_of(alloc, text, old, new, operation, table, piece, class, None)?;
-    let rows = table.rows.as_slice();
-    put_rows(alloc, text, old, new, operation, table, piece, class, rows)
+    let nobody = Cell {
+        row: None,
+        class,
+        piece,
+    };
+    put_both_of(alloc, text, change, &nobody)?;
+    let rows = change.table.rows.as_slice();
+    put_rows(alloc, text, change, piece, class, rows)
 }
 
 fn put_classes(
     alloc: Global,
     text: &mut Bytes,
-    old: &Config,
-    new: &Config,
-    operation: &Operation,
-    table: &PolicyTable,
+    change: &Change<'_>,
     piece: u16,
     classes: &[Column],
 ) -> Result<(), AllocError>
-    ensures { OnOk result (text.new ≡ text.old ++ flat_map (Definitions.class_lines old.now new.now operation.now table.now piece) classes.now) }
+    ensures { OnOk result (text.new ≡ text.old
+        ++ flat_map (Definitions.class_lines change.now.old.now change.now.new.now change.now.operation.now change.now.table.now piece) classes.now) }
 {
     for class in classes {
-        put_class(alloc, text, old, new, operation, table, piece, class)?;
+        put_class(alloc, text, change, piece, class)?;
     }
     Ok(())
 }
@@ -332,34 +321,25 @@ fn put_classes(
 fn put_pieces(
     alloc: Global,
     text: &mut Bytes,
-    old: &Config,
-    new: &Config,
-    operation: &Operation,
-    table: &PolicyTable,
+    change: &Change<'_>,
     pieces: &[u16],
 ) -> Result<(), AllocError>
-    ensures { OnOk result (text.new ≡ text.old ++ flat_map (Definitions.piece_lines old.now new.now operation.now table.now) pieces.now) }
+    ensures { OnOk result (text.new ≡ text.old
+        ++ flat_map (Definitions.piece_lines change.now.old.now change.now.new.now change.now.operation.now change.now.table.now) pieces.now) }
 {
     for piece in pieces {
-        let classes = table.classes.as_slice();
-        put_classes(alloc, text, old, new, operation, table, *piece, classes)?;
+        let classes = change.table.classes.as_slice();
+        put_classes(alloc, text, change, *piece, classes)?;
     }
     Ok(())
 }
 
 /// The lines of the table of both.
-fn lines_of(
-    alloc: Global,
-    old: &Config,
-    new: &Config,
-    operation: &Operation,
-    table: &PolicyTable,
-) -> Result<Bytes, AllocError>
-    ensures { IfOk result (λ text. text ≡ Definitions.lines_of old.now new.now operation.now table.now) }
+fn lines_of(alloc: Global, change: &Change<'_>) -> Result<Bytes, AllocError>
+    ensures { IfOk result (λ text. text ≡ Definitions.lines_of change.now.old.now change.now.new.now change.now.operation.now change.now.table.now) }
 {
     let mut text = Bytes::new(alloc);
-    let pieces = table.pieces.as_slice();
-    put_pieces(alloc, &mut text, old, new, operation, table, pieces)?;
+    put_pieces(alloc, &mut text, change, change.table.pieces.as_slice())?;
     Ok(text)
 }
 
@@ -375,6 +355,12 @@ pub fn changes_text(
     ensures { IfOk result (λ text. text ≡ Definitions.changes_text old.now new.now operation.now) }
 {
     let table = table_of(alloc, old, new)?;
-    let text = lines_of(alloc, old, new, operation, &table)?;
+    let change = Change {
+        old,
+        new,
+        operation,
+        table: &table,
+    };
+    let text = lines_of(alloc, &change)?;
     Ok(text)
 }

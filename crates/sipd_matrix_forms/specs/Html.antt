@@ -10,8 +10,30 @@ use Rattle.sip_matrix.specs.Table.{table_of}
 use Rattle.sipd_matrix.specs.Cells.{cell_text, numbers_of}
 use Rattle.sipd_matrix.specs.Text.{clock_text, end_of, foot, legend, member_text, title}
 use Rattle.sipd_report.specs.Html.{escaped}
+use Rattle.sipd_matrix_forms.specs.declared.html.Level.{Level}
+use Rattle.sipd_matrix_forms.specs.declared.html.Level.TheVariants.{Page, Section}
 use Rattle.sipd_matrix_forms.specs.Csv.{own_at}
 use Rattle.sipd_matrix_forms.specs.Outcome.{place_at, verdict_at}
+
+-- ---- headings
+
+-- the tags of the policy's heading: on a page of its own, or in a section of another
+abbrev pub title_begin : Level → List ℕ
+title_begin Page = codes "<h1>"
+title_begin Section = codes "<h3>"
+
+abbrev pub title_end : Level → List ℕ
+title_end Page = codes "</h1>\n"
+title_end Section = codes "</h3>\n"
+
+-- those of the heading of a piece of the day
+abbrev pub piece_begin : Level → List ℕ
+piece_begin Page = codes "<h2>"
+piece_begin Section = codes "<h4>"
+
+abbrev pub piece_end : Level → List ℕ
+piece_end Page = codes "</h2>\n"
+piece_end Section = codes "</h4>\n"
 
 -- ---- cells
 
@@ -59,12 +81,12 @@ abbrev pub head_row : PolicyTable → List ℕ
 head_row table = codes "<tr><th>nobody</th>" ++ flat_map head_cell table.rows ++ codes "<th>asks for</th></tr>\n"
 
 -- a piece of the day
-abbrev pub piece_title : PolicyTable → ℕ → List ℕ
-piece_title table piece = codes "<h2>" ++ clock_text piece ++ codes "-" ++ clock_text (end_of table.pieces piece) ++ codes "</h2>\n"
+abbrev pub piece_title : Level → PolicyTable → ℕ → List ℕ
+piece_title level table piece = piece_begin level ++ clock_text piece ++ codes "-" ++ clock_text (end_of table.pieces piece) ++ piece_end level
 
-abbrev pub piece_table : Config → Operation → PolicyTable → ℕ → List ℕ
-piece_table config operation table piece =
-    piece_title table piece ++ codes "<table>\n" ++ head_row table ++ flat_map (class_row config operation table piece) table.classes ++ codes "</table>\n"
+abbrev pub piece_table : Level → Config → Operation → PolicyTable → ℕ → List ℕ
+piece_table level config operation table piece =
+    piece_title level table piece ++ codes "<table>\n" ++ head_row table ++ flat_map (class_row config operation table piece) table.classes ++ codes "</table>\n"
 
 -- ---- the whole
 
@@ -86,8 +108,8 @@ abbrev pub text_block : List ℕ → List ℕ
 text_block text = codes "<pre>" ++ escaped text ++ codes "</pre>\n"
 
 -- what the table is of
-abbrev pub heading : Config → Operation → List ℕ
-heading config operation = codes "<h1>" ++ escaped (title config operation) ++ codes "</h1>\n"
+abbrev pub heading : Level → Config → Operation → List ℕ
+heading level config operation = title_begin level ++ escaped (title config operation) ++ title_end level
 
 -- what the signs in the cells mean
 abbrev pub signs : List ℕ
@@ -98,20 +120,20 @@ abbrev pub under : Config → Operation → PolicyTable → List ℕ → List �
 under config operation table numbers = text_block (foot config operation table numbers)
 
 -- what a table says
-abbrev pub table_text : Config → Operation → PolicyTable → List ℕ → List ℕ
-table_text config operation table numbers =
-    heading config operation ++ signs ++ flat_map (piece_table config operation table) table.pieces ++ under config operation table numbers
+abbrev pub table_text : Level → Config → Operation → PolicyTable → List ℕ → List ℕ
+table_text level config operation table numbers =
+    heading level config operation ++ signs ++ flat_map (piece_table level config operation table) table.pieces ++ under config operation table numbers
 
-abbrev pub policy_of : Config → Operation → PolicyTable → List ℕ
-policy_of config operation table = table_text config operation table (numbers_of config operation table)
+abbrev pub policy_of : Level → Config → Operation → PolicyTable → List ℕ
+policy_of level config operation table = table_text level config operation table (numbers_of config operation table)
 
 -- the table of a configuration for an operation
-abbrev pub policy_text : Config → Operation → List ℕ
-policy_text config operation = policy_of config operation (table_of config.rules config.users config.own.domains)
+abbrev pub policy_text : Level → Config → Operation → List ℕ
+policy_text level config operation = policy_of level config operation (table_of config.rules config.users config.own.domains)
 
 -- as a page, which has its end behind all texts
 abbrev pub page_end : List ℕ
 page_end = codes "</body>\n</html>\n"
 
 abbrev pub html_text : Config → Operation → List ℕ
-html_text config operation = page_begin ++ policy_text config operation ++ page_end
+html_text config operation = page_begin ++ policy_text Page config operation ++ page_end

@@ -7,11 +7,12 @@ ghost use Rattle.sipd_matrix_forms.specs.Csv as Definitions;
 
 use crate::outcome::{place_at, verdict_at};
 use sip_config_types::Config;
-use sip_matrix::{Column, PolicyTable, table_of};
+use sip_matrix::{Column, PolicyTable};
 use sip_policy::Operation;
 use sip_text::Bytes;
 use sipd_matrix::{
-    are_known, end_of, has_second, number_at, operation_word, put_members, put_users,
+    Cell, Matrix, are_known, end_of, number_at, operation_word, policy_table, put_members,
+    put_users,
 };
 use sipd_report::push_field;
 use std::alloc::{AllocError, Global};
@@ -96,29 +97,23 @@ fn put_target(
     put_field(text, behind_first(members.as_slice()))
 }
 
-/// Whether a row and a class have a second cell.
-fn is_split(
-    config: &Config,
-    operation: &Operation,
-    columns: &[Column],
-    piece: u16,
-    class: &Column,
-    row: Option<&[u8]>,
-) -> bool
-    ensures { result ≡ Cells.is_split config.now operation.now columns.now piece class.now (option_copied row.entry) }
+/// Whether the row and the class of a cell have a second one.
+fn is_split(matrix: &Matrix<'_>, cell: &Cell<'_>) -> bool
+    ensures { result ≡ Cells.is_split matrix.now.config.now matrix.now.operation.now matrix.now.table.now.columns
+        cell.now.piece cell.now.class.now (option_copied cell.now.row) }
 {
-    match row {
+    match cell.row {
         None => false,
-        Some(row) => has_second(config, operation, columns, class, row, piece),
+        Some(row) => matrix.has_second(cell.piece, cell.class, row),
     }
 }
 
 /// Whether `self` means the addresses of a cell.
-pub(crate) fn own_at(config: &Config, class: &Column, row: Option<&[u8]>, second: bool) -> bool
-    ensures { result ≡ Definitions.own_at config.now class.now (option_copied row.entry) second }
+pub(crate) fn own_at(matrix: &Matrix<'_>, cell: &Cell<'_>, second: bool) -> bool
+    ensures { result ≡ Definitions.own_at matrix.now.config.now cell.now.class.now (option_copied cell.now.row) second }
 {
-    match row {
-        None => are_known(config, class),
+    match cell.row {
+        None => are_known(matrix.config, cell.class),
         Some(_) => second,
     }
 }
@@ -135,40 +130,35 @@ fn put_span(text: &mut Bytes, table: &PolicyTable, piece: u16) -> Result<(), All
 fn put_question(
     alloc: Global,
     text: &mut Bytes,
-    config: &Config,
-    operation: &Operation,
-    table: &PolicyTable,
-    piece: u16,
-    class: &Column,
-    row: Option<&[u8]>,
+    matrix: &Matrix<'_>,
+    cell: &Cell<'_>,
     second: bool,
 ) -> Result<(), AllocError>
-    ensures { OnOk result (text.new ≡ text.old ++ Definitions.question_fields config.now operation.now table.now piece class.now (option_copied row.entry) second) }
+    ensures { OnOk result (text.new ≡ text.old ++ Definitions.question_fields matrix.now.config.now matrix.now.operation.now matrix.now.table.now
+        cell.now.piece cell.now.class.now (option_copied cell.now.row) second) }
 {
-    let columns = table.columns.as_slice();
-    let split = is_split(config, operation, columns, piece, class, row);
-    put_who(alloc, text, config, row)?;
-    put_field(text, operation_word(operation))?;
+    let columns = matrix.table.columns.as_slice();
+    let split = is_split(matrix, cell);
+    put_who(alloc, text, matrix.config, cell.row)?;
+    put_field(text, operation_word(matrix.operation))?;
     put_field(text, whose_word(split, second))?;
-    put_target(alloc, text, config, columns, class)
+    put_target(alloc, text, matrix.config, columns, cell.class)
 }
 
 /// Adds the rule, its verdict, and where it goes.
 fn put_answer(
     text: &mut Bytes,
-    config: &Config,
-    operation: &Operation,
-    row: Option<&[u8]>,
-    class: &Column,
+    matrix: &Matrix<'_>,
+    cell: &Cell<'_>,
     own: bool,
-    piece: u16,
 ) -> Result<(), AllocError>
-    ensures { OnOk result (text.new ≡ text.old ++ Definitions.answer_fields config.now operation.now (option_copied row.entry) class.now own piece) }
+    ensures { OnOk result (text.new ≡ text.old ++ Definitions.answer_fields matrix.now.config.now matrix.now.operation.now
+        (option_copied cell.now.row) cell.now.class.now own cell.now.piece) }
 {
-    let number = number_at(config, operation, row, class, own, piece);
+    let number = number_at(matrix.config, matrix.operation, cell, own);
     put_number(text, u64::from(number))?;
-    put_field(text, verdict_at(config, operation, row, class, own, piece))?;
-    push_field(text, place_at(config, operation, row, class, own, piece))?;
+    put_field(text, verdict_at(matrix, cell, own))?;
+    push_field(text, place_at(matrix, cell, own))?;
     text.extend(b"\r\n")
 }
 
@@ -176,42 +166,30 @@ fn put_answer(
 fn put_cell(
     alloc: Global,
     text: &mut Bytes,
-    config: &Config,
-    operation: &Operation,
-    table: &PolicyTable,
-    piece: u16,
-    class: &Column,
-    row: Option<&[u8]>,
+    matrix: &Matrix<'_>,
+    cell: &Cell<'_>,
     second: bool,
 ) -> Result<(), AllocError>
-    ensures { OnOk result (text.new ≡ text.old ++ Definitions.cell_line config.now operation.now table.now piece class.now (option_copied row.entry) second) }
+    ensures { OnOk result (text.new ≡ text.old ++ Definitions.cell_line matrix.now.config.now matrix.now.operation.now matrix.now.table.now
+        cell.now.piece cell.now.class.now (option_copied cell.now.row) second) }
 {
-    put_span(text, table, piece)?;
-    put_question(
-        alloc, text, config, operation, table, piece, class, row, second,
-    )?;
-    let own = own_at(config, class, row, second);
-    put_answer(text, config, operation, row, class, own, piece)
+    put_span(text, matrix.table, cell.piece)?;
+    put_question(alloc, text, matrix, cell, second)?;
+    put_answer(text, matrix, cell, own_at(matrix, cell, second))
 }
 
 /// Adds the second line of a row, where it has a second cell.
 fn put_second(
     alloc: Global,
     text: &mut Bytes,
-    config: &Config,
-    operation: &Operation,
-    table: &PolicyTable,
-    piece: u16,
-    class: &Column,
-    row: Option<&[u8]>,
+    matrix: &Matrix<'_>,
+    cell: &Cell<'_>,
 ) -> Result<(), AllocError>
-    ensures { OnOk result (text.new ≡ text.old ++ Definitions.second_line config.now operation.now table.now piece class.now (option_copied row.entry)) }
+    ensures { OnOk result (text.new ≡ text.old ++ Definitions.second_line matrix.now.config.now matrix.now.operation.now matrix.now.table.now
+        cell.now.piece cell.now.class.now (option_copied cell.now.row)) }
 {
-    let columns = table.columns.as_slice();
-    if is_split(config, operation, columns, piece, class, row) {
-        put_cell(
-            alloc, text, config, operation, table, piece, class, row, true,
-        )
+    if is_split(matrix, cell) {
+        put_cell(alloc, text, matrix, cell, true)
     } else {
         Ok(())
     }
@@ -221,36 +199,34 @@ fn put_second(
 fn put_row(
     alloc: Global,
     text: &mut Bytes,
-    config: &Config,
-    operation: &Operation,
-    table: &PolicyTable,
-    piece: u16,
-    class: &Column,
-    row: Option<&[u8]>,
+    matrix: &Matrix<'_>,
+    cell: &Cell<'_>,
 ) -> Result<(), AllocError>
-    ensures { OnOk result (text.new ≡ text.old ++ Definitions.row_lines config.now operation.now table.now piece class.now (option_copied row.entry)) }
+    ensures { OnOk result (text.new ≡ text.old ++ Definitions.row_lines matrix.now.config.now matrix.now.operation.now matrix.now.table.now
+        cell.now.piece cell.now.class.now (option_copied cell.now.row)) }
 {
-    put_cell(
-        alloc, text, config, operation, table, piece, class, row, false,
-    )?;
-    put_second(alloc, text, config, operation, table, piece, class, row)
+    put_cell(alloc, text, matrix, cell, false)?;
+    put_second(alloc, text, matrix, cell)
 }
 
 fn put_rows(
     alloc: Global,
     text: &mut Bytes,
-    config: &Config,
-    operation: &Operation,
-    table: &PolicyTable,
+    matrix: &Matrix<'_>,
     piece: u16,
     class: &Column,
     rows: &[Bytes],
 ) -> Result<(), AllocError>
-    ensures { OnOk result (text.new ≡ text.old ++ flat_map (Definitions.user_lines config.now operation.now table.now piece class.now) rows.now) }
+    ensures { OnOk result (text.new ≡ text.old
+        ++ flat_map (Definitions.user_lines matrix.now.config.now matrix.now.operation.now matrix.now.table.now piece class.now) rows.now) }
 {
     for row in rows {
-        let row = Some(row.as_slice());
-        put_row(alloc, text, config, operation, table, piece, class, row)?;
+        let cell = Cell {
+            row: Some(row.as_slice()),
+            class,
+            piece,
+        };
+        put_row(alloc, text, matrix, &cell)?;
     }
     Ok(())
 }
@@ -259,32 +235,35 @@ fn put_rows(
 fn put_class(
     alloc: Global,
     text: &mut Bytes,
-    config: &Config,
-    operation: &Operation,
-    table: &PolicyTable,
+    matrix: &Matrix<'_>,
     piece: u16,
     class: &Column,
 ) -> Result<(), AllocError>
-    ensures { OnOk result (text.new ≡ text.old ++ Definitions.class_lines config.now operation.now table.now piece class.now) }
+    ensures { OnOk result (text.new ≡ text.old
+        ++ Definitions.class_lines matrix.now.config.now matrix.now.operation.now matrix.now.table.now piece class.now) }
 {
-    put_row(alloc, text, config, operation, table, piece, class, None)?;
-    let rows = table.rows.as_slice();
-    put_rows(alloc, text, config, operation, table, piece, class, rows)
+    let nobody = Cell {
+        row: None,
+        class,
+        piece,
+    };
+    put_row(alloc, text, matrix, &nobody)?;
+    let rows = matrix.table.rows.as_slice();
+    put_rows(alloc, text, matrix, piece, class, rows)
 }
 
 fn put_classes(
     alloc: Global,
     text: &mut Bytes,
-    config: &Config,
-    operation: &Operation,
-    table: &PolicyTable,
+    matrix: &Matrix<'_>,
     piece: u16,
     classes: &[Column],
 ) -> Result<(), AllocError>
-    ensures { OnOk result (text.new ≡ text.old ++ flat_map (Definitions.class_lines config.now operation.now table.now piece) classes.now) }
+    ensures { OnOk result (text.new ≡ text.old
+        ++ flat_map (Definitions.class_lines matrix.now.config.now matrix.now.operation.now matrix.now.table.now piece) classes.now) }
 {
     for class in classes {
-        put_class(alloc, text, config, operation, table, piece, class)?;
+        put_class(alloc, text, matrix, piece, class)?;
     }
     Ok(())
 }
@@ -292,16 +271,15 @@ fn put_classes(
 fn put_pieces(
     alloc: Global,
     text: &mut Bytes,
-    config: &Config,
-    operation: &Operation,
-    table: &PolicyTable,
+    matrix: &Matrix<'_>,
     pieces: &[u16],
 ) -> Result<(), AllocError>
-    ensures { OnOk result (text.new ≡ text.old ++ flat_map (Definitions.piece_lines config.now operation.now table.now) pieces.now) }
+    ensures { OnOk result (text.new ≡ text.old
+        ++ flat_map (Definitions.piece_lines matrix.now.config.now matrix.now.operation.now matrix.now.table.now) pieces.now) }
 {
     for piece in pieces {
-        let classes = table.classes.as_slice();
-        put_classes(alloc, text, config, operation, table, *piece, classes)?;
+        let classes = matrix.table.classes.as_slice();
+        put_classes(alloc, text, matrix, *piece, classes)?;
     }
     Ok(())
 }
@@ -314,18 +292,12 @@ fn put_header(text: &mut Bytes) -> Result<(), AllocError>
 }
 
 /// The values of a table.
-fn csv_of(
-    alloc: Global,
-    config: &Config,
-    operation: &Operation,
-    table: &PolicyTable,
-) -> Result<Bytes, AllocError>
-    ensures { IfOk result (λ text. text ≡ Definitions.csv_of config.now operation.now table.now) }
+fn csv_of(alloc: Global, matrix: &Matrix<'_>) -> Result<Bytes, AllocError>
+    ensures { IfOk result (λ text. text ≡ Definitions.csv_of matrix.now.config.now matrix.now.operation.now matrix.now.table.now) }
 {
     let mut text = Bytes::new(alloc);
     put_header(&mut text)?;
-    let pieces = table.pieces.as_slice();
-    put_pieces(alloc, &mut text, config, operation, table, pieces)?;
+    put_pieces(alloc, &mut text, matrix, matrix.table.pieces.as_slice())?;
     Ok(text)
 }
 
@@ -335,12 +307,12 @@ fn csv_of(
 pub fn csv_text(alloc: Global, config: &Config, operation: &Operation) -> Result<Bytes, AllocError>
     ensures { IfOk result (λ text. text ≡ Definitions.csv_text config.now operation.now) }
 {
-    let table = table_of(
-        alloc,
-        config.rules.as_slice(),
-        &config.users,
-        config.own.domains.as_slice(),
-    )?;
-    let text = csv_of(alloc, config, operation, &table)?;
+    let table = policy_table(alloc, config)?;
+    let matrix = Matrix {
+        config,
+        operation,
+        table: &table,
+    };
+    let text = csv_of(alloc, &matrix)?;
     Ok(text)
 }

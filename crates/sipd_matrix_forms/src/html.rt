@@ -7,11 +7,12 @@ ghost use Rattle.sipd_matrix_forms.specs.Html as Definitions;
 use crate::csv::own_at;
 use crate::outcome::{place_at, verdict_at};
 use sip_config_types::Config;
-use sip_matrix::{Column, PolicyTable, table_of};
+use sip_matrix::{Column, PolicyTable};
 use sip_policy::Operation;
 use sip_text::{Bytes, Items, same_bytes};
 use sipd_matrix::{
-    end_of, numbers_of, put_cell, put_clock, put_foot, put_legend, put_members, put_title,
+    Cell, Matrix, end_of, numbers_of, policy_table, put_clock, put_foot, put_legend, put_members,
+    put_title,
 };
 use sipd_report::put_escaped;
 use std::alloc::{AllocError, Global};
@@ -28,6 +29,53 @@ const PAGE_BEGIN: &[u8] = b"\
     .challenge { background: #f8f0c8; }\n.nobody { background: #e0e0e0; }\n\
     </style>\n</head>\n<body>\n";
 
+/// How deep the headings of a policy stand.
+#[derive(Clone, Copy)]
+pub enum Level {
+    /// On a page of its own: `h1`, and `h2` for each piece of the day.
+    Page,
+    /// In a section of another page: `h3` and `h4`.
+    Section,
+}
+
+/// The tags of its heading.
+fn title_begin(level: Level) -> &'static [u8]
+    ensures { result.now ≡ Definitions.title_begin level }
+{
+    match level {
+        Level::Page => b"<h1>",
+        Level::Section => b"<h3>",
+    }
+}
+
+fn title_end(level: Level) -> &'static [u8]
+    ensures { result.now ≡ Definitions.title_end level }
+{
+    match level {
+        Level::Page => b"</h1>\n",
+        Level::Section => b"</h3>\n",
+    }
+}
+
+/// The same of a piece of the day.
+fn piece_begin(level: Level) -> &'static [u8]
+    ensures { result.now ≡ Definitions.piece_begin level }
+{
+    match level {
+        Level::Page => b"<h2>",
+        Level::Section => b"<h4>",
+    }
+}
+
+fn piece_end(level: Level) -> &'static [u8]
+    ensures { result.now ≡ Definitions.piece_end level }
+{
+    match level {
+        Level::Page => b"</h2>\n",
+        Level::Section => b"</h4>\n",
+    }
+}
+
 /// The kind of a cell.
 fn kind_of<'a>(verdict: &'a [u8], place: &[u8]) -> &'a [u8]
     ensures { result.now ≡ Definitions.kind_of verdict.now place.now }
@@ -39,18 +87,13 @@ fn kind_of<'a>(verdict: &'a [u8], place: &[u8]) -> &'a [u8]
     }
 }
 
-fn kind_at(
-    config: &Config,
-    operation: &Operation,
-    class: &Column,
-    piece: u16,
-    row: Option<&[u8]>,
-) -> &'static [u8]
-    ensures { result.now ≡ Definitions.kind_at config.now operation.now class.now piece (option_copied row.entry) }
+fn kind_at(matrix: &Matrix<'_>, cell: &Cell<'_>) -> &'static [u8]
+    ensures { result.now ≡ Definitions.kind_at matrix.now.config.now matrix.now.operation.now cell.now.class.now cell.now.piece
+        (option_copied cell.now.row) }
 {
-    let own = own_at(config, class, row, false);
-    let verdict = verdict_at(config, operation, row, class, own, piece);
-    let place = place_at(config, operation, row, class, own, piece);
+    let own = own_at(matrix, cell, false);
+    let verdict = verdict_at(matrix, cell, own);
+    let place = place_at(matrix, cell, own);
     kind_of(verdict, place)
 }
 
@@ -58,18 +101,15 @@ fn kind_at(
 fn put_value(
     alloc: Global,
     text: &mut Bytes,
-    config: &Config,
-    operation: &Operation,
-    columns: &[Column],
-    class: &Column,
-    piece: u16,
-    row: Option<&[u8]>,
+    matrix: &Matrix<'_>,
+    cell: &Cell<'_>,
 ) -> Result<(), AllocError>
-    ensures { OnOk result (text.new ≡ text.old ++ Definitions.value_text config.now operation.now columns.now class.now piece (option_copied row.entry)) }
+    ensures { OnOk result (text.new ≡ text.old ++ Definitions.value_text matrix.now.config.now matrix.now.operation.now matrix.now.table.now.columns
+        cell.now.class.now cell.now.piece (option_copied cell.now.row)) }
 {
-    let mut cell = Bytes::new(alloc);
-    put_cell(&mut cell, config, operation, columns, class, piece, row)?;
-    put_escaped(text, cell.as_slice())
+    let mut value = Bytes::new(alloc);
+    matrix.put_cell(&mut value, cell)?;
+    put_escaped(text, value.as_slice())
 }
 
 /// Adds the beginning of a cell of a kind.
@@ -85,35 +125,35 @@ fn put_kind(text: &mut Bytes, kind: &[u8]) -> Result<(), AllocError>
 fn put_data(
     alloc: Global,
     text: &mut Bytes,
-    config: &Config,
-    operation: &Operation,
-    columns: &[Column],
-    class: &Column,
-    piece: u16,
-    row: Option<&[u8]>,
+    matrix: &Matrix<'_>,
+    cell: &Cell<'_>,
 ) -> Result<(), AllocError>
-    ensures { OnOk result (text.new ≡ text.old ++ Definitions.data_cell config.now operation.now columns.now class.now piece (option_copied row.entry)) }
+    ensures { OnOk result (text.new ≡ text.old ++ Definitions.data_cell matrix.now.config.now matrix.now.operation.now matrix.now.table.now.columns
+        cell.now.class.now cell.now.piece (option_copied cell.now.row)) }
 {
-    put_kind(text, kind_at(config, operation, class, piece, row))?;
-    put_value(alloc, text, config, operation, columns, class, piece, row)?;
+    put_kind(text, kind_at(matrix, cell))?;
+    put_value(alloc, text, matrix, cell)?;
     text.extend(b"</td>")
 }
 
 fn put_users_data(
     alloc: Global,
     text: &mut Bytes,
-    config: &Config,
-    operation: &Operation,
-    columns: &[Column],
-    class: &Column,
+    matrix: &Matrix<'_>,
     piece: u16,
+    class: &Column,
     rows: &[Bytes],
 ) -> Result<(), AllocError>
-    ensures { OnOk result (text.new ≡ text.old ++ flat_map (Definitions.user_cell config.now operation.now columns.now class.now piece) rows.now) }
+    ensures { OnOk result (text.new ≡ text.old
+        ++ flat_map (Definitions.user_cell matrix.now.config.now matrix.now.operation.now matrix.now.table.now.columns class.now piece) rows.now) }
 {
     for row in rows {
-        let row = Some(row.as_slice());
-        put_data(alloc, text, config, operation, columns, class, piece, row)?;
+        let cell = Cell {
+            row: Some(row.as_slice()),
+            class,
+            piece,
+        };
+        put_data(alloc, text, matrix, &cell)?;
     }
     Ok(())
 }
@@ -139,36 +179,39 @@ fn put_target(
 fn put_class(
     alloc: Global,
     text: &mut Bytes,
-    config: &Config,
-    operation: &Operation,
-    table: &PolicyTable,
+    matrix: &Matrix<'_>,
     piece: u16,
     class: &Column,
 ) -> Result<(), AllocError>
-    ensures { OnOk result (text.new ≡ text.old ++ Definitions.class_row config.now operation.now table.now piece class.now) }
+    ensures { OnOk result (text.new ≡ text.old
+        ++ Definitions.class_row matrix.now.config.now matrix.now.operation.now matrix.now.table.now piece class.now) }
 {
-    let columns = table.columns.as_slice();
-    let rows = table.rows.as_slice();
+    let nobody = Cell {
+        row: None,
+        class,
+        piece,
+    };
+    let rows = matrix.table.rows.as_slice();
+    let columns = matrix.table.columns.as_slice();
     text.extend(b"<tr>")?;
-    put_data(alloc, text, config, operation, columns, class, piece, None)?;
-    put_users_data(alloc, text, config, operation, columns, class, piece, rows)?;
-    put_target(alloc, text, config, columns, class)?;
+    put_data(alloc, text, matrix, &nobody)?;
+    put_users_data(alloc, text, matrix, piece, class, rows)?;
+    put_target(alloc, text, matrix.config, columns, class)?;
     text.extend(b"</tr>\n")
 }
 
 fn put_classes(
     alloc: Global,
     text: &mut Bytes,
-    config: &Config,
-    operation: &Operation,
-    table: &PolicyTable,
+    matrix: &Matrix<'_>,
     piece: u16,
     classes: &[Column],
 ) -> Result<(), AllocError>
-    ensures { OnOk result (text.new ≡ text.old ++ flat_map (Definitions.class_row config.now operation.now table.now piece) classes.now) }
+    ensures { OnOk result (text.new ≡ text.old
+        ++ flat_map (Definitions.class_row matrix.now.config.now matrix.now.operation.now matrix.now.table.now piece) classes.now) }
 {
     for class in classes {
-        put_class(alloc, text, config, operation, table, piece, class)?;
+        put_class(alloc, text, matrix, piece, class)?;
     }
     Ok(())
 }
@@ -199,47 +242,51 @@ fn put_head(text: &mut Bytes, table: &PolicyTable) -> Result<(), AllocError>
     text.extend(b"<th>asks for</th></tr>\n")
 }
 
-fn put_piece_title(text: &mut Bytes, table: &PolicyTable, piece: u16) -> Result<(), AllocError>
-    ensures { OnOk result (text.new ≡ text.old ++ Definitions.piece_title table.now piece) }
+fn put_piece_title(
+    text: &mut Bytes,
+    level: Level,
+    table: &PolicyTable,
+    piece: u16,
+) -> Result<(), AllocError>
+    ensures { OnOk result (text.new ≡ text.old ++ Definitions.piece_title level table.now piece) }
 {
-    text.extend(b"<h2>")?;
+    text.extend(piece_begin(level))?;
     put_clock(text, piece)?;
     text.extend(b"-")?;
     put_clock(text, end_of(table.pieces.as_slice(), piece))?;
-    text.extend(b"</h2>\n")
+    text.extend(piece_end(level))
 }
 
 /// Adds a piece of the day.
 fn put_piece(
     alloc: Global,
     text: &mut Bytes,
-    config: &Config,
-    operation: &Operation,
-    table: &PolicyTable,
+    level: Level,
+    matrix: &Matrix<'_>,
     piece: u16,
 ) -> Result<(), AllocError>
-    ensures { OnOk result (text.new ≡ text.old ++ Definitions.piece_table config.now operation.now table.now piece) }
+    ensures { OnOk result (text.new ≡ text.old ++ Definitions.piece_table level matrix.now.config.now matrix.now.operation.now matrix.now.table.now piece) }
 {
-    put_piece_title(text, table, piece)?;
+    put_piece_title(text, level, matrix.table, piece)?;
     text.extend(b"<table>\n")?;
-    put_head(text, table)?;
-    let classes = table.classes.as_slice();
-    put_classes(alloc, text, config, operation, table, piece, classes)?;
+    put_head(text, matrix.table)?;
+    let classes = matrix.table.classes.as_slice();
+    put_classes(alloc, text, matrix, piece, classes)?;
     text.extend(b"</table>\n")
 }
 
 fn put_pieces(
     alloc: Global,
     text: &mut Bytes,
-    config: &Config,
-    operation: &Operation,
-    table: &PolicyTable,
+    level: Level,
+    matrix: &Matrix<'_>,
     pieces: &[u16],
 ) -> Result<(), AllocError>
-    ensures { OnOk result (text.new ≡ text.old ++ flat_map (Definitions.piece_table config.now operation.now table.now) pieces.now) }
+    ensures { OnOk result (text.new ≡ text.old
+        ++ flat_map (Definitions.piece_table level matrix.now.config.now matrix.now.operation.now matrix.now.table.now) pieces.now) }
 {
     for piece in pieces {
-        put_piece(alloc, text, config, operation, table, *piece)?;
+        put_piece(alloc, text, level, matrix, *piece)?;
     }
     Ok(())
 }
@@ -257,16 +304,17 @@ pub fn put_block(text: &mut Bytes, block: &[u8]) -> Result<(), AllocError>
 fn put_heading(
     alloc: Global,
     text: &mut Bytes,
+    level: Level,
     config: &Config,
     operation: &Operation,
 ) -> Result<(), AllocError>
-    ensures { OnOk result (text.new ≡ text.old ++ Definitions.heading config.now operation.now) }
+    ensures { OnOk result (text.new ≡ text.old ++ Definitions.heading level config.now operation.now) }
 {
     let mut title = Bytes::new(alloc);
     put_title(&mut title, config, operation)?;
-    text.extend(b"<h1>")?;
+    text.extend(title_begin(level))?;
     put_escaped(text, title.as_slice())?;
-    text.extend(b"</h1>\n")
+    text.extend(title_end(level))
 }
 
 /// Adds what the signs in the cells mean.
@@ -282,15 +330,13 @@ fn put_signs(alloc: Global, text: &mut Bytes) -> Result<(), AllocError>
 fn put_under(
     alloc: Global,
     text: &mut Bytes,
-    config: &Config,
-    operation: &Operation,
-    table: &PolicyTable,
+    matrix: &Matrix<'_>,
     numbers: &Items<u32>,
 ) -> Result<(), AllocError>
-    ensures { OnOk result (text.new ≡ text.old ++ Definitions.under config.now operation.now table.now numbers.now) }
+    ensures { OnOk result (text.new ≡ text.old ++ Definitions.under matrix.now.config.now matrix.now.operation.now matrix.now.table.now numbers.now) }
 {
     let mut foot = Bytes::new(alloc);
-    put_foot(&mut foot, config, operation, table, numbers)?;
+    put_foot(&mut foot, matrix, numbers)?;
     put_block(text, foot.as_slice())
 }
 
@@ -312,51 +358,51 @@ fn put_page_end(text: &mut Bytes) -> Result<(), AllocError>
 fn put_table(
     alloc: Global,
     text: &mut Bytes,
-    config: &Config,
-    operation: &Operation,
-    table: &PolicyTable,
+    level: Level,
+    matrix: &Matrix<'_>,
     numbers: &Items<u32>,
 ) -> Result<(), AllocError>
-    ensures { OnOk result (text.new ≡ text.old ++ Definitions.table_text config.now operation.now table.now numbers.now) }
+    ensures { OnOk result (text.new ≡ text.old
+        ++ Definitions.table_text level matrix.now.config.now matrix.now.operation.now matrix.now.table.now numbers.now) }
 {
-    put_heading(alloc, text, config, operation)?;
+    put_heading(alloc, text, level, matrix.config, matrix.operation)?;
     put_signs(alloc, text)?;
-    let pieces = table.pieces.as_slice();
-    put_pieces(alloc, text, config, operation, table, pieces)?;
-    put_under(alloc, text, config, operation, table, numbers)
+    put_pieces(alloc, text, level, matrix, matrix.table.pieces.as_slice())?;
+    put_under(alloc, text, matrix, numbers)
 }
 
 /// The same of a table whose rules are still to be found.
 fn put_table_of(
     alloc: Global,
     text: &mut Bytes,
-    config: &Config,
-    operation: &Operation,
-    table: &PolicyTable,
+    level: Level,
+    matrix: &Matrix<'_>,
 ) -> Result<(), AllocError>
-    ensures { OnOk result (text.new ≡ text.old ++ Definitions.policy_of config.now operation.now table.now) }
+    ensures { OnOk result (text.new ≡ text.old ++ Definitions.policy_of level matrix.now.config.now matrix.now.operation.now matrix.now.table.now) }
 {
-    let numbers = numbers_of(alloc, config, operation, table)?;
-    put_table(alloc, text, config, operation, table, &numbers)
+    let numbers = numbers_of(alloc, matrix)?;
+    put_table(alloc, text, level, matrix, &numbers)
 }
 
-/// Adds the whole policy of a configuration for one operation, without the beginning and the end of a page: the cells of the table, and what
-/// stands under it. By the laws of this room no text of the configuration is markup.
+/// Adds the whole policy of a configuration for one operation, without the beginning and the end of a page: under headings of a level, the cells of
+/// the table, and what stands under it. Each text of the configuration is escaped, so that none is markup (law `no_text_is_markup` of
+/// `sipd_report`). `AllocError` is the only refusal.
 pub fn put_policy(
     alloc: Global,
     text: &mut Bytes,
+    level: Level,
     config: &Config,
     operation: &Operation,
 ) -> Result<(), AllocError>
-    ensures { OnOk result (text.new ≡ text.old ++ Definitions.policy_text config.now operation.now) }
+    ensures { OnOk result (text.new ≡ text.old ++ Definitions.policy_text level config.now operation.now) }
 {
-    let table = table_of(
-        alloc,
-        config.rules.as_slice(),
-        &config.users,
-        config.own.domains.as_slice(),
-    )?;
-    put_table_of(alloc, text, config, operation, &table)
+    let table = policy_table(alloc, config)?;
+    let matrix = Matrix {
+        config,
+        operation,
+        table: &table,
+    };
+    put_table_of(alloc, text, level, &matrix)
 }
 
 /// The whole policy of a configuration for one operation as one file of HTML, without a script and without anything of the net: the cells of
@@ -367,7 +413,7 @@ pub fn html_text(alloc: Global, config: &Config, operation: &Operation) -> Resul
 {
     let mut text = Bytes::new(alloc);
     put_begin(&mut text)?;
-    put_policy(alloc, &mut text, config, operation)?;
+    put_policy(alloc, &mut text, Level::Page, config, operation)?;
     put_page_end(&mut text)?;
     Ok(text)
 }

@@ -15,4 +15,4 @@ pub mod laws;
 mod outcome;
 
 pub use csv::csv_text;
-pub use html::{html_text, put_block, put_policy};
+pub use html::{Level, html_text, put_block, put_policy};

@@ -3,11 +3,9 @@ ghost use Rattle.std.specs.Prelude.{◌≡◌};
 ghost use Rattle.std.specs.Option.{option_copied};
 ghost use Rattle.sipd_matrix_forms.specs.Outcome as Definitions;
 
-use sip_config_types::Config;
 use sip_hops::Hop;
-use sip_matrix::Column;
 use sip_policy::{Decision, Operation, ruling_by};
-use sipd_matrix::{are_known, hop_at, rule_at};
+use sipd_matrix::{Cell, Matrix, are_known, hop_at, rule_at};
 
 /// Where what is let through without a hop goes.
 fn sent_place(operation: &Operation, known: bool) -> &'static [u8]
@@ -72,47 +70,30 @@ fn verdict_of(operation: &Operation, hops: &[Hop], decision: Decision) -> &'stat
     }
 }
 
-fn decision_at(
-    config: &Config,
-    operation: &Operation,
-    row: Option<&[u8]>,
-    column: &Column,
-    own: bool,
-    piece: u16,
-) -> Decision
-    ensures { result ≡ Definitions.decision_at config.now operation.now (option_copied row.entry) column.now own piece }
+fn decision_at(matrix: &Matrix<'_>, cell: &Cell<'_>, own: bool) -> Decision
+    ensures { result ≡ Definitions.decision_at matrix.now.config.now matrix.now.operation.now (option_copied cell.now.row) cell.now.class.now own
+        cell.now.piece }
 {
-    let rule = rule_at(config, operation, row, column, own, piece);
-    ruling_by(rule, row, piece).decision
+    let rule = rule_at(matrix.config, matrix.operation, cell, own);
+    ruling_by(rule, cell.row, cell.piece).decision
 }
 
 /// The verdict of a cell: `allow`, `via`, `deny` or `challenge`.
-pub(crate) fn verdict_at(
-    config: &Config,
-    operation: &Operation,
-    row: Option<&[u8]>,
-    column: &Column,
-    own: bool,
-    piece: u16,
-) -> &'static [u8]
-    ensures { result.now ≡ Definitions.verdict_at config.now operation.now (option_copied row.entry) column.now own piece }
+pub(crate) fn verdict_at(matrix: &Matrix<'_>, cell: &Cell<'_>, own: bool) -> &'static [u8]
+    ensures { result.now ≡ Definitions.verdict_at matrix.now.config.now matrix.now.operation.now (option_copied cell.now.row) cell.now.class.now own
+        cell.now.piece }
 {
-    let decision = decision_at(config, operation, row, column, own, piece);
-    verdict_of(operation, config.hops.as_slice(), decision)
+    let decision = decision_at(matrix, cell, own);
+    verdict_of(matrix.operation, matrix.config.hops.as_slice(), decision)
 }
 
 /// Where the requests of a cell go: to the registrar, to bindings, by a hop of this name, to nobody; nothing, where they aren't let through.
-pub(crate) fn place_at<'a>(
-    config: &'a Config,
-    operation: &Operation,
-    row: Option<&[u8]>,
-    column: &Column,
-    own: bool,
-    piece: u16,
-) -> &'a [u8]
-    ensures { result.now ≡ Definitions.place_at config.now operation.now (option_copied row.entry) column.now own piece }
+pub(crate) fn place_at<'a>(matrix: &Matrix<'a>, cell: &Cell<'_>, own: bool) -> &'a [u8]
+    ensures { result.now ≡ Definitions.place_at matrix.now.config.now matrix.now.operation.now (option_copied cell.now.row) cell.now.class.now own
+        cell.now.piece }
 {
-    let decision = decision_at(config, operation, row, column, own, piece);
-    let known = are_known(config, column);
-    place_of(operation, config.hops.as_slice(), known, decision)
+    let decision = decision_at(matrix, cell, own);
+    let known = are_known(matrix.config, cell.class);
+    let hops = matrix.config.hops.as_slice();
+    place_of(matrix.operation, hops, known, decision)
 }

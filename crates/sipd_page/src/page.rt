@@ -244,8 +244,11 @@ fn page_for<T: Timers, P: Rules, R: Files + Clock + Eprint + AllocGlobal, C: Wri
 
 /// Prints recorded days as one page of HTML, without a script and without anything of the net; and whether a log comes out of them again, byte for
 /// byte, if one is named. Records that go on from one another, in the order in which they are named or have their numbers in a folder, are one
-/// history, in which a call has one row, and a line of the log is one. A record that is being written may be among them. Where one is damaged,
-/// nothing is printed.
+/// history, in which a call has one row, and a line of the log is one. A record that is being written may be among them.
+///
+/// Where one is damaged, or memory runs out while they are told, nothing is printed, and the program ends as that says. Refused as
+/// `sipd_telling::tell_files` is; with `Device`, where the log, a folder or the file of a configuration can't be read, with `LongConfiguration`,
+/// where that is too long, and with `Memory`; and as `print` is, where a front of the page may be printed.
 ///
 /// `seen`: whether somebody looks at standard error, where it is said then how far it is.
 pub fn print_page<T: Timers, P: Rules, R: Files + Clock + Eprint + AllocGlobal, W: Write, C: Write>(

@@ -5,6 +5,7 @@ use Rattle.hex.specs.Hex.{encode_lower}
 use Rattle.sip_policy.specs.declared.operation.Operation.{Operation}
 use Rattle.sip_config_types.specs.declared.config.Config.{Config}
 use Rattle.sipd_report.specs.Html.{escaped}
+use Rattle.sipd_matrix_forms.specs.declared.html.Level.TheVariants.{Section}
 use Rattle.sipd_matrix_forms.specs.Html.{policy_text}
 use Rattle.sipd_calls.specs.Notation.{Number, Words, end_text, first_text, further_text}
 use Rattle.sipd_calls.specs.Program.{names_text}
@@ -14,9 +15,9 @@ use Rattle.sipd_page_sections.specs.declared.entries.Entry.{Entry}
 use Rattle.sipd_page_sections.specs.declared.notes.Notes.{Notes}
 use Rattle.sipd_page_sections.specs.Picture.{picture_text}
 
--- the policy of a configuration for an INVITE
+-- the policy of a configuration for an INVITE, under headings of a section
 abbrev pub policy_by : Config → List ℕ
-policy_by config = policy_text config (Operation.Send (codes "INVITE"))
+policy_by config = policy_text Section config (Operation.Send (codes "INVITE"))
 
 -- which record it is
 abbrev pub heading : List ℕ → List ℕ

@@ -10,7 +10,7 @@ use std::io::{BufReader, Write};
 use std::rt::{Clock, Files};
 
 /// The record in a file, whatever became of it: without the lines that hold digests, and with the datagrams for which lines stand. Complains
-/// where it lacks events.
+/// where it lacks events. Refusals: `NoRecord`, where it has no first line of a record; `Memory`; `Device`, where it can't be opened or read.
 ///
 /// `seen`: whether somebody looks at standard error, where it is said then how far it is.
 pub fn open_day<'p, R: Files + Clock + Eprint + AllocGlobal, C: Write>(
@@ -45,7 +45,7 @@ pub fn complain_of_older<C: Write>(exit: Exit, complaints: &mut C) -> Exit {
     exit
 }
 
-/// How the program ends where a record wasn't told to its end: at that line of its file.
+/// How the program ends where a record wasn't told to its end: at that line of its file; with `Changed`, where a line has the digest of other bytes.
 pub fn exit_of_day<R: Files + Clock + Eprint + AllocGlobal>(
     exit: Exit,
     events: &Expanding<Watched<'_, R, Unsealing<BufReader<R::File>>>>,

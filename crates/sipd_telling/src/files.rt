@@ -78,7 +78,7 @@ fn tell_day<T: Timers, P: Rules, I: TellingReader, L: Listener>(
 }
 
 /// Tells it the record in a file, where that follows the one before without the steps that this one told; gives the digest in its last line, where
-/// that holds one.
+/// that holds one. Refused as `open_day` and, at that line of its file, `tell_day` are.
 fn tell_file<
     T: Timers,
     P: Rules,
@@ -105,8 +105,10 @@ fn tell_file<
 }
 
 /// Tells it records as one history, one behind the other. One goes on from the one before where its second line says so, and this one's last line
-/// has the digest that it names: then it is told what wasn't told before, and else all. A record that is being written may be among them. Where one
-/// is damaged, it was told what is in front of the damage.
+/// has the digest that it names: then it is told what wasn't told before, and else all. A record that is being written may be among them.
+///
+/// What was told before a refusal stays told: the records in front of the one that is refused, and of that what is in front of its damage. Refused as
+/// `open_day`, `begin` and `tell` are, with the line of that record's file; or with `Changed`, where a line of it has the digest of other bytes.
 pub fn tell_files<
     T: Timers,
     P: Rules,

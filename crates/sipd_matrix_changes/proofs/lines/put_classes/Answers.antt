@@ -1,9 +1,10 @@
+use Rattle.sipd_matrix.proofs.Written.{one_more}
 use Rattle.sipd_matrix_changes.specs.Lines.{class_lines}
-use Rattle.sipd_matrix_changes.proofs.Written.{one_more}
 use Rattle.sipd_matrix_changes.proofs.lines.put_classes.Goals as goal
 
 pub loop-class-preserved : goal.loop-class-preserved
 loop-class-preserved c =
-    one_more (class_lines c.args.old.now c.args.new.now c.args.operation.now c.args.table.now c.args.piece) c.args.classes.now c.loop-class.class-index
+    let change = c.args.change.now in
+    one_more (class_lines change.old.now change.new.now change.operation.now change.table.now c.args.piece) c.args.classes.now c.loop-class.class-index
     c.class-item.result c.args.text.now c.loop-class.text c.put_class.new.text c.loop-class-test.true c.class-item.is c.loop-class.invariant
     c.in_ok-put_class.ensures

@@ -1,12 +1,6 @@
-use Rattle.std.proofs.Common.{ℕ, List, ap, ap₂, ◌∙◌}
-use Rattle.sip_policy.specs.declared.rule.Rule.{Rule}
-use Rattle.sip_matrix.specs.Table.{table_of}
+use Rattle.std.proofs.Common.{ap, ◌∙◌}
 use Rattle.sipd_matrix_forms.specs.Csv.{csv_of}
 use Rattle.sipd_matrix_forms.proofs.csv.csv_text.Goals as goal
 
 pub returns : goal.returns
-returns c =
-    let config = c.args.config.now in
-    c.in_ok-text.ensures
-    ∙ ap (csv_of config c.args.operation.now)
-    (c.in_ok-table.ensures ∙ ap₂ (λ (rules : List Rule) (domains : List (List ℕ)). table_of rules config.users domains) c.as_slice.ensures c.as_slice-2.ensures)
+returns c = c.in_ok-text.ensures ∙ ap (csv_of c.args.config.now c.args.operation.now) c.in_ok-table.ensures

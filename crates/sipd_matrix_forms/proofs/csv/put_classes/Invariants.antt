@@ -5,4 +5,5 @@ use Rattle.sipd_matrix_forms.proofs.csv.put_classes.Given as goal
 
 -- the lines so far are written
 abbrev pub invariant-loop-class : goal.invariant-loop-class
-invariant-loop-class l = l.text ≡ l.fn.text ++ flat_map (class_lines l.config l.operation l.table l.piece) (take l.class-index l.classes)
+invariant-loop-class l = l.text ≡ l.fn.text
+    ++ flat_map (class_lines l.matrix.config.now l.matrix.operation.now l.matrix.table.now l.piece) (take l.class-index l.classes)

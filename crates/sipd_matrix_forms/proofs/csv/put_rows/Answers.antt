@@ -1,11 +1,12 @@
 use Rattle.std.proofs.Common.{ℕ, List, ◌++◌, ◌∙◌, ap}
+use Rattle.sipd_matrix.proofs.Written.{one_more}
 use Rattle.sipd_matrix_forms.specs.Csv.{user_lines}
-use Rattle.sipd_matrix_forms.proofs.Written.{one_more}
 use Rattle.sipd_matrix_forms.proofs.csv.put_rows.Goals as goal
 
 pub loop-row-preserved : goal.loop-row-preserved
 loop-row-preserved c =
-    let lines = user_lines c.args.config.now c.args.operation.now c.args.table.now c.args.piece c.args.class.now in
+    let matrix = c.args.matrix.now in
+    let lines = user_lines matrix.config.now matrix.operation.now matrix.table.now c.args.piece c.args.class.now in
     one_more lines c.args.rows.now c.loop-row.row-index c.row-item.result c.args.text.now c.loop-row.text c.put_row.new.text
     c.loop-row-test.true c.row-item.is c.loop-row.invariant
     (c.in_ok-put_row.ensures ∙ ap (λ (row : List ℕ). c.loop-row.text ++ lines row) c.as_slice.ensures)

@@ -5,4 +5,5 @@ use Rattle.sipd_matrix_forms.proofs.csv.put_rows.Given as goal
 
 -- the lines so far are written
 abbrev pub invariant-loop-row : goal.invariant-loop-row
-invariant-loop-row l = l.text ≡ l.fn.text ++ flat_map (user_lines l.config l.operation l.table l.piece l.class) (take l.row-index l.rows)
+invariant-loop-row l = l.text ≡ l.fn.text
+    ++ flat_map (user_lines l.matrix.config.now l.matrix.operation.now l.matrix.table.now l.piece l.class) (take l.row-index l.rows)

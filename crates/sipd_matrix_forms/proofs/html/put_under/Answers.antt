@@ -6,7 +6,8 @@ use Rattle.sipd_matrix_forms.proofs.html.put_under.Goals as goal
 
 pub returns : goal.returns
 returns c =
-    let all = foot c.args.config.now c.args.operation.now c.args.table.now c.args.numbers.now in
+    let matrix = c.args.matrix.now in
+    let all = foot matrix.config.now matrix.operation.now matrix.table.now c.args.numbers.now in
     on_ok_weaker c.put_block.result
     (λ h. h ∙ ap (λ (text : List ℕ). c.args.text.now ++ text_block text)
     (c.as_slice.ensures ∙ c.in_ok-put_foot.ensures ∙ ap (λ (text : List ℕ). text ++ all) c.new-foot.ensures)) c.put_block.ensures
